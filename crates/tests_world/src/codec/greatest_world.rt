@@ -1,152 +1,106 @@
 use super::*;
 
-fn put_u64(out: &mut Vec<u8>, number: u64) -> Result<(), AllocError> {
-    Ok(out.extend_from_slice(&number.to_be_bytes())?)
+fn put(rt: &impl Host, out: &mut Vec<u8>, bytes: &[u8]) {
+    out.extend_from_slice(bytes).expect(rt, "no bytes");
 }
 
-// Nodes from 1 on, each with numbers of its own. In version 2 a Ready one has distance 0.
-fn put_nodes(out: &mut Vec<u8>, version: u8, count: u8) -> Result<(), AllocError> {
-    out.push(count)?;
+fn put_wide(rt: &impl Host, out: &mut Vec<u8>, number: u64) {
+    put(rt, out, &number.to_be_bytes());
+}
+
+// 2^40 steps, and nodes from 1 on, each with numbers of its own. In version 2 a Ready one has distance 0.
+fn nodes(rt: &impl Host, version: u8, count: u8) -> Vec<u8> {
+    let mut out = Vec::new(rt.alloc());
+    put_wide(rt, &mut out, 1 << 40);
+    put(rt, &mut out, &[count]);
     for id in 1..=count {
-        out.extend_from_slice(&[id, 1, id % 3, id - 1])?;
-        put_u64(out, u64::from(id) << 56 | u64::from(id))?;
-        put_u64(out, 256 + u64::from(id))?;
-        put_u64(out, 512 + u64::from(id))?;
+        put(rt, &mut out, &[id, 1, id % 3, id - 1]);
+        put_wide(rt, &mut out, u64::from(id) << 56 | u64::from(id));
+        put_wide(rt, &mut out, 256 + u64::from(id));
+        put_wide(rt, &mut out, 512 + u64::from(id));
         if version == 2 {
-            put_u64(out, if id % 3 == 0 { 0 } else { 1 << 40 })?;
+            put_wide(rt, &mut out, if id % 3 == 0 { 0 } else { 1 << 40 });
         }
     }
-    Ok(())
+    out
 }
 
-// A full queue: in version 1 of each message, and in version 2 of Aborts alone, which are longer.
-fn put_queue(out: &mut Vec<u8>, version: u8, last: u8) -> Result<(), AllocError> {
-    if version == 1 {
-        return Ok(out.extend_from_slice(&[4, 2, 0, 1, last])?);
-    }
-    out.push(4)?;
-    for place in 1..=4u64 {
-        out.push(0)?;
-        put_u64(out, place << 32 | u64::from(last))?;
-    }
-    Ok(())
-}
-
-// A link of numbers that are its own, with a full queue each way, or none.
-fn put_link(out: &mut Vec<u8>, version: u8, a: u8, b: u8, is_full: bool) -> Result<(), AllocError> {
+// A link of numbers that are its own, with such a queue each way.
+fn put_link(rt: &impl Host, out: &mut Vec<u8>, a: u8, b: u8, queue: &[u8]) {
     let number = 64 * u64::from(a) + u64::from(b);
-    out.extend_from_slice(&[a, b])?;
-    put_u64(out, number)?;
+    put(rt, out, &[a, b]);
+    put_wide(rt, out, number);
     for place in 1..=2 {
-        put_u64(out, number + 4096 * place)?;
-        put_u64(out, number + 12_288 * place)?;
-        if is_full {
-            put_queue(out, version, b % 3)?;
-        } else {
-            out.push(0)?;
-        }
+        put_wide(rt, out, number + 4096 * place);
+        put_wide(rt, out, number + 12_288 * place);
+        put(rt, out, queue);
     }
-    Ok(())
 }
 
-// Each node is linked to the next and the next but one, round in a ring of 64.
-fn put_ring(out: &mut Vec<u8>, version: u8) -> Result<(), AllocError> {
-    out.push(128)?;
+// 64 nodes, each linked to the next and the next but one, round in a ring; full queues, in version 1 of
+// each message, and in version 2 of Aborts alone, which are longer; and 16 clients, each of which
+// confirmed a node.
+fn greatest(rt: &impl Host, version: u8) -> Vec<u8> {
+    let mut aborts = Vec::new(rt.alloc());
+    put(rt, &mut aborts, &[4]);
+    for place in 1..=4u64 {
+        put(rt, &mut aborts, &[0]);
+        put_wide(rt, &mut aborts, place << 32);
+    }
+    let mut out = nodes(rt, version, 64);
+    put(rt, &mut out, &[128]);
     for a in 1..=64u8 {
         for b in a..=64u8 {
+            let messages = [4, 2, 0, 1, b % 3];
+            let queue = if version == 1 {
+                messages.as_slice()
+            } else {
+                aborts.as_slice()
+            };
             if matches!(b - a, 1 | 2 | 62 | 63) {
-                put_link(out, version, a, b, true)?;
+                put_link(rt, &mut out, a, b, queue);
             }
         }
     }
-    Ok(())
-}
-
-// Each of 16 clients confirmed a node.
-fn put_clients(out: &mut Vec<u8>) -> Result<(), AllocError> {
-    out.push(16)?;
+    put(rt, &mut out, &[16]);
     for client in 1..=16 {
-        out.push(client)?;
-        put_u64(out, 1024 + u64::from(client))?;
-        out.extend_from_slice(&[5, 65 - client])?;
-        put_u64(out, u64::MAX - u64::from(client))?;
-        put_u64(out, 2048 + u64::from(client))?;
-        out.push(0)?;
+        put(rt, &mut out, &[client]);
+        put_wide(rt, &mut out, 1024 + u64::from(client));
+        put(rt, &mut out, &[5, 65 - client]);
+        put_wide(rt, &mut out, u64::MAX - u64::from(client));
+        put_wide(rt, &mut out, 2048 + u64::from(client));
+        put(rt, &mut out, &[0]);
     }
-    Ok(())
+    out
 }
 
-fn put_greatest(out: &mut Vec<u8>, version: u8) -> Result<(), AllocError> {
-    put_u64(out, 1 << 40)?;
-    put_nodes(out, version, 64)?;
-    put_ring(out, version)?;
-    put_clients(out)
-}
-
-// 64 nodes, 128 links with full queues, and 16 clients whose commands are of the longest form.
-fn greatest(alloc: Global, version: u8) -> Result<Vec<u8>, AllocError> {
-    let mut out = Vec::new(alloc);
-    match put_greatest(&mut out, version) {
-        Ok(()) => Ok(out),
-        Err(fault) => {
-            drop(out);
-            Err(fault)
-        }
+// Node 1 is linked to each of the others.
+fn star(rt: &impl Host, count: u8) -> Vec<u8> {
+    let mut out = nodes(rt, 1, count);
+    put(rt, &mut out, &[count.saturating_sub(1)]);
+    for other in 2..=count {
+        put_link(rt, &mut out, 1, other, &[0]);
     }
+    put(rt, &mut out, &[0]);
+    out
 }
 
-fn put_star(out: &mut Vec<u8>, nodes: u8) -> Result<(), AllocError> {
-    put_u64(out, 1 << 40)?;
-    put_nodes(out, 1, nodes)?;
-    out.push(nodes.saturating_sub(1))?;
-    for other in 2..=nodes {
-        put_link(out, 1, 1, other, false)?;
-    }
-    Ok(out.push(0)?)
-}
-
-// A node that is linked to each of the others.
-fn star(alloc: Global, nodes: u8) -> Result<Vec<u8>, AllocError> {
-    let mut out = Vec::new(alloc);
-    match put_star(&mut out, nodes) {
-        Ok(()) => Ok(out),
-        Err(fault) => {
-            drop(out);
-            Err(fault)
-        }
-    }
-}
-
-// Whether the greatest world has so many bytes, and is read and written.
-fn is_greatest(alloc: Global, version: u8, size: usize) -> Result<bool, AllocError> {
-    let bytes = greatest(alloc, version)?;
-    let is_sized = bytes.len() == size;
-    let is_spelled = spells_world(alloc, version, &bytes);
-    drop(bytes);
-    Ok(is_sized && is_spelled?)
-}
-
-// Whether a node has at most 16 links. Rows of nodes end at 8 + 1 + 18 * 28, and a link with empty
-// queues has 44 bytes.
-fn is_degree_limited(alloc: Global) -> Result<bool, AllocError> {
-    let most = star(alloc, 17)?;
-    let is_spelled = spells_world(alloc, 1, &most);
-    drop(most);
-    Ok(is_spelled? && is_seventeenth_link_found(alloc)?)
-}
-
-fn is_seventeenth_link_found(alloc: Global) -> Result<bool, AllocError> {
-    let more = star(alloc, 18)?;
-    let kind = FaultKind::BadByte;
-    let found = finds(alloc, Form::World, 1, &more, CodecFault { kind, at: 1_218 });
-    drop(more);
-    found
-}
-
+// A node has at most 16 links. Rows of nodes end at 8 + 1 + 18 * 28, and a link with empty queues has 44
+// bytes.
 #[test]
-fn the_greatest_world_and_star(rt: HostRuntime) -> Result<(), Fail> {
-    let alloc = rt.alloc();
-    let are_greatest = is_greatest(alloc, 1, 8_907)? && is_greatest(alloc, 2, 17_611)?;
-    assert!(rt; are_greatest && is_degree_limited(alloc)?);
-    Ok(())
+fn the_greatest_world_and_star(rt: HostRuntime) {
+    for (version, size) in [(1, 8_907), (2, 17_611)] {
+        let bytes = greatest(&rt, version);
+        assert_eq!(rt; bytes.len(), size);
+        spells_world(&rt, version, &bytes);
+    }
+    spells_world(&rt, 1, &star(&rt, 17));
+    finds(
+        &rt,
+        Form::World,
+        1,
+        &star(&rt, 18),
+        FaultKind::BadByte,
+        1_218,
+    );
 }

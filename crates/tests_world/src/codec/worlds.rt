@@ -1,6 +1,4 @@
 use super::*;
-use coord_types::{Msg, NodeId};
-use coord_world::World;
 
 // After three steps: nodes 1 and 2 of group 1, the link that the third step made, and an Ack from 2 to 1.
 const WORLD: [u8; 112] = [
@@ -13,29 +11,11 @@ const WORLD: [u8; 112] = [
     0,
 ];
 
-// The same without the Ack.
-const SILENT_WORLD: [u8; 111] = [
-    0, 0, 0, 0, 0, 0, 0, 3, 2, //
-    1, 1, 0, 0, 0, 0, 0, 0, 0, 0, 0, 0, 0, 0, 0, 0, 0, 0, 0, 0, 0, 0, 0, 0, 0, 0, 0, 0, //
-    2, 1, 0, 0, 0, 0, 0, 0, 0, 0, 0, 0, 0, 0, 0, 0, 0, 0, 0, 0, 0, 0, 0, 0, 0, 0, 0, 0, //
-    1, 1, 2, 0, 0, 0, 0, 0, 0, 0, 3, //
-    0, 0, 0, 0, 0, 0, 0, 0, 0, 0, 0, 0, 0, 0, 0, 0, 0, //
-    0, 0, 0, 0, 0, 0, 0, 0, 0, 0, 0, 0, 0, 0, 0, 0, 0, //
-    0,
-];
+// Where it has the one message of a queue.
+const ACK: usize = 109;
 
-// The first world in version 2, where each node has a distance.
-const DISTANT_WORLD: [u8; 128] = [
-    0, 0, 0, 0, 0, 0, 0, 3, 2, //
-    1, 1, 0, 0, 0, 0, 0, 0, 0, 0, 0, 0, 0, 0, 0, 0, 0, 0, 0, 0, 0, 0, 0, 0, 0, 0, 0, 0, //
-    0, 0, 0, 0, 0, 0, 0, 0, //
-    2, 1, 0, 0, 0, 0, 0, 0, 0, 0, 0, 0, 0, 0, 0, 0, 0, 0, 0, 0, 0, 0, 0, 0, 0, 0, 0, 0, //
-    0, 0, 0, 0, 0, 0, 0, 0, //
-    1, 1, 2, 0, 0, 0, 0, 0, 0, 0, 3, //
-    0, 0, 0, 0, 0, 0, 0, 0, 0, 0, 0, 0, 0, 0, 0, 0, 0, //
-    0, 0, 0, 0, 0, 0, 0, 0, 0, 0, 0, 0, 0, 0, 0, 0, 1, 1, //
-    0,
-];
+// In version 2 each of its nodes has a distance behind its row, which ends here.
+const ROWS: [usize; 2] = [37, 65];
 
 // After a fourth step in version 2, the reset of node 1: it is at the greatest distance that a grammar
 // knows for so many steps, and so is its Abort. Node 2 has begun an epoch, and confirmed none.
@@ -57,100 +37,46 @@ const ANSWERED: [u8; 32] = [
     1, 0, 0, 0, 0, 0, 0, 0, 1, 0, 1, 1, 0, 0, 0, 0, 0, 0, 0, 1, 0,
 ];
 
-/// The worlds that are spelled here.
-#[derive(Clone, Copy)]
-enum Sample {
-    Near,
-    Distant,
-    Farthest,
-    Answered,
+// They stand behind calls, so that a proof that hands them on does not carry them.
+fn world() -> [u8; 112] {
+    WORLD
 }
 
-use Sample::{Answered, Distant, Farthest, Near};
-
-/// Their bytes stand behind a call, so that a proof that hands them on does not carry them.
-fn bytes_of(sample: Sample) -> &'static [u8] {
-    match sample {
-        Near => &WORLD,
-        Distant => &DISTANT_WORLD,
-        Farthest => &FARTHEST_WORLD,
-        Answered => &ANSWERED,
-    }
+fn farthest_world() -> [u8; 136] {
+    FARTHEST_WORLD
 }
 
-// Whether three steps were taken, of which the third made the link, and this alone is sent, from 2 to 1.
-fn is_the_world(world: &World, sent: Msg) -> bool {
-    let (one, two) = (NodeId::new(1).unwrap(), NodeId::new(2).unwrap());
-    match (world.lane(one, two), world.lane(two, one)) {
-        (Some(forth), Some(back)) => {
-            world.count() == 3
-                && (forth.inc(), back.inc()) == (3, 3)
-                && forth.queue().is_empty()
-                && back.queue() == [sent].as_slice()
-        }
-        _ => false,
-    }
+fn answered() -> [u8; 32] {
+    ANSWERED
 }
 
-// Whether the bytes are read as that world.
-fn is_read(alloc: Global) -> Result<bool, AllocError> {
-    match read_world(alloc, 1, bytes_of(Near)) {
-        Ok(world) => {
-            let is_it = is_the_world(&world, Msg::Ack);
-            drop(world);
-            Ok(is_it)
-        }
-        Err(fault) if fault.kind == FaultKind::OutOfMemory => Err(AllocError),
-        Err(_) => Ok(false),
-    }
-}
-
-// Whether each of these is written as it was read.
-fn are_spelled(alloc: Global) -> Result<bool, AllocError> {
-    Ok(
-        spells_world(alloc, 1, bytes_of(Near))?
-            && are_spelled_alike(alloc, 1)?
-            && spells_world(alloc, 2, bytes_of(Distant))?
-            && spells_world(alloc, 2, bytes_of(Farthest))?
-            && are_spelled_alike(alloc, 2)?
-            && is_read(alloc)?,
-    )
-}
-
-// The same of worlds without nodes, which are spelled alike in both versions.
-fn are_spelled_alike(alloc: Global, version: u8) -> Result<bool, AllocError> {
-    Ok(spells_world(alloc, version, bytes_of(Answered))? && spells_world(alloc, version, &[0; 11])?)
+fn distant_world(rt: &impl Host) -> Vec<u8> {
+    let second = with(rt, &world(), ROWS[1], &[0; 8]);
+    with(rt, &second, ROWS[0], &[0; 8])
 }
 
 #[test]
-fn worlds_are_read_and_written(rt: HostRuntime) -> Result<(), Fail> {
-    assert!(rt; are_spelled(rt.alloc())?);
-    Ok(())
-}
-
-fn silent_bytes() -> &'static [u8] {
-    &SILENT_WORLD
-}
-
-// Whether a world differs from the one whose lane has nothing in its queue, seen from both.
-fn differs_from_silent(alloc: Global, world: &World) -> Result<bool, CodecFault> {
-    let silent = read_world(alloc, 1, silent_bytes())?;
-    let differs = silent != *world && *world != silent;
-    drop(silent);
-    Ok(differs)
-}
-
-fn is_told_from_silent(alloc: Global) -> Result<bool, CodecFault> {
-    let world = read_world(alloc, 1, bytes_of(Near))?;
-    let differs = differs_from_silent(alloc, &world);
-    drop(world);
-    differs
+fn worlds_are_read_and_written(rt: HostRuntime) {
+    spells_world(&rt, 1, &world());
+    spells_world(&rt, 2, &distant_world(&rt));
+    spells_world(&rt, 2, &farthest_world());
+    // without nodes they are spelled alike
+    for version in 1..3u8 {
+        spells_world(&rt, version, &answered());
+        spells_world(&rt, version, &[0; 11]);
+    }
 }
 
 #[test]
-fn a_longer_queue_makes_another_world(rt: HostRuntime) -> Result<(), Fail> {
-    assert!(rt; is_told_from_silent(rt.alloc())?);
-    Ok(())
+fn a_longer_queue_makes_another_world(rt: HostRuntime) {
+    let mut silent = world().to_vec(rt.alloc()).expect(&rt, "no bytes");
+    if ACK + 1 < silent.len() {
+        silent[ACK] = 0;
+        silent.remove(ACK + 1);
+    }
+    let silent = read_world(rt.alloc(), 1, &silent).expect(&rt, "not read");
+    let near = read_world(rt.alloc(), 1, &world()).expect(&rt, "not read");
+    assert!(rt; silent != near && near != silent && silent.count() == near.count());
 }
 
 const CHANGES: [Change; 23] = [
@@ -179,7 +105,6 @@ const CHANGES: [Change; 23] = [
     Change(111, 0x11, FaultKind::BadByte, 111),
 ];
 
-// Of a client's row.
 const CHANGES_OF_A_CLIENT: [Change; 11] = [
     Change(11, 0, FaultKind::BadByte, 11),
     Change(11, 0x11, FaultKind::BadByte, 11),
@@ -194,35 +119,12 @@ const CHANGES_OF_A_CLIENT: [Change; 11] = [
     Change(31, 4, FaultKind::BadByte, 31),
 ];
 
-// Of the world with distances.
-const CHANGES_OF_A_DISTANT_WORLD: [Change; 27] = [
-    Change(2, 1, FaultKind::BadByte, 0),
-    Change(8, 0x41, FaultKind::BadByte, 8),
-    Change(9, 0, FaultKind::BadByte, 9),
-    Change(9, 0x41, FaultKind::BadByte, 9),
-    Change(10, 0, FaultKind::BadByte, 10),
-    Change(10, 0x11, FaultKind::BadByte, 10),
-    Change(11, 3, FaultKind::BadByte, 11),
-    Change(12, 0x41, FaultKind::BadByte, 12),
-    Change(28, 4, FaultKind::BadByte, 21),
-    Change(36, 4, FaultKind::BadByte, 29),
-    Change(37, 1, FaultKind::BadByte, 37),
+// Of the world with distances: a Ready node has none.
+const CHANGES_OF_A_DISTANT_WORLD: [Change; 4] = [
     Change(44, 1, FaultKind::BadByte, 37),
-    Change(45, 1, FaultKind::BadByte, 45),
-    Change(46, 2, FaultKind::BadByte, 82),
     Change(80, 1, FaultKind::BadByte, 73),
-    Change(81, 0x81, FaultKind::BadByte, 81),
-    Change(83, 1, FaultKind::BadByte, 83),
-    Change(83, 3, FaultKind::BadByte, 82),
-    Change(83, 0x41, FaultKind::BadByte, 83),
-    Change(91, 0, FaultKind::BadByte, 84),
-    Change(91, 4, FaultKind::BadByte, 84),
-    Change(99, 4, FaultKind::BadByte, 92),
-    Change(107, 4, FaultKind::BadByte, 100),
-    Change(125, 5, FaultKind::BadByte, 125),
     Change(126, 0, FaultKind::Short, 128),
     Change(126, 3, FaultKind::BadByte, 126),
-    Change(127, 0x11, FaultKind::BadByte, 127),
 ];
 
 // Of the farthest distances: one more is too much, and an Ack has none.
@@ -233,66 +135,33 @@ const CHANGES_OF_A_FARTHEST_WORLD: [Change; 4] = [
     Change(109, 1, FaultKind::Extra, 128),
 ];
 
-/// They stand behind a call, as the bytes do.
-fn changes_of(sample: Sample) -> &'static [Change] {
-    match sample {
-        Near => &CHANGES,
-        Distant => &CHANGES_OF_A_DISTANT_WORLD,
-        Farthest => &CHANGES_OF_A_FARTHEST_WORLD,
-        Answered => &CHANGES_OF_A_CLIENT,
-    }
-}
-
-// The place of the first change of this world that is not found.
-fn missed_of(alloc: Global, version: u8, sample: Sample) -> Result<Option<usize>, AllocError> {
-    missed(
-        alloc,
+#[test]
+fn a_wrong_byte_is_found(rt: HostRuntime) {
+    finds_each(&rt, Form::World, 1, &world(), &CHANGES);
+    finds_each(&rt, Form::World, 2, &answered(), &CHANGES_OF_A_CLIENT);
+    finds_each(
+        &rt,
         Form::World,
-        version,
-        bytes_of(sample),
-        changes_of(sample),
-    )
+        2,
+        &distant_world(&rt),
+        &CHANGES_OF_A_DISTANT_WORLD,
+    );
+    finds_each(
+        &rt,
+        Form::World,
+        2,
+        &farthest_world(),
+        &CHANGES_OF_A_FARTHEST_WORLD,
+    );
 }
 
-// Of a world and of a client's row.
-fn missed_ones(alloc: Global) -> Result<(Option<usize>, Option<usize>), AllocError> {
-    let wrong = missed_of(alloc, 1, Near)?;
-    Ok((wrong, missed_of(alloc, 2, Answered)?))
-}
-
-// The same of the worlds with distances.
-fn missed_distances(alloc: Global) -> Result<(Option<usize>, Option<usize>), AllocError> {
-    let near = missed_of(alloc, 2, Distant)?;
-    Ok((near, missed_of(alloc, 2, Farthest)?))
-}
-
+// With nodes a world is refused in the other version too, where its second node or its first node's
+// distance would stand.
 #[test]
-fn a_wrong_byte_is_found(rt: HostRuntime) -> Result<(), Fail> {
-    let wrong = missed_ones(rt.alloc())?;
-    assert!(rt; wrong == (None, None), "{wrong:?}");
-    let wrong = missed_distances(rt.alloc())?;
-    assert!(rt; wrong == (None, None), "of version 2: {wrong:?}");
-    Ok(())
-}
-
-#[test]
-fn a_wrong_length_or_version_is_found(rt: HostRuntime) -> Result<(), Fail> {
-    let alloc = rt.alloc();
-    let first = is_of_one_length(alloc, Form::World, 1, bytes_of(Near))?;
-    let second = is_of_one_length(alloc, Form::World, 2, bytes_of(Distant))?;
-    assert!(rt; first && second && are_of_their_versions(alloc)?);
-    Ok(())
-}
-
-// Whether each world with nodes is refused in the other version, where its second node or its first
-// node's distance would stand.
-fn are_of_their_versions(alloc: Global) -> Result<bool, AllocError> {
-    let fault = CodecFault {
-        kind: FaultKind::BadByte,
-        at: 37,
-    };
-    Ok(
-        finds(alloc, Form::World, 2, bytes_of(Near), fault)?
-            && finds(alloc, Form::World, 1, bytes_of(Distant), fault)?,
-    )
+fn a_wrong_length_or_version_is_found(rt: HostRuntime) {
+    let distant = distant_world(&rt);
+    have_one_length(&rt, Form::World, 1, &world());
+    have_one_length(&rt, Form::World, 2, &distant);
+    finds(&rt, Form::World, 2, &world(), FaultKind::BadByte, ROWS[0]);
+    finds(&rt, Form::World, 1, &distant, FaultKind::BadByte, ROWS[0]);
 }
