@@ -1,113 +1,137 @@
-//! Runs of events, and what they are answered.
+//! Steps, devices with a store, and runs of events on its ledger.
 
-ghost use Rattle.std.specs.Prelude.{◌≡◌, None};
+ghost use Rattle.std.specs.Prelude.{◌≡◌, ◌≤◌, None};
 
-use crate::devices::{disk_of, opened};
-use coord_disk::{CrashDisk, MemDisk};
-use coord_ledger::{Answer, Event, Ledger, RunFault, Trace, run_events};
-use coord_store::CommitFault;
-use coord_types::Refusal;
-use std::alloc::Global;
-use std::test::Fail;
+use coord_disk::{Choice, CrashDisk, Disk, MemDisk};
+use coord_ledger::{Event, Ledger, Release, Trace, run_events};
+use coord_store::Store;
+use coord_types::{Client, Command, DataPacket, Group, Msg, NodeId, Step};
+use std::process::Abort;
 
-/// Runs events on a ledger. Gives what came of them, and the ledger.
-pub(crate) fn led<D: CrashDisk>(
-    alloc: Global,
-    ledger: Ledger<D>,
-    events: &[Event],
-) -> Result<(Trace, Ledger<D>), Fail>
-    requires home { ledger.out ≡ None }
-    requires going { ledger.log.doubt ≡ None }
+/// What a test asks for memory, and what ends it.
+pub(crate) trait Host: Abort + AllocGlobal {}
+
+impl<R: Abort + AllocGlobal> Host for R {}
+
+/// How many calls of the device an opening takes.
+pub(crate) const OPENING: u64 = 3;
+
+/// The incarnation of the link that the third step makes.
+pub(crate) const LINK: u64 = 3;
+
+pub(crate) fn node(number: u8) -> NodeId
+    requires { (1 ≤ number) × (number ≤ 64) }
 {
-    match run_events(alloc, ledger, events) {
-        Ok(led) => Ok(led),
-        Err(fault) => {
-            let RunFault { at: _, trace, kind } = fault;
-            drop(trace);
-            Err(kind)?
-        }
+    NodeId::new(number).unwrap()
+}
+
+/// Client 1's order of this number.
+pub(crate) fn order(number: u64, command: Command) -> Step {
+    Step::Order(Client::new(1).unwrap(), number, command)
+}
+
+/// Its order of this number adds a node.
+pub(crate) fn add(number: u64, id: u8) -> Step
+    requires { (1 ≤ id) × (id ≤ 64) }
+{
+    order(number, Command::Add(node(id), Group::new(1).unwrap()))
+}
+
+/// Its order of this number resets node 1.
+pub(crate) fn reset(number: u64) -> Step {
+    order(number, Command::Reset(node(1)))
+}
+
+/// Its first three orders: nodes 1 and 2 are added, and linked.
+pub(crate) fn linking() -> [Step; 3] {
+    [
+        add(1, 1),
+        add(2, 2),
+        order(3, Command::Join(node(1), node(2))),
+    ]
+}
+
+/// The first packet of their link from node 1.
+pub(crate) fn abort() -> DataPacket {
+    DataPacket {
+        from: node(1),
+        to: node(2),
+        inc: LINK,
+        number: 1,
+        msg: Msg::Abort(0),
     }
 }
 
-/// Runs events on the store of a device. Gives what came of them, and the device.
-pub(crate) fn ran<D: CrashDisk>(
-    alloc: Global,
-    disk: D,
-    events: &[Event],
-) -> Result<(Trace, D), Fail> {
-    let (trace, ledger) = led(alloc, opened(alloc, disk)?, events)?;
-    match disk_of(ledger) {
-        Ok(disk) => Ok((trace, disk)),
-        Err(fail) => {
-            drop(trace);
-            Err(fail)
-        }
+/// What hands steps in, and settles them.
+pub(crate) fn push(rt: &impl Host, events: &mut Vec<Event>, steps: &[Step]) {
+    for step in steps {
+        events.push(Event::Submit(*step)).expect(rt, "no place");
+    }
+    let flight = [Event::Begin, Event::Commit, Event::Finish];
+    events.extend_from_slice(&flight).expect(rt, "no place");
+}
+
+/// A device with a store that has no steps.
+pub(crate) fn made(rt: &impl Host) -> MemDisk {
+    match Store::create(rt.alloc(), MemDisk::new(rt.alloc()), 32_768, 1) {
+        Ok(store) => store.into_disk(),
+        Err((fault, _disk)) => panic!(rt; "not made: {fault:?}"),
     }
 }
 
-fn lacks_memory(answer: &Answer) -> bool {
-    matches!(
-        answer,
-        Answer::Refused(Refusal::OutOfMemory) | Answer::Failed(CommitFault::OutOfMemory)
-    )
+/// A device with these bytes, of which the next crash leaves what was synced, what is read, or what was
+/// synced with the rest filled.
+pub(crate) fn choosing(rt: &impl Host, bytes: &[u8], which: usize) -> MemDisk {
+    let mut disk = MemDisk::from_bytes(rt.alloc(), bytes).expect(rt, "no disk");
+    let filler = [7].to_vec(rt.alloc()).expect(rt, "no filler");
+    disk.choose(match which {
+        0 => Choice::Lost,
+        1 => Choice::Kept,
+        _ => Choice::Filled(filler),
+    });
+    disk
 }
 
-fn is_failed(answer: &Answer) -> bool {
-    matches!(answer, Answer::Failed(CommitFault::Device))
+/// A ledger over the store on this device.
+pub(crate) fn opened<D: Disk>(rt: &impl Host, disk: D) -> Ledger<D>
+    ensures home { result.out ≡ None }
+    ensures going { result.log.doubt ≡ None }
+{
+    match Store::open(rt.alloc(), disk) {
+        Ok(store) => match Ledger::adopt(rt.alloc(), store) {
+            Ok(ledger) => ledger,
+            Err((fault, _store)) => panic!(rt; "no ledger: {fault:?}"),
+        },
+        Err((fault, _disk)) => panic!(rt; "not opened: {fault:?}"),
+    }
 }
 
-/// Fails where memory was refused, to the ledger or to a device that is to fail no call: the answers
-/// say nothing then.
-pub(crate) fn had_memory(trace: &Trace, may_fail: bool) -> Result<(), Fail> {
-    if trace.answers.iter().any(lacks_memory) {
-        return Err(Refusal::OutOfMemory)?;
+/// The device of a ledger, whose store is at home.
+pub(crate) fn disk_of<D: Disk>(rt: &impl Host, ledger: Ledger<D>) -> D {
+    match ledger.close() {
+        Ok(store) => store.into_disk(),
+        Err(_ledger) => panic!(rt; "a flight is out"),
     }
-    if !may_fail && trace.answers.iter().any(is_failed) {
-        return Err(CommitFault::Device)?;
+}
+
+/// Runs events on the store of a device.
+pub(crate) fn ran<D: CrashDisk>(rt: &impl Host, disk: D, events: &[Event]) -> (Trace, D) {
+    match run_events(rt.alloc(), opened(rt, disk), events) {
+        Ok((trace, ledger)) => (trace, disk_of(rt, ledger)),
+        Err(fault) => panic!(rt; "it broke off at {}: {:?}", fault.at, fault.kind),
     }
-    Ok(())
 }
 
 /// Whether the answers behind so many are these.
-pub(crate) fn are(
-    alloc: Global,
-    trace: &Trace,
-    behind: usize,
-    wanted: &str,
-    may_fail: bool,
-) -> Result<bool, Fail> {
-    had_memory(trace, may_fail)?;
-    let last = trace.answers.get(behind..).ok_or("answers")?;
-    Ok(is_text(format!(in alloc; "{last:?}")?, wanted))
+pub(crate) fn tells(rt: &impl Host, trace: &Trace, behind: usize, wanted: &str) {
+    let last = trace.answers.get(behind..).unwrap_or(&[]);
+    let told = format!(in rt.alloc(); "{last:?}").expect(rt, "not printed");
+    assert_eq!(rt; told.as_str(), wanted);
 }
 
-fn is_text(text: String, wanted: &str) -> bool {
-    let is_wanted = text.as_str() == wanted;
-    drop(text);
-    is_wanted
-}
-
-/// The same of a trace of which no more is asked.
-pub(crate) fn are_last(
-    alloc: Global,
-    trace: Trace,
-    behind: usize,
-    wanted: &str,
-    may_fail: bool,
-) -> Result<bool, Fail> {
-    let are = are(alloc, &trace, behind, wanted, may_fail);
-    drop(trace);
-    are
-}
-
-/// Whether events on the store of a device in memory are answered so.
-pub(crate) fn are_answered(
-    alloc: Global,
-    disk: MemDisk,
-    events: &[Event],
-    wanted: &str,
-) -> Result<bool, Fail> {
-    let (trace, disk) = ran(alloc, disk, events)?;
-    drop(disk);
-    are_last(alloc, trace, 0, wanted, false)
+/// Whether events on a store without steps are answered so. What they release.
+pub(crate) fn released(rt: &impl Host, events: &[Event], wanted: &str) -> Vec<Release> {
+    let (trace, _disk) = ran(rt, made(rt), events);
+    tells(rt, &trace, 0, wanted);
+    trace.released
 }

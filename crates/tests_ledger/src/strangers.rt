@@ -1,184 +1,94 @@
 //! Two ledgers over stores of their own: a flight and a ticket of one are handed to the other, and
 //! who has seen more than a ledger has is shown nothing of it.
 
-use crate::devices::{disk_of, made, opened};
-use crate::flights::{flush, out, take_back};
-use crate::scene::Scene;
+ghost use Rattle.std.specs.Prelude.{◌≡◌, None};
+
+use crate::runs::{Host, add, disk_of, made, opened};
 use coord_disk::MemDisk;
-use coord_ledger::{Ledger, Seen};
+use coord_ledger::{Event, Flight, Ledger, Seen, run_events};
 use coord_types::{Refusal, Step};
-use std::alloc::Global;
-use std::process::Abort;
-use std::test::Fail;
 
-// Hands in a step.
-fn accept(ledger: &mut Ledger<MemDisk>, step: Step) -> Result<(), Refusal> {
-    ledger.submit(step)?.forget();
-    Ok(())
+fn accept(rt: &impl Host, ledger: &mut Ledger<MemDisk>, step: Step) {
+    ledger.submit(step).expect(rt, "refused").forget();
 }
 
-// Whether a ledger's flight is refused by the other one. It comes back, and its own ledger takes it.
-fn is_refused(
-    rt: &impl Abort,
-    own: &mut Ledger<MemDisk>,
-    other: &mut Ledger<MemDisk>,
-) -> Result<bool, Refusal> {
-    match other.end_flush(out(own)?) {
-        Ok(releases) => {
-            releases.lose_rest();
-            Ok(false)
-        }
+// The flight with the next steps.
+fn out(rt: &impl Host, ledger: &mut Ledger<MemDisk>) -> Flight<MemDisk> {
+    let flight = ledger.begin_flush().expect(rt, "refused");
+    flight.expect(rt, "no flight")
+}
+
+// Takes a flight back that was not committed.
+fn take_back(rt: &impl Host, own: &mut Ledger<MemDisk>, flight: Flight<MemDisk>) {
+    match own.end_flush(flight) {
+        Ok(releases) => assert_eq!(rt; releases.lose_rest(), 0),
+        Err((refusal, _flight)) => panic!(rt; "its own ledger refuses a flight: {refusal:?}"),
+    }
+}
+
+// A ledger's flight is refused by the other one. It comes back, and its own ledger takes it.
+fn refuses(rt: &impl Host, own: &mut Ledger<MemDisk>, other: &mut Ledger<MemDisk>) {
+    match other.end_flush(out(rt, own)) {
+        Ok(_releases) => panic!(rt; "another ledger takes it"),
         Err((refusal, flight)) => {
+            assert_eq!(rt; refusal, Refusal::Stranger);
             take_back(rt, own, flight);
-            Ok(refusal == Refusal::Stranger)
         }
     }
 }
 
-// Whether it is so while the other one's store is at home, and while that has a flight out.
-fn are_refused(
-    rt: &impl Abort,
-    own: &mut Ledger<MemDisk>,
-    other: &mut Ledger<MemDisk>,
-) -> Result<bool, Refusal> {
-    let at_home = is_refused(rt, own, other)?;
-    let flight = out(other)?;
-    let away = is_refused(rt, own, other);
-    let released = take_back(rt, other, flight);
-    Ok(at_home && away? && released == 0)
-}
-
-// Whether a ticket of a ledger for its first step comes back from the other one.
-fn returns(
-    own: &mut Ledger<MemDisk>,
-    other: &Ledger<MemDisk>,
-    scene: &Scene,
-) -> Result<bool, Refusal> {
-    match other.collect(own.submit(scene.add(1, scene.first))?) {
-        Ok(_reply) => Ok(false),
-        Err(ticket) => {
-            ticket.forget();
-            Ok(true)
-        }
+// A ticket of a ledger for its first step comes back from the other one.
+fn returns(rt: &impl Host, own: &mut Ledger<MemDisk>, other: &Ledger<MemDisk>) {
+    let ticket = own.submit(add(1, 1)).expect(rt, "refused");
+    match other.collect(ticket) {
+        Ok(reply) => panic!(rt; "another ledger collects: {reply:?}"),
+        Err(ticket) => ticket.forget(),
     }
 }
 
-// Whether both are so of ledgers with one pending step each.
-fn are_strange(
-    rt: &impl Abort,
-    own: &mut Ledger<MemDisk>,
-    other: &mut Ledger<MemDisk>,
-    scene: &Scene,
-) -> Result<bool, Refusal> {
-    accept(own, scene.add(1, scene.first))?;
-    accept(other, scene.add(1, scene.second))?;
-    Ok(are_refused(rt, own, other)? && returns(own, other, scene)?)
-}
-
-// Both, once they have settled their step, and how many outputs that released.
-fn flush_both(
-    alloc: Global,
-    own: Ledger<MemDisk>,
-    other: Ledger<MemDisk>,
-) -> Result<(Ledger<MemDisk>, Ledger<MemDisk>, usize), Fail> {
-    match flush(alloc, own) {
-        Ok((own, by_own)) => match flush(alloc, other) {
-            Ok((other, by_other)) => Ok((own, other, by_own.saturating_add(by_other))),
-            Err(fail) => {
-                drop(own);
-                Err(fail)
-            }
-        },
-        Err(fail) => {
-            drop(other);
-            Err(fail)
-        }
+// Settles the next steps of a ledger.
+fn settled(rt: &impl Host, ledger: Ledger<MemDisk>) -> Ledger<MemDisk> {
+    assert!(rt; !ledger.is_out() && !ledger.stopped());
+    match run_events(
+        rt.alloc(),
+        ledger,
+        &[Event::Begin, Event::Commit, Event::Finish],
+    ) {
+        Ok((_trace, ledger)) => ledger,
+        Err(fault) => panic!(rt; "it broke off: {:?}", fault.kind),
     }
-}
-
-// Whether a ticket comes back from the other one's store, opened anew.
-fn is_strange_anew(
-    alloc: Global,
-    own: &mut Ledger<MemDisk>,
-    disk: MemDisk,
-    scene: &Scene,
-) -> Result<bool, Fail> {
-    let anew = opened(alloc, disk)?;
-    let returned = returns(own, &anew, scene);
-    drop(anew);
-    Ok(returned?)
-}
-
-// Whether it does so from the other one too.
-fn stays_strange(
-    alloc: Global,
-    own: &mut Ledger<MemDisk>,
-    other: Ledger<MemDisk>,
-    scene: &Scene,
-) -> Result<bool, Fail> {
-    let returned = returns(own, &other, scene);
-    let disk = disk_of(other)?;
-    Ok(is_strange_anew(alloc, own, disk, scene)? && returned?)
-}
-
-// A ledger over an empty store.
-fn opened_anew(alloc: Global) -> Result<Ledger<MemDisk>, Fail> {
-    opened(alloc, made(alloc)?)
-}
-
-// Two of them.
-fn two(alloc: Global) -> Result<(Ledger<MemDisk>, Ledger<MemDisk>), Fail> {
-    let own = opened_anew(alloc)?;
-    match opened_anew(alloc) {
-        Ok(other) => Ok((own, other)),
-        Err(fail) => {
-            drop(own);
-            Err(fail)
-        }
-    }
-}
-
-fn are_always_strange(rt: &impl Abort, alloc: Global) -> Result<bool, Fail> {
-    let scene = Scene::new()?;
-    let (mut own, mut other) = two(alloc)?;
-    let were_strange = are_strange(rt, &mut own, &mut other, &scene);
-    let (mut own, other, released) = flush_both(alloc, own, other)?;
-    let stayed = stays_strange(alloc, &mut own, other, &scene);
-    drop(own);
-    let stayed = stayed?;
-    Ok(were_strange? && stayed && released == 0)
 }
 
 #[test]
-fn a_flight_and_a_ticket_of_another_ledger_come_back(rt: HostRuntime) -> Result<(), Fail> {
-    assert!(rt; are_always_strange(&rt, rt.alloc())?);
-    Ok(())
+fn a_flight_and_a_ticket_of_another_ledger_come_back(rt: HostRuntime) {
+    let mut own = opened(&rt, made(&rt));
+    let mut other = opened(&rt, made(&rt));
+    accept(&rt, &mut own, add(1, 1));
+    accept(&rt, &mut other, add(1, 2));
+    // while the other one's store is at home, and while that has a flight out
+    refuses(&rt, &mut own, &mut other);
+    let flight = out(&rt, &mut other);
+    refuses(&rt, &mut own, &mut other);
+    take_back(&rt, &mut other, flight);
+    returns(&rt, &mut own, &other);
+    // once both have settled their step, and from the other one's store, opened anew
+    let mut own = settled(&rt, own);
+    let other = settled(&rt, other);
+    returns(&rt, &mut own, &other);
+    let anew = opened(&rt, disk_of(&rt, other));
+    returns(&rt, &mut own, &anew);
 }
 
-// Who has seen two steps is refused by a ledger of one, and who has seen none is not.
-fn is_behind(ledger: &Ledger<MemDisk>) -> Result<bool, Refusal> {
+#[test]
+fn who_has_seen_more_is_refused(rt: HostRuntime) {
+    let mut ledger = opened(&rt, made(&rt));
+    accept(&rt, &mut ledger, add(1, 1));
+    let ledger = settled(&rt, ledger);
     let mut seen = Seen::new();
+    assert_eq!(rt; ledger.show(&mut seen).map(|view| view.settled), Ok(1));
     seen.note(2);
-    let Err(refusal) = ledger.show(&mut seen) else {
-        return Ok(false);
-    };
-    let view = ledger.show(&mut Seen::new())?;
-    Ok(refusal == Refusal::Behind { settled: 1 } && view.settled == 1)
-}
-
-fn shows_none_who_has_seen_more(alloc: Global) -> Result<bool, Fail> {
-    let scene = Scene::new()?;
-    let mut ledger = opened_anew(alloc)?;
-    let accepted = accept(&mut ledger, scene.add(1, scene.first));
-    let (ledger, _released) = flush(alloc, ledger)?;
-    let is_behind = is_behind(&ledger);
-    drop(ledger);
-    accepted?;
-    Ok(is_behind?)
-}
-
-#[test]
-fn who_has_seen_more_is_refused(rt: HostRuntime) -> Result<(), Fail> {
-    assert!(rt; shows_none_who_has_seen_more(rt.alloc())?);
-    Ok(())
+    assert_eq!(rt;
+        ledger.show(&mut seen).err(),
+        Some(Refusal::Behind { settled: 1 })
+    );
 }
