@@ -1,4 +1,5 @@
-//! Tests of the administration lines, as texts read and written and over connections.
+//! Tests of the administration lines, as texts read and written and over connections. What fails here
+//! fails its test.
 #![tactic(auto)]
 
 #[cfg(test)]

@@ -1,83 +1,74 @@
 //! Replies where memory may be refused. The test says the same with memory and where any one
 //! allocation fails.
 
-use crate::lines::{WORKED_REPLIES, serve_halves, worked_lines};
+use crate::lines::serve_halves;
 use coord_admin::{CountDesk, Desk, Ended, ServeFault};
-use std::alloc::{AllocError, Global};
 use std::str;
-use std::test::Fail;
 
 const NO_MEMORY: &str = "{\"fault\":\"OutOfMemory\"}";
 
-const ORDERED: &str = "{\"kind\":\"done\",\"step\":1}";
+/// Three orders that come together, a show and a line with a fault.
+const LINES: &[u8] = b"{\"op\":\"reset\",\"client\":1,\"number\":1,\"node\":1}
+{\"op\":\"reset\",\"client\":1,\"number\":1,\"node\":1}
+{\"op\":\"reset\",\"client\":1,\"number\":1,\"node\":1}
+{\"op\":\"show\"}
+{}
+";
 
-const SHOWN_COUNTED: &str = "{\"accepted\":1,\"links\":[],\"nodes\":[],\"settled\":1}";
+const DONE: [&str; 3] = [
+    "{\"kind\":\"done\",\"step\":1}",
+    "{\"kind\":\"done\",\"step\":2}",
+    "{\"kind\":\"done\",\"step\":3}",
+];
 
-const SHOWN_UNCOUNTED: &str = "{\"accepted\":0,\"links\":[],\"nodes\":[],\"settled\":0}";
+/// What is shown behind no order, one, two and three.
+const SHOWN: [&str; 4] = [
+    "{\"accepted\":0,\"links\":[],\"nodes\":[],\"settled\":0}",
+    "{\"accepted\":1,\"links\":[],\"nodes\":[],\"settled\":1}",
+    "{\"accepted\":2,\"links\":[],\"nodes\":[],\"settled\":2}",
+    "{\"accepted\":3,\"links\":[],\"nodes\":[],\"settled\":3}",
+];
 
-/// The reply of a line to which there was memory, where the desk counted the order or not.
-fn of_count(reply: &str, count: u64) -> &str {
-    match reply {
-        ORDERED if count == 0 => NO_MEMORY,
-        SHOWN_COUNTED if count == 0 => SHOWN_UNCOUNTED,
-        _ => reply,
+/// The least place of a line among these from one on, and the one behind it. Where there was no memory
+/// it may be any.
+fn place_of(line: Option<&str>, among: &[&str], first: usize) -> Option<usize> {
+    let line = line?;
+    if line == NO_MEMORY {
+        return Some(first);
     }
+    let place = among.iter().position(|it| *it == line)?;
+    if place < first { None } else { Some(place + 1) }
 }
 
-/// Whether each line that was written is its reply, by how many orders the desk counted, or tells
-/// that there was no memory.
-fn are_allowed(written: &[u8], count: u64) -> bool {
-    let Ok(text) = str::from_utf8(written) else {
-        return false;
-    };
-    let mut lines = text.split('\n');
-    for reply in WORKED_REPLIES.split('\n') {
-        let Some(line) = lines.next() else {
-            return false;
-        };
-        if line != of_count(reply, count) && line != NO_MEMORY {
-            return false;
-        }
+/// Whether each line is its reply, of as many orders as the desk counted, or tells that there was no
+/// memory.
+fn are_allowed(text: &str, count: usize) -> bool {
+    let mut lines = text.split_terminator('\n');
+    let mut told = Some(0);
+    for _ in 0..DONE.len() {
+        told = told.and_then(|first| place_of(lines.next(), &DONE, first));
     }
-    lines.next().is_none()
-}
-
-/// How many orders a desk has counted.
-fn counted(desk: &mut CountDesk) -> u64 {
-    match desk.show() {
-        Ok(view) => {
-            let settled = view.settled;
-            drop(view);
-            settled
-        }
-        Err(_) => u64::MAX,
-    }
-}
-
-/// Whether these lines are answered so.
-fn are_answered(alloc: Global, lines: &[u8]) -> Result<bool, AllocError> {
-    let mut reader = lines;
-    // Room for all replies, so that no write is refused.
-    let mut output = Vec::with_capacity(alloc, 512)?;
-    let mut desk = CountDesk::new(alloc, 0);
-    let outcome = serve_halves(alloc, &mut reader, &mut output, &mut desk);
-    let count = counted(&mut desk);
-    drop(desk);
-    let begun = outcome == Ok(Ended::Input) && are_allowed(output.as_slice(), count);
-    let refused = outcome == Err(ServeFault::OutOfMemory) && output.is_empty() && count == 0;
-    drop(output);
-    Ok(begun || refused)
-}
-
-fn are_worked_lines_answered(alloc: Global) -> Result<bool, AllocError> {
-    let lines = worked_lines(alloc)?;
-    let are_answered = are_answered(alloc, &lines);
-    drop(lines);
-    are_answered
+    let shown = lines.next();
+    let is_shown = shown == Some(NO_MEMORY) || shown == SHOWN.get(count).copied();
+    let fault = lines.next();
+    let is_fault = fault == Some(NO_MEMORY) || fault == Some("{\"fault\":\"BadRequest\"}");
+    told.is_some_and(|told| told <= count) && is_shown && is_fault && lines.next().is_none()
 }
 
 #[test]
-fn each_reply_or_no_memory(rt: HostRuntime) -> Result<(), Fail> {
-    assert!(rt; are_worked_lines_answered(rt.alloc())?);
-    Ok(())
+fn each_reply_or_no_memory(rt: HostRuntime) {
+    let mut lines = LINES;
+    // Room for all replies, so that no write is refused.
+    let mut output = Vec::with_capacity(rt.alloc(), 512).expect(&rt, "no room");
+    let mut desk = CountDesk::new(rt.alloc(), 0);
+    let ended = serve_halves(&rt, &mut lines, &mut output, &mut desk);
+    let count = desk.show().expect(&rt, "not shown").settled;
+    if ended == Err(ServeFault::OutOfMemory) {
+        assert_eq!(rt; (output.len(), count), (0, 0));
+    } else {
+        assert_eq!(rt; ended, Ok(Ended::Input));
+        let text = str::from_utf8(&output).unwrap_or("no text");
+        let count = usize::try_from(count).unwrap_or(usize::MAX);
+        assert!(rt; are_allowed(text, count), "{count}: {text}");
+    }
 }

@@ -3,7 +3,6 @@
 use coord_admin::{
     ACCEPT_TRIES, Accepted, CountDesk, DISCARD_READS, Patience, Stop, serve_connections,
 };
-use std::alloc::Global;
 use std::io::{ErrorKind, Read, Write};
 use std::net::{IpAddr, Ipv4Addr, OpenListener, OpenStream, Shutdown, SocketAddr};
 use std::sync::Wait;
@@ -40,31 +39,19 @@ enum Client {
     Breaks,
 }
 
-/// Clients that come one after the other, how many bytes were written to them as they were to be, how
-/// many times a stream was to wait longer than it may, and how often it was read behind a close or in
-/// a line without a pause.
+/// Clients that come one after the other, and what becomes of them.
 #[derive(Drop)]
 struct Script<T: Clock> {
     clock: T,
     clients: [Client; 6],
     come: AtomicU64,
     refused: AtomicU64,
+    /// How many bytes were written as they were to be.
     written: AtomicU64,
+    /// How often a stream was to wait longer than it may.
     too_long: AtomicU64,
+    /// How often it was read behind a close or in a line without a pause.
     read_on: AtomicU64,
-}
-
-impl<T: Clock> Script<T> {
-    /// What became of it.
-    fn met(&self, is_closed: bool) -> Met {
-        Met {
-            is_closed,
-            come: self.come.load(Ordering::SeqCst),
-            written: self.written.load(Ordering::SeqCst),
-            too_long: self.too_long.load(Ordering::SeqCst),
-            read_on: self.read_on.load(Ordering::SeqCst),
-        }
-    }
 }
 
 /// A client's stream.
@@ -183,9 +170,8 @@ impl<T: Clock> Write for Scripted<'_, T> {
 }
 
 /// What became of a script: whether a client closed the desk, how many came, how many bytes of the
-/// answer were written, how often a stream was to wait too long, and how often it was read behind a
-/// close or in a line without a pause.
-#[derive(Clone, Copy, PartialEq)]
+/// answer were written, how often a stream was to wait too long, and how often it was read on.
+#[derive(Clone, Copy, Debug, PartialEq)]
 struct Met {
     is_closed: bool,
     come: u64,
@@ -194,7 +180,7 @@ struct Met {
     read_on: u64,
 }
 
-fn ended<T: Clock + Wait>(rt: &T, alloc: Global, clients: [Client; 6], patience: Patience) -> Met {
+fn ended<T: Clock + Wait + AllocGlobal>(rt: &T, clients: [Client; 6], patience: Patience) -> Met {
     let script = Script {
         clock: rt,
         clients,
@@ -206,14 +192,24 @@ fn ended<T: Clock + Wait>(rt: &T, alloc: Global, clients: [Client; 6], patience:
     };
     let listener = &script;
     let mut callers = Accepted::new(rt, &listener, patience);
-    let mut desk = CountDesk::new(alloc, 0);
-    let served = serve_connections(rt, alloc, usize::MAX, &mut callers, &mut desk);
+    let mut desk = CountDesk::new(rt.alloc(), 0);
+    let served = serve_connections(rt, rt.alloc(), usize::MAX, &mut callers, &mut desk);
     let is_closed = matches!(served, Ok(Stop::Closed));
     drop(callers);
-    drop(desk);
-    let met = script.met(is_closed);
-    drop(script);
-    met
+    Met {
+        is_closed,
+        come: script.come.load(Ordering::SeqCst),
+        written: script.written.load(Ordering::SeqCst),
+        too_long: script.too_long.load(Ordering::SeqCst),
+        read_on: script.read_on.load(Ordering::SeqCst),
+    }
+}
+
+/// The same of a client that is first, and behind it clients that close the desk.
+fn ended_behind<T: Clock + Wait + AllocGlobal>(rt: &T, first: Client, patience: Patience) -> Met {
+    let mut clients = [Client::Closes; 6];
+    clients[0] = first;
+    ended(rt, clients, patience)
 }
 
 /// The usual times, but that a full table of files is not waited for.
@@ -223,7 +219,7 @@ fn patience() -> Patience {
     patience
 }
 
-/// What became of a script in which a client closes the desk.
+/// What became of a script in which a client closes the desk, and of one in which none does.
 fn closed_as(come: u64) -> Met {
     Met {
         is_closed: true,
@@ -234,14 +230,11 @@ fn closed_as(come: u64) -> Met {
     }
 }
 
-/// What became of one in which none does.
 fn broken_as(come: u64) -> Met {
     Met {
         is_closed: false,
-        come,
         written: 0,
-        too_long: 0,
-        read_on: 0,
+        ..closed_as(come)
     }
 }
 
@@ -257,7 +250,7 @@ fn a_close_behind_clients_that_fail(rt: HostRuntime) {
         Client::Silent,
         Client::Closes,
     ];
-    assert!(rt; ended(&rt, rt.alloc(), clients, patience()) == closed_as(6));
+    assert_eq!(rt; ended(&rt, clients, patience()), closed_as(6));
 }
 
 #[test]
@@ -265,44 +258,37 @@ fn a_listener_that_fails(rt: HostRuntime) {
     let mut clients = [Client::Closes; 6];
     clients[0] = Client::Silent;
     clients[1] = Client::Breaks;
-    assert!(rt; ended(&rt, rt.alloc(), clients, patience()) == broken_as(2));
+    assert_eq!(rt; ended(&rt, clients, patience()), broken_as(2));
 }
 
 /// A reply that is taken a little at a time is given up once its time in all is over, and then the
 /// desk was not closed for it.
 #[test]
 fn a_reply_that_is_taken_slowly(rt: HostRuntime) {
-    let mut clients = [Client::Closes; 6];
-    clients[0] = Client::TakesSlowly;
     let mut short = patience();
     short.reply = Duration::from_millis(100);
-    let short = ended(&rt, rt.alloc(), clients, short);
-    assert!(rt; short.is_closed && short.come == 2);
-}
-
-/// How often a client that has closed the desk and sends on is read, where that is waited for so long.
-fn read_on<T: Clock + Wait>(rt: &T, alloc: Global, discard: Duration) -> u64 {
-    let mut patience = patience();
-    patience.discard = discard;
-    ended(rt, alloc, [Client::SendsOn; 6], patience).read_on
+    let met = ended_behind(&rt, Client::TakesSlowly, short);
+    assert_eq!(rt; (met.is_closed, met.come), (true, 2));
 }
 
 /// Behind a close so much is read at the most, and nothing once its time is over.
 #[test]
 fn a_client_that_sends_on(rt: HostRuntime) {
-    assert!(rt; read_on(&rt, rt.alloc(), Duration::from_secs(60)) == DISCARD_READS);
-    assert!(rt; read_on(&rt, rt.alloc(), Duration::from_secs(0)) == 0);
+    for (seconds, reads) in [(60, DISCARD_READS), (0, 0)] {
+        let mut patience = patience();
+        patience.discard = Duration::from_secs(seconds);
+        assert_eq!(rt; ended(&rt, [Client::SendsOn; 6], patience).read_on, reads);
+    }
 }
 
 /// A line that comes without a pause is cut off once its time is over, and the next client is served.
 #[test]
 fn a_line_without_a_pause(rt: HostRuntime) {
-    let mut clients = [Client::Closes; 6];
-    clients[0] = Client::Floods(1_000);
     let mut short = patience();
     short.line = Duration::from_millis(20);
-    let met = ended(&rt, rt.alloc(), clients, short);
-    assert!(rt; met.is_closed && met.come == 2 && met.read_on < 1_000);
+    let met = ended_behind(&rt, Client::Floods(1_000), short);
+    assert_eq!(rt; (met.is_closed, met.come), (true, 2));
+    assert!(rt; met.read_on < 1_000);
 }
 
 /// A table of files that is full is waited for so often, and not more often.
@@ -310,8 +296,8 @@ fn a_line_without_a_pause(rt: HostRuntime) {
 fn no_room_for_a_connection(rt: HostRuntime) {
     let waits = [Client::Waits(ACCEPT_TRIES); 6];
     let gives_up = [Client::Waits(ACCEPT_TRIES + 1); 6];
-    assert!(rt; ended(&rt, rt.alloc(), waits, patience()) == closed_as(1));
-    assert!(rt; ended(&rt, rt.alloc(), gives_up, patience()) == broken_as(0));
+    assert_eq!(rt; ended(&rt, waits, patience()), closed_as(1));
+    assert_eq!(rt; ended(&rt, gives_up, patience()), broken_as(0));
 }
 
 /// What accept(2) has fail with one connection alone: EPERM, EINTR, ENONET, EPROTO, ENOPROTOOPT,
@@ -324,30 +310,20 @@ const PASSING: [i32; 16] = [
 /// EBADF, EFAULT, EINVAL and ENOTSOCK.
 const LASTING: [i32; 4] = [9, 14, 22, 88];
 
-/// What becomes of a client that closes the desk behind a listener that fails so once.
-fn behind_failure<T: Clock + Wait>(rt: &T, alloc: Global, code: i32) -> Met {
-    let mut clients = [Client::Closes; 6];
-    clients[0] = Client::Fails(code);
-    ended(rt, alloc, clients, patience())
-}
-
-/// A failure to accept that is of one connection, or that may pass, ends no server.
+/// A failure to accept that is of one connection, or that may pass, ends no server; any other one does.
 #[test]
-fn failures_to_accept_that_pass(rt: HostRuntime) {
+fn failures_to_accept(rt: HostRuntime) {
     for code in PASSING {
-        assert!(rt;
-            behind_failure(&rt, rt.alloc(), code) == closed_as(2),
+        assert_eq!(rt;
+            ended_behind(&rt, Client::Fails(code), patience()),
+            closed_as(2),
             "{code}"
         );
     }
-}
-
-/// Any other one does.
-#[test]
-fn failures_to_accept_that_last(rt: HostRuntime) {
     for code in LASTING {
-        assert!(rt;
-            behind_failure(&rt, rt.alloc(), code) == broken_as(1),
+        assert_eq!(rt;
+            ended_behind(&rt, Client::Fails(code), patience()),
+            broken_as(1),
             "{code}"
         );
     }

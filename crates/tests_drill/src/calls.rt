@@ -1,17 +1,15 @@
 //! The commands as calls of a library, each on the file that it names.
 
-use crate::program::{Ended, Ending, is_ending, streams};
+use crate::program::Streams;
 use coord_commands::{check, init, migrate, serve, show};
-use std::alloc::AllocError;
-use std::env::Env;
 use std::fs::File;
 use std::net::Net;
+use std::process::Abort;
 use std::rt::Files;
 use std::sync::Wait;
-use std::test::Fail;
 use std::thread::Threads;
 use std::time::Clock;
-use std::{env, fs, io};
+use std::{env, fs};
 
 /// Two nodes of one group and their link.
 pub(crate) const PAIR: &[u8] = b"half = 32768\n\
@@ -31,109 +29,40 @@ node 1 1 ready 0 0 0\n\
 node 2 1 ready 0 0 0\n\
 link 1 2 3\n";
 
-/// A folder of its own for the files of a test.
-fn make_folder<R: Files<File = File> + Env + AllocGlobal>(
-    rt: &R,
-    name: &str,
-) -> io::Result<String> {
-    let parent = env::temp_dir(rt)?;
-    let folder = format!(in rt.alloc(); "{}/resetd_{name}", parent.as_str());
-    drop(parent);
-    let folder = folder?;
-    let _ = fs::remove_dir_all(rt, &folder);
-    let made = fs::create_dir(rt, &folder);
-    match made {
-        Ok(()) => Ok(folder),
-        Err(fault) => {
-            drop(folder);
-            Err(fault)
-        }
-    }
-}
-
-/// A command on the store.
-#[derive(Clone, Copy)]
-enum Call {
-    Init,
-    Check,
-    Show,
-    Migrate,
-    /// At an address that no host has, so that it ends behind the opening of the file.
-    Serve,
-}
-
-/// What the command ends with where those before it were called.
-fn ending(call: Call) -> Ending<'static> {
-    match call {
-        Call::Init => (0, "created 3\n", ""),
-        Call::Check => (0, "legal 3\n", ""),
-        Call::Show => (0, SHOWN_PAIR, ""),
-        Call::Migrate => (0, "migrated 3\n", ""),
-        Call::Serve => (3, "", "resetd: Socket\n"),
-    }
-}
-
-fn ended<S: Files<File = File> + Net + Threads + Wait + Clock + Sync + AllocGlobal>(
-    rt: &S,
-    call: Call,
-    store: &str,
-    topology: &str,
-) -> Result<Ended, AllocError> {
-    let (mut output, mut errors) = streams(rt.alloc())?;
-    let status = match call {
-        Call::Init => init(rt, store, topology, &mut output, &mut errors),
-        Call::Check => check(rt, store, &mut output, &mut errors),
-        Call::Show => show(rt, store, &mut output, &mut errors),
-        Call::Migrate => migrate(rt, store, &mut output, &mut errors),
-        Call::Serve => serve(rt, store, "192.0.2.1:1", &mut output, &mut errors),
-    };
-    Ok((status, output, errors))
-}
-
-fn is_so<S: Files<File = File> + Net + Threads + Wait + Clock + Sync + AllocGlobal>(
-    rt: &S,
-    call: Call,
-    store: &str,
-    topology: &str,
-) -> Result<bool, AllocError> {
-    let run = ended(rt, call, store, topology)?;
-    let is_so = is_ending(&run, ending(call));
-    drop(run);
-    is_so
-}
-
-/// Whether each ends so, one after the other.
-fn are_so<S: Files<File = File> + Net + Threads + Wait + Clock + Sync + AllocGlobal>(
+/// The commands end so on these files, one after the other. That of `serve` is at an address that no host
+/// has, so that it ends behind the opening of the file.
+fn end<S: Files<File = File> + Net + Threads + Wait + Clock + Sync + Abort + AllocGlobal>(
     rt: &S,
     store: &str,
     topology: &str,
-) -> Result<bool, AllocError> {
-    let makes = is_so(rt, Call::Init, store, topology)?;
-    let checks = is_so(rt, Call::Check, store, topology)?;
-    let shows = is_so(rt, Call::Show, store, topology)?;
-    let migrates = is_so(rt, Call::Migrate, store, topology)?;
-    let serves = is_so(rt, Call::Serve, store, topology)?;
-    Ok(makes && checks && shows && migrates && serves)
-}
-
-/// The same on files of a folder.
-fn are_so_in<S: Files<File = File> + Net + Threads + Wait + Clock + Sync + AllocGlobal>(
-    rt: &S,
-    folder: &str,
-) -> Result<bool, Fail> {
-    let store = format!(in rt.alloc(); "{folder}/store")?;
-    let topology = format!(in rt.alloc(); "{folder}/pair")?;
-    fs::write(rt, &topology, PAIR)?;
-    let are_so = are_so(rt, &store, &topology)?;
-    fs::remove_dir_all(rt, folder)?;
-    Ok(are_so)
+) {
+    let mut it = Streams::new(rt);
+    let status = init(rt, store, topology, &mut it.output, &mut it.errors);
+    it.are(rt, status, (0, "created 3\n", ""));
+    let mut it = Streams::new(rt);
+    let status = check(rt, store, &mut it.output, &mut it.errors);
+    it.are(rt, status, (0, "legal 3\n", ""));
+    let mut it = Streams::new(rt);
+    let status = show(rt, store, &mut it.output, &mut it.errors);
+    it.are(rt, status, (0, SHOWN_PAIR, ""));
+    let mut it = Streams::new(rt);
+    let status = migrate(rt, store, &mut it.output, &mut it.errors);
+    it.are(rt, status, (0, "migrated 3\n", ""));
+    let mut it = Streams::new(rt);
+    let status = serve(rt, store, "192.0.2.1:1", &mut it.output, &mut it.errors);
+    it.are(rt, status, (3, "", "resetd: Socket\n"));
 }
 
 #[test]
-fn commands_on_the_file_that_they_name(rt: HostRuntime) -> Result<(), Fail> {
-    let folder = make_folder(&rt, "calls")?;
-    let are_so = are_so_in(&rt, &folder);
-    drop(folder);
-    assert!(rt; are_so?);
-    Ok(())
+fn commands_on_the_file_that_they_name(rt: HostRuntime) {
+    let parent = env::temp_dir(&rt).expect(&rt, "no folder");
+    let folder = format!(in rt.alloc(); "{}/resetd_calls", parent.as_str());
+    let folder = folder.expect(&rt, "no name");
+    let _ = fs::remove_dir_all(&rt, &folder);
+    fs::create_dir(&rt, &folder).expect(&rt, "no folder");
+    let store = format!(in rt.alloc(); "{}/store", folder.as_str()).expect(&rt, "no name");
+    let topology = format!(in rt.alloc(); "{}/pair", folder.as_str()).expect(&rt, "no name");
+    fs::write(&rt, &topology, PAIR).expect(&rt, "no topology");
+    end(&rt, &store, &topology);
+    fs::remove_dir_all(&rt, &folder).expect(&rt, "not removed");
 }

@@ -1,119 +1,69 @@
 //! Runs of the commands on disks in memory.
 
 use crate::calls::{PAIR, SHOWN_PAIR};
-use crate::program::{Ended, Ending, has_failed, is_ending, streams, words_of};
+use crate::program::{Host, Streams, words_of};
 use coord_commands::{MemFolder, Named, run_in};
 use coord_disk::MemDisk;
-use std::alloc::{AllocError, Global};
 use std::io;
 use std::io::{ErrorKind, Write};
-use std::process::Abort;
-use std::test::Fail;
 
 /// Words, and what a run with them ends with: its exit status, what it prints, and its fault line.
 type Run = (&'static str, u8, &'static str, &'static str);
 
-/// A text, and its name.
-fn named(alloc: Global, name: &str, bytes: &[u8]) -> Result<Named, AllocError> {
-    Ok(Named {
-        name: String::from_str(alloc, name)?,
-        bytes: bytes.to_vec(alloc)?,
-    })
+fn text(rt: &impl Host, text: &str) -> String {
+    String::from_str(rt.alloc(), text).expect(rt, "no text")
 }
 
 /// A folder with a disk that is named `store`, and the topologies `pair` and `nothing`.
-fn folder_of(alloc: Global, disk: MemDisk) -> Result<MemFolder, AllocError> {
-    let mut folder = MemFolder {
-        alloc,
-        name: String::new(alloc),
+fn folder_of(rt: &impl Host, disk: MemDisk) -> MemFolder {
+    let mut texts = Vec::new(rt.alloc());
+    for (name, bytes) in [("pair", PAIR), ("nothing", b"".as_slice())] {
+        let bytes = bytes.to_vec(rt.alloc()).expect(rt, "no text");
+        let name = text(rt, name);
+        texts.push(Named { name, bytes }).expect(rt, "no text");
+    }
+    MemFolder {
+        alloc: rt.alloc(),
+        name: text(rt, "store"),
         disk: Some(disk),
-        texts: Vec::new(alloc),
-    };
-    match fill(&mut folder) {
-        Ok(()) => Ok(folder),
-        Err(error) => {
-            drop(folder);
-            Err(error)
-        }
+        texts,
     }
 }
 
-/// Names the disk, and adds the topologies.
-fn fill(folder: &mut MemFolder) -> Result<(), AllocError> {
-    let alloc = folder.alloc;
-    folder.name.push_str("store")?;
-    folder.texts.push(named(alloc, "pair", PAIR)?)?;
-    folder.texts.push(named(alloc, "nothing", b"")?)?;
-    Ok(())
-}
-
-/// Whether a run in a folder in memory ends so; a server that is to be served ends with 0. Where memory
-/// runs out there is no answer.
-fn ends(
-    alloc: Global,
+/// What a run in a folder in memory ends with; 0 where it leaves the store to be served at its address.
+fn status_of<W: Write>(
+    rt: &impl Host,
     folder: &mut MemFolder,
     words: &str,
-    ending: Ending<'_>,
-) -> Result<bool, AllocError> {
-    let given = words_of(alloc, words)?;
-    let run = ended(alloc, folder, words, given.as_slice());
-    drop(given);
-    let run = run?;
-    let is_failing = has_failed(run.2.as_slice());
-    let is_so = is_ending(&run, ending);
-    drop(run);
-    match is_so {
-        Ok(false) if is_failing => Err(AllocError),
-        is_so => is_so,
-    }
-}
-
-/// What a run in a folder in memory ended with.
-fn ended(
-    alloc: Global,
-    folder: &mut MemFolder,
-    words: &str,
-    given: &[String],
-) -> Result<Ended, AllocError> {
-    let (mut output, mut errors) = streams(alloc)?;
-    let status = run_in(
-        alloc,
-        folder,
-        given,
-        &mut b"".as_slice(),
-        &mut output,
-        &mut errors,
-    );
-    let status = match status {
+    output: &mut W,
+    errors: &mut Vec<u8>,
+) -> u8 {
+    let words = words_of(rt, words);
+    let mut input = b"".as_slice();
+    match run_in(rt.alloc(), folder, &words, &mut input, output, errors) {
         Ok(status) => status,
-        Err(left) => is_left(words, left.file, left.address),
-    };
-    Ok((status, output, errors))
-}
-
-/// 0 where these words leave this file to be served at this address, and else no status.
-fn is_left(words: &str, file: &str, address: &str) -> u8 {
-    let is_store = file == "store" && address == "127.0.0.1:0";
-    if is_store && words == "resetd serve store 127.0.0.1:0" {
-        0
-    } else {
-        u8::MAX
-    }
-}
-
-/// The first of runs in a folder in memory that ends otherwise than it is to. Where memory runs out
-/// there is no answer.
-fn first_wrong(
-    alloc: Global,
-    folder: &mut MemFolder,
-    runs: &[Run],
-) -> Result<Option<&'static str>, AllocError> {
-    for (words, status, printed, told) in runs {
-        if !ends(alloc, folder, words, (*status, *printed, *told))? {
-            return Ok(Some(*words));
+        Err(left) => {
+            assert_eq!(rt; (left.file, left.address), ("store", "127.0.0.1:0"));
+            0
         }
     }
-    Ok(None)
+}
+
+/// Runs in a folder in memory end so, one after the other.
+fn end(rt: &impl Host, folder: &mut MemFolder, runs: &[Run]) {
+    for (words, status, printed, faults) in runs {
+        let mut told = Streams::new(rt);
+        let found = status_of(rt, folder, words, &mut told.output, &mut told.errors);
+        told.are(rt, found, (*status, *printed, *faults));
+    }
+}
+
+/// The bytes of the disk in a folder.
+fn bytes_in(folder: &MemFolder) -> &[u8] {
+    match &folder.disk {
+        Some(disk) => disk.bytes(),
+        None => &[],
+    }
 }
 
 /// A store that is refused by `init` stays, and `serve` is left to the caller.
@@ -130,23 +80,22 @@ const RUNS: [Run; 10] = [
     ("resetd serve store 127.0.0.1:0", 0, "", ""),
 ];
 
-/// The runs.
+/// They stand behind calls, so that a proof about the walk over them does not carry their texts.
 fn runs() -> &'static [Run] {
     &RUNS
 }
 
-/// Nothing is wrong.
-fn assert_none<R: Abort>(rt: &R, wrong: Option<&str>) {
-    assert!(rt; wrong.is_none(), "{wrong:?}");
+fn pair_runs() -> &'static [Run] {
+    &PAIR_RUNS
+}
+
+fn raised_runs() -> &'static [Run] {
+    &RAISED
 }
 
 #[test]
-fn commands_on_disks_in_memory(rt: HostRuntime) -> Result<(), Fail> {
-    let mut folder = folder_of(rt.alloc(), MemDisk::new(rt.alloc()))?;
-    let wrong = first_wrong(rt.alloc(), &mut folder, runs());
-    drop(folder);
-    assert_none(&rt, wrong?);
-    Ok(())
+fn commands_on_disks_in_memory(rt: HostRuntime) {
+    end(&rt, &mut folder_of(&rt, MemDisk::new(rt.alloc())), runs());
 }
 
 /// The store of a topology, and the same again.
@@ -159,29 +108,12 @@ const PAIR_RUNS: [Run; 6] = [
     ("resetd migrate store", 0, "migrated 3\n", ""),
 ];
 
-/// The runs.
-fn pair_runs() -> &'static [Run] {
-    &PAIR_RUNS
-}
-
-/// The bytes of the disk in a folder.
-fn bytes_in(folder: &MemFolder) -> &[u8] {
-    match &folder.disk {
-        Some(disk) => disk.bytes(),
-        None => &[],
-    }
-}
-
 /// It is one of version 2 from the first.
 #[test]
-fn a_refused_store_stays(rt: HostRuntime) -> Result<(), Fail> {
-    let mut folder = folder_of(rt.alloc(), MemDisk::new(rt.alloc()))?;
-    let wrong = first_wrong(rt.alloc(), &mut folder, pair_runs());
-    let version = bytes_in(&folder).get(17).copied();
-    drop(folder);
-    assert_none(&rt, wrong?);
-    assert!(rt; version == Some(2));
-    Ok(())
+fn a_refused_store_stays(rt: HostRuntime) {
+    let mut folder = folder_of(&rt, MemDisk::new(rt.alloc()));
+    end(&rt, &mut folder, pair_runs());
+    assert_eq!(rt; bytes_in(&folder).get(17).copied(), Some(2));
 }
 
 /// A store of version 1, of an empty world.
@@ -190,21 +122,12 @@ const EMPTY: &[u8] = b"\x00ACRRESET\0\0\0\0\0\0\x80\0\
 \0\0\0\0\0\0\0\0\0\0\0\
 \0";
 
-fn empty() -> &'static [u8] {
-    EMPTY
-}
-
 /// What is said of it once it was raised: the same again leaves what the first one wrote.
 const RAISED: [Run; 3] = [
     ("resetd check store", 0, "legal 0\n", ""),
     ("resetd migrate store", 0, "migrated 0\n", ""),
     ("resetd migrate other", 3, "", "resetd: Device\n"),
 ];
-
-/// The runs.
-fn raised() -> &'static [Run] {
-    &RAISED
-}
 
 /// An output that takes nothing.
 #[derive(Drop)]
@@ -220,55 +143,22 @@ impl Write for Closed {
     }
 }
 
-/// Migrates the store in a folder with an output that takes nothing. Whether that is told. Where memory
-/// runs out there is no answer.
-fn is_told_unprinted(alloc: Global, folder: &mut MemFolder) -> Result<bool, AllocError> {
-    let words = words_of(alloc, "resetd migrate store")?;
-    let is_told = is_unprinted(alloc, folder, words.as_slice());
-    drop(words);
-    is_told
-}
-
-fn is_unprinted(
-    alloc: Global,
-    folder: &mut MemFolder,
-    words: &[String],
-) -> Result<bool, AllocError> {
-    let mut errors = Vec::with_capacity(alloc, 64)?;
-    let status = run_in(
-        alloc,
-        folder,
-        words,
-        &mut b"".as_slice(),
-        &mut Closed,
-        &mut errors,
-    );
-    let is_told = errors.as_slice() == b"resetd: Write\n".as_slice();
-    let is_failing = has_failed(errors.as_slice());
-    drop(errors);
-    if status == Ok(4) || is_failing {
-        Err(AllocError)
-    } else {
-        Ok(status == Ok(3) && is_told)
-    }
-}
-
-/// The selector of a disk, and the version of its second half.
-fn second_half(bytes: &[u8]) -> (Option<u8>, Option<u8>) {
-    (bytes.first().copied(), bytes.get(17 + 32_768).copied())
-}
-
 /// The store is raised though the line can't be printed.
 #[test]
-fn a_line_that_is_not_printed(rt: HostRuntime) -> Result<(), Fail> {
-    let alloc = rt.alloc();
-    let mut folder = folder_of(alloc, MemDisk::from_bytes(alloc, empty())?)?;
-    let is_told = is_told_unprinted(alloc, &mut folder);
-    let wrong = first_wrong(alloc, &mut folder, raised());
-    let second = second_half(bytes_in(&folder));
-    drop(folder);
-    assert!(rt; is_told?);
-    assert_none(&rt, wrong?);
-    assert!(rt; second == (Some(1), Some(2)));
-    Ok(())
+fn a_line_that_is_not_printed(rt: HostRuntime) {
+    let disk = MemDisk::from_bytes(rt.alloc(), EMPTY).expect(&rt, "no disk");
+    let mut folder = folder_of(&rt, disk);
+    let mut told = Streams::new(&rt);
+    let status = status_of(
+        &rt,
+        &mut folder,
+        "resetd migrate store",
+        &mut Closed,
+        &mut told.errors,
+    );
+    told.are(&rt, status, (3, "", "resetd: Write\n"));
+    end(&rt, &mut folder, raised_runs());
+    let bytes = bytes_in(&folder);
+    let second_half = (bytes.first().copied(), bytes.get(17 + 32_768).copied());
+    assert_eq!(rt; second_half, (Some(1), Some(2)));
 }

@@ -1,4 +1,5 @@
-//! Tests of the drill and of the program's commands, as texts read and printed.
+//! Tests of the drill and of the program's commands, as texts read and printed. What fails here fails its
+//! test.
 #![tactic(auto)]
 
 #[cfg(test)]

@@ -1,11 +1,10 @@
 //! The drill over disks that crash: what was printed stands within what opens.
 
+use crate::program::Host;
 use coord_disk::{BlipDisk, Choice, CrashDisk, FailingDisk, FuseDisk, MemDisk, Rule};
 use coord_drill::{Fault, coord_drill_on};
 use coord_store::{Store, StoreFault};
-use std::alloc::{AllocError, Global};
 use std::str;
-use std::test::Fail;
 
 /// Two linked nodes are reset, with a crash while a step is held.
 const SCRIPT: &str = "\
@@ -48,33 +47,22 @@ const STEPS: u64 = 7;
 const CALLS: u64 = 48;
 
 /// A disk in memory by the number of what its crash leaves.
-fn disk(alloc: Global, which: usize) -> Result<MemDisk, AllocError> {
-    let mut disk = MemDisk::new(alloc);
-    let choice = match which {
+fn disk(rt: &impl Host, which: usize) -> MemDisk {
+    let mut disk = MemDisk::new(rt.alloc());
+    let filler = [0, 170].to_vec(rt.alloc()).expect(rt, "no filler");
+    disk.choose(match which {
         0 => Choice::Lost,
         1 => Choice::Kept,
-        _ => {
-            let mut filler = Vec::with_capacity(alloc, 2)?;
-            filler.extend_from_slice(&[0, 170])?;
-            Choice::Filled(filler)
-        }
-    };
-    disk.choose(choice);
-    Ok(disk)
+        _ => Choice::Filled(filler),
+    });
+    disk
 }
 
 /// How many steps the store on a disk has, once that has crashed.
-fn opened(alloc: Global, disk: MemDisk) -> Result<u64, StoreFault> {
-    match Store::open(alloc, disk.crash()) {
-        Ok(store) => {
-            let count = store.world().count();
-            drop(store);
-            Ok(count)
-        }
-        Err((fault, disk)) => {
-            drop(disk);
-            Err(fault)
-        }
+fn opened(rt: &impl Host, disk: MemDisk) -> Result<u64, StoreFault> {
+    match Store::open(rt.alloc(), disk.crash()) {
+        Ok(store) => Ok(store.world().count()),
+        Err((fault, _disk)) => Err(fault),
     }
 }
 
@@ -101,129 +89,58 @@ fn greatest(output: &[u8]) -> u64 {
 }
 
 /// What a drill over a disk ended with, what it printed, and the disk.
-struct Drilled<D> {
-    fault: Option<Fault>,
-    output: Vec<u8>,
-    disk: D,
-}
-
-/// A drill over a disk.
-fn drill_over<D: CrashDisk>(alloc: Global, disk: D) -> Drilled<D> {
+fn drilled<D: CrashDisk>(rt: &impl Host, disk: D) -> (Option<Fault>, Vec<u8>, D) {
     let mut input = SCRIPT.as_bytes();
-    let mut output = Vec::new(alloc);
-    match coord_drill_on(alloc, &mut input, &mut output, disk) {
-        Ok(disk) => Drilled {
-            fault: None,
-            output,
-            disk,
-        },
-        Err((fault, disk)) => Drilled {
-            fault: Some(fault),
-            output,
-            disk,
-        },
+    let mut output = Vec::new(rt.alloc());
+    match coord_drill_on(rt.alloc(), &mut input, &mut output, disk) {
+        Ok(disk) => (None, output, disk),
+        Err((fault, disk)) => (Some(fault), output, disk),
     }
-}
-
-/// Whether a drill over a disk in memory prints all, and gives a disk back that has all steps.
-fn is_whole(alloc: Global, which: usize) -> Result<bool, Fail> {
-    let Drilled {
-        fault,
-        output,
-        disk,
-    } = drill_over(alloc, disk(alloc, which)?);
-    let is_printed = output.as_slice() == PRINTED.as_bytes();
-    drop(output);
-    let count = opened(alloc, disk);
-    if fault == Some(Fault::OutOfMemory) {
-        return Err(AllocError)?;
-    }
-    Ok(fault.is_none() && is_printed && count? == STEPS)
 }
 
 #[test]
-fn whatever_a_crash_leaves(rt: HostRuntime) -> Result<(), Fail> {
+fn whatever_a_crash_leaves(rt: HostRuntime) {
     for which in 0..3 {
-        assert!(rt; is_whole(rt.alloc(), which)?, "{which}");
+        let (fault, output, disk) = drilled(&rt, disk(&rt, which));
+        assert_eq!(rt; fault, None, "{which}");
+        assert_eq!(rt;
+            str::from_utf8(&output).unwrap_or("no text"),
+            PRINTED,
+            "{which}"
+        );
+        assert_eq!(rt; opened(&rt, disk), Ok(STEPS), "{which}");
     }
-    Ok(())
 }
 
-/// How a drill over a device that fails calls of a disk in memory is told, and what was printed; the
-/// greatest reply, and how many steps open then.
-fn stopped<R: Rule>(
-    alloc: Global,
-    device: FailingDisk<MemDisk, R>,
-) -> (Option<Fault>, u64, Result<u64, StoreFault>) {
-    let Drilled {
-        fault,
-        output,
-        disk,
-    } = drill_over(alloc, device);
-    let told = greatest(output.as_slice());
-    drop(output);
-    (fault, told, opened(alloc, disk.into_inner()))
+/// A drill over a device that fails calls of a disk in memory tells that alone, and what was printed
+/// opens again. A store that was not made opens to nothing, and has printed nothing.
+fn stands<R: Rule>(rt: &impl Host, device: FailingDisk<MemDisk, R>, calls: u64) {
+    let (fault, output, disk) = drilled(rt, device);
+    let told = greatest(&output);
+    if fault.is_some() {
+        assert_eq!(rt; fault, Some(Fault::Store(StoreFault::Device)), "{calls}");
+    }
+    match opened(rt, disk.into_inner()) {
+        Ok(count) => assert!(rt; told <= count && count <= STEPS, "{calls}"),
+        Err(why) => assert_eq!(rt; told, 0, "{calls}: {why:?}"),
+    }
 }
 
-/// Whether it is told as the device's failure alone, and what was printed opens again. A store that
-/// was not made opens to nothing, and has printed nothing.
-fn stands(ending: (Option<Fault>, u64, Result<u64, StoreFault>)) -> Result<bool, Fail> {
-    let (fault, told, opened) = ending;
-    let is_of_device = match fault {
-        None | Some(Fault::Store(StoreFault::Device)) => true,
-        Some(Fault::OutOfMemory) => return Err(AllocError)?,
-        Some(_) => false,
-    };
-    let is_within = match opened {
-        Ok(count) => told <= count && count <= STEPS,
-        Err(StoreFault::OutOfMemory) => return Err(AllocError)?,
-        Err(_) => told == 0,
-    };
-    Ok(is_of_device && is_within)
-}
-
-/// The device stops at each call, and its crash leaves what is synced, and other bytes elsewhere.
+/// The device stops at each call, and its crash leaves what is synced, and other bytes elsewhere; or it
+/// fails each call alone, and its crash leaves what is synced.
 #[test]
-fn a_device_that_stops(rt: HostRuntime) -> Result<(), Fail> {
+fn a_device_that_fails(rt: HostRuntime) {
     for calls in 0..CALLS {
-        let fuse = FuseDisk::new(disk(rt.alloc(), 2)?, calls);
-        assert!(rt; stands(stopped(rt.alloc(), fuse))?, "{calls}");
+        stands(&rt, FuseDisk::new(disk(&rt, 2), calls), calls);
+        stands(&rt, BlipDisk::new(disk(&rt, 0), calls), calls);
     }
-    Ok(())
-}
-
-/// The device fails each call alone, and its crash leaves what is synced.
-#[test]
-fn a_device_that_fails(rt: HostRuntime) -> Result<(), Fail> {
-    for calls in 0..CALLS {
-        let blip = BlipDisk::new(disk(rt.alloc(), 0)?, calls);
-        assert!(rt; stands(stopped(rt.alloc(), blip))?, "{calls}");
-    }
-    Ok(())
-}
-
-/// How a drill over a disk with these bytes is told, whether it printed nothing, and whether the
-/// disk reads as before.
-fn refused(alloc: Global, bytes: &[u8]) -> Result<(Option<Fault>, bool, bool), AllocError> {
-    let Drilled {
-        fault,
-        output,
-        disk,
-    } = drill_over(alloc, MemDisk::from_bytes(alloc, bytes)?);
-    let is_silent = output.is_empty();
-    drop(output);
-    let is_same = disk.bytes() == bytes;
-    drop(disk);
-    Ok((fault, is_silent, is_same))
 }
 
 #[test]
-fn a_disk_that_is_not_empty(rt: HostRuntime) -> Result<(), Fail> {
-    let wanted = (Some(Fault::Store(StoreFault::NotEmpty)), true, true);
-    let told = refused(rt.alloc(), b"x")?;
-    if told.0 == Some(Fault::OutOfMemory) {
-        return Err(AllocError)?;
-    }
-    assert!(rt; told == wanted);
-    Ok(())
+fn a_disk_that_is_not_empty(rt: HostRuntime) {
+    let bytes = b"x".as_slice();
+    let disk = MemDisk::from_bytes(rt.alloc(), bytes).expect(&rt, "no disk");
+    let (fault, output, disk) = drilled(&rt, disk);
+    assert_eq!(rt; fault, Some(Fault::Store(StoreFault::NotEmpty)));
+    assert!(rt; output.is_empty() && disk.bytes() == bytes);
 }

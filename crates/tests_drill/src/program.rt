@@ -1,73 +1,45 @@
 //! Runs of the program.
 
-use coord_commands::run_program;
-use std::alloc::{AllocError, Global};
-use std::fs::File;
-use std::io;
-use std::io::Read;
-use std::net::Net;
-use std::rt::Files;
-use std::sync::Wait;
-use std::thread::Threads;
-use std::time::Clock;
-use std::vec::IntoIter;
+use std::process::Abort;
+use std::str;
+
+/// What a test asks for memory, and what ends it.
+pub(crate) trait Host: Abort + AllocGlobal {}
+
+impl<R: Abort + AllocGlobal> Host for R {}
 
 /// What a run of the program is to end with: its exit status, what it prints, and its fault line.
 pub(crate) type Ending<'a> = (u8, &'a str, &'a str);
 
+/// What a run prints and tells. There is room for all of it, so that no write is refused.
+#[derive(Drop)]
+pub(crate) struct Streams {
+    pub(crate) output: Vec<u8>,
+    pub(crate) errors: Vec<u8>,
+}
+
+impl Streams {
+    pub(crate) fn new(rt: &impl Host) -> Self {
+        Streams {
+            output: Vec::with_capacity(rt.alloc(), 65_536).expect(rt, "no room"),
+            errors: Vec::with_capacity(rt.alloc(), 64).expect(rt, "no room"),
+        }
+    }
+
+    /// A run that gives this status ended so.
+    pub(crate) fn are(&self, rt: &impl Host, status: u8, ending: Ending<'_>) {
+        let printed = str::from_utf8(&self.output).unwrap_or("no text");
+        let told = str::from_utf8(&self.errors).unwrap_or("no text");
+        assert_eq!(rt; (status, printed, told), ending);
+    }
+}
+
 /// The words of a text, which one space each separates.
-pub(crate) fn words_of(alloc: Global, text: &str) -> Result<Vec<String>, AllocError> {
-    let mut words = Vec::new(alloc);
+pub(crate) fn words_of(rt: &impl Host, text: &str) -> Vec<String> {
+    let mut words = Vec::new(rt.alloc());
     for word in text.split(' ') {
-        words.push(String::from_str(alloc, word)?)?;
+        let word = String::from_str(rt.alloc(), word).expect(rt, "no word");
+        words.push(word).expect(rt, "no word");
     }
-    Ok(words)
-}
-
-/// What a run of the program ended with: its exit status, what it printed, and its fault line.
-pub(crate) type Ended = (u8, Vec<u8>, Vec<u8>);
-
-/// What a run of the program with these words, over a reader, ended with.
-pub(crate) fn ended<
-    S: Files<File = File> + Net + Threads + Wait + Clock + Sync + AllocGlobal,
-    R: Read,
->(rt: &S, words: &str, input: &mut R) -> Result<Ended, AllocError> {
-    let given = words_of(rt.alloc(), words)?;
-    ended_with(rt, Ok(given.into_iter()), input)
-}
-
-/// What it ended with where its words come so, or could not be had.
-pub(crate) fn ended_with<
-    S: Files<File = File> + Net + Threads + Wait + Clock + Sync + AllocGlobal,
-    R: Read,
->(rt: &S, words: io::Result<IntoIter<String>>, input: &mut R) -> Result<Ended, AllocError> {
-    let (mut output, mut errors) = streams(rt.alloc())?;
-    let status = run_program(rt, words, input, &mut output, &mut errors);
-    Ok((status, output, errors))
-}
-
-/// Room for all that is printed and told, so that no write is refused.
-pub(crate) fn streams(alloc: Global) -> Result<(Vec<u8>, Vec<u8>), AllocError> {
-    let output = Vec::with_capacity(alloc, 65_536)?;
-    let errors = Vec::with_capacity(alloc, 64)?;
-    Ok((output, errors))
-}
-
-/// Whether a run ended so, unless it was for want of memory.
-pub(crate) fn is_ending(run: &Ended, ending: Ending<'_>) -> Result<bool, AllocError> {
-    if run.0 == 4 {
-        return Err(AllocError);
-    }
-    let (expected, printed, faults) = ending;
-    Ok(
-        run.0 == expected
-            && run.1.as_slice() == printed.as_bytes()
-            && run.2.as_slice() == faults.as_bytes(),
-    )
-}
-
-/// Whether this is told of a disk that failed. A disk in memory fails for want of memory alone, so
-/// where a run is not to end so there was none.
-pub(crate) fn has_failed(told: &[u8]) -> bool {
-    told == b"resetd: Device\n".as_slice()
+    words
 }

@@ -3,7 +3,7 @@
 
 ghost use Rattle.std.specs.Prelude.{◌≡◌};
 
-use crate::scripts::{adding, created, engine, made_with, pair_steps, resetting};
+use crate::scripts::{adding, engine, made_with, pair_steps, resetting};
 use coord_disk::{Disk, MemDisk};
 use coord_engine::{Engine, Origin, Port, flusher, hand_over};
 use coord_ledger::Ledger;
@@ -11,9 +11,8 @@ use coord_types::{NodeId, Packet, Step};
 use std::alloc::Global;
 use std::marker::Brand;
 use std::process::Abort;
+use std::sync::Wait;
 use std::sync::ledger::Blank;
-use std::sync::{Mutex, Wait};
-use std::test::Fail;
 use std::time::Clock;
 
 /// A node without neighbours, by the client with its number.
@@ -24,75 +23,48 @@ const NODES: u8 = 64;
 
 /// A port that counts what is asked of it.
 #[derive(Drop)]
-struct Counting<R: Wait> {
-    rt: R,
-    carried: Mutex<u64>,
-    signalled: Mutex<u64>,
+struct Counting {
+    carried: u64,
+    signalled: u64,
 }
 
-impl<R: Wait> Counting<R> {
-    fn new(rt: R) -> Self {
-        Counting {
-            rt,
-            carried: Mutex::new(0),
-            signalled: Mutex::new(0),
-        }
-    }
-
-    fn carried(&self) -> u64 {
-        *self.carried.lock(&self.rt)
-    }
-
-    fn signalled(&self) -> u64 {
-        *self.signalled.lock(&self.rt)
-    }
-}
-
-fn count_one<R: Wait>(rt: &R, count: &Mutex<u64>) {
-    let mut count = count.lock(rt);
-    *count = count.wrapping_add(1);
-}
-
-impl<R: Wait> Port for &Counting<R> {
+impl Port for Counting {
     fn carry(&mut self, _to: NodeId, _packet: Packet) -> bool {
-        count_one(&self.rt, &self.carried);
+        self.carried = self.carried.saturating_add(1);
         true
     }
 
     fn signal(&mut self, _node: NodeId, _epoch: u64) -> bool {
-        count_one(&self.rt, &self.signalled);
+        self.signalled = self.signalled.saturating_add(1);
         true
     }
 }
 
-// Whether what a flight releases is handed over: a packet and a signal, each once.
-fn hands_each_once<D: Disk, L: Origin, R: Wait>(
-    rt: &R,
-    engine: &Engine<D, L>,
-) -> Result<bool, Fail> {
-    let counting = Counting::new(rt);
-    let Some(releases) = engine.flush_once(rt)? else {
-        return Ok(false);
-    };
-    let count = hand_over(rt, engine, &mut &counting, releases);
-    Ok(count == 2 && counting.carried() == 1 && counting.signalled() == 1)
+fn new_port() -> Counting {
+    Counting {
+        carried: 0,
+        signalled: 0,
+    }
 }
 
+// What a flight releases is handed over: a packet and a signal, each once.
 fn hand_each<D: Disk, L: Origin, R: Wait + Abort>(
     rt: &R,
     alloc: Global,
     blank: Blank,
     ledger: Ledger<D>,
-) -> Result<bool, Fail>
+)
     requires name { blank.name ≡ L.name }
     requires parts { (blank.parts ≡ L.parts) × (L.parts ≡ 65536) }
     requires base { ledger.log.base ≡ L.base }
     requires before { ledger.log.trail ≡ L.before }
 {
     let engine: Engine<D, L> = engine(rt, alloc, blank, ledger);
-    let is_so = hands_each_once(rt, &engine);
-    drop(engine);
-    is_so
+    let flight = engine.flush_once(rt).expect(rt, "no flight");
+    let releases = flight.expect(rt, "no releases");
+    let mut port = new_port();
+    let count = hand_over(rt, &engine, &mut port, releases);
+    assert_eq!(rt; (count, port.carried, port.signalled), (2, 1, 1));
 }
 
 // Two nodes that are linked and one that is alone. One of the two is reset, and sends to the other; and
@@ -109,36 +81,34 @@ fn steps() -> Option<[Step; 6]> {
     ])
 }
 
-fn hands_each<R: Wait + Abort>(rt: &R, alloc: Global) -> Result<bool, Fail> {
-    let steps = steps().ok_or("steps")?;
-    let ledger = created(alloc, MemDisk::new(alloc), &steps)?;
-    hand_each::<MemDisk, Brand, R>(rt, alloc, Blank::new(65536), ledger)
+fn hands_each<R: Wait + Abort>(rt: &R, alloc: Global) {
+    let steps = steps().expect(rt, "no steps");
+    let ledger = made_with(rt, alloc, MemDisk::new(alloc), &steps);
+    hand_each::<MemDisk, Brand, R>(rt, alloc, Blank::new(65536), ledger);
 }
 
 #[test]
-fn each_delivery_is_handed_once(rt: HostRuntime) -> Result<(), Fail> {
-    assert!(rt; hands_each(&rt, rt.alloc())?);
-    Ok(())
+fn each_delivery_is_handed_once(rt: HostRuntime) {
+    hands_each(&rt, rt.alloc());
 }
 
-// Whether a flusher hands over the signals of all nodes, which one flight releases.
+// A flusher hands over the signals of all nodes, which one flight releases.
 fn flushes_all<D: Disk, L: Origin, R: Wait + Clock + Abort>(
     rt: &R,
     alloc: Global,
     blank: Blank,
     ledger: Ledger<D>,
-) -> bool
+)
     requires name { blank.name ≡ L.name }
     requires parts { (blank.parts ≡ L.parts) × (L.parts ≡ 65536) }
     requires base { ledger.log.base ≡ L.base }
     requires before { ledger.log.trail ≡ L.before }
 {
     let engine: Engine<D, L> = engine(rt, alloc, blank, ledger);
-    let counting = Counting::new(rt);
+    let mut port = new_port();
     engine.finish(rt);
-    flusher(rt, &engine, &mut &counting);
-    drop(engine);
-    counting.carried() == 0 && counting.signalled() == u64::from(NODES)
+    flusher(rt, &engine, &mut port);
+    assert_eq!(rt; (port.carried, port.signalled), (0, u64::from(NODES)));
 }
 
 // Nodes that are alone, each of which is reset, by one client.
@@ -154,14 +124,13 @@ fn lone_resets<R: Abort>(rt: &R, alloc: Global) -> Vec<Step> {
     steps
 }
 
-fn flushes<R: Wait + Clock + Abort>(rt: &R, alloc: Global) -> bool {
+fn flushes<R: Wait + Clock + Abort>(rt: &R, alloc: Global) {
     let steps = lone_resets(rt, alloc);
     let ledger = made_with(rt, alloc, MemDisk::new(alloc), &steps);
-    drop(steps);
-    flushes_all::<MemDisk, Brand, R>(rt, alloc, Blank::new(65536), ledger)
+    flushes_all::<MemDisk, Brand, R>(rt, alloc, Blank::new(65536), ledger);
 }
 
 #[test]
 fn a_long_flight_is_handed_over(rt: HostRuntime) {
-    assert!(rt; flushes(&rt, rt.alloc()));
+    flushes(&rt, rt.alloc());
 }

@@ -4,8 +4,6 @@
 #[cfg(test)]
 mod closing;
 #[cfg(test)]
-mod devices;
-#[cfg(test)]
 mod handed;
 #[cfg(test)]
 mod long_life;

@@ -4,8 +4,6 @@
 #[cfg(test)]
 mod asking;
 #[cfg(test)]
-mod epochs;
-#[cfg(test)]
 mod kill;
 #[cfg(test)]
 mod lives;

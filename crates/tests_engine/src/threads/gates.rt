@@ -19,73 +19,27 @@ use std::thread::Threads;
 /// How often a thread looks whether a sync stands at the gate.
 const LOOKS: u64 = 100_000_000;
 
-// Whether the client's first order is accepted; it adds the node with its number.
-fn is_accepted<D: Disk, L: Origin, R: Wait>(
-    rt: &R,
-    engine: &Engine<D, L>,
-    share: &mut Share<L>,
-    who: u8,
-) -> bool {
-    let Some(step) = adding(who, 1, who) else {
-        return false;
-    };
-    match engine.submit(rt, step, share) {
-        Ok(ticket) => {
-            ticket.forget();
-            true
-        }
-        Err(_) => false,
-    }
-}
-
-// Whether as many steps as may be pending are accepted while a sync stands at the gate, and no more.
-// It is opened then.
-fn is_accepted_meanwhile<D: Disk, L: Origin, R: Wait>(
+// As many steps as may be pending are accepted while a sync stands at the gate, and no more. It is
+// opened then.
+fn accept_meanwhile<D: Disk, L: Origin, R: Wait + Abort>(
     rt: &R,
     engine: &Engine<D, L>,
     share: &mut Share<L>,
     entered: &AtomicBool,
     answered: &AtomicBool,
-) -> bool {
+) {
     for _ in 0..LOOKS {
         if entered.load(Ordering::SeqCst) {
             let filled = is_filled(rt, engine, share, MOST);
             answered.store(true, Ordering::SeqCst);
-            return filled;
+            assert!(rt; filled);
+            return;
         }
     }
-    false
+    panic!(rt; "no sync")
 }
 
-// Whether a flight settles something.
-fn flushes<D: Disk, L: Origin, R: Wait>(rt: &R, engine: &Engine<D, L>) -> bool {
-    match engine.flush_once(rt) {
-        Ok(Some(releases)) => {
-            releases.lose_rest();
-            true
-        }
-        Ok(None) | Err(_) => false,
-    }
-}
-
-// Whether one thread's step is settled, and another's are accepted meanwhile.
-fn is_accepted_in_sync<D: Disk + Send, L: Origin + Send + Sync, R: Threads + Wait + Sync>(
-    rt: &R,
-    engine: &Engine<D, L>,
-    mine: &mut Share<L>,
-    other: &mut Share<L>,
-    entered: &AtomicBool,
-    answered: &AtomicBool,
-) -> bool {
-    let pending = is_accepted(rt, engine, mine, 1);
-    let (flushed, accepted) = thread::join(
-        rt,
-        move || flushes(rt, engine),
-        move || is_accepted_meanwhile(rt, engine, other, entered, answered),
-    );
-    pending && flushed && accepted
-}
-
+// One thread's step is settled, and another's are accepted meanwhile.
 fn accept_in_sync<D: Disk + Send, L: Origin + Send + Sync, R: Threads + Wait + Sync + Abort>(
     rt: &R,
     alloc: Global,
@@ -93,24 +47,35 @@ fn accept_in_sync<D: Disk + Send, L: Origin + Send + Sync, R: Threads + Wait + S
     ledger: Ledger<D>,
     entered: &AtomicBool,
     answered: &AtomicBool,
-) -> bool
+)
     requires name { blank.name ≡ L.name }
     requires parts { (blank.parts ≡ L.parts) × (L.parts ≡ 65536) }
     requires base { ledger.log.base ≡ L.base }
     requires before { ledger.log.trail ≡ L.before }
 {
     let engine: Engine<D, L> = engine(rt, alloc, blank, ledger);
+    let engine = &engine;
     let mut mine = engine.share(rt).expect(rt, "no share");
     let mut other = engine.share(rt).expect(rt, "no share");
-    let is_accepted = is_accepted_in_sync(rt, &engine, &mut mine, &mut other, entered, answered);
-    drop(mine);
-    drop(other);
-    drop(engine);
-    is_accepted
+    let step = adding(1, 1, 1).expect(rt, "no step");
+    engine
+        .submit(rt, step, &mut mine)
+        .expect(rt, "refused")
+        .forget();
+    let other = &mut other;
+    let (flushed, ()) = thread::join(
+        rt,
+        move || engine
+            .flush_once(rt)
+            .expect(rt, "no flight")
+            .map(|releases| releases.lose_rest()),
+        move || accept_meanwhile(rt, engine, other, entered, answered),
+    );
+    assert_eq!(rt; flushed, Some(0));
 }
 
 // Steps of another thread while a sync of a flight stands at the gate.
-fn accepts_in_sync<R: Threads + Wait + Sync + Abort>(rt: &R, alloc: Global) -> bool {
+fn accepts_in_sync<R: Threads + Wait + Sync + Abort>(rt: &R, alloc: Global) {
     let entered = Arc::new(alloc, AtomicBool::new(false)).expect(rt, "no memory");
     let answered = Arc::new(alloc, AtomicBool::new(true)).expect(rt, "no memory");
     // A device in memory whose syncs wait at a gate with these flags.
@@ -123,13 +88,10 @@ fn accepts_in_sync<R: Threads + Wait + Sync + Abort>(rt: &R, alloc: Global) -> b
     entered.store(false, Ordering::SeqCst);
     answered.store(false, Ordering::SeqCst);
     let blank = Blank::new(65536);
-    let is_so = accept_in_sync::<_, Brand, R>(rt, alloc, blank, ledger, &entered, &answered);
-    drop(entered);
-    drop(answered);
-    is_so
+    accept_in_sync::<_, Brand, R>(rt, alloc, blank, ledger, &entered, &answered);
 }
 
 #[test]
 fn steps_are_accepted_inside_a_sync(rt: HostRuntime) {
-    assert!(rt; accepts_in_sync(&rt, rt.alloc()));
+    accepts_in_sync(&rt, rt.alloc());
 }
