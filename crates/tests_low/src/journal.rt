@@ -61,8 +61,11 @@ fn append<D: Disk>(rt: &impl Host, journal: &mut Journal<D>) -> Result<(), Journ
 #[test]
 fn a_journal_is_made_and_added_to(rt: HostRuntime) {
     laws::one_content();
-    let mut disk = MemDisk::new(rt.alloc());
+    // its length, a write and a sync
+    let mut disk = FuseDisk::new(MemDisk::new(rt.alloc()), u64::MAX);
     format(rt.alloc(), &mut disk, 32_768, 1, &[0; 11]).expect(&rt, "not made");
+    assert_eq!(rt; disk.calls(), 3);
+    let disk = disk.into_inner();
     assert_eq!(rt; disk.bytes(), created().as_slice());
     let (mut journal, contents) = opened(&rt, disk);
     assert_eq!(rt;
