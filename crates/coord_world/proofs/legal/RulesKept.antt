@@ -8,8 +8,8 @@ use Rattle.coord_types.specs.declared.messages.Mode.TheVariants.{Abort, Converge
 use Rattle.coord_types.specs.declared.messages.Msg.{Msg}
 use Rattle.coord_types.specs.declared.messages.Msg.TheVariants as msg
 use Rattle.coord_types.proofs.Sets.{contains-empty, contains-remove}
-use Rattle.coord_node.specs.Facade.{Transition, added, answer, finish, ideal_applied, idle, is_empty, is_parent, kept, on_abort, on_ack, on_ready, request, transition, wave_back, wave_on}
-use Rattle.coord_world.specs.protocol.Links.{link, acks, is_abort, is_ready}
+use Rattle.coord_node.specs.Facade.{Transition, added, answer, carried, finish, ideal_applied, idle, is_empty, is_parent, kept, on_abort, on_ack, on_ready, request, transition, wave_back, wave_on}
+use Rattle.coord_world.specs.protocol.Links.{link, acks, is_abort, is_ready, strays}
 use Rattle.coord_world.proofs.legal.TransitionKept.{both_before, but_of, deed_kept, not_self}
 use Rattle.coord_world.proofs.transitions.LegalBoth.{LegalBoth, acked, acked_last, converges_near, passed_by, released, wave_ends, wave_meets, wave_reaches}
 use Rattle.coord_world.proofs.transitions.KeepsLinks.{Aside, Keeps, aside_acked, aside_self, has_without, keeps_alone, keeps_answer, keeps_converge, keeps_finish, keeps_idle, keeps_wave_back, keeps_wave_on}

@@ -22,8 +22,8 @@ module _ (w : Ideal) (u : ℕ) (sound : Sound w) where
   -- before the transition
   pub both_before : (y : ℕ) → contains (w.state u).neighbours y ≡ true → LegalBoth (link w u y)
   both_before y with_y = record {
-    here = legal_end _ y (sound.nodes u);
-    there = legal_end _ u (sound.nodes y);
+    here = legal_end _ _ y (sound.nodes u);
+    there = legal_end _ _ u (sound.nodes y);
     from = sound.links u y with_y;
     to = sound.links y u (sym (sound.mirrored u y) ∙ with_y);
   }

@@ -13,7 +13,7 @@ use Rattle.coord_world.proofs.view.ViewAfter.{view_set, view_unset, view_left, v
 
 -- by the step
 pub view_next : (w settled : World) (s : Step) → AllCount w → IsFresh w settled s → view (next w s) ≡ ideal_next (view w) s
-view_next w settled (Order c n (Add u g)) counts fresh = view_set w u (new_node w.version g)
+view_next w settled (Order c n (Add u g)) counts fresh = view_set w u (new_node g)
 view_next w settled (Order c n (Remove u)) counts fresh = view_unset w u
 view_next w settled (Order c n (Join a b)) counts fresh = view_made w a b
 view_next w settled (Order c n (Drop a b)) counts fresh =

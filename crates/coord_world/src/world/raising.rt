@@ -9,6 +9,7 @@ ghost use Rattle.coord_world.specs.protocol.Links.{is_ready};
 ghost use Rattle.coord_world.specs.protocol.NumberedWorld.{state};
 
 use super::World;
+use crate::tables::Tables;
 use coord_types::{MAX_NODES, Mode, NodeId, Version};
 use std::alloc::AllocError;
 
@@ -42,10 +43,22 @@ impl World {
         ensures value { IfOk result (λ v. v ≡ raised self.now) }
         ensures legal { IfOk result (λ v. Legal v) }
     {
-        self.ranges();
-        let mut raised = self.copy()?;
-        raised.tables.version = second();
-        Ok(raised)
+        let tables = self.tables.raised()?;
+        Ok(World {
+            alloc: self.alloc,
+            tables,
+        })
+    }
+}
+
+impl Tables {
+    /// The same in version 2.
+    fn raised(&self) -> Result<Tables, AllocError>
+        ensures { IfOk result (λ tables. tables ≡ raised self.now) }
+    {
+        let mut tables = self.copy()?;
+        tables.version = second();
+        Ok(tables)
     }
 }
 
