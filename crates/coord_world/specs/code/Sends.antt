@@ -1,5 +1,6 @@
 -- What a node sends: a list of messages, each with the node that it goes to.
 use Rattle.std.specs.Prelude.{◌≡◌, ℕ, ◌<◌, List, [], ◌∷◌, length, Some, if◌then◌else◌}
+use Rattle.coord_link.specs.declared.lane.TheConstants.{PLACES}
 use Rattle.coord_tables.specs.Links.{Links, change_lanes, lane_at}
 use Rattle.coord_types.specs.declared.messages.Msg.{Msg}
 use Rattle.coord_link.specs.LaneMachine.{Lane, sent}
@@ -17,4 +18,4 @@ sent_lanes u (s ∷ ss) links = sent_lanes u ss (sent_lane u s links)
 -- each lane has a free place for what u sends on it
 abbrev pub CanSend : ℕ → List (ℕ × Msg) → Links → Type 0
 CanSend u [] links = Unit {0}
-CanSend u (s ∷ ss) links = ((l : Lane) → lane_at links u s.0 ≡ Some l → length l.queue < 4) × CanSend u ss (sent_lane u s links)
+CanSend u (s ∷ ss) links = ((l : Lane) → lane_at links u s.0 ≡ Some l → length l.queue < PLACES) × CanSend u ss (sent_lane u s links)

@@ -41,7 +41,7 @@ transit_or_none (Some l) = transit l
 
 -- the ideal world that a numbered one stands for: each lane is what is on the way on it
 abbrev pub view : World → Ideal
-view w = record { version = w.version; state = state w; linked = is_linked w; way = λ u v. transit_or_none (lane_at w.links u v) }
+view w = record { version = w.version; state = state w; linked = is_linked w; in_transit = λ u v. transit_or_none (lane_at w.links u v) }
 
 -- a world is stored as the tuple of its parts
 abbrev pub world_code : Coded World

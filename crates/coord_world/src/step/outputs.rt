@@ -5,9 +5,9 @@ ghost use Rattle.std.specs.List.{All};
 ghost use Rattle.coord_tables.specs.Links.{lane_at, lanes_in_order};
 ghost use Rattle.coord_world.specs.protocol.Outputs.{again_by, all_again, receipt};
 ghost use Rattle.coord_world.specs.code.Fronts.{AreNumbered, HasNumber, by_lesser, front_sent, fronts_sent, packets_of};
-ghost use Rattle.coord_world.specs.code.NodeSteps.{signal_of};
+ghost use Rattle.coord_world.specs.code.NodeTransitions.{signal_of};
 
-use crate::step::node_step::NodeStep;
+use crate::step::node_transition::NodeTransition;
 use coord_link::Lane;
 use coord_tables::LinkTable;
 use coord_types::{DataPacket, Msg, NodeId, Output, ReceiptPacket};
@@ -28,11 +28,14 @@ pub fn push_receipt(packet: &DataPacket, outputs: &mut Vec<Output>) -> Result<()
 }
 
 /// Adds the signal of a node that finished.
-pub fn push_signal(node_step: &NodeStep, outputs: &mut Vec<Output>) -> Result<(), AllocError>
-    ensures { OnOk result (outputs.new.items ≡ outputs.old.items ++ signal_of node_step.now) }
+pub fn push_signal(
+    node_transition: &NodeTransition,
+    outputs: &mut Vec<Output>,
+) -> Result<(), AllocError>
+    ensures { OnOk result (outputs.new.items ≡ outputs.old.items ++ signal_of node_transition.now) }
 {
-    if node_step.deed.finished {
-        outputs.push(Output::Signalled(node_step.id, node_step.node.epoch()))?;
+    if node_transition.effects.finished {
+        outputs.push(Output::Signalled(node_transition.id, node_transition.node.epoch()))?;
     }
     Ok(())
 }
@@ -40,16 +43,16 @@ pub fn push_signal(node_step: &NodeStep, outputs: &mut Vec<Output>) -> Result<()
 /// Adds the new fronts that the messages of a node become, in ascending order of their lanes.
 pub fn push_fronts(
     links: &LinkTable,
-    node_step: &NodeStep,
+    node_transition: &NodeTransition,
     outputs: &mut Vec<Output>,
 ) -> Result<(), AllocError>
     requires { AreNumbered links.now }
     ensures { OnOk result (outputs.new.items ≡
-        outputs.old.items ++ fronts_sent links.now node_step.now.id
-        node_step.now.deed.sends.items) }
+        outputs.old.items ++ fronts_sent links.now node_transition.now.id
+        node_transition.now.effects.sends.items) }
 {
-    for send in &node_step.deed.sends {
-        push_front(links, node_step.id, send.0, send.1, outputs)?;
+    for send in &node_transition.effects.sends {
+        push_front(links, node_transition.id, send.0, send.1, outputs)?;
     }
     Ok(())
 }
@@ -57,15 +60,15 @@ pub fn push_fronts(
 /// Adds the new fronts of the two ends of a link, those of the lesser one first.
 pub fn push_fronts_of_both(
     links: &LinkTable,
-    first: &NodeStep,
-    second: &NodeStep,
+    first: &NodeTransition,
+    second: &NodeTransition,
     outputs: &mut Vec<Output>,
 ) -> Result<(), AllocError>
     requires { AreNumbered links.now }
     ensures { OnOk result (outputs.new.items ≡
         outputs.old.items ++ by_lesser first.now.id second.now.id
-        (fronts_sent links.now first.now.id first.now.deed.sends.items)
-        (fronts_sent links.now second.now.id second.now.deed.sends.items)) }
+        (fronts_sent links.now first.now.id first.now.effects.sends.items)
+        (fronts_sent links.now second.now.id second.now.effects.sends.items)) }
 {
     if first.id < second.id {
         push_fronts(links, first, outputs)?;

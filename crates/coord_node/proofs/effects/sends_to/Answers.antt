@@ -2,7 +2,7 @@ use Rattle.std.proofs.Common.{sym, ap, arith}
 use Rattle.coord_types.specs.NodeSet as set
 use Rattle.coord_types.proofs.Sets.{len-first}
 use Rattle.coord_node.proofs.Sends.{to_first}
-use Rattle.coord_node.proofs.deed.sends_to.Goals as goal
+use Rattle.coord_node.proofs.effects.sends_to.Goals as goal
 
 pub loop-id-smaller : goal.loop-id-smaller
 loop-id-smaller c =

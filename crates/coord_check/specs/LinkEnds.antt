@@ -4,9 +4,9 @@ use Rattle.coord_types.specs.NodeSet as set
 use Rattle.coord_types.specs.declared.messages.Msg.{Msg}
 use Rattle.coord_types.specs.declared.messages.Msg.TheVariants as msg
 use Rattle.coord_link.specs.LaneMachine.{Lane, new_lane, transit}
-use Rattle.coord_node.specs.Rules.{carried, is_parent}
+use Rattle.coord_node.specs.Rules.{carries, is_parent}
 use Rattle.coord_world.specs.Facade.{End, Link, World, aborts, acks, lane_at, readies, state}
-use Rattle.coord_check.specs.declared.side.Side.{Side}
+use Rattle.coord_check.specs.declared.link_end.LinkEnd.{LinkEnd}
 
 -- a message is of a kind, whatever it carries
 abbrev pub is_of_kind : Msg → Msg → Bool
@@ -27,19 +27,19 @@ lane_or_none None = new_lane 0
 lane_or_none (Some l) = l
 
 -- u's end of its link to v
-abbrev pub side : World → ℕ → ℕ → Side
-side w u v = record {
+abbrev pub link_end : World → ℕ → ℕ → LinkEnd
+link_end w u v = record {
   mode = (state w u).mode;
   awaits = set.contains (state w u).pend v;
   child = is_parent (state w u).parent v;
   distance = (state w u).distance;
-  carries = carried w.version (state w u);
+  carries = carries w.version (state w u);
   lane = lane_or_none (lane_at w.links u v);
 }
 
-abbrev pub end_at : Side → End
+abbrev pub end_at : LinkEnd → End
 end_at s = record { mode = s.mode; awaits = s.awaits; child = s.child; distance = s.distance; carries = s.carries }
 
 -- the link with these ends, as the first one sees it
-abbrev pub seen : Side → Side → Link
+abbrev pub seen : LinkEnd → LinkEnd → Link
 seen here there = record { here = end_at here; there = end_at there; out = transit here.lane; back = transit there.lane }

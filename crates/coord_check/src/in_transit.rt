@@ -2,7 +2,7 @@
 
 ghost use Rattle.std.specs.Prelude.{◌≡◌};
 ghost use Rattle.coord_world.specs.protocol.Links.{readies_behind, strays};
-ghost use Rattle.coord_check.specs.Sides.{count, is_of_kind};
+ghost use Rattle.coord_check.specs.LinkEnds.{count, is_of_kind};
 
 use coord_types::Msg;
 

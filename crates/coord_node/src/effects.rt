@@ -8,20 +8,20 @@ use std::alloc::{AllocError, Global};
 
 /// What is to be sent, and whether the node finished a reset.
 #[derive(Drop, Debug)]
-pub struct Deed {
+pub struct Effects {
     /// Whom a message goes to, in ascending order, and the message.
     pub sends: Vec<(NodeId, Msg)>,
     /// Whether the node entered its next epoch.
     pub finished: bool,
 }
 
-impl Deed {
+impl Effects {
     /// Nothing is sent.
     pub(crate) fn idle(alloc: Global) -> Self
         ensures sends { result.sends.items ≡ [] }
         ensures finished { result.finished ≡ false }
     {
-        Deed {
+        Effects {
             sends: Vec::new(alloc),
             finished: false,
         }
@@ -33,7 +33,7 @@ impl Deed {
         ensures finished { IfOk result (λ d. d.finished ≡ false) }
     {
         let sends = vec![in alloc; (to, Msg::Ack)]?;
-        Ok(Deed {
+        Ok(Effects {
             sends,
             finished: false,
         })

@@ -10,10 +10,10 @@ use Rattle.coord_types.proofs.Tables.{option_map}
 use Rattle.coord_types.specs.declared.messages.Msg.{Msg}
 use Rattle.coord_link.specs.LaneMachine.{Lane, sent}
 use Rattle.coord_node.specs.Facade.{Transition, added, sends_of}
-use Rattle.coord_world.specs.declared.step.node_step.NodeStep.{NodeStep}
+use Rattle.coord_world.specs.declared.step.node_transition.NodeTransition.{NodeTransition}
 use Rattle.coord_world.specs.Facade.{Links, World, is_lane, lane_at, with_transition}
 use Rattle.coord_world.specs.code.Sends.{CanSend, sent_lane, sent_lanes}
-use Rattle.coord_world.specs.code.NodeSteps.{IsNodeStepOf, node_stepped}
+use Rattle.coord_world.specs.code.NodeTransitions.{IsTransitionOf, node_changed}
 use Rattle.coord_tables.proofs.Cases.{by_test}
 use Rattle.coord_tables.proofs.LinkLanes.{changed_alike, changed_nowhere, changed_twice, lane-changed}
 use Rattle.coord_tables.specs.Links.{change_lanes}
@@ -70,8 +70,8 @@ sent_is d y = each_once d.message (set.items d.to) y (items-sorted d.to) ∙ ap 
 lanes_are : (u : ℕ) (d : Transition) (links : Links) → sent_lanes u (sends_of d) links ≡ change_lanes (λ k l. cond (eqb k.0 u) (sent (added d k.1) l) l) links
 lanes_are u d links = sent_all u (sends_of d) links ∙ changed_alike _ _ links (λ k l i. cond (eqb k.0 u) (sent (sent_is d k.1 i) l) l)
 
-pub act_done : (w : World) (node_step : NodeStep) (u : ℕ) (d : Transition) → IsNodeStepOf node_step u d → node_stepped w node_step.id node_step.node node_step.deed.sends.items ≡ with_transition w u d
-act_done w node_step u d is = (λ i. node_stepped w (is.id i) (is.state i) (is.sends i)) ∙ (λ i. record w { nodes = insert w.nodes u d.state; links = lanes_are u d w.links i })
+pub act_done : (w : World) (node_transition : NodeTransition) (u : ℕ) (d : Transition) → IsTransitionOf node_transition u d → node_changed w node_transition.id node_transition.node node_transition.effects.sends.items ≡ with_transition w u d
+act_done w node_transition u d is = (λ i. node_changed w (is.id i) (is.state i) (is.sends i)) ∙ (λ i. record w { nodes = insert w.nodes u d.state; links = lanes_are u d w.links i })
 
 module _ (u : ℕ) (m : Msg) where
   can_send_each : (xs : List ℕ) (links : Links) → IsStrictlySortedBy nat_cmp xs → ((v : ℕ) (l : Lane) → lane_at links u v ≡ Some l → list_any (λ x. nat_eq x v) xs ≡ true → length l.queue < 4) →
@@ -92,8 +92,8 @@ module _ (u : ℕ) (m : Msg) where
           stays b (Some l) isnt = ap (λ t. Some (cond t (sent (m ∷ []) l) l)) (sym isnt)
 
 -- the room that a transition has is room for the node step
-pub act_room : (node_step : NodeStep) (u : ℕ) (d : Transition) (links : Links) → IsNodeStepOf node_step u d →
-    ((v : ℕ) (l : Lane) → lane_at links u v ≡ Some l → set.contains d.to v ≡ true → length l.queue < 4) → CanSend node_step.id node_step.deed.sends.items links
-act_room node_step u d links is room =
-    subst (λ x. CanSend x node_step.deed.sends.items links) (sym is.id) (subst (λ ss. CanSend u ss links) (sym is.sends)
+pub act_room : (node_transition : NodeTransition) (u : ℕ) (d : Transition) (links : Links) → IsTransitionOf node_transition u d →
+    ((v : ℕ) (l : Lane) → lane_at links u v ≡ Some l → set.contains d.to v ≡ true → length l.queue < 4) → CanSend node_transition.id node_transition.effects.sends.items links
+act_room node_transition u d links is room =
+    subst (λ x. CanSend x node_transition.effects.sends.items links) (sym is.id) (subst (λ ss. CanSend u ss links) (sym is.sends)
     (can_send_each u d.message (set.items d.to) links (items-sorted d.to) (λ v l there among. room v l there (contains-items d.to v ∙ among))))
