@@ -17,7 +17,7 @@ ghost use Rattle.coord_world.specs.code.NodeTransitions.{CanApply};
 ghost use Rattle.coord_world.specs.code.Ready.{IsReadyFor};
 
 use crate::step::outputs::{
-    front_packets, push_fronts, push_fronts_of_both, push_receipt, push_signal,
+    front_behind, push_fronts, push_fronts_of_both, push_receipt, push_signal,
 };
 use crate::tables::Tables;
 use coord_link::Lane;
@@ -179,12 +179,7 @@ impl Tables {
             l.got < 2 ^ 64 - 1) }
         ensures { self.new ≡ on_lane self.old from to took }
     {
-        let Some(lane) = self.links.lane(from, to) else {
-            return;
-        };
-        let mut lane = *lane;
-        lane.take();
-        self.links.set_lane(from, to, lane);
+        self.links.take(from, to);
     }
 
     /// Clears the front of a lane.
@@ -206,13 +201,8 @@ impl Tables {
             }) }
         ensures err { OnErr result (self.new ≡ self.old) }
     {
-        let Some(lane) = self.links.lane(from, to) else {
-            return Ok(Vec::new(alloc));
-        };
-        let mut lane = *lane;
-        lane.clear();
-        let outputs = front_packets(alloc, from, to, &lane)?;
-        self.links.set_lane(from, to, lane);
+        let outputs = front_behind(alloc, &self.links, from, to)?;
+        self.links.clear(from, to);
         Ok(outputs)
     }
 }

@@ -1,10 +1,11 @@
 //! What a step gives out, computed before the step is carried out, and what is sent again.
 
-ghost use Rattle.std.specs.Prelude.{◌≡◌, ◌<◌, ◌-◌, ◌^◌, ◌∷◌, [], ◌++◌, IfOk, OnOk};
+ghost use Rattle.std.specs.Prelude.{◌≡◌, ◌<◌, ◌-◌, ◌^◌, ◌∷◌, [], ◌++◌, length, IfOk, OnOk};
 ghost use Rattle.std.specs.List.{All};
+ghost use Rattle.std.specs.Option.{ForSome};
 ghost use Rattle.coord_tables.specs.Links.{lane_at, lanes_in_order};
 ghost use Rattle.coord_world.specs.protocol.Outputs.{again_by, all_again, receipt};
-ghost use Rattle.coord_world.specs.code.Fronts.{AreNumbered, HasNumber, by_lesser, front_sent, fronts_sent, packets_of};
+ghost use Rattle.coord_world.specs.code.Fronts.{AreNumbered, HasNumber, by_lesser, front_behind, front_sent, fronts_sent};
 ghost use Rattle.coord_world.specs.code.NodeTransitions.{signal_of};
 
 use crate::step::node_transition::NodeTransition;
@@ -106,18 +107,22 @@ fn push_front(
     Ok(())
 }
 
-/// The packet of a lane's front, where it has one.
-pub fn front_packets(
+/// The packet of the message behind a lane's front, where there is one: it becomes the front.
+pub fn front_behind(
     alloc: Global,
+    links: &LinkTable,
     from: NodeId,
     to: NodeId,
-    lane: &Lane,
 ) -> Result<Vec<Output>, AllocError>
-    requires { lane.now.base < 2 ^ 64 - 1 }
+    requires there { ForSome (lane_at links.now from to) (λ l. 0 < length l.queue) }
+    requires numbered { ForSome (lane_at links.now from to) (λ l. l.base < 2 ^ 64 - 2) }
     ensures { IfOk result (λ outputs. outputs.items ≡
-        packets_of record { 0 = from; 1 = to } lane.now lane.now.queue) }
+        front_behind (lane_at links.now from to) record { 0 = from; 1 = to }) }
 {
-    let Some((number, msg)) = lane.current() else {
+    let Some(lane) = links.lane(from, to) else {
+        return Ok(Vec::new(alloc));
+    };
+    let Some((number, msg)) = lane.next() else {
         return Ok(Vec::new(alloc));
     };
     let packet = DataPacket {

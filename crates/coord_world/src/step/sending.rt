@@ -43,11 +43,6 @@ impl Tables {
             length l.queue < PLACES) }
         ensures { self.new ≡ on_lane self.old from to (sent (msg ∷ [])) }
     {
-        let Some(lane) = self.links.lane(from, to) else {
-            return;
-        };
-        let mut lane = *lane;
-        lane.send(msg);
-        self.links.set_lane(from, to, lane);
+        self.links.send(from, to, msg);
     }
 }
