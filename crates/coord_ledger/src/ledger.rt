@@ -113,7 +113,7 @@ impl<D: Disk> Ledger<D> {
             Ok(copies) => copies,
             Err(fault) => return Err((fault, store)),
         };
-        base.ranges();
+        base.lemma_in_range();
         store.images_give_world();
         Ok(Ledger {
             alloc,
@@ -149,7 +149,7 @@ impl<D: Disk> Ledger<D> {
         ensures value { result ≡ settled_count self.now.log }
         ensures bounded { result ≤ MAX_STEPS }
     {
-        self.settled.ranges();
+        self.settled.lemma_in_range();
         self.settled.count()
     }
 
@@ -158,7 +158,7 @@ impl<D: Disk> Ledger<D> {
         ensures value { result ≡ accepted_count self.now.log }
         ensures bounded { result ≤ MAX_STEPS }
     {
-        self.front.ranges();
+        self.front.lemma_in_range();
         self.front.count()
     }
 

@@ -29,7 +29,7 @@ fn first_snapshot(alloc: Global, version: Version) -> Result<Vec<u8>, AllocError
     ensures short { IfOk result (λ snapshot. length snapshot.items ≤ MAX_SNAPSHOT) }
 {
     let world = World::empty(alloc, version);
-    world.ranges();
+    world.lemma_in_range();
     match write_world(alloc, &world) {
         Ok(snapshot) => Ok(snapshot),
         Err(fault) => Err(fault),

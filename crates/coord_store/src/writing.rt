@@ -60,7 +60,7 @@ pub fn put_in_place<D: Disk>(
         D.clock (disk_of journal.new) ≤ D.clock (disk_of journal.old) + 4 }
     ensures model { D.keeps_model (disk_of journal.new) ≡ D.keeps_model (disk_of journal.old) }
 {
-    other.ranges();
+    other.lemma_in_range();
     let snapshot = match write_world(alloc, other) {
         Ok(snapshot) => snapshot,
         Err(_) => return Err(CommitFault::OutOfMemory),

@@ -69,7 +69,7 @@ fn hand_in<D: CrashDisk>(driver: &mut Driver<D>, step: Step) -> Result<Handed, R
     driver.lemma_survives();
     let handed = driver.submit(step);
     driver.lemma_survives();
-    step.within_ranges();
+    step.lemma_in_range();
     handed
 }
 

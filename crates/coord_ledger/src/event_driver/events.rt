@@ -60,7 +60,7 @@ impl<D: CrashDisk> Run<D> {
         let mut held = self;
         let answer = match event {
             Event::Submit(step) => {
-                step.within_ranges();
+                step.lemma_in_range();
                 held.submit(step)
             }
             Event::Begin => return Ok(held.begin()),

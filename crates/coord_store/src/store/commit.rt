@@ -42,7 +42,7 @@ fn next_batch(
     ensures taken { IfOk result (λ next. Takes world.now next.1.items steps.now) }
     ensures short { IfOk result (λ next. length next.1.items ≤ MAX_BODY) }
 {
-    world.ranges();
+    world.lemma_in_range();
     let next = led_to(world, steps, made)?;
     match write_batch(alloc, world.version(), world.count() + 1, steps) {
         Ok(body) => Ok((next, body)),

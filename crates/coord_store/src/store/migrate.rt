@@ -54,7 +54,7 @@ impl<D: Disk> Store<D> {
             return Err(StoreFault::Stopped);
         }
         let world = self.world();
-        world.ranges();
+        world.lemma_in_range();
         if world.version().number() == 2 {
             return Ok(());
         }

@@ -10,17 +10,17 @@ returns-in-Err-clause-any_moment g c w k holds =
 
 pub returns-in-Ok-replace-clause-any_moment : goal.returns-in-Ok-replace-clause-any_moment
 returns-in-Ok-replace-clause-any_moment g c w k holds =
-    let new = snapshot_gives c.number.result c.deref.result.now c.args.other.now (c.number.ensures.value ∙ c.version.ensures) c.ranges-2.ensures c.requires.legal (c.deref.ensures.value ∙ c.in-Ok.ensures.spelled) in
+    let new = snapshot_gives c.number.result c.deref.result.now c.args.other.now (c.number.ensures.value ∙ c.version.ensures) c.lemma_in_range.ensures c.requires.legal (c.deref.ensures.value ∙ c.in-Ok.ensures.spelled) in
     weaker g.D.Disk.clock g.D.Disk.left_since _ _ _ _ (c.replace.ensures.any_moment holds.content k holds.ready) (replacing_either holds.content (without_batch c.number.result c.deref.result.now) w c.args.other.now holds.gives new)
 
 pub returns-in-Ok-replace-clause-done : goal.returns-in-Ok-replace-clause-done
 returns-in-Ok-replace-clause-done g c w k holds = record {
   content = without_batch c.number.result c.deref.result.now;
   ready = c.in-Ok-replace.ensures.done holds.content k holds.ready;
-  gives = snapshot_gives c.number.result c.deref.result.now c.args.other.now (c.number.ensures.value ∙ c.version.ensures) c.ranges-2.ensures c.requires.legal (c.deref.ensures.value ∙ c.in-Ok.ensures.spelled);
+  gives = snapshot_gives c.number.result c.deref.result.now c.args.other.now (c.number.ensures.value ∙ c.version.ensures) c.lemma_in_range.ensures c.requires.legal (c.deref.ensures.value ∙ c.in-Ok.ensures.spelled);
 }
 
 pub returns-clause-any_moment : goal.returns-clause-any_moment
 returns-clause-any_moment g c w k holds =
-    let new = snapshot_gives c.number.result c.deref.result.now c.args.other.now (c.number.ensures.value ∙ c.version.ensures) c.ranges-2.ensures c.requires.legal (c.deref.ensures.value ∙ c.in-Ok.ensures.spelled) in
+    let new = snapshot_gives c.number.result c.deref.result.now c.args.other.now (c.number.ensures.value ∙ c.version.ensures) c.lemma_in_range.ensures c.requires.legal (c.deref.ensures.value ∙ c.in-Ok.ensures.spelled) in
     weaker g.D.Disk.clock g.D.Disk.left_since _ _ _ _ (c.replace.ensures.any_moment holds.content k holds.ready) (replacing_either holds.content (without_batch c.number.result c.deref.result.now) w c.args.other.now holds.gives new)

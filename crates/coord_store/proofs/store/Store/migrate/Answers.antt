@@ -47,6 +47,6 @@ returns-in_err-next-clause-any_moment_refused g c k none =
 pub returns-clause-any_moment : goal.returns-clause-any_moment
 returns-clause-any_moment g c k none =
     let w = c.args.self.now.world in
-    let first : w.version ≡ 1 = grind (arith, nat_tests, c.ranges-2.ensures.first, c.ranges-2.ensures.last, c.if-number-eq2.false, c.number.ensures.value, c.version.ensures, c.world-world.ensures) in
+    let first : w.version ≡ 1 = grind (arith, nat_tests, c.lemma_in_range.ensures.first, c.lemma_in_range.ensures.last, c.if-number-eq2.false, c.number.ensures.value, c.version.ensures, c.world-world.ensures) in
     let same : c.in_ok-next.next ≡ risen w = c.in_ok-next.ensures.value ∙ ap raised c.world-world.ensures ∙ rises w first in
     subst (λ x. LeavesOnly g.D.Disk.clock g.D.Disk.left_since c.args.self.now.disk c.put.new.self.disk (GivesEither w x)) same (c.put.ensures.any_moment k)
