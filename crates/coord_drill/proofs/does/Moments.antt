@@ -4,7 +4,7 @@ use Rattle.std.proofs.lemmas.Bool.{false≢true}
 use Rattle.std.specs.List.{AllByRecursion}
 use Rattle.std.specs.Option.{option_map}
 use Rattle.coord_disk.specs.Model.Present.{IsImage}
-use Rattle.coord_disk.specs.declared.disk.Disk.{Ghosts}
+use Rattle.coord_disk.specs.Model.DiskModel.{DiskModel}
 use Rattle.coord_types.specs.declared.refusals.Refusal.TheVariants.{OutOfMemory}
 use Rattle.coord_ledger.specs.Facade.{Answered, DiskEffect, DiskSurvives, DriverState, EachMoment, EventInRange, HasFailed, IsConsistent, Machine, MayBegin, Represents, Simulates, Touches, after, disk_held, failed_at, failed_until, found_by_crash, is_crash, model_held, run, started, touches_disk}
 use Rattle.coord_ledger.proofs.runs.EachMoment.{answered_without_disk}
@@ -62,10 +62,10 @@ failed_both s (e ∷ es) fs [] hs answered = absurd answered
 failed_both s (e ∷ es) fs (g ∷ gs) hs answered = omega (arith, failed_both (after s e g) es fs gs hs answered.1)
 
 -- a driver represents the machine over its own log
-pub begins_by : {D : Type 0} (disk : Ghosts D) (crashes : D → D → Type 0) (d : DriverState D) → MayBegin disk crashes d → Begins d
+pub begins_by : {D : Type 0} (disk : DiskModel D) (crashes : D → D → Type 0) (d : DriverState D) → MayBegin disk crashes d → Begins d
 begins_by disk crashes d may = record { consistent = may.so_far.consistent; represents = may.so_far.represents }
 
-module _ {D : Type 0} (disk : Ghosts D) (crashes : D → D → Type 0) where
+module _ {D : Type 0} (disk : DiskModel D) (crashes : D → D → Type 0) where
   moments_both : (s : Machine) (es fs : List Event) (gs hs : List Answer) (old mid new : D) → EachMoment disk crashes true s es gs old mid → EachMoment disk crashes true (run s es gs) fs hs mid new →
       EachMoment disk crashes true s (es ++ fs) (gs ++ hs) old new
   moments_both s [] fs [] hs old mid new first more = subst (λ d. EachMoment disk crashes true s fs hs d new) first.0 more
