@@ -5,7 +5,8 @@ ghost use Rattle.coord_commands.specs.Creation.{IsOfCreation, RefusesCommitted, 
 ghost use Rattle.coord_commands.specs.Founding.{RefusesToBegin, orders};
 ghost use Rattle.coord_commands.specs.declared.fault.Fault.TheVariants.{Refused, Store as Failed};
 ghost use Rattle.coord_config.specs.Topology.{content};
-ghost use Rattle.coord_store.specs.Kept.{IsUntouched, made};
+ghost use Rattle.coord_disk.specs.Model.Moments.{IsUntouched};
+ghost use Rattle.coord_store.specs.Kept.{made};
 ghost use Rattle.coord_store.specs.declared.faults.StoreFault.TheVariants.{Device, HalfSize, NotEmpty};
 ghost use Rattle.coord_types.specs.declared.refusals.Refusal.{Refusal as Reason};
 ghost use Rattle.coord_world.specs.protocol.Next.{fold};

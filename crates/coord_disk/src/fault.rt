@@ -1,6 +1,7 @@
 //! That a device failed.
 
-ghost use Rattle.std.specs.Prelude.{◌≡◌, ◌+◌, Some, codes, length};
+ghost use Rattle.std.specs.Prelude.{◌≡◌, ◌+◌, IfOk, Ok, Some, codes, is_ok, length};
+ghost use Rattle.coord_disk.specs.Model.Calls.{HasCause};
 
 use http_server::Log;
 use std::error::Error;
@@ -9,6 +10,21 @@ use std::fmt;
 /// The device failed in this call. What it holds now, only its images say.
 #[derive(Clone, Copy, Debug, PartialEq, Eq, Hash)]
 pub struct DiskFault;
+
+/// The answer of a call that is counted where it failed.
+pub(crate) fn counted<T, E: Drop>(
+    failed: &mut Log<u8, u8>,
+    answer: Result<T, E>,
+) -> Result<T, DiskFault>
+    ensures ok { IfOk result (λ value. answer ≡ Ok value) }
+    ensures same { is_ok result ≡ is_ok answer }
+    ensures cause { HasCause (length failed.old.items) (length failed.new.items) result }
+{
+    match answer {
+        Ok(value) => Ok(value),
+        Err(_) => Err(fail(failed)),
+    }
+}
 
 /// Counts a call that fails.
 pub(crate) fn fail(failed: &mut Log<u8, u8>) -> DiskFault

@@ -5,7 +5,7 @@ ghost use Rattle.coord_disk.specs.Model.Calls.{HasBytes, HasCause, Measures, Rea
 ghost use Rattle.coord_disk.specs.Model.RawCalls.{StaysEntered};
 ghost use Rattle.coord_disk.specs.Model.RawCalls.RawCall.{Len, Read, Write, SyncData, SyncAll, SyncFolder};
 
-use crate::fault::fail;
+use crate::fault::{counted, fail};
 use crate::{Disk, DiskFault, RawFile};
 use http_server::Log;
 use std::io;
@@ -62,52 +62,6 @@ impl<F: RawFile> RawDisk<F> {
     {
         self.file
     }
-
-    fn write_through(&mut self, at: u64, bytes: &[u8]) -> io::Result<()>
-        requires { at + length bytes.now < 2 ^ 64 }
-        ensures bound { OnOk result (at + length bytes.now < 2 ^ 63) }
-        ensures failures { failures_of self.new ≡ failures_of self.old }
-        ensures lost { has_lost self.new ≡ has_lost self.old }
-        ensures through { Writes F.model at bytes.now (file_of self.old) (file_of self.new) result }
-        ensures made { at + length bytes.now < 2 ^ 63 →
-            F.made (file_of self.old) (Write at bytes.now) (is_ok result) (file_of self.new) }
-    {
-        let end = end_of(at, bytes.len())?;
-        let grows = !bytes.is_empty() && self.size < end;
-        // A write that fails may have changed the length too.
-        self.grown = self.grown || grows;
-        self.file.write_at(at, bytes)?;
-        if grows {
-            self.size = end;
-        }
-        Ok(())
-    }
-
-    /// Syncs the bytes, with the length where it may have changed.
-    fn sync_bytes(&mut self) -> io::Result<()>
-        ensures ok { OnOk result ((has_lost self.old ≡ false) × (has_lost self.new ≡ false)) }
-        ensures err { OnErr result (has_lost self.new ≡ true) }
-        ensures failures { failures_of self.new ≡ failures_of self.old }
-        ensures through { Syncs F.model (file_of self.old) (file_of self.new) result }
-        ensures made { has_lost self.old ≡ false →
-            F.made (file_of self.old) (if has_grown self.old then SyncAll else SyncData)
-            (is_ok result) (file_of self.new) }
-        ensures none { has_lost self.old ≡ true → file_of self.new ≡ file_of self.old }
-    {
-        if self.lost {
-            return Err(io::Error::other("a sync has failed before"));
-        }
-        // Whatever fails from here on, no later sync can make up for it.
-        self.lost = true;
-        if self.grown {
-            self.file.sync_all()?;
-        } else {
-            self.file.sync_data()?;
-        }
-        self.grown = false;
-        self.lost = false;
-        Ok(())
-    }
 }
 
 /// Syncs the file's entry in its folder, and gives its length.
@@ -123,18 +77,6 @@ fn opened<F: RawFile>(file: &mut F) -> io::Result<u64>
     file.len()
 }
 
-/// Counts a call that failed.
-fn told<T>(failed: &mut Log<u8, u8>, answer: io::Result<T>) -> Result<T, DiskFault>
-    ensures ok { IfOk result (λ value. answer ≡ Ok value) }
-    ensures same { is_ok result ≡ is_ok answer }
-    ensures cause { HasCause (length failed.old.items) (length failed.new.items) result }
-{
-    match answer {
-        Ok(value) => Ok(value),
-        Err(_) => Err(fail(failed)),
-    }
-}
-
 /// The place behind so many bytes from a place on, which a file has to have.
 fn end_of(at: u64, len: usize) -> io::Result<u64>
     ensures ok { IfOk result (λ end. (end ≡ at + len) × (end < 2 ^ 63)) }
@@ -144,18 +86,6 @@ fn end_of(at: u64, len: usize) -> io::Result<u64>
         Some(end) if end < END => Ok(end),
         _ => Err(io::ErrorKind::InvalidInput.into()),
     }
-}
-
-fn read_all<F: RawFile>(file: &mut F, at: u64, buf: &mut [u8]) -> io::Result<()>
-    requires { HasBytes F.model file.old at (length buf.old) }
-    ensures bound { OnOk result (at + length buf.old < 2 ^ 63) }
-    ensures through { Reads F.model at buf.old buf.new file.old file.new result }
-    ensures entered { StaysEntered F.model F.is_entered file.old file.new }
-    ensures made { at + length buf.old < 2 ^ 63 →
-        F.made file.old (Read at (length buf.old)) (is_ok result) file.new }
-{
-    end_of(at, buf.len())?;
-    file.read(at, buf)
 }
 
 impl<F: RawFile> Disk for RawDisk<F> {
@@ -173,7 +103,7 @@ impl<F: RawFile> Disk for RawDisk<F> {
         ensures made { F.made (file_of self.old) Len (is_ok result) (file_of self.new) }
     {
         let answer = self.file.len();
-        told(&mut self.failed, answer)
+        counted(&mut self.failed, answer)
     }
 
     /// Fails past the end of the file, and past place 2^63 - 1.
@@ -186,8 +116,9 @@ impl<F: RawFile> Disk for RawDisk<F> {
         ensures made { at + length buf.old < 2 ^ 63 →
             F.made (file_of self.old) (Read at (length buf.old)) (is_ok result) (file_of self.new) }
     {
-        let answer = read_all(&mut self.file, at, buf);
-        told(&mut self.failed, answer)
+        counted(&mut self.failed, end_of(at, buf.len()))?;
+        let answer = self.file.read(at, buf);
+        counted(&mut self.failed, answer)
     }
 
     /// Fails past place 2^63 - 1.
@@ -200,8 +131,16 @@ impl<F: RawFile> Disk for RawDisk<F> {
         ensures made { at + length bytes.now < 2 ^ 63 →
             F.made (file_of self.old) (Write at bytes.now) (is_ok result) (file_of self.new) }
     {
-        let answer = self.write_through(at, bytes);
-        told(&mut self.failed, answer)
+        let end = counted(&mut self.failed, end_of(at, bytes.len()))?;
+        let grows = !bytes.is_empty() && self.size < end;
+        // A write that fails may have changed the length too.
+        self.grown = self.grown || grows;
+        let answer = self.file.write_at(at, bytes);
+        counted(&mut self.failed, answer)?;
+        if grows {
+            self.size = end;
+        }
+        Ok(())
     }
 
     /// Syncs the length too where it may have changed. After a failure each later call fails, and makes
@@ -216,7 +155,19 @@ impl<F: RawFile> Disk for RawDisk<F> {
             (is_ok result) (file_of self.new) }
         ensures none { has_lost self.old ≡ true → file_of self.new ≡ file_of self.old }
     {
-        let answer = self.sync_bytes();
-        told(&mut self.failed, answer)
+        if self.lost {
+            return Err(fail(&mut self.failed));
+        }
+        // Whatever fails from here on, no later sync can make up for it.
+        self.lost = true;
+        let answer = if self.grown {
+            self.file.sync_all()
+        } else {
+            self.file.sync_data()
+        };
+        counted(&mut self.failed, answer)?;
+        self.grown = false;
+        self.lost = false;
+        Ok(())
     }
 }

@@ -23,7 +23,8 @@ use Rattle.coord_disk.specs.Model.DiskModel.{DiskModel}
 use Rattle.coord_lines.specs.Lines.{Line, lines_of}
 use Rattle.coord_lines.specs.Written.{WritesFirstPart}
 use Rattle.coord_store.specs.Facade.{Recovered}
-use Rattle.coord_store.specs.Kept.{IsUntouched, made}
+use Rattle.coord_disk.specs.Model.Moments.{IsUntouched}
+use Rattle.coord_store.specs.Kept.{made}
 use Rattle.coord_store.specs.Refused.{RefusesCreate}
 use Rattle.coord_store.specs.declared.faults.StoreFault.{StoreFault}
 use Rattle.coord_store.specs.declared.faults.StoreFault.TheVariants.{NotEmpty}

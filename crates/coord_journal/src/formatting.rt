@@ -36,7 +36,7 @@ pub fn format<D: Disk>(
         OnOk result (IsText (without_batch version snapshot.now) (D.model.present disk.new).read) }
     ensures fault { D.model.keeps_model disk.old ≡ true →
         IfErr result (RefusesFormat (D.model.present disk.old).read half_size) }
-    ensures unchanged { IfErr result (λ fault. fault ≢ Device →
+    ensures unchanged { D.model.keeps_model disk.old ≡ true → IfErr result (λ fault. fault ≢ Device →
         IsUntouched D.model disk.old disk.new) }
     ensures named { IfErr result IsFormatFault }
     ensures runs { Runs D.model disk.old disk.new 3 (failures_in result) }

@@ -64,7 +64,8 @@ impl<D: Disk> Store<D> {
         ensures named { IfErr result (λ refused. IsCreateFault refused.0) }
 
         // What a refusal leaves, where the device itself did not fail.
-        ensures unchanged { IfErr result (λ refused. (refused.0 ≡ NotEmpty) ⊎ (refused.0 ≡ HalfSize) →
+        ensures unchanged { D.model.keeps_model disk ≡ true →
+            IfErr result (λ refused. (refused.0 ≡ NotEmpty) ⊎ (refused.0 ≡ HalfSize) →
             IsUntouched D.model disk refused.1) }
         ensures memory { D.model.keeps_model disk ≡ true →
             IfErr result (λ refused. refused.0 ≡ OutOfMemory → IsUntouched D.model disk refused.1 ⊎

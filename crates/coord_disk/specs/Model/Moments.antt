@@ -29,8 +29,8 @@ AddsNothing m old new = m.keeps_model old ≡ true → LeavesOnly m old new (IsI
 
 -- A run of calls leaves a disk as it was, and a crash at any moment of it adds nothing.
 pub record IsUntouched {D : Type 0} (m : DiskModel D) (old new : D) : Type 0 where
-  pub same : m.keeps_model old ≡ true → m.present new ≡ m.present old
-  pub any_moment : AddsNothing m old new
+  pub same : m.present new ≡ m.present old
+  pub any_moment : LeavesOnly m old new (IsImage (m.present old))
 
 -- What each run of calls keeps to: a disk that keeps the model goes on to keep it, and it has failed
 -- so often in at most so many calls.

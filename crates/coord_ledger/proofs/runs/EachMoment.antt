@@ -3,7 +3,7 @@ use Rattle.std.proofs.Common.{◌≡◌, ◌⊎◌, ℕ, ◌+◌, Bool, true, fa
 use Rattle.std.specs.Option.{option_map}
 use Rattle.coord_disk.specs.Model.Moments.{LeavesOnly}
 use Rattle.coord_disk.specs.Model.Present.{Present, IsImage}
-use Rattle.coord_disk.specs.Model.DiskModel.{DiskModel}
+use Rattle.coord_disk.specs.Model.DiskModel.{DiskModel, IsModel}
 use Rattle.coord_disk.proofs.MomentLemmas.{started, weaker}
 use Rattle.coord_store.specs.Kept.{GivesEither, IsOnlyWorld}
 use Rattle.coord_store.specs.declared.faults.CommitFault.{CommitFault}
@@ -104,14 +104,14 @@ module _ {D : Type 0} (model : DiskModel D) (crashes : D → D → Type 0) where
   within_event Crash P old new other leaves = let no : ⊥ = cc in absurd no
   within_event e P old new other leaves = leaves
 
-  module _ (only_now : (disk : D) (image : List ℕ) → model.keeps_model disk ≡ true → model.left_since disk (model.clock disk) image → IsImage (model.present disk) image) where
+  module _ (laws : IsModel model) where
     -- nothing was done to the disk
     pub untouched : (s : Machine) (touches : Bool) (e : Event) (old new : D) → is_crash e ≡ false → new ≡ old → CrashPrefix s (model.keeps_model old) (model.present old) → Touches model crashes (model.keeps_model old) s touches e old new
     untouched s touches e old new other same prefix =
         record {
           untouched = λ _. same;
           inside = λ on. subst (LeavesWithin model crashes e (Survives s) old) (sym same)
-              (within_event e (Survives s) old old other (started model old (Survives s) (λ image left. prefix on image (only_now old image on left))));
+              (within_event e (Survives s) old old other (started model laws old (Survives s) on (prefix on)));
         }
 
     pub kept_untouched : (s : Machine) (touches : Bool) (e : Event) (was now : Option D) → is_crash e ≡ false → now ≡ was → DiskSurvives model.keeps_model model.present was s → DiskEffect model crashes s touches e was now

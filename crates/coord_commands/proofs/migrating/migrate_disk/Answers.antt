@@ -53,15 +53,15 @@ returns-in-Ok-clause-raises g c =
     record {
       any_moment = λ keeps.
           let opening = c.in-Ok.ensures.any_moment keeps in
-          let raising = c.migrate_store-line.ensures.any_moment (c.in-Ok.ensures.model ∙ keeps) c.in-Ok.ensures.going in
+          let raising = c.migrate_store-line.ensures.any_moment (c.in-Ok.ensures.runs.model ∙ keeps) c.in-Ok.ensures.going in
           subst (λ d. LeavesOnly {D = g.row.D.Denot} g.D.Disk.model c.args.disk d (IsEitherVersion (g.D.Disk.model.present c.args.disk))) (sym back)
           (weaker g.D.Disk.model c.args.disk raised.disk _ _ (and_then g.D.Disk.model c.args.disk store.disk raised.disk _ _ opening raising)
           (λ image either. ⊎_elim (λ was. inl was) (λ gives. inr (store.world, c.in-Ok.ensures.world keeps, gives)) either));
-      failures = ap g.D.Disk.model.failures back ∙ c.migrate_store-line.ensures.failures ∙ ap (λ n. n + failures_in c.migrate_store-line.result) c.in-Ok.ensures.failures;
+      failures = ap g.D.Disk.model.failures back ∙ c.migrate_store-line.ensures.failures ∙ ap (λ n. n + failures_in c.migrate_store-line.result) c.in-Ok.ensures.runs.failures;
     }
 
 pub returns-in-Err-clause-raises : goal.returns-in-Err-clause-raises
 returns-in-Err-clause-raises g c = record {
-  any_moment = λ keeps. weaker g.D.Disk.model c.args.disk c.in-Err.disk _ _ (c.in-Err.ensures.any_moment_refused keeps) (λ image was. inl was);
-  failures = c.in-Err.ensures.failures;
+  any_moment = λ keeps. weaker g.D.Disk.model c.args.disk c.in-Err.disk _ _ (c.in-Err.ensures.any_moment keeps) (λ image was. inl was);
+  failures = c.in-Err.ensures.runs.failures;
 }

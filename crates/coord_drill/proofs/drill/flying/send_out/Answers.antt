@@ -22,7 +22,7 @@ returns-clause-moments g c =
     let v = c.args.driver in
     let out = c.begin-begun.result.1 in
     let goes : Leads g.D.Disk.model g.D.CrashDisk.crashes v (Begin ∷ []) (c.begin-begun.result.0 ∷ []) out =
-    leads_aside g.D.Disk.model g.D.CrashDisk.crashes v out Begin c.begin-begun.result.0 tt c.lemma_survives.ensures c.lemma_survives-2.ensures g.met.D.Disk.laws.only_now refl (λ s. refl) refl c.begin-begun.ensures.disk c.begin-begun.ensures.simulates in
+    leads_aside g.D.Disk.model g.D.CrashDisk.crashes v out Begin c.begin-begun.result.0 tt c.lemma_survives.ensures c.lemma_survives-2.ensures g.met.D.Disk.laws refl (λ s. refl) refl c.begin-begun.ensures.disk c.begin-begun.ensures.simulates in
     elim c.match-begun.branch [
       | in-Begun w ↦
           let so_far = c.lemma_begins.ensures.so_far in
@@ -42,7 +42,7 @@ returns-clause-cut g c =
     let v = c.args.driver in
     let out = c.begin-begun.result.1 in
     let goes : Leads g.D.Disk.model g.D.CrashDisk.crashes v (Begin ∷ []) (c.begin-begun.result.0 ∷ []) out =
-    leads_aside g.D.Disk.model g.D.CrashDisk.crashes v out Begin c.begin-begun.result.0 tt c.lemma_survives.ensures c.lemma_survives-2.ensures g.met.D.Disk.laws.only_now refl (λ s. refl) refl c.begin-begun.ensures.disk c.begin-begun.ensures.simulates in
+    leads_aside g.D.Disk.model g.D.CrashDisk.crashes v out Begin c.begin-begun.result.0 tt c.lemma_survives.ensures c.lemma_survives-2.ensures g.met.D.Disk.laws refl (λ s. refl) refl c.begin-begun.ensures.disk c.begin-begun.ensures.simulates in
     elim c.match-begun.branch [
       | in-Begun w ↦
           let begun = subst (λ a. Leads g.D.Disk.model g.D.CrashDisk.crashes v (Begin ∷ []) (a ∷ []) out) w.in-Begun.is goes in

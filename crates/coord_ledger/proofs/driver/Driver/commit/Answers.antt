@@ -12,17 +12,17 @@ returns-clause-disk g c s is represents =
     elim c.match-self.branch [
       | in-None w ↦
           subst Touched (sym w.result-is)
-          (kept_untouched g.D.Disk.model g.D.CrashDisk.crashes g.met.D.Disk.laws.only_now s false Commit (disk_held c.args.self.now) (disk_held new) refl
+          (kept_untouched g.D.Disk.model g.D.CrashDisk.crashes g.met.D.Disk.laws s false Commit (disk_held c.args.self.now) (disk_held new) refl
           ((λ i. disk_with (w.self-inside-is i).ledger.disk (w.self-inside-is i).flight) ∙ ap disk_held c.self.view_is) (c.lemma_survives.ensures s is represents))
       | in-Some+in-Ok w ↦
           subst Touched (ap commit_answer w.in-Ok.is ∙ sym w.result-is)
-          (commit_touches g.D.Disk.model g.D.CrashDisk.crashes g.met.D.Disk.laws.only_now c.args.self.now s w.in-Some.flight w.commit.new.self is represents
+          (commit_touches g.D.Disk.model g.D.CrashDisk.crashes g.met.D.Disk.laws c.args.self.now s w.in-Some.flight w.commit.new.self is represents
           (sym (ap (λ (d : DriverState g.row.D.Denot). d.flight) c.self.view_is) ∙ w.in-Some.is) (c.lemma_survives.ensures s is represents) new
           (λ i. disk_with (w.self-inside-is i).ledger.disk (w.self-inside-is i).flight) w.commit.result
           w.commit.ensures.any_moment w.commit.ensures.any_moment_refused w.commit.ensures.tried w.commit.ensures.again w.commit.ensures.stopped)
       | in-Some+in-Err w ↦
           subst Touched (ap commit_answer w.in-Err.is ∙ sym w.result-is)
-          (commit_touches g.D.Disk.model g.D.CrashDisk.crashes g.met.D.Disk.laws.only_now c.args.self.now s w.in-Some.flight w.commit.new.self is represents
+          (commit_touches g.D.Disk.model g.D.CrashDisk.crashes g.met.D.Disk.laws c.args.self.now s w.in-Some.flight w.commit.new.self is represents
           (sym (ap (λ (d : DriverState g.row.D.Denot). d.flight) c.self.view_is) ∙ w.in-Some.is) (c.lemma_survives.ensures s is represents) new
           (λ i. disk_with (w.self-inside-is i).ledger.disk (w.self-inside-is i).flight) w.commit.result
           w.commit.ensures.any_moment w.commit.ensures.any_moment_refused w.commit.ensures.tried w.commit.ensures.again w.commit.ensures.stopped)

@@ -37,7 +37,7 @@ not_device why fault is other device = other (is ∙ ap store_fault_of device)
 
 pub returns-in-Err-format-clause-taken : goal.returns-in-Err-format-clause-taken
 returns-in-Err-format-clause-taken g c k some other =
-    c.in-Err-format.ensures.unchanged (not_device c.in-Err-format.fault c.told.result c.told.ensures other)
+    c.in-Err-format.ensures.unchanged k (not_device c.in-Err-format.fault c.told.result c.told.ensures other)
 
 pub returns-clause-taken : goal.returns-clause-taken
 returns-clause-taken g c k some other = let no : ⊥ = omega (arith, some, c.in-Ok-format.ensures.empty k) in absurd no

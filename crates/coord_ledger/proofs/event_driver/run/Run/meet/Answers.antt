@@ -33,22 +33,22 @@ returns-in-Err-clause-answered g c s is follows promised = elim c.match-event.br
 
 pub returns-in-Ok-clause-disk : goal.returns-in-Ok-clause-disk
 returns-in-Ok-clause-disk g c s is follows = elim c.match-event.branch [
-  | in-Submit w ↦ answered_without_disk g.D.Disk.model g.D.CrashDisk.crashes g.met.D.Disk.laws.only_now s c.args.event (Submit w.in-Submit.step) c.in-Ok.answer (disk_held c.args.self.driver) (disk_held c.match-event.held.driver) w.in-Submit.is refl refl (ap (λ (h : Run g.row.D.Denot). disk_held h.driver) w.held-is ∙ w.submit-answer.ensures.disk) (c.lemma_survives.ensures s is follows.represents)
+  | in-Submit w ↦ answered_without_disk g.D.Disk.model g.D.CrashDisk.crashes g.met.D.Disk.laws s c.args.event (Submit w.in-Submit.step) c.in-Ok.answer (disk_held c.args.self.driver) (disk_held c.match-event.held.driver) w.in-Submit.is refl refl (ap (λ (h : Run g.row.D.Denot). disk_held h.driver) w.held-is ∙ w.submit-answer.ensures.disk) (c.lemma_survives.ensures s is follows.represents)
   | in-Commit w ↦
       answered_commit g.D.Disk.model g.D.CrashDisk.crashes s c.args.event w.commit.result c.match-event.answer c.in-Ok.answer (disk_held c.args.self.driver) (disk_held c.match-event.held.driver) (disk_held w.commit.new.self.driver) w.in-Commit.is w.answer-is c.in-Ok.is (ap (λ (h : Run g.row.D.Denot). disk_held h.driver) w.held-is) (w.commit.ensures.disk s is follows)
-  | in-Collect w ↦ answered_without_disk g.D.Disk.model g.D.CrashDisk.crashes g.met.D.Disk.laws.only_now s c.args.event (Collect w.in-Collect.index) c.in-Ok.answer (disk_held c.args.self.driver) (disk_held c.match-event.held.driver) w.in-Collect.is refl refl (ap (λ (h : Run g.row.D.Denot). disk_held h.driver) w.held-is ∙ w.collect.ensures.disk) (c.lemma_survives.ensures s is follows.represents)
-  | in-Resend w ↦ answered_without_disk g.D.Disk.model g.D.CrashDisk.crashes g.met.D.Disk.laws.only_now s c.args.event Resend c.in-Ok.answer (disk_held c.args.self.driver) (disk_held c.match-event.held.driver) w.in-Resend.is refl refl (ap (λ (h : Run g.row.D.Denot). disk_held h.driver) w.held-is ∙ w.resend-answer.ensures.disk) (c.lemma_survives.ensures s is follows.represents)
-  | in-Show w ↦ answered_without_disk g.D.Disk.model g.D.CrashDisk.crashes g.met.D.Disk.laws.only_now s c.args.event Show c.in-Ok.answer (disk_held c.args.self.driver) (disk_held c.match-event.held.driver) w.in-Show.is refl refl (ap (λ (h : Run g.row.D.Denot). disk_held h.driver) w.held-is ∙ w.show.ensures.disk) (c.lemma_survives.ensures s is follows.represents)
+  | in-Collect w ↦ answered_without_disk g.D.Disk.model g.D.CrashDisk.crashes g.met.D.Disk.laws s c.args.event (Collect w.in-Collect.index) c.in-Ok.answer (disk_held c.args.self.driver) (disk_held c.match-event.held.driver) w.in-Collect.is refl refl (ap (λ (h : Run g.row.D.Denot). disk_held h.driver) w.held-is ∙ w.collect.ensures.disk) (c.lemma_survives.ensures s is follows.represents)
+  | in-Resend w ↦ answered_without_disk g.D.Disk.model g.D.CrashDisk.crashes g.met.D.Disk.laws s c.args.event Resend c.in-Ok.answer (disk_held c.args.self.driver) (disk_held c.match-event.held.driver) w.in-Resend.is refl refl (ap (λ (h : Run g.row.D.Denot). disk_held h.driver) w.held-is ∙ w.resend-answer.ensures.disk) (c.lemma_survives.ensures s is follows.represents)
+  | in-Show w ↦ answered_without_disk g.D.Disk.model g.D.CrashDisk.crashes g.met.D.Disk.laws s c.args.event Show c.in-Ok.answer (disk_held c.args.self.driver) (disk_held c.match-event.held.driver) w.in-Show.is refl refl (ap (λ (h : Run g.row.D.Denot). disk_held h.driver) w.held-is ∙ w.show.ensures.disk) (c.lemma_survives.ensures s is follows.represents)
 ]
 
 pub returns-in-Begin-clause-disk : goal.returns-in-Begin-clause-disk
 returns-in-Begin-clause-disk g c s is follows =
-    answered_without_disk g.D.Disk.model g.D.CrashDisk.crashes g.met.D.Disk.laws.only_now s c.args.event Begin c.begin.result.0 (disk_held c.args.self.driver) (disk_held c.begin.result.1.driver) c.in-Begin.is refl refl c.begin.ensures.disk (c.lemma_survives.ensures s is follows.represents)
+    answered_without_disk g.D.Disk.model g.D.CrashDisk.crashes g.met.D.Disk.laws s c.args.event Begin c.begin.result.0 (disk_held c.args.self.driver) (disk_held c.begin.result.1.driver) c.in-Begin.is refl refl c.begin.ensures.disk (c.lemma_survives.ensures s is follows.represents)
 
 pub returns-in-Finish-clause-disk : goal.returns-in-Finish-clause-disk
 returns-in-Finish-clause-disk g c s is follows =
     match_map c.finish.result
-    (λ held same. answered_without_disk g.D.Disk.model g.D.CrashDisk.crashes g.met.D.Disk.laws.only_now s c.args.event Finish held.0 (disk_held c.args.self.driver) (disk_held held.1.driver) c.in-Finish.is refl refl same (c.lemma_survives.ensures s is follows.represents))
+    (λ held same. answered_without_disk g.D.Disk.model g.D.CrashDisk.crashes g.met.D.Disk.laws s c.args.event Finish held.0 (disk_held c.args.self.driver) (disk_held held.1.driver) c.in-Finish.is refl refl same (c.lemma_survives.ensures s is follows.represents))
     (λ broken there. lost_as_it_was g.D.Disk.model g.D.CrashDisk.crashes s c.args.event broken.kind (disk_held c.args.self.driver) broken.disk (ap is_crash c.in-Finish.is) there) c.finish.ensures.disk
 
 pub returns-in-Crash-clause-disk : goal.returns-in-Crash-clause-disk
