@@ -4,7 +4,6 @@ ghost use Rattle.std.specs.Prelude.{◌≡◌, ◌↔◌, ◌+◌, ◌-◌, ◌*
 ghost use Rattle.coord_disk.specs.Model.Present.{whole};
 ghost use Rattle.coord_journal.specs.declared.layout.TheConstants.{MAX_BODY, MAX_HALF, MAX_SNAPSHOT, MIN_HALF};
 ghost use Rattle.coord_journal.specs.Text.{Content, gate_place, with_batch, with_body_at, with_half, without_batch};
-ghost use Rattle.coord_journal.specs.Writing.{Answers, Rewrites};
 
 use crate::JournalFault;
 use crate::half::Half;
@@ -32,6 +31,7 @@ pub struct Journal<D> {
 impl<D: Disk> Journal<D> {
     ghost use Rattle.coord_journal.specs.Journal.{HasRoomFor, IsReady, disk_of, half_of, half_size_of, used_of, has_stopped};
     ghost use Rattle.coord_journal.specs.Half.{half_number};
+    ghost use Rattle.coord_journal.specs.Writing.{Answers, Rewrites};
 
     // A journal with so many bytes of this half used.
     pub(crate) fn at(alloc: Global, disk: D, half_size: u64, half: Half, used: u64) -> Self

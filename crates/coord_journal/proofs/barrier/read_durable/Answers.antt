@@ -1,6 +1,6 @@
 use Rattle.std.proofs.Common.{◌≡◌, ◌∙◌, List, ℕ, Result, length, take, drop, ap, sym, subst, arith, vec_len}
 use Rattle.std.proofs.lemmas.List.{take_all, take_at}
-use Rattle.coord_disk.specs.Model.Calls.{Measures, Reads, Syncs}
+use Rattle.coord_disk.specs.Model.Calls.{HasRead, Measured, Measures, Reads, Synced, Syncs}
 use Rattle.coord_disk.specs.Model.DiskModel.{DiskModel, IsModel}
 use Rattle.coord_disk.specs.Model.Present.{Present, FitsNoMore, IsImage}
 use Rattle.coord_disk.proofs.MomentLemmas.{Quiet, and_quiet, at_first}
@@ -11,13 +11,13 @@ same : (p q : Present) → q ≡ p → FitsNoMore p q
 same p q is image now = subst (λ r. IsImage r image) is now
 
 after_sync : {D T E : Type 0} (m : DiskModel D) → IsModel m → (disk new : D) (r : Result T E) → Syncs m disk new r → Quiet m disk new
-after_sync m laws disk new r syncs = and_quiet m disk disk new (at_first m laws disk) syncs (λ p q does. does.crash)
+after_sync m laws disk new r syncs = and_quiet m {P = Synced r} disk disk new (at_first m laws disk) syncs (λ p q does. does.crash)
 
 after_len : {D E : Type 0} (m : DiskModel D) (disk mid new : D) (r : Result ℕ E) → Quiet m disk mid → Measures m mid new r → Quiet m disk new
-after_len m disk mid new r quiet measures = and_quiet m disk mid new quiet measures (λ p q does. same p q does.same)
+after_len m disk mid new r quiet measures = and_quiet m {P = Measured r} disk mid new quiet measures (λ p q does. same p q does.same)
 
 after_read : {D T E : Type 0} (m : DiskModel D) (disk mid new : D) (at : ℕ) (buffer filled : List ℕ) (r : Result T E) → Quiet m disk mid → Reads m at buffer filled mid new r → Quiet m disk new
-after_read m disk mid new at buffer filled r quiet reads = and_quiet m disk mid new quiet reads (λ p q does. same p q does.same)
+after_read m disk mid new at buffer filled r quiet reads = and_quiet m {P = HasRead at buffer filled r} disk mid new quiet reads (λ p q does. same p q does.same)
 
 pub returns-in_err-sync-clause-any_moment : goal.returns-in_err-sync-clause-any_moment
 returns-in_err-sync-clause-any_moment g c = (after_sync g.D.Disk.model g.met.D.Disk.laws c.args.disk.now c.sync.new.self c.sync.result c.sync.ensures.call).any_moment

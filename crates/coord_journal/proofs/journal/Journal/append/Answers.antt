@@ -9,13 +9,13 @@ use Rattle.coord_journal.proofs.journal.Journal.append.Goals as goal
 pub returns-in_err-block-clause-writes : goal.returns-in_err-block-clause-writes
 returns-in_err-block-clause-writes g c content ready = record {
   any_moment = nothing_written g.D.Disk.model c.args.self.now content ready g.met.D.Disk.laws (with_batch content c.args.body.now);
-  done = tt;
+  done = search rules;
 }
 
 pub returns-in_err-written-clause-writes : goal.returns-in_err-written-clause-writes
 returns-in_err-written-clause-writes g c content ready = record {
   any_moment = appending g.D.Disk.model c.args.self.now content ready c.write_in_turn-written.new.disk c.args.body.now c.deref.result.now c.gate-gate.result c.requires.short c.requires.fits c.gate-gate.ensures.place (c.deref.ensures.value ∙ c.in_ok-block.ensures) c.write_in_turn-written.ensures.any_moment;
-  done = tt;
+  done = search rules;
 }
 
 pub returns-clause-writes : goal.returns-clause-writes

@@ -9,7 +9,7 @@ use Rattle.coord_journal.proofs.journal.Journal.replace.Goals as goal
 pub returns-in_err-bytes-clause-writes : goal.returns-in_err-bytes-clause-writes
 returns-in_err-bytes-clause-writes g c content ready = record {
   any_moment = nothing_written g.D.Disk.model c.args.self.now content ready g.met.D.Disk.laws (without_batch c.args.version c.args.snapshot.now);
-  done = tt;
+  done = search rules;
 }
 
 pub returns-in_err-written-clause-writes : goal.returns-in_err-written-clause-writes
@@ -19,7 +19,7 @@ returns-in_err-written-clause-writes g c content ready =
     let start_is : start ≡ 17 + half_start (1 - half_number j.half) j.half_size = ap (λ (n : ℕ). 17 + n) c.start.ensures.start ∙ ap (λ (h : ℕ). 17 + half_start h j.half_size) c.other-half.ensures in
     record {
       any_moment = replacing g.D.Disk.model j content ready c.write_in_turn-written.new.disk c.args.version c.args.snapshot.now c.deref.result.now start c.selector.result c.requires start_is (c.deref.ensures.value ∙ c.in_ok-bytes.ensures) c.write_in_turn-written.ensures.any_moment;
-      done = tt;
+      done = search rules;
     }
 
 pub returns-clause-writes : goal.returns-clause-writes
