@@ -1,5 +1,5 @@
 -- What was written of a commit or of a migration, as the store tells it.
-use Rattle.std.proofs.Common.{◌≡◌, ◌≢◌, ◌+◌, ℕ, List, length, true, None, Option, Result, Err, refl, subst, arith}
+use Rattle.std.proofs.Common.{◌≡◌, ◌≢◌, ◌⊎◌, ◌↔◌, inl, inr, ◌+◌, ℕ, List, length, Bool, true, false, None, Option, is_some, Result, Ok, Err, IsErrOf, refl, sym, ◌∙◌, subst, arith}
 use Rattle.coord_disk.specs.Model.DiskModel.{DiskModel}
 use Rattle.coord_disk.specs.Model.Moments.{LeavesOnly, Runs}
 use Rattle.coord_journal.specs.Facade.{HasRoomFor, disk_of, half_of}
@@ -7,7 +7,33 @@ use Rattle.coord_journal.specs.declared.journal.Journal.{Journal}
 use Rattle.coord_types.specs.declared.steps.Step.{Step}
 use Rattle.coord_world.specs.Facade.{World}
 use Rattle.coord_store.specs.Facade.{Changes, FitsIn, Holds, IsOnlyWorld, Kept, Takes}
+use Rattle.coord_store.specs.declared.faults.CommitFault.{CommitFault}
+use Rattle.coord_store.specs.declared.faults.CommitFault.TheVariants.{OutOfMemory, Device, Stopped}
 use Rattle.coord_store.proofs.Holding.{as_long, has_room, only_is_either}
+
+-- an answer is a fault or none, and one fault
+pub ok_not : {T E X : Type 0} (x : T) (e : E) → IsErrOf (Ok x) e → X
+ok_not x e is = absurd cc
+
+pub err_is : {T E : Type 0} (a b : E) → IsErrOf {T = T} (Err a) b → a ≡ b
+err_is a b is = cc
+
+not_stopped : (fault : CommitFault) → (fault ≡ OutOfMemory) ⊎ (fault ≡ Device) → fault ≡ Stopped → ⊥
+not_stopped fault (inl memory) is = absurd cc
+not_stopped fault (inr device) is = absurd cc
+
+both : (b : Bool) → b ≡ false → b ≡ true → ⊥
+both b off on = absurd cc
+
+-- a store that goes on does not answer that it has stopped
+pub never_stopped : {T : Type 0} (fault : CommitFault) (torn : Option World) → (fault ≡ OutOfMemory) ⊎ (fault ≡ Device) → is_some torn ≡ false → IsErrOf {T = T} (Err fault) Stopped ↔ (is_some torn ≡ true)
+never_stopped fault torn passing none = (λ e. absurd (not_stopped fault passing (err_is fault Stopped e)), λ is. absurd (both (is_some torn) none is))
+
+pub never_stopped_ok : {T : Type 0} (x : T) (torn : Option World) → is_some torn ≡ false → IsErrOf (Ok x) Stopped ↔ (is_some torn ≡ true)
+never_stopped_ok x torn none = (λ e. ok_not x Stopped e, λ is. absurd (both (is_some torn) none is))
+
+pub unlike_stopped : {T X : Type 0} (fault : CommitFault) → (fault ≡ OutOfMemory) ⊎ (fault ≡ Device) → IsErrOf {T = T} (Err fault) Stopped → X
+unlike_stopped fault passing e = absurd (not_stopped fault passing (err_is fault Stopped e))
 
 module _ {D : Type 0} (m : DiskModel D) where
   -- a call is refused, and nothing was written
@@ -17,7 +43,7 @@ module _ {D : Type 0} (m : DiskModel D) where
     any_moment_refused = λ k none _. still k none;
     world = tt;
     going = tt;
-    torn = λ is. absurd (other is);
+    torn = λ is. absurd (other (err_is fault device is));
     same_world = refl;
   }
 

@@ -12,7 +12,7 @@ use Rattle.coord_journal.specs.declared.journal.Journal.{Journal}
 use Rattle.coord_journal.proofs.Texts.{text_place}
 use Rattle.coord_types.specs.declared.steps.Step.{Step}
 use Rattle.coord_world.specs.Facade.{InRange, Legal, World, fold, rows_of}
-use Rattle.coord_store.specs.Facade.{AllFresh, Ends, Gives, GivesEither, Holds, ImagesGive, IsBody, IsKept, IsOnlyWorld, Kept, Recovered, Takes}
+use Rattle.coord_store.specs.Facade.{AllFresh, Ends, Gives, GivesEither, Holds, ImagesGive, IsBody, IsKept, IsOnlyWorld, Kept, Recovered, Stays, Takes}
 use Rattle.coord_store.specs.declared.faults.CommitFault.{CommitFault}
 use Rattle.coord_store.specs.declared.faults.CommitFault.TheVariants.{Device}
 use Rattle.coord_store.proofs.Replaying.{replays-push}
@@ -113,6 +113,9 @@ module _ {D : Type 0} (m : DiskModel D) where
   pub unwritten : IsModel m → (old new : Journal D) (w : World) → Holds m old w → new ≡ old → LeavesOnly m (disk_of old) (disk_of new) (IsOnlyWorld w) × Holds m new w
   unwritten laws old new w holds same =
       let P : Journal D → Type 0 = λ j. LeavesOnly m (disk_of old) (disk_of j) (IsOnlyWorld w) × Holds m j w in subst P (sym same) (begun laws old w holds, holds)
+
+  pub stays_by : {T : Type 0} → IsModel m → (old new : Journal D) (w : World) (fault : CommitFault) → Holds m old w → (fault ≢ Device → new ≡ old) → Stays {T = T} m w old new (Err fault)
+  stays_by laws old new w fault holds same = record { any_moment = λ other. (unwritten laws old new w holds (same other)).0; held = λ other. (unwritten laws old new w holds (same other)).1 }
 
   -- what is done in at most so many calls is done in at most more
   pub ends_within : {T : Type 0} (n k : ℕ) (old new : Journal D) (r : Result T CommitFault) → n ≤ k → Ends m n old new r → Ends m k old new r

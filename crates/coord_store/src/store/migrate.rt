@@ -44,8 +44,10 @@ impl<D: Disk> Store<D> {
         if let Some(node) = world.first_busy() {
             return Err(StoreFault::NotQuiet(node));
         }
-        let next = world.raised()?;
-        self.put(next)
+        match world.raised() {
+            Ok(next) => self.put(next),
+            Err(_) => Err(StoreFault::OutOfMemory),
+        }
     }
 
     // Puts another world in place of all that is stored.

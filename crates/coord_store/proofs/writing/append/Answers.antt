@@ -2,7 +2,7 @@ use Rattle.std.proofs.Common.{ap, ◌∙◌}
 use Rattle.coord_disk.proofs.MomentLemmas.{weaker}
 use Rattle.coord_journal.specs.Text.{with_batch}
 use Rattle.coord_store.specs.Facade.{commit_fault_of}
-use Rattle.coord_store.proofs.Holding.{appending_gives, gives-push, unwritten}
+use Rattle.coord_store.proofs.Holding.{appending_gives, gives-push, stays_by}
 use Rattle.coord_store.proofs.writing.append.Goals as goal
 
 pub returns-in-Ok-clause-follows : goal.returns-in-Ok-clause-follows
@@ -21,5 +21,4 @@ returns-in-Err-clause-follows g c w steps holds takes = record {
 
 pub returns-in-Err-clause-stays : goal.returns-in-Err-clause-stays
 returns-in-Err-clause-stays g c w holds =
-    let kept = λ other. unwritten g.D.Disk.model g.met.D.Disk.laws c.args.journal.now c.append.new.self w holds (c.in-Err.ensures.answers.unchanged (λ e. other (c.told.ensures ∙ ap commit_fault_of e))) in
-    record { any_moment = λ other. (kept other).0; held = λ other. (kept other).1 }
+    stays_by g.D.Disk.model g.met.D.Disk.laws c.args.journal.now c.append.new.self w c.told.result holds (λ other. c.in-Err.ensures.answers.unchanged (λ e. other (c.told.ensures ∙ ap commit_fault_of e)))

@@ -2,7 +2,7 @@ use Rattle.std.proofs.Common.{◌∙◌, ap}
 use Rattle.coord_disk.proofs.MomentLemmas.{weaker}
 use Rattle.coord_journal.specs.Text.{without_batch}
 use Rattle.coord_store.specs.Facade.{commit_fault_of}
-use Rattle.coord_store.proofs.Holding.{begun, only_is_either, replacing_either, snapshot_gives, unwritten}
+use Rattle.coord_store.proofs.Holding.{begun, only_is_either, replacing_either, snapshot_gives, stays_by}
 use Rattle.coord_store.proofs.writing.put_in_place.Goals as goal
 
 pub returns-in-Err-clause-follows : goal.returns-in-Err-clause-follows
@@ -30,5 +30,4 @@ returns-clause-follows g c w holds =
 
 pub returns-clause-stays : goal.returns-clause-stays
 returns-clause-stays g c w holds =
-    let kept = λ other. unwritten g.D.Disk.model g.met.D.Disk.laws c.args.journal.now c.replace.new.self w holds (c.in-Err-replace.ensures.answers.unchanged (λ e. other (c.told.ensures ∙ ap commit_fault_of e))) in
-    record { any_moment = λ other. (kept other).0; held = λ other. (kept other).1 }
+    stays_by g.D.Disk.model g.met.D.Disk.laws c.args.journal.now c.replace.new.self w c.told.result holds (λ other. c.in-Err-replace.ensures.answers.unchanged (λ e. other (c.told.ensures ∙ ap commit_fault_of e)))

@@ -33,5 +33,8 @@ returns-in-Err-clause-follows g c steps holds takes = record {
   done = tt;
 }
 
+pub returns-in-Err-clause-stays : goal.returns-in-Err-clause-stays
+returns-in-Err-clause-stays g c holds = c.in-Err.ensures.stays c.args.world.now holds
+
 pub returns-in-Err-clause-ends : goal.returns-in-Err-clause-ends
 returns-in-Err-clause-ends g c = ends_within g.D.Disk.model 4 8 _ _ _ (omega arith) c.in-Err.ensures.ends

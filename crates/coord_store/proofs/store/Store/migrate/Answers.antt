@@ -4,7 +4,7 @@ use Rattle.coord_store.specs.Facade.{Changes, risen}
 use Rattle.coord_store.specs.declared.faults.StoreFault.TheVariants as fault
 use Rattle.coord_world.specs.laws.Raised.{raised}
 use Rattle.coord_world.specs.protocol.NumberedWorld.{World}
-use Rattle.coord_store.proofs.Changing.{refused}
+use Rattle.coord_store.proofs.Changing.{ok_not, refused}
 use Rattle.coord_store.proofs.Holding.{only_is_either}
 use Rattle.coord_store.proofs.store.Store.migrate.Goals as goal
 
@@ -21,20 +21,20 @@ returns-then-number-eq2-clause-changes g c = record {
   any_moment_refused = λ k none. tt;
   world = search rules;
   going = search rules;
-  torn = λ no. absurd no;
+  torn = λ e. ok_not _ _ e;
   same_world = tt;
 }
 
 pub returns-in-Some-clause-changes : goal.returns-in-Some-clause-changes
 returns-in-Some-clause-changes g c = refused g.D.Disk.model c.args.self.now _ fault.Device (fault.NotQuiet c.in-Some.node) (λ e. absurd cc) c.lemma_images_give_world.ensures.still
 
-pub returns-in_err-next-clause-changes : goal.returns-in_err-next-clause-changes
-returns-in_err-next-clause-changes g c = ?
+pub returns-in-Err-clause-changes : goal.returns-in-Err-clause-changes
+returns-in-Err-clause-changes g c = refused g.D.Disk.model c.args.self.now _ fault.Device fault.OutOfMemory (λ e. absurd cc) c.lemma_images_give_world.ensures.still
 
 -- the world that is put in place is the one that is asked for
-pub returns-clause-changes : goal.returns-clause-changes
-returns-clause-changes g c =
+pub returns-in-Ok-clause-changes : goal.returns-in-Ok-clause-changes
+returns-in-Ok-clause-changes g c =
     let w = c.args.self.now.world in
     let first : w.version ≡ 1 = grind (arith, nat_tests, c.ranges-2.ensures.first, c.ranges-2.ensures.last, c.if-number-eq2.false, c.number.ensures.value, c.version.ensures, c.world-world.ensures) in
-    let same : c.in_ok-next.next ≡ risen w = c.in_ok-next.ensures.value ∙ ap raised c.world-world.ensures ∙ rises w first in
+    let same : c.in-Ok.next ≡ risen w = c.in-Ok.ensures.value ∙ ap raised c.world-world.ensures ∙ rises w first in
     subst (λ x. Changes g.D.Disk.model x fault.Device c.args.self.now c.put.new.self c.put.result) same c.put.ensures.changes

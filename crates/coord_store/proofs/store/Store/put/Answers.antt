@@ -1,9 +1,11 @@
-use Rattle.std.proofs.Common.{◌≡◌, ◌≢◌, ⊎_elim, is_some, rules, refl, sym, ap, ◌∙◌, subst}
+use Rattle.std.proofs.Common.{◌≡◌, ◌≢◌, ⊎_elim, Err, is_some, rules, refl, sym, ap, ◌∙◌, subst}
 use Rattle.coord_disk.specs.Model.Moments.{Runs}
 use Rattle.coord_store.specs.Faults.{failed_in}
 use Rattle.coord_store.specs.Kept.{IsKept, Kept}
 use Rattle.coord_journal.specs.declared.journal.Journal.{Journal}
 use Rattle.coord_store.specs.declared.faults.CommitFault.TheVariants.{Device}
+use Rattle.coord_store.specs.declared.faults.StoreFault.TheVariants as fault
+use Rattle.coord_store.proofs.Changing.{err_is, ok_not}
 use Rattle.coord_store.proofs.Holding.{kept_on, kept_torn, none_of}
 use Rattle.coord_store.proofs.store.Store.put.Goals as goal
 
@@ -23,11 +25,15 @@ pub invariant_of-self-then-eq : goal.invariant_of-self-then-eq
 invariant_of-self-then-eq g c =
     let w = c.self.inside.world in
     let none = none_of c.self.inside.torn (is_some c.self.inside.torn) refl (ap (λ (k : Kept g.row.D.Denot). is_some k.torn) c.self.view_is ∙ c.requires.going) in
+    let device : c.in-Err.fault ≡ Device = search rules in
     subst (λ o. IsKept g.D.Disk.model c.put_in_place.new.journal w o) (sym c.replace-then-eq.ensures.after)
-    (kept_torn g.D.Disk.model g.met.D.Disk.laws c.self.inside.journal.disk c.put_in_place.new.journal w c.args.next c.self.invariant.legal (c.in-Err.ensures.ends.device cc)
+    (kept_torn g.D.Disk.model g.met.D.Disk.laws c.self.inside.journal.disk c.put_in_place.new.journal w c.args.next c.self.invariant.legal (c.in-Err.ensures.ends.device (ap Err device))
     (λ k. (c.put_in_place.ensures.follows w (c.self.invariant.holds (sym c.put_in_place.ensures.ends.runs.model ∙ k) none)).any_moment))
 
 -- ---- what is promised: as the writing says
+
+unlike : fault.OutOfMemory ≡ fault.Device → ⊥
+unlike e = absurd cc
 
 pub returns-in-Ok-clause-changes : goal.returns-in-Ok-clause-changes
 returns-in-Ok-clause-changes g c =
@@ -37,7 +43,7 @@ returns-in-Ok-clause-changes g c =
       any_moment_refused = λ k none. tt;
       world = search rules;
       going = none;
-      torn = λ no. absurd no;
+      torn = λ e. ok_not _ _ e;
       same_world = tt;
     })
 
@@ -59,7 +65,7 @@ returns-else-eq-clause-changes g c =
       any_moment_refused = λ k none _. (c.in-Err.ensures.stays c.self.inside.world (c.self.invariant.holds k none)).any_moment other;
       world = tt;
       going = tt;
-      torn = λ e. absurd cc;
+      torn = λ e. absurd (unlike (err_is fault.OutOfMemory fault.Device e));
       same_world = refl;
     })
 
