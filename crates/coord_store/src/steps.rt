@@ -34,7 +34,7 @@ pub fn take_all(world: &mut World, steps: &[Step]) -> Result<(), AllocError>
 }
 
 /// Does nothing: its contract is what the types of steps keep.
-fn lemma_within_ranges(steps: &[Step])
+fn lemma_in_ranges(steps: &[Step])
     ensures { AllByRecursion StepInRange steps.now }
 {
     for step in steps {
@@ -59,7 +59,7 @@ pub(crate) fn led_to(
     match made {
         Some(next) => {
             world.ranges();
-            lemma_within_ranges(steps);
+            lemma_in_ranges(steps);
             Ok(next)
         }
         None => {

@@ -3,7 +3,7 @@ use Rattle.std.specs.List.{AllByRecursion}
 use Rattle.std.proofs.lemmas.List.{take_all}
 use Rattle.coord_world.specs.protocol.Ranges.{StepInRange}
 use Rattle.coord_store.proofs.Freshness.{all-push, take-push}
-use Rattle.coord_store.proofs.steps.lemma_within_ranges.Goals as goal
+use Rattle.coord_store.proofs.steps.lemma_in_ranges.Goals as goal
 
 pub loop-step-preserved : goal.loop-step-preserved
 loop-step-preserved c =
