@@ -114,7 +114,7 @@ impl<D: Disk> Ledger<D> {
             Err(fault) => return Err((fault, store)),
         };
         base.lemma_in_range();
-        store.images_give_world();
+        store.lemma_images_give_world();
         Ok(Ledger {
             alloc,
             base,
@@ -193,12 +193,12 @@ impl<D: Disk> Ledger<D> {
 
     /// Does nothing: its contract is what the type keeps of every ledger.
     pub fn lemma_images_give_settled(&self)
-        ensures { IfSome self.now.disk (λ disk. D.keeps_model disk ≡ true →
-            LedgerGives D.present self.now disk) }
+        ensures { IfSome self.now.disk (λ disk. D.model.keeps_model disk ≡ true →
+            LedgerGives D.model.present self.now disk) }
     {
         let Some(store) = &self.store else {
             return;
         };
-        store.images_give_world();
+        store.lemma_images_give_world();
     }
 }
