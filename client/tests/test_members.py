@@ -246,8 +246,9 @@ class Members(MemberCase):
         self.assertEqual(self.begun, [1, 2, 99])
 
     def test_a_time_between_two_looks_passes(self) -> None:
+        member = self.member()
         for seconds in (0.0, -1.0, float("nan")):
-            self.assertRaises(ValueError, self.member().follow, Clock(), seconds)
+            self.assertRaises(ValueError, member.follow, Clock(), seconds)
 
     def test_it_can_be_stopped(self) -> None:
         for port in (self.port, Port("127.0.0.1:1")):
