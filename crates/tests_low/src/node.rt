@@ -89,13 +89,19 @@ fn node(rt: &impl Host, number: u8) -> NodeId {
     NodeId::new(number).expect(rt, "no number of a node")
 }
 
-fn deed(rt: &impl Host, node: &mut Node, event: Event) -> Result<Deed, AllocError> {
+fn deed(
+    rt: &impl Host,
+    node: &mut Node,
+    version: Version,
+    event: Event,
+) -> Result<Deed, AllocError> {
     assert!(rt; node.epoch() < 1000);
     let alloc = rt.alloc();
     match event {
-        Asked => node.request(alloc),
+        Asked => node.request(alloc, version),
         Heard(from, Msg::Abort(distance)) => node.on_abort(
             alloc,
+            version,
             self::node(rt, from),
             distance.min(1000),
         ),
@@ -105,15 +111,16 @@ fn deed(rt: &impl Host, node: &mut Node, event: Event) -> Result<Deed, AllocErro
     }
 }
 
-// Whether a new node of version 2 between nodes 2 and 3 goes so. A reset is finished with a new epoch.
+// Whether a new node between nodes 2 and 3 goes so in a world of version 2. A reset is finished with a new
+// epoch.
 fn goes(rt: &impl Host, turns: &[Turn]) {
     let version = Version::new(2).expect(rt, "no version");
-    let mut it = Node::new(version, Group::new(1).expect(rt, "no group"));
+    let mut it = Node::new(Group::new(1).expect(rt, "no group"));
     it.gained(rt.alloc(), node(rt, 2));
     it.gained(rt.alloc(), node(rt, 3));
     for (event, sends, mode, parent, epoch) in turns {
         let before = it.epoch();
-        let deed = deed(rt, &mut it, *event).expect(rt, "no deed");
+        let deed = deed(rt, &mut it, version, *event).expect(rt, "no deed");
         assert_eq!(rt; deed.finished, before < *epoch, "{event:?}");
         let sent = deed.sends.iter().map(|(to, msg)| (to.number(), *msg));
         assert!(rt; sent.eq(sends.iter().copied()), "{event:?}");
