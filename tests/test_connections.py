@@ -41,13 +41,13 @@ class Connections(Case):
         self.assertEqual(told, ["1"] * 3)
 
     def test_answers_whose_writing_is_interrupted(self):
-        """As a signal does, or a stop of the process. They come whole, and once."""
+        """As a stop of the process does. Also those that go out byte by byte come whole, and once."""
         self.needs("a C compiler", preloaded.has_compiler())
-        environment = preloaded.environment(self.folder, INTERRUPTS=1, PIECE=7)
-        with Serving(self.made(topology([(1, 1)])), env=environment) as server, server.connect() as connection:
+        environment = preloaded.environment(self.folder, INTERRUPTS=1, PIECE=1)
+        with Serving(self.made(ring(64)), env=environment) as server, server.connect() as connection:
             for _ in range(3):
                 connection.send({"op": "resend"}, {"op": "show"})
-                self.assertEqual((connection.reply(), connection.reply()["accepted"]), (RESENT, 1))
+                self.assertEqual((connection.reply(), len(connection.reply()["links"])), (RESENT, 64))
             connection.socket.close()
             self.assertEqual(server.close().status, 0)
 

@@ -34,12 +34,15 @@ class Ends(Case):
                 self.assertEqual(server.close().status, 0)
 
     def test_two_servers_on_one_file(self):
-        """The second one says Device, and the first one goes on."""
-        store = self.made(topology([(1, 1)]))
+        """The second one says Device, whatever name of the file it is given, and the first one goes on."""
+        store, others = self.made(topology([(1, 1)])), [self.path("link"), self.path("hard")]
+        os.symlink(store, others[0])
+        os.link(store, others[1])
         with Serving(store) as server:
             for number in (1, 2):
-                for words in (["serve", store, "127.0.0.1:0"], ["migrate", store], ["init", store, f"{store}.toml"]):
-                    self.assertEqual(ran(*words, seconds=60), SERVED_ALREADY)
+                for name in (store, *others):
+                    for words in (["serve", name, "127.0.0.1:0"], ["migrate", name], ["init", name, f"{store}.toml"]):
+                        self.assertEqual(ran(*words, seconds=60), SERVED_ALREADY)
                 self.assertEqual(server.order(number, "reset", node=1), {"kind": "finished", "step": 1 + number})
                 # these take no lock
                 self.assertEqual(ran("check", store), Ended(0, f"legal {1 + number}\n", ""))

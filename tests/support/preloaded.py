@@ -6,10 +6,12 @@ import subprocess
 
 SOURCE = r"""
 #define _GNU_SOURCE
+#include <dlfcn.h>
 #include <errno.h>
 #include <fcntl.h>
 #include <netinet/in.h>
 #include <netinet/tcp.h>
+#include <pthread.h>
 #include <stdarg.h>
 #include <stdio.h>
 #include <stdlib.h>
@@ -135,6 +137,12 @@ int open(const char *path, int flags, ...) {
     va_end(words);
     if (flags & O_CREAT && getenv("MEANWHILE")) syscall(SYS_link, getenv("MEANWHILE"), path);
     return syscall(SYS_openat, AT_FDCWD, path, flags, mode);
+}
+// Thread number THREAD_FAILS can't be had.
+int pthread_create(pthread_t *thread, const pthread_attr_t *how, void *(*run)(void *), void *given) {
+    static long threads;
+    int (*usual)(pthread_t *, const pthread_attr_t *, void *(*)(void *), void *) = dlsym(RTLD_NEXT, "pthread_create");
+    return ++threads == setting("THREAD_FAILS") ? EAGAIN : usual(thread, how, run, given);
 }
 ssize_t read(int file, void *buffer, size_t count) { return syscall(SYS_read, file, buffer, piece(count)); }
 ssize_t recv(int socket, void *buffer, size_t count, int flags) {
