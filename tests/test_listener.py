@@ -84,6 +84,11 @@ class LastTry(Failing):
             self.assertEqual(connection.reply(), {"count": 0, "kind": "resent"})
             self.assertGreater(time.monotonic() - begun, TRIES * REST / 2)
 
+    def test_clients_that_leave_without_end(self):
+        """Their errors are not counted."""
+        with self.serving("ECONNABORTED", 10 * TRIES) as server:
+            self.assertEqual(server.ask({"op": "resend"}), {"count": 0, "kind": "resent"})
+
     def test_one_failure_more(self):
         with self.serving("EMFILE", TRIES + 1) as server:
             self.assertEqual((server.ended(60).status, server.ended().told), (3, "resetd: Socket\n"))

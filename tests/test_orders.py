@@ -153,7 +153,7 @@ class Stores(Served):
             content = stores.store(stores.world(1_000, rows, links), version)
             with self.subTest(version=version), Serving(self.write(f"store{version}", content)) as server:
                 # each is taken, where it was not, and its receipt clears it; nobody asks for it again meanwhile
-                until("each packet", lambda: server.show()["accepted"] == 1_000 + 128 + 256)
+                until("each packet", lambda: server.show()["settled"] == 1_000 + 128 + 256)
                 self.assertEqual(server.ask({"op": "resend"}), {"count": 0, "kind": "resent"})
                 self.expect_closed(server, 0)
 
