@@ -1,7 +1,7 @@
 //! Tests of coord_node: runs of one node, at the values that the reset rules give.
 
 use crate::disk::Host;
-use coord_node::{Deed, Node};
+use coord_node::{Effects, Node};
 use coord_types::{Group, Mode, Msg, NodeId, Version};
 use std::alloc::AllocError;
 
@@ -89,12 +89,12 @@ fn node(rt: &impl Host, number: u8) -> NodeId {
     NodeId::new(number).expect(rt, "no number of a node")
 }
 
-fn deed(
+fn effects(
     rt: &impl Host,
     node: &mut Node,
     version: Version,
     event: Event,
-) -> Result<Deed, AllocError> {
+) -> Result<Effects, AllocError> {
     assert!(rt; node.epoch() < 1000);
     let alloc = rt.alloc();
     match event {
@@ -120,9 +120,9 @@ fn goes(rt: &impl Host, turns: &[Turn]) {
     it.gained(rt.alloc(), node(rt, 3));
     for (event, sends, mode, parent, epoch) in turns {
         let before = it.epoch();
-        let deed = deed(rt, &mut it, version, *event).expect(rt, "no deed");
-        assert_eq!(rt; deed.finished, before < *epoch, "{event:?}");
-        let sent = deed.sends.iter().map(|(to, msg)| (to.number(), *msg));
+        let effects = effects(rt, &mut it, version, *event).expect(rt, "no effects");
+        assert_eq!(rt; effects.finished, before < *epoch, "{event:?}");
+        let sent = effects.sends.iter().map(|(to, msg)| (to.number(), *msg));
         assert!(rt; sent.eq(sends.iter().copied()), "{event:?}");
         let state = (it.mode(), it.parent().map(|id| id.number()), it.epoch());
         assert_eq!(rt; state, (*mode, *parent, *epoch), "{event:?}");
