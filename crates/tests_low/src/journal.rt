@@ -235,21 +235,3 @@ fn a_torn_write_leaves_it_done_or_not(rt: HostRuntime) {
         }
     }
 }
-
-#[test]
-fn a_fault_has_its_number_and_name(rt: HostRuntime) {
-    let faults = [
-        (JournalFault::OutOfMemory, "1 OutOfMemory"),
-        (JournalFault::Device, "2 Device"),
-        (JournalFault::NotEmpty, "3 NotEmpty"),
-        (JournalFault::HalfSize, "4 HalfSize"),
-        (JournalFault::NoMagic, "5 NoMagic"),
-        (JournalFault::BadRecord, "6 BadRecord"),
-        (JournalFault::JournalFull, "7 JournalFull"),
-        (JournalFault::Stopped, "8 Stopped"),
-    ];
-    for (fault, wanted) in faults {
-        let text = format!(in rt.alloc(); "{} {fault}", fault.number());
-        assert_eq!(rt; text.expect(&rt, "not printed").as_str(), wanted);
-    }
-}

@@ -6,7 +6,6 @@ ghost use Rattle.coord_world.specs.protocol.Legal.{Legal};
 use crate::steps::{
     Host, abort, ack, add, asked, client, first_version, id, join, order, packet, receipt, take,
 };
-use coord_check::{Letter, Violation};
 use coord_types::{Command, Kind, Mode, Msg, Output, Reply, Session, Step, Version};
 use coord_world::World;
 
@@ -137,11 +136,4 @@ fn a_quiet_world_is_raised(rt: HostRuntime) {
     take(&rt, &mut world, &order(4, Command::Reset(id(64))));
     assert_eq!(rt; world.first_busy(), Some(id(64)));
     assert_eq!(rt; asked(&rt, first_version()).first_busy(), Some(id(1)));
-}
-
-#[test]
-fn violations_are_printed_in_a_line(rt: HostRuntime) {
-    let (a, b, letter) = (id(64), id(64), Letter::N);
-    let text = format!(in rt.alloc(); "{}", Violation { a, b, letter }).expect(&rt, "not printed");
-    assert_eq!(rt; (text.as_str(), Letter::G.name()), ("64 64 N", "G"));
 }
