@@ -11,7 +11,7 @@ help:
 	@echo 'make example   the example services of examples/ around a coordinator, in a few seconds'
 	@echo 'make services  tries what services rest on: restores, members that come again, a work queue, torn and lost lines, 64 members, messages'
 	@echo 'make build     proves every crate, and leaves the program at bin/resetd; nothing is proved again while that is newer than every source'
-	@echo 'make test      the gate: every proof from nothing, the must-fail edits, every test and both programs, then make program; it leaves the program at bin/resetd too'
+	@echo 'make test      the gate: every changed crate from nothing, the must-fail edits, every test and both programs, then make program; it leaves the program at bin/resetd too'
 	@echo 'make program   tries the program as people run it (tests/), over a trial build of it, in some minutes'
 	@echo 'make refusals  tries the other wrong bodies, which the prover has to refuse (CRATE=NAME for one crate)'
 	@echo 'make bench     measures the drill, its parts, the store, the ledger, the engine and the server, and writes the tables of docs/MEASURES.md'

@@ -33,7 +33,7 @@ side w u v = record {
   awaits = set.contains (state w u).pend v;
   child = is_parent (state w u).parent v;
   distance = (state w u).distance;
-  carries = carried (state w u);
+  carries = carried w.version (state w u);
   lane = lane_or_none (lane_at w.links u v);
 }
 

@@ -37,7 +37,7 @@ impl Side {
             awaits: node.pend().contains(to),
             child: node.parent() == Some(to),
             distance: node.distance(),
-            carries: node.carried(),
+            carries: node.carried(world.version()),
             lane: *lane,
         })
     }

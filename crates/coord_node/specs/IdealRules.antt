@@ -52,7 +52,7 @@ without_link w a b = record w { linked = λ x y. not (is_link a b x y) && w.link
 
 -- what a step changes before any node acts on it
 abbrev pub ideal_ordered : Ideal → Command → Ideal
-ideal_ordered w (Add u g) = set_state w u (new_node w.version g)
+ideal_ordered w (Add u g) = set_state w u (new_node g)
 ideal_ordered w (Remove u) = set_state w u no_node
 ideal_ordered w (Join a b) = linked_up w a b
 ideal_ordered w (Drop a b) = without_link w a b
@@ -66,4 +66,4 @@ ideal_prepared w (Clear p) = w
 
 -- the ideal world after a step
 abbrev pub ideal_next : Ideal → Step → Ideal
-ideal_next w s = ideal_all_applied (ideal_prepared w s) (transitions w.state s)
+ideal_next w s = ideal_all_applied (ideal_prepared w s) (transitions w.version w.state s)

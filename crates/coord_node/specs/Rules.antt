@@ -1,4 +1,4 @@
--- The reset rules of one node, a function of its state alone.
+-- The reset rules of one node, a function of its state, and of the version of its world where an Abort is sent or comes.
 use Rattle.std.specs.Prelude.{ℕ, ◌+◌, ◌==◌, Bool, true, false, ◌&&◌, List, Option, Some, None, if◌then◌else◌, map}
 use Rattle.coord_types.specs.NodeSet as set
 use Rattle.coord_types.specs.Facade.{NodeSet, NodeState}
@@ -29,12 +29,12 @@ abbrev pub sends_of : Transition → List (ℕ × Msg)
 sends_of d = map (λ x. (x, d.message)) (set.items d.to)
 
 -- the distance that stands for this one: in version 1 every distance is 0
-abbrev pub kept : NodeState → ℕ → ℕ
-kept r distance = if r.version == 1 then 0 else distance
+abbrev pub kept : ℕ → ℕ → ℕ
+kept version distance = if version == 1 then 0 else distance
 
 -- what an Abort carries that a node sends: the distance of those that it reaches, one more than the node's own
-abbrev pub carried : NodeState → ℕ
-carried r = kept r (r.distance + 1)
+abbrev pub carried : ℕ → NodeState → ℕ
+carried version r = kept version (r.distance + 1)
 
 -- nothing is sent
 abbrev pub idle : NodeState → Transition
@@ -50,10 +50,10 @@ finish r = record {
 }
 
 -- a node that was Ready is at this distance, passes the wave on, and waits for those that it goes to
-abbrev pub wave_on : NodeState → Option ℕ → NodeSet → ℕ → Transition
-wave_on r parent others distance =
+abbrev pub wave_on : ℕ → NodeState → Option ℕ → NodeSet → ℕ → Transition
+wave_on version r parent others distance =
     let s : NodeState = record r { mode = Abort; parent = parent; pend = others; distance = distance } in
-    record { state = s; message = msg.Abort (carried s); to = others; finished = false }
+    record { state = s; message = msg.Abort (carried version s); to = others; finished = false }
 
 -- A node that was Ready is at this distance, and has nobody to pass the wave on to: it acknowledges at once, and awaits
 -- nobody then by the rule itself, though in a legal world it awaited nobody before
@@ -70,25 +70,25 @@ abbrev pub answer : NodeState → ℕ → Transition
 answer r v = record { state = r; message = msg.Ack; to = only v; finished = false }
 
 -- a reset is asked for
-abbrev pub request_in : Mode → NodeState → Transition
-request_in Ready r = if is_empty r.neighbours then finish r else wave_on r None r.neighbours 0
-request_in Abort r = idle r
-request_in Converge r = idle r
+abbrev pub request_in : Mode → ℕ → NodeState → Transition
+request_in Ready version r = if is_empty r.neighbours then finish r else wave_on version r None r.neighbours 0
+request_in Abort version r = idle r
+request_in Converge version r = idle r
 
-abbrev pub request : NodeState → Transition
-request r = request_in r.mode r
+abbrev pub request : ℕ → NodeState → Transition
+request version r = request_in r.mode version r
 
 -- Abort comes from v, with a distance
-abbrev pub on_abort_in : Mode → NodeState → ℕ → ℕ → Transition
-on_abort_in Ready r v distance =
+abbrev pub on_abort_in : Mode → ℕ → NodeState → ℕ → ℕ → Transition
+on_abort_in Ready version r v distance =
     if is_empty (set.remove r.neighbours v)
-    then wave_back r v (kept r distance)
-    else wave_on r (Some v) (set.remove r.neighbours v) (kept r distance)
-on_abort_in Abort r v distance = answer r v
-on_abort_in Converge r v distance = answer r v
+    then wave_back r v (kept version distance)
+    else wave_on version r (Some v) (set.remove r.neighbours v) (kept version distance)
+on_abort_in Abort version r v distance = answer r v
+on_abort_in Converge version r v distance = answer r v
 
-abbrev pub on_abort : NodeState → ℕ → ℕ → Transition
-on_abort r v distance = on_abort_in r.mode r v distance
+abbrev pub on_abort : ℕ → NodeState → ℕ → ℕ → Transition
+on_abort version r v distance = on_abort_in r.mode version r v distance
 
 -- the last acknowledgement that was awaited has come: the initiator finishes, any other node acknowledges to its parent
 abbrev pub acknowledged : NodeState → Option ℕ → Transition
@@ -117,11 +117,11 @@ on_ready_in Abort r v = idle r
 abbrev pub on_ready : NodeState → ℕ → Transition
 on_ready r v = on_ready_in r.mode r v
 
--- a message comes from v
-abbrev pub transition : Msg → NodeState → ℕ → Transition
-transition (msg.Abort k) r v = on_abort r v k
-transition msg.Ack r v = on_ack r v
-transition msg.Ready r v = on_ready r v
+-- a message comes from v, in a world of this version
+abbrev pub transition : ℕ → Msg → NodeState → ℕ → Transition
+transition version (msg.Abort k) r v = on_abort version r v k
+transition version msg.Ack r v = on_ack r v
+transition version msg.Ready r v = on_ready r v
 
 abbrev pub without : Option ℕ → ℕ → Option ℕ
 without None v = None

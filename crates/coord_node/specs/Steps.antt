@@ -1,4 +1,4 @@
--- Who acts on a step, and how it is answered: a function of the states of all nodes.
+-- Who acts on a step, and how it is answered: a function of the states of all nodes, and of the version of their world.
 use Rattle.std.specs.Prelude.{ℕ, List, [], ◌∷◌, if◌then◌else◌}
 use Rattle.coord_types.specs.NodeState.{NodeState}
 use Rattle.coord_types.specs.declared.messages.Mode.{Mode}
@@ -12,18 +12,18 @@ use Rattle.coord_types.specs.declared.steps.Kind.TheVariants.{Done, Started, Fin
 use Rattle.coord_node.specs.Rules.{Transition, transition, request, lost, is_empty}
 
 -- the transitions of a command, in order: a Drop is one step for both ends, first a, then b
-abbrev pub transitions_ordered : (ℕ → NodeState) → Command → List (ℕ × Transition)
-transitions_ordered states (Add u g) = []
-transitions_ordered states (Remove u) = []
-transitions_ordered states (Join a b) = []
-transitions_ordered states (Drop a b) = (a, lost (states a) b) ∷ (b, lost (states b) a) ∷ []
-transitions_ordered states (Reset u) = (u, request (states u)) ∷ []
-transitions_ordered states (Confirm u e) = []
+abbrev pub transitions_ordered : ℕ → (ℕ → NodeState) → Command → List (ℕ × Transition)
+transitions_ordered version states (Add u g) = []
+transitions_ordered version states (Remove u) = []
+transitions_ordered version states (Join a b) = []
+transitions_ordered version states (Drop a b) = (a, lost (states a) b) ∷ (b, lost (states b) a) ∷ []
+transitions_ordered version states (Reset u) = (u, request version (states u)) ∷ []
+transitions_ordered version states (Confirm u e) = []
 
-abbrev pub transitions : (ℕ → NodeState) → Step → List (ℕ × Transition)
-transitions states (Order c n x) = transitions_ordered states x
-transitions states (Take p) = (p.to, transition p.msg (states p.to) p.from) ∷ []
-transitions states (Clear p) = []
+abbrev pub transitions : ℕ → (ℕ → NodeState) → Step → List (ℕ × Transition)
+transitions version states (Order c n x) = transitions_ordered version states x
+transitions version states (Take p) = (p.to, transition version p.msg (states p.to) p.from) ∷ []
+transitions version states (Clear p) = []
 
 abbrev pub kind_of_request : Mode → NodeState → Kind
 kind_of_request mode.Ready r = if is_empty r.neighbours then Finished else Started

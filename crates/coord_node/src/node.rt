@@ -15,7 +15,6 @@ use std::marker::Model;
 /// Contracts see it as its state, and each call's contract cites the reset rule of its name.
 #[derive(Clone, Copy, PartialEq, Eq, Debug)]
 pub struct Node {
-    version: Version,
     group: Group,
     mode: Mode,
     parent: Option<NodeId>,
@@ -34,7 +33,6 @@ impl Model for Node {
     ghost coded = { state_code };
 
     ghost view = { λ a. record {
-      version = a.version;
       group = a.group;
       mode = a.mode;
       parent = a.parent;
@@ -46,7 +44,6 @@ impl Model for Node {
     } };
 
     ghost inverse = { λ r. record {
-      version = r.version;
       group = r.group;
       mode = r.mode;
       parent = r.parent;
@@ -61,7 +58,6 @@ impl Model for Node {
 /// All that a node keeps, to restore it from.
 #[derive(Clone, Copy, Debug)]
 pub struct NodeFields {
-    pub version: Version,
     pub group: Group,
     pub mode: Mode,
     /// The neighbour that is owed the node's acknowledgement.
@@ -79,12 +75,11 @@ pub struct NodeFields {
 }
 
 impl Node {
-    /// A node as it is added to a world of this version: Ready, without neighbours, in epoch 0.
-    pub fn new(version: Version, group: Group) -> Self
-        ensures { result ≡ new_node version group }
+    /// A node as it is added: Ready, without neighbours, in epoch 0.
+    pub fn new(group: Group) -> Self
+        ensures { result ≡ new_node group }
     {
         Node {
-            version,
             group,
             mode: Mode::Ready,
             parent: None,
@@ -99,7 +94,6 @@ impl Node {
     /// The node that keeps this.
     pub fn restore(fields: NodeFields) -> Self
         ensures { result ≡ record {
-          version = fields.version;
           group = fields.group;
           mode = fields.mode;
           parent = fields.parent;
@@ -111,7 +105,6 @@ impl Node {
         } }
     {
         Node {
-            version: fields.version,
             group: fields.group,
             mode: fields.mode,
             parent: fields.parent,
@@ -121,13 +114,6 @@ impl Node {
             confirmed: fields.confirmed,
             distance: fields.distance,
         }
-    }
-
-    /// The version of its world, which decides what its Aborts carry.
-    pub fn version(&self) -> Version
-        ensures { result ≡ self.now.version }
-    {
-        self.version
     }
 
     /// The group, which never changes.
@@ -186,13 +172,13 @@ impl Node {
         self.distance
     }
 
-    /// A reset is asked for at this node.
+    /// A reset is asked for at this node, in a world of this version.
     #[tactic(auto, using(coord_types::proofs::Sets::listed))]
-    pub fn request(&mut self, alloc: Global) -> Result<Deed, AllocError>
+    pub fn request(&mut self, alloc: Global, version: Version) -> Result<Deed, AllocError>
         requires { self.old.epoch < 2 ^ 64 - 1 }
-        ensures state { OnOk result (self.new ≡ (request self.old).state) }
-        ensures sends { IfOk result (λ d. d.sends.items ≡ sends_of (request self.old)) }
-        ensures finished { IfOk result (λ d. d.finished ≡ (request self.old).finished) }
+        ensures state { OnOk result (self.new ≡ (request version self.old).state) }
+        ensures sends { IfOk result (λ d. d.sends.items ≡ sends_of (request version self.old)) }
+        ensures finished { IfOk result (λ d. d.finished ≡ (request version self.old).finished) }
         ensures err { OnErr result (self.new ≡ self.old) }
     {
         if self.mode != Mode::Ready {
@@ -202,7 +188,7 @@ impl Node {
             return self.finish(alloc);
         }
         let others = self.neighbours;
-        self.wave_on(alloc, None, others, 0)
+        self.wave_on(alloc, version, None, others, 0)
     }
 
     /// An Abort comes from a neighbour, with the distance that a Ready node takes; in version 1 it
@@ -211,24 +197,25 @@ impl Node {
     pub fn on_abort(
         &mut self,
         alloc: Global,
+        version: Version,
         from: NodeId,
         distance: u64,
     ) -> Result<Deed, AllocError>
         requires { distance < 2 ^ 64 - 1 }
-        ensures state { OnOk result (self.new ≡ (on_abort self.old from distance).state) }
+        ensures state { OnOk result (self.new ≡ (on_abort version self.old from distance).state) }
         ensures sends { IfOk result (λ d. d.sends.items ≡
-            sends_of (on_abort self.old from distance)) }
+            sends_of (on_abort version self.old from distance)) }
         ensures finished { IfOk result (λ d. d.finished ≡
-            (on_abort self.old from distance).finished) }
+            (on_abort version self.old from distance).finished) }
         ensures err { OnErr result (self.new ≡ self.old) }
     {
         if self.mode != Mode::Ready {
             return Deed::answer(alloc, from);
         }
         let others = self.neighbours.without(from);
-        let distance = self.kept(distance);
+        let distance = kept(version, distance);
         if !others.is_empty() {
-            return self.wave_on(alloc, Some(from), others, distance);
+            return self.wave_on(alloc, version, Some(from), others, distance);
         }
         let deed = Deed::answer(alloc, from)?;
         self.mode = Mode::Converge;
@@ -337,14 +324,15 @@ impl Node {
     fn wave_on(
         &mut self,
         alloc: Global,
+        version: Version,
         parent: Option<NodeId>,
         others: NodeSet,
         distance: u64,
     ) -> Result<Deed, AllocError>
         requires { distance < 2 ^ 64 - 1 }
-        ensures state { OnOk result (self.new ≡ (wave_on self.old parent others distance).state) }
+        ensures state { OnOk result (self.new ≡ (wave_on version self.old parent others distance).state) }
         ensures sends { IfOk result (λ d. d.sends.items ≡
-            sends_of (wave_on self.old parent others distance)) }
+            sends_of (wave_on version self.old parent others distance)) }
         ensures finished { IfOk result (λ d. d.finished ≡ false) }
         ensures err { OnErr result (self.new ≡ self.old) }
     {
@@ -353,7 +341,7 @@ impl Node {
         after.parent = parent;
         after.pend = others;
         after.distance = distance;
-        let sends = sends_to(alloc, others, Msg::Abort(after.carried()))?;
+        let sends = sends_to(alloc, others, Msg::Abort(after.carried(version)))?;
         *self = after;
         Ok(Deed {
             sends,
@@ -361,23 +349,12 @@ impl Node {
         })
     }
 
-    /// The distance that stands for this one: in version 1 every distance is 0.
-    fn kept(&self, distance: u64) -> u64
-        ensures { result ≡ kept self.now distance }
-    {
-        if self.version.number() == 1 {
-            0
-        } else {
-            distance
-        }
-    }
-
     /// What an Abort carries that the node sends: the distance of those that it reaches.
-    pub fn carried(&self) -> u64
+    pub fn carried(&self, version: Version) -> u64
         requires { self.now.distance < 2 ^ 64 - 1 }
-        ensures { result ≡ carried self.now }
+        ensures { result ≡ carried version self.now }
     {
-        self.kept(self.distance + 1)
+        kept(version, self.distance + 1)
     }
 
     /// The last acknowledgement that was awaited has come.
@@ -441,4 +418,11 @@ impl Node {
             _ => Ok(Deed::idle(alloc)),
         }
     }
+}
+
+/// The distance that stands for this one: in version 1 every distance is 0.
+fn kept(version: Version, distance: u64) -> u64
+    ensures { result ≡ kept version distance }
+{
+    if version.number() == 1 { 0 } else { distance }
 }

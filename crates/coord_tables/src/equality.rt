@@ -31,12 +31,11 @@ impl Same for Node {
     }
 }
 
-/// Whether two nodes are of one version and one group, and have the same neighbours.
+/// Whether two nodes are of one group, and have the same neighbours.
 fn is_same_member(a: &Node, b: &Node) -> bool
-    ensures { IsTrue result ↔ ((a.now.version ≡ b.now.version) × (a.now.group ≡ b.now.group) ×
-        (a.now.neighbours ≡ b.now.neighbours)) }
+    ensures { IsTrue result ↔ ((a.now.group ≡ b.now.group) × (a.now.neighbours ≡ b.now.neighbours)) }
 {
-    a.version() == b.version() && a.group() == b.group() && a.neighbours() == b.neighbours()
+    a.group() == b.group() && a.neighbours() == b.neighbours()
 }
 
 /// Whether two nodes are alike in a reset: mode, parent, awaited neighbours and distance.

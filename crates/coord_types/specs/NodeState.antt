@@ -6,14 +6,13 @@ use Rattle.std.specs.Coded.{Coded, code_by, coded×, coded_ℕ, coded_option}
 use Rattle.coord_types.specs.declared.messages.Mode.{Mode}
 use Rattle.coord_types.specs.declared.messages.Mode.TheVariants.{Ready, Abort, Converge}
 
--- `version` is the world's; `distance` is how many links lie between the node and the one that began its reset, 0 where it
--- is Ready, and in version 1 always 0;
+-- `distance` is how many links lie between the node and the one that began its reset, 0 where it is Ready, and in a world of
+-- version 1 always 0;
 -- `pend` are the neighbours whose acknowledgement is awaited, and `parent` the one that is owed this node's own;
 -- `neighbours` is part of the state, so that a reset rule is a function of one state alone; the type `World` keeps that
 -- they are just the nodes that it has lanes to (`linked` of coord_world's Ranges);
 -- `epoch` counts the signals that it was given, of which those up to `confirmed` are known to have been acted on
 pub record NodeState : Type 0 where
-  pub version : ℕ
   pub group : ℕ
   pub mode : Mode
   pub parent : Option ℕ
@@ -24,12 +23,12 @@ pub record NodeState : Type 0 where
   pub distance : ℕ
 
 -- a node as it is added
-abbrev pub new_node : ℕ → ℕ → NodeState
-new_node version g = record { version = version; group = g; mode = Ready; parent = None; pend = empty; neighbours = empty; epoch = 0; confirmed = 0; distance = 0 }
+abbrev pub new_node : ℕ → NodeState
+new_node g = record { group = g; mode = Ready; parent = None; pend = empty; neighbours = empty; epoch = 0; confirmed = 0; distance = 0 }
 
 -- what stands where there is no node
 abbrev pub no_node : NodeState
-no_node = new_node 1 0
+no_node = new_node 0
 
 -- a mode as a number, and back
 abbrev pub mode_number : Mode → ℕ
@@ -54,8 +53,8 @@ mode_code = code_by ℕ coded_ℕ mode_number mode_from mode_back
 abbrev pub state_code : Coded NodeState
 state_code =
     code_by
-    (ℕ × (ℕ × (Mode × (Option ℕ × (NodeSet × (NodeSet × (ℕ × (ℕ × ℕ))))))))
-    (coded× coded_ℕ (coded× coded_ℕ (coded× mode_code (coded× (coded_option coded_ℕ) (coded× nodes_code (coded× nodes_code (coded× coded_ℕ (coded× coded_ℕ coded_ℕ))))))))
-    (λ r. (r.version, (r.group, (r.mode, (r.parent, (r.pend, (r.neighbours, (r.epoch, (r.confirmed, r.distance)))))))))
-    (λ p. record { version = p.0; group = p.1.0; mode = p.1.1.0; parent = p.1.1.1.0; pend = p.1.1.1.1.0; neighbours = p.1.1.1.1.1.0; epoch = p.1.1.1.1.1.1.0; confirmed = p.1.1.1.1.1.1.1.0; distance = p.1.1.1.1.1.1.1.1 })
+    (ℕ × (Mode × (Option ℕ × (NodeSet × (NodeSet × (ℕ × (ℕ × ℕ)))))))
+    (coded× coded_ℕ (coded× mode_code (coded× (coded_option coded_ℕ) (coded× nodes_code (coded× nodes_code (coded× coded_ℕ (coded× coded_ℕ coded_ℕ)))))))
+    (λ r. (r.group, (r.mode, (r.parent, (r.pend, (r.neighbours, (r.epoch, (r.confirmed, r.distance))))))))
+    (λ p. record { group = p.0; mode = p.1.0; parent = p.1.1.0; pend = p.1.1.1.0; neighbours = p.1.1.1.1.0; epoch = p.1.1.1.1.1.0; confirmed = p.1.1.1.1.1.1.0; distance = p.1.1.1.1.1.1.1 })
     (λ _. refl)

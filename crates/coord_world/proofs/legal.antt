@@ -14,7 +14,6 @@ pub mod SoundNext
 pub mod SoundNode
 pub mod SoundView
 pub mod TakeKept
-pub mod Versions
 pub mod NoCycle
 pub mod RaisedLegal
 pub mod NoDistance

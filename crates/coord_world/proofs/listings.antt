@@ -3,6 +3,5 @@ pub mod Assembled
 pub mod Degree
 pub mod NearLinks
 pub mod NearSets
-pub mod RaisedRows
 pub mod RowsGiveWorld
 pub mod RowsOfWorldFit

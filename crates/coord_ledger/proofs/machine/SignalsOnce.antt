@@ -27,7 +27,7 @@ of_two v a b d e =
 at_most_one : (u v : ℕ) → cond (u == v) 1 0 ≤ 1
 at_most_one u v = grind (arith, nat_tests)
 
-step_signals : (w : World) (s : Step) (v : ℕ) → IsFresh w w s → count_by (is_signal_of v) (signals (transitions (state w) s)) ≤ 1
+step_signals : (w : World) (s : Step) (v : ℕ) → IsFresh w w s → count_by (is_signal_of v) (signals (transitions w.version (state w) s)) ≤ 1
 step_signals w (Order c n (Add u g)) v fresh = omega arith
 step_signals w (Order c n (Remove u)) v fresh = omega arith
 step_signals w (Order c n (Join a b)) v fresh = omega arith
@@ -35,9 +35,9 @@ step_signals w (Order c n (Drop a b)) v fresh =
     let apart : a ≢ b = (fresh_order w w c n (Drop a b) fresh).apart in
     let both = of_two v a b (lost (state w a) b) (lost (state w b) a) in
     let one : cond (a == v) 1 0 + cond (b == v) 1 0 ≤ 1 = grind (arith, nat_tests, apart) in omega (arith, both, one)
-step_signals w (Order c n (Reset u)) v fresh = omega (arith, of_transition v u (request (state w u)), at_most_one u v)
+step_signals w (Order c n (Reset u)) v fresh = omega (arith, of_transition v u (request w.version (state w u)), at_most_one u v)
 step_signals w (Order c n (Confirm u e)) v fresh = omega arith
-step_signals w (Take p) v fresh = omega (arith, of_transition v p.to (transition p.msg (state w p.to) p.from), at_most_one p.to v)
+step_signals w (Take p) v fresh = omega (arith, of_transition v p.to (transition w.version p.msg (state w p.to) p.from), at_most_one p.to v)
 step_signals w (Clear p) v fresh = omega arith
 
 -- ---- all steps

@@ -72,7 +72,7 @@ module _ (M : List Msg → Type 0) (P Q : ℕ → ℕ → Lane → Type 0) (carr
     all_prepared (Clear p) makes = on_one p.from p.to cleared carries.clear
 
     -- every lane after a step
-    pub lanes_next : (s : Step) → Makes Q w.count s → AllSend M (transitions (state w) s) → AllLanes Q (next w s)
-    lanes_next (Order c n x) makes sends = all_done (prepared w (Order c n x)) (transitions (state w) (Order c n x)) sends (all_prepared (Order c n x) makes)
-    lanes_next (Take p) makes sends = all_done (prepared w (Take p)) (transitions (state w) (Take p)) sends (all_prepared (Take p) makes)
+    pub lanes_next : (s : Step) → Makes Q w.count s → AllSend M (transitions w.version (state w) s) → AllLanes Q (next w s)
+    lanes_next (Order c n x) makes sends = all_done (prepared w (Order c n x)) (transitions w.version (state w) (Order c n x)) sends (all_prepared (Order c n x) makes)
+    lanes_next (Take p) makes sends = all_done (prepared w (Take p)) (transitions w.version (state w) (Take p)) sends (all_prepared (Take p) makes)
     lanes_next (Clear p) makes sends = all_prepared (Clear p) makes

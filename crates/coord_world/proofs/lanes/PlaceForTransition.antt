@@ -52,12 +52,12 @@ all_do-append w [] es = refl
 all_do-append w (d ∷ ds) es = all_do-append (with_transition w d.0 d.1) ds es
 
 -- a step's transitions are what it does to the lanes that are prepared
-lanes_done : (w : World) (s : Step) → (next w s).links ≡ (with_transitions (prepared w s) (transitions (state w) s)).links
+lanes_done : (w : World) (s : Step) → (next w s).links ≡ (with_transitions (prepared w s) (transitions w.version (state w) s)).links
 lanes_done w s = grind (arith, nat_tests)
 
 module _ (w settled : World) (range : InRange w) (legal : Legal w) where
   -- whatever transitions were done before it, and are done after it
-  pub room : (s : Step) (before after : List (ℕ × Transition)) (u : ℕ) (d : Transition) → IsFresh w settled s → transitions (state w) s ≡ before ++ (u, d) ∷ after → (v : ℕ) (l : Lane) →
+  pub room : (s : Step) (before after : List (ℕ × Transition)) (u : ℕ) (d : Transition) → IsFresh w settled s → transitions w.version (state w) s ≡ before ++ (u, d) ∷ after → (v : ℕ) (l : Lane) →
       lane_at (with_transitions (prepared w s) before).links u v ≡ Some l → contains d.to v ≡ true → length l.queue < 4
   room s before after u d fresh are v l there to =
       let p = with_transitions (prepared w s) before in
@@ -69,13 +69,13 @@ module _ (w settled : World) (range : InRange w) (legal : Legal w) where
 
   -- the one transition of a Take
   pub room_take : (p : DataPacket) → IsFresh w settled (Take p) → (v : ℕ) (l : Lane) →
-      lane_at (on_lane w p.from p.to took).links p.to v ≡ Some l → contains (transition p.msg (state w p.to) p.from).to v ≡ true → length l.queue < 4
-  room_take p fresh = room (Take p) [] [] p.to (transition p.msg (state w p.to) p.from) fresh refl
+      lane_at (on_lane w p.from p.to took).links p.to v ≡ Some l → contains (transition w.version p.msg (state w p.to) p.from).to v ≡ true → length l.queue < 4
+  room_take p fresh = room (Take p) [] [] p.to (transition w.version p.msg (state w p.to) p.from) fresh refl
 
   -- the one transition of a Reset
   pub room_reset : (c n u : ℕ) → IsFresh w settled (Order c n (Reset u)) → (v : ℕ) (l : Lane) →
-      lane_at w.links u v ≡ Some l → contains (request (state w u)).to v ≡ true → length l.queue < 4
-  room_reset c n u fresh = room (Order c n (Reset u)) [] [] u (request (state w u)) fresh refl
+      lane_at w.links u v ≡ Some l → contains (request w.version (state w u)).to v ≡ true → length l.queue < 4
+  room_reset c n u fresh = room (Order c n (Reset u)) [] [] u (request w.version (state w u)) fresh refl
 
   -- the two transitions of a Drop
   pub room_drop_first : (c n a b : ℕ) → IsFresh w settled (Order c n (Drop a b)) → (v : ℕ) (l : Lane) →

@@ -29,7 +29,7 @@ no_parent_left p b h1 = grind (arith, nat_tests, h1)
 parent_stays : (p : Option ℕ) (b : ℕ) → is_parent p b ≡ false → without p b ≡ p
 parent_stays p b h1 = grind (arith, nat_tests, h1)
 
-module _ (r : NodeState) (b : ℕ) (node : SoundNode r) where
+module _ (version : ℕ) (r : NodeState) (b : ℕ) (node : SoundNode r) where
   -- the state without the link, and what it keeps
   abbrev s : NodeState
   s = cut_from r b
@@ -38,8 +38,8 @@ module _ (r : NodeState) (b : ℕ) (node : SoundNode r) where
   aside = aside_lost r b node
 
   -- a node that goes on as before
-  stays : (is_abort r.mode ≡ true → is_empty s.pend ≡ false) → (is_abort r.mode ≡ false → is_empty s.pend ≡ true) → (r.mode ≡ Converge → is_parent r.parent b ≡ false) → Keeps r b (idle s)
-  stays awaits quiet child = keeps_idle r s b aside (record {
+  stays : (is_abort r.mode ≡ true → is_empty s.pend ≡ false) → (is_abort r.mode ≡ false → is_empty s.pend ≡ true) → (r.mode ≡ Converge → is_parent r.parent b ≡ false) → Keeps version r b (idle s)
+  stays awaits quiet child = keeps_idle version r s b aside (record {
     awaits = awaits;
     quiet = quiet;
     no_parent = λ e. ap (λ p. without p b) (node.no_parent e);
@@ -62,20 +62,20 @@ module _ (r : NodeState) (b : ℕ) (node : SoundNode r) where
       absurd (grind (arith, nat_tests, node.awaits (ap is_abort mode)))) (λ some. refl)
 
   -- one end that loses its link to b
-  pub loses : Keeps r b (lost r b)
-  loses = lost_cases r b (Keeps r b)
+  pub loses : Keeps version r b (lost r b)
+  loses = lost_cases r b (Keeps version r b)
       (λ e. stays (λ h. cc (ap is_abort e, h)) quiet_left (λ h. cc (e, h)))
       (λ e more. stays (λ _. waits e more) quiet_left (λ h. cc (e, h)))
       (λ e other. stays (λ h. cc (ap is_abort e, h)) quiet_left (λ _. other))
-      (λ e child. keeps_finish r s b aside (ap is_ready e) (quiet_left (ap is_abort e)) (λ y far. ap (λ p. is_parent p y) (no_parent_left r.parent b child)))
-      (λ e last top. keeps_finish r s b aside (ap is_ready e) (grind (arith, last)) (λ y far. ap (λ p. is_parent p y) top))
-      (λ e last p up. keeps_converge r s b aside p e (grind (arith, last)) up)
+      (λ e child. keeps_finish version r s b aside (ap is_ready e) (quiet_left (ap is_abort e)) (λ y far. ap (λ p. is_parent p y) (no_parent_left r.parent b child)))
+      (λ e last top. keeps_finish version r s b aside (ap is_ready e) (grind (arith, last)) (λ y far. ap (λ p. is_parent p y) top))
+      (λ e last p up. keeps_converge version r s b aside p e (grind (arith, last)) up)
 
 module _ (w : Ideal) (a b : ℕ) where
   -- the links that are left are legal
   pub cut_links : LegalLinks w → LegalLinks (without_link w a b)
   cut_links ok = record {
-    links = λ x y with_y. subst LegalBoth (λ i. record { here = end_of (w.state x) y; there = end_of (w.state y) x; out = sym (way_stays x y with_y) i; back = sym (way_back_stays x y with_y) i }) (ok.links x y (grind (arith, nat_tests)));
+    links = λ x y with_y. subst LegalBoth (λ i. record { here = end_of w.version (w.state x) y; there = end_of w.version (w.state y) x; out = sym (way_stays x y with_y) i; back = sym (way_back_stays x y with_y) i }) (ok.links x y (grind (arith, nat_tests)));
     mirrored = λ x y. grind (arith, nat_tests, ok.mirrored x y);
     apart = λ x y with_y. ok.apart x y (grind (arith, nat_tests));
   }
@@ -104,12 +104,12 @@ module _ (w : Ideal) (a b : ℕ) (with_b : w.linked a b ≡ true) (sound : Sound
   apart = (links_of w sound).apart a b with_b
 
   -- the first end is legal then
-  first : Keeps (w.state a) b da
-  first = loses (w.state a) b (sound.nodes a)
+  first : Keeps w.version (w.state a) b da
+  first = loses w.version (w.state a) b (sound.nodes a)
 
   -- and so is the second
-  second : Keeps (w.state b) a db
-  second = loses (w.state b) a (sound.nodes b)
+  second : Keeps w.version (w.state b) a db
+  second = loses w.version (w.state b) a (sound.nodes b)
 
   -- links that are left go to neighbours
   in_near : (x y : ℕ) → (without_link w a b).linked x y ≡ true → contains (w.state x).neighbours y ≡ true
@@ -131,7 +131,7 @@ module _ (w : Ideal) (a b : ℕ) (with_b : w.linked a b ≡ true) (sound : Sound
   -- and when the second end has too
   both_ok : LegalLinks (dropped w a b)
   both_ok = links_kept one_end b db one_ok.mirrored one_ok.apart (λ x y p q with_y. one_ok.links x y with_y)
-      (λ y with_y. second.elsewhere (link one_end b y) y (λ same. absurd (grind (arith, nat_tests))) (in_near b y with_y) (ap (λ r. end_of r y) row_b) (one_ok.links b y with_y))
+      (λ y with_y. second.elsewhere (link one_end b y) y (λ same. absurd (grind (arith, nat_tests))) (in_near b y with_y) (ap (λ r. end_of w.version r y) row_b) (one_ok.links b y with_y))
 
   -- each node is legal
   nodes_ok : (x : ℕ) → SoundNode ((dropped w a b).state x)

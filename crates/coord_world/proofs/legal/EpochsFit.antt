@@ -23,13 +23,13 @@ carries_epochs count n small = record {
 }
 
 -- a new node has entered no epoch
-new_fits : (version count : ℕ) (s : Step) → Adds version (λ x r. EpochsFit count r) s
-new_fits version count (Order c n (Add u g)) = record { confirmed = omega arith; entered = omega arith; ready = λ _. refl; within = λ e. cc }
-new_fits version count s = tt
+new_fits : (count : ℕ) (s : Step) → Adds (λ x r. EpochsFit count r) s
+new_fits count (Order c n (Add u g)) = record { confirmed = omega arith; entered = omega arith; ready = λ _. refl; within = λ e. cc }
+new_fits count s = tt
 
 -- each node keeps it through a fresh step
 pub epochs_next : (w settled : World) (s : Step) → InRange w → Legal w → IsFresh w settled s → AllRows (λ x r. EpochsFit (w.count + 1) r) (next w s).nodes
 epochs_next w settled s range legal fresh =
     rows_next (λ x r. EpochsFit w.count r × (r.distance ≤ w.count)) (λ x r. EpochsFit (w.count + 1) r) w
     (λ x r is. (epochs_fit w.count r (legal.nodes x r is), omega (arith, (range.distances x r is).within, farthest_le w.version w.count)))
-    settled s (carries_epochs w.count (brought_by s) (omega (arith, brought_within w settled s range fresh, farthest_le w.version w.count))) range (new_fits w.version (w.count + 1) s) fresh
+    settled s (carries_epochs w.count (brought_by s) (omega (arith, brought_within w settled s range fresh, farthest_le w.version w.count))) range (new_fits (w.count + 1) s) fresh

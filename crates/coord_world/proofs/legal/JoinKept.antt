@@ -29,7 +29,7 @@ module _ (w : Ideal) (a b : ℕ) (apart : a ≢ b) (free : w.linked a b ≡ fals
   back_free = sym ((links_of w sound).mirrored a b) ∙ free
 
   -- the ends of the links do not change
-  same_end : (x y : ℕ) → end_of ((linked_up w a b).state x) y ≡ end_of (w.state x) y
+  same_end : (x y : ℕ) → end_of w.version ((linked_up w a b).state x) y ≡ end_of w.version (w.state x) y
   same_end x y = grind (arith, nat_tests)
 
   -- a node neither awaits one that it is not linked to, nor has it as its parent
@@ -37,10 +37,10 @@ module _ (w : Ideal) (a b : ℕ) (apart : a ≢ b) (free : w.linked a b ≡ fals
   strangers x y h1 = grind (arith, nat_tests, h1)
 
   -- so a new link is legal
-  new_link : (x y : ℕ) → w.linked x y ≡ false → w.linked y x ≡ false → LegalBoth (record { here = end_of (w.state x) y; there = end_of (w.state y) x; out = []; back = [] })
+  new_link : (x y : ℕ) → w.linked x y ≡ false → w.linked y x ≡ false → LegalBoth (record { here = end_of w.version (w.state x) y; there = end_of w.version (w.state y) x; out = []; back = [] })
   new_link x y none back = record {
-    here = legal_end _ y (sound.nodes x);
-    there = legal_end _ x (sound.nodes y);
+    here = legal_end _ _ y (sound.nodes x);
+    there = legal_end _ _ x (sound.nodes y);
     from = joined _ (strangers x y none).1 (strangers y x back).1 (strangers x y none).0 (strangers y x back).0 refl refl;
     to = joined _ (strangers y x back).1 (strangers x y none).1 (strangers y x back).0 (strangers x y none).0 refl refl;
   }
@@ -53,10 +53,10 @@ module _ (w : Ideal) (a b : ℕ) (apart : a ≢ b) (free : w.linked a b ≡ fals
     apart = λ x y with_y same. grind (arith, nat_tests, (links_of w sound).apart x y, same);
   }
     where
-      plain : (x y : ℕ) → (linked_up w a b).linked x y ≡ true → LegalBoth (record { here = end_of (w.state x) y; there = end_of (w.state y) x; out = (linked_up w a b).way x y; back = (linked_up w a b).way y x })
+      plain : (x y : ℕ) → (linked_up w a b).linked x y ≡ true → LegalBoth (record { here = end_of w.version (w.state x) y; there = end_of w.version (w.state y) x; out = (linked_up w a b).way x y; back = (linked_up w a b).way y x })
       plain x y with_y = both_ways (is_link a b x y) (is_link a b y x) refl refl
         where
-          both_ways : (s t : Bool) → is_link a b x y ≡ s → is_link a b y x ≡ t → LegalBoth (record { here = end_of (w.state x) y; there = end_of (w.state y) x; out = cond s [] (w.way x y); back = cond t [] (w.way y x) })
+          both_ways : (s t : Bool) → is_link a b x y ≡ s → is_link a b y x ≡ t → LegalBoth (record { here = end_of w.version (w.state x) y; there = end_of w.version (w.state y) x; out = cond s [] (w.way x y); back = cond t [] (w.way y x) })
           both_ways true true e f = new_link x y (grind (arith, nat_tests, free, back_free)) (grind (arith, nat_tests, free, back_free))
           both_ways true false e f = absurd (grind (arith, nat_tests))
           both_ways false true e f = absurd (grind (arith, nat_tests))

@@ -7,14 +7,13 @@ use Rattle.coord_world.proofs.legal.SoundLink.{legal_link}
 use Rattle.coord_world.proofs.legal.SoundNode.{SoundNode, legal_node}
 use Rattle.coord_world.proofs.legal.EpochsFit.{epochs_next}
 use Rattle.coord_world.proofs.legal.SoundNext.{sound_next}
-use Rattle.coord_world.proofs.legal.Versions.{versions_view}
 use Rattle.coord_world.proofs.view.ViewOfNext.{counts_next}
 use Rattle.coord_world.proofs.legal.Sound.{Sound}
 use Rattle.coord_world.proofs.legal.SoundView.{sound_view}
 
 -- the view of the world after a fresh step
 pub sound_after : (w settled : World) (s : Step) → InRange w → Legal w → IsFresh w settled s → Sound (view (next w s))
-sound_after w settled s range legal fresh = sound_next w settled s (sound_view w range legal) (versions_view w range) legal.lanes fresh
+sound_after w settled s range legal fresh = sound_next w settled s (sound_view w range legal) legal.lanes fresh
 
 -- and the world itself
 pub legal_next : NextKeepsLegal

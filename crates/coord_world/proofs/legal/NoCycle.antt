@@ -12,17 +12,13 @@ module _ (w : World) (range : InRange w) (legal : Legal w) (second : w.version �
   sound : Sound (view w)
   sound = sound_view w range legal
 
-  -- a node in a reset is there, and has the world's version
-  version_of : (u : ℕ) → is_ready (state w u).mode ≡ false → (state w u).version ≡ 2
-  version_of u h1 = grind (arith, nat_tests, h1)
-
   -- one link of a chain
   one_further : (u v : ℕ) → IsAbove w u v → (state w v).distance ≡ (state w u).distance + 1
   one_further u v link =
       let parent : is_parent (state w v).parent u ≡ true = ap (λ o. is_parent o u) link.parent ∙ self in
       let near : contains (state w u).neighbours v ≡ true = sound.mirrored u v ∙ (sound.nodes v).parent_near u parent in
       let far = (sound.links u v near).distant link.below parent link.unreleased in
-      far ∙ ap (λ n. cond (eqb n 1) 0 ((state w u).distance + 1)) (version_of u link.above)
+      far ∙ ap (λ n. cond (eqb n 1) 0 ((state w u).distance + 1)) second
     where
       self : is_parent (Some u) u ≡ true
       self = grind (arith, nat_tests)

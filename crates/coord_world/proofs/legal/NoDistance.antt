@@ -1,5 +1,5 @@
 -- In a world of version 1 in its ranges every distance is 0, so H holds, and N where the rest of it does.
-use Rattle.std.proofs.Common.{◌≡◌, ℕ, ◌≤◌, Bool, true, false, ◌&&◌, List, [], ◌∷◌, Option, Some, None, refl, sym, ap, ◌∙◌, subst, arith, is_some, length}
+use Rattle.std.proofs.Common.{◌≡◌, ℕ, ◌+◌, ◌≤◌, Bool, true, false, ◌&&◌, List, [], ◌∷◌, Option, Some, None, refl, sym, ap, ◌∙◌, subst, arith, is_some, length}
 use Rattle.std.specs.List.{list_all}
 use Rattle.std.proofs.lemmas.Bool.Decides.{nat_tests}
 use Rattle.coord_types.specs.NodeSet as set
@@ -10,7 +10,7 @@ use Rattle.coord_types.specs.declared.messages.Msg.{Msg}
 use Rattle.coord_types.specs.declared.messages.Msg.TheVariants as msg
 use Rattle.coord_types.proofs.Sets.{len_of_items}
 use Rattle.coord_link.specs.LaneMachine.{Lane, transit, is_front_taken}
-use Rattle.coord_node.specs.Rules.{carried, is_empty}
+use Rattle.coord_node.specs.Rules.{carried, is_empty, kept}
 use Rattle.coord_world.specs.laws.Version1.{Version1AsksNoDistance, is_legal_but_for_distance}
 use Rattle.coord_world.specs.protocol.Links.{strays}
 use Rattle.coord_world.specs.Facade.{CarryWithin, InRange, World, awaits_rightly, farthest, has_right_distances, has_right_parent, is_distance_right, is_legal_node, is_parent_near, is_ready, is_within, lane_at, link, state, state_or_none, transit_or_none, view}
@@ -44,8 +44,8 @@ module _ (w : World) (range : InRange w) (first : w.version ≡ 1) where
   at_none : (u : ℕ) → (state w u).distance ≡ 0
   at_none = at_each w (λ r. r.distance ≡ 0) refl (λ u r is. none r.distance (range.distances u r is).within)
 
-  carries_none : (u : ℕ) → carried (state w u) ≡ 0
-  carries_none = at_each w (λ r. carried r ≡ 0) refl (λ u r is. let one : r.version ≡ 1 = (range.distances u r is).version ∙ first in grind (arith, nat_tests, one))
+  carries_none : (u : ℕ) → carried w.version (state w u) ≡ 0
+  carries_none u = ap (λ v. kept v ((state w u).distance + 1)) first
 
   -- of the messages on the way
   no_strays : (ms : List Msg) → CarryWithin (farthest w.version w.count) ms → strays 0 ms ≡ 0

@@ -8,8 +8,8 @@ use Rattle.coord_types.specs.declared.messages.Mode.TheVariants.{Abort, Converge
 use Rattle.coord_types.specs.declared.messages.Msg.{Msg}
 use Rattle.coord_types.specs.declared.messages.Msg.TheVariants as msg
 use Rattle.coord_types.proofs.Sets.{contains-empty, contains-remove}
-use Rattle.coord_node.specs.Facade.{Transition, added, answer, finish, ideal_applied, idle, is_empty, is_parent, kept, on_abort, on_ack, on_ready, request, transition, wave_back, wave_on}
-use Rattle.coord_world.specs.protocol.Links.{link, acks, is_abort, is_ready}
+use Rattle.coord_node.specs.Facade.{Transition, added, answer, carried, finish, ideal_applied, idle, is_empty, is_parent, kept, on_abort, on_ack, on_ready, request, transition, wave_back, wave_on}
+use Rattle.coord_world.specs.protocol.Links.{link, acks, is_abort, is_ready, strays}
 use Rattle.coord_world.proofs.legal.TransitionKept.{both_before, but_of, deed_kept, not_self}
 use Rattle.coord_world.proofs.transitions.LegalBoth.{LegalBoth, acked, acked_last, converges_near, passed_by, released, wave_ends, wave_meets, wave_reaches}
 use Rattle.coord_world.proofs.transitions.KeepsLinks.{Aside, Keeps, aside_acked, aside_self, has_without, keeps_alone, keeps_answer, keeps_converge, keeps_finish, keeps_idle, keeps_wave_back, keeps_wave_on}
@@ -33,17 +33,17 @@ module _ (w : Ideal) (u : ℕ) (sound : Sound w) where
   r = w.state u
 
   -- a transition whose cause is the node itself
-  own : (d : Transition) → d.state.neighbours ≡ r.neighbours → Keeps r u d → Sound (ideal_applied w u d)
+  own : (d : Transition) → d.state.neighbours ≡ r.neighbours → Keeps w.version r u d → Sound (ideal_applied w u d)
   own d same keeps = deed_kept w u d (but_of w u sound) (λ y with_y.
       let near : contains r.neighbours y ≡ true = sym (sound.linked u y) ∙ with_y in
       keeps.elsewhere (link w u y) y (not_self w u sound y near) near refl (both_before w u sound y near)) same keeps.node
 
   -- a reset that is asked for
-  pub reset_kept : Sound (ideal_applied w u (request r))
-  reset_kept = request_cases r (λ d k. Sound (ideal_applied w u d))
-      (λ ready none. own (finish r) refl (keeps_alone r u (sound.nodes u) ready none))
-      (λ ready some. own (wave_on r None r.neighbours 0) refl (keeps_wave_on r u (sound.nodes u) None r.neighbours 0 ready some (λ y e. cc) (λ y. refl) (λ e. cc)))
-      (own (idle r) refl (keeps_idle r r u (aside_self r u (sound.nodes u)) (sound.nodes u)))
+  pub reset_kept : Sound (ideal_applied w u (request w.version r))
+  reset_kept = request_cases w.version r (λ d k. Sound (ideal_applied w u d))
+      (λ ready none. own (finish r) refl (keeps_alone w.version r u (sound.nodes u) ready none))
+      (λ ready some. own (wave_on w.version r None r.neighbours 0) refl (keeps_wave_on w.version r u (sound.nodes u) None r.neighbours 0 ready some (λ y e. cc) (λ y. refl) (λ e. cc)))
+      (own (idle r) refl (keeps_idle w.version r r u (aside_self r u (sound.nodes u)) (sound.nodes u)))
 
 module _ (w : Ideal) (v u : ℕ) (rest : List Msg) (near : contains (w.state u).neighbours v ≡ true) (sound : Sound w) where
   -- the node that takes the message, and its link to the sender before
@@ -54,21 +54,24 @@ module _ (w : Ideal) (v u : ℕ) (rest : List Msg) (near : contains (w.state u).
   before = both_before w u sound v near
 
   -- an Abort brings what its sender's Aborts carry, so the taker keeps just that
-  kept_whole : (n : ℕ) → taker.version ≡ (w.state v).version → w.way v u ≡ msg.Abort n ∷ rest → kept taker n ≡ n
-  kept_whole n h1 h2 = grind (arith, nat_tests, h1, h2)
+  kept_whole : (n : ℕ) → w.way v u ≡ msg.Abort n ∷ rest → kept w.version n ≡ n
+  kept_whole n front =
+      let link = sound.links v u (sym (sound.mirrored u v) ∙ near) in
+      let right = subst (λ ms. strays (carried w.version (w.state v)) ms ≡ 0) front link.carried in
+      grind (arith, nat_tests, right)
 
   -- an Abort that is taken
-  abort_taken : (n : ℕ) → kept taker n ≡ n → w.way v u ≡ msg.Abort n ∷ rest → Sound (after_take w v u (on_abort taker v n))
-  abort_taken n same front = abort_cases taker v (λ d. Sound (after_take w v u d)) n
+  abort_taken : (n : ℕ) → kept w.version n ≡ n → w.way v u ≡ msg.Abort n ∷ rest → Sound (after_take w v u (on_abort w.version taker v n))
+  abort_taken n same front = abort_cases w.version taker v (λ d. Sound (after_take w v u d)) n
       (λ ready none. subst (λ k. Sound (after_take w v u (wave_back taker v k))) (sym same)
-      (take_kept w v u (msg.Abort n) rest front near sound (wave_back taker v n) refl (keeps_wave_back taker v (sound.nodes u) n ready none near)
+      (take_kept w v u (msg.Abort n) rest front near sound (wave_back taker v n) refl (keeps_wave_back w.version taker v (sound.nodes u) n ready none near)
       (wave_ends (link w u v) _ n refl ready refl (contains-empty v) (grind (arith, nat_tests)) refl (grind (arith, nat_tests, has_only v v)) front before)))
-      (λ ready some. subst (λ k. Sound (after_take w v u (wave_on taker (Some v) (set.remove taker.neighbours v) k))) (sym same)
-      (take_kept w v u (msg.Abort n) rest front near sound (wave_on taker (Some v) (set.remove taker.neighbours v) n) refl
-      (keeps_wave_on taker v (sound.nodes u) (Some v) (set.remove taker.neighbours v) n ready some (λ y e. grind (arith, nat_tests)) (λ y. grind (arith, nat_tests, contains-remove taker.neighbours v y)) (λ _. near))
+      (λ ready some. subst (λ k. Sound (after_take w v u (wave_on w.version taker (Some v) (set.remove taker.neighbours v) k))) (sym same)
+      (take_kept w v u (msg.Abort n) rest front near sound (wave_on w.version taker (Some v) (set.remove taker.neighbours v) n) refl
+      (keeps_wave_on w.version taker v (sound.nodes u) (Some v) (set.remove taker.neighbours v) n ready some (λ y e. grind (arith, nat_tests)) (λ y. grind (arith, nat_tests, contains-remove taker.neighbours v y)) (λ _. near))
       (wave_reaches (link w u v) _ n refl ready refl (grind (arith, nat_tests, contains-remove taker.neighbours v v)) (grind (arith, nat_tests)) refl
       (grind (arith, nat_tests, contains-remove taker.neighbours v v, append-nil (w.way u v))) front before)))
-      (λ busy. take_kept w v u (msg.Abort n) rest front near sound (answer taker v) refl (keeps_answer taker v (sound.nodes u))
+      (λ busy. take_kept w v u (msg.Abort n) rest front near sound (answer taker v) refl (keeps_answer w.version taker v (sound.nodes u))
       (wave_meets (link w u v) _ n busy refl refl (grind (arith, nat_tests, has_only v v)) front before))
 
   module _ (front : w.way v u ≡ msg.Ack ∷ rest) where
@@ -104,32 +107,32 @@ module _ (w : Ideal) (v u : ℕ) (rest : List Msg) (near : contains (w.state u).
     ack_taken : Sound (after_take w v u (on_ack taker v))
     ack_taken = ack_cases taker v (λ d. Sound (after_take w v u d))
         (λ none. absurd (grind (arith, none, some_awaited)))
-        (λ more. take_kept w v u msg.Ack rest front near sound (idle (acked_by taker v)) refl (keeps_idle taker (acked_by taker v) v aside (still_waits more))
+        (λ more. take_kept w v u msg.Ack rest front near sound (idle (acked_by taker v)) refl (keeps_idle w.version taker (acked_by taker v) v aside (still_waits more))
         (acked (link w u v) _ refl refl waiting waiting (grind (arith, nat_tests, contains-remove taker.pend v v)) refl refl (nothing _ (acked_by taker v) v) front before))
-        (λ none top. take_kept w v u msg.Ack rest front near sound (finish (acked_by taker v)) refl (keeps_finish taker (acked_by taker v) v aside (ap is_ready waiting) none (λ y far. ap (λ o. is_parent o y) top))
+        (λ none top. take_kept w v u msg.Ack rest front near sound (finish (acked_by taker v)) refl (keeps_finish w.version taker (acked_by taker v) v aside (ap is_ready waiting) none (λ y far. ap (λ o. is_parent o y) top))
         (acked_last (link w u v) _ waiting (ap (λ o. is_parent o v) top) refl (empty_has (set.remove taker.pend v) v none) refl refl
         (grind (arith, nat_tests, has_without taker.neighbours taker.parent v, top)) front before))
         (λ none p up.
         let outside : is_parent taker.parent v ≡ false = grind (arith, (sound.nodes u).parent_outside v, awaited) in
         let not_v : eqb v p ≡ false = grind (arith, nat_tests, up, outside) in
-        take_kept w v u msg.Ack rest front near sound (answer (record (acked_by taker v) { mode = Converge }) p) refl (keeps_converge taker (acked_by taker v) v aside p waiting none up)
+        take_kept w v u msg.Ack rest front near sound (answer (record (acked_by taker v) { mode = Converge }) p) refl (keeps_converge w.version taker (acked_by taker v) v aside p waiting none up)
         (converges_near (link w u v) _ refl refl waiting outside refl (empty_has (set.remove taker.pend v) v none) outside refl
         (grind (arith, nat_tests, has_only p v, not_v, append-nil (w.way u v))) front before))
 
   -- a Ready that is taken
   ready_taken : w.way v u ≡ msg.Ready ∷ rest → Sound (after_take w v u (on_ready taker v))
   ready_taken front = ready_cases taker v (λ d. Sound (after_take w v u d))
-      (λ deaf. take_kept w v u msg.Ready rest front near sound (idle taker) refl (keeps_idle taker taker v (aside_self taker v (sound.nodes u)) (sound.nodes u))
+      (λ deaf. take_kept w v u msg.Ready rest front near sound (idle taker) refl (keeps_idle w.version taker taker v (aside_self taker v (sound.nodes u)) (sound.nodes u))
       (passed_by (link w u v) _ deaf refl refl (nothing _ taker v) front before))
       (λ mode child.
       let none = (sound.nodes u).quiet (ap is_abort mode) in
       take_kept w v u msg.Ready rest front near sound (finish taker) refl
-      (keeps_finish taker taker v (aside_self taker v (sound.nodes u)) (ap is_ready mode) none (λ y far. one_parent taker.parent v y child far))
+      (keeps_finish w.version taker taker v (aside_self taker v (sound.nodes u)) (ap is_ready mode) none (λ y far. one_parent taker.parent v y child far))
       (released (link w u v) _ mode child refl (empty_has taker.pend v none) refl refl
       (grind (arith, nat_tests, has_without taker.neighbours taker.parent v, child, append-nil (w.way u v))) front before))
 
 -- any message that is taken
-pub taken_kept : (w : Ideal) (v u : ℕ) (m : Msg) (rest : List Msg) → (w.state u).version ≡ (w.state v).version → w.way v u ≡ m ∷ rest → contains (w.state u).neighbours v ≡ true → Sound w → Sound (after_take w v u (transition m (w.state u) v))
-taken_kept w v u (msg.Abort n) rest even front near sound = abort_taken w v u rest near sound n (kept_whole w v u rest near sound n even front) front
-taken_kept w v u msg.Ack rest even front near sound = ack_taken w v u rest near sound front
-taken_kept w v u msg.Ready rest even front near sound = ready_taken w v u rest near sound front
+pub taken_kept : (w : Ideal) (v u : ℕ) (m : Msg) (rest : List Msg) → w.way v u ≡ m ∷ rest → contains (w.state u).neighbours v ≡ true → Sound w → Sound (after_take w v u (transition w.version m (w.state u) v))
+taken_kept w v u (msg.Abort n) rest front near sound = abort_taken w v u rest near sound n (kept_whole w v u rest near sound n front) front
+taken_kept w v u msg.Ack rest front near sound = ack_taken w v u rest near sound front
+taken_kept w v u msg.Ready rest front near sound = ready_taken w v u rest near sound front

@@ -12,7 +12,3 @@ pub record Sound (w : Ideal) : Type 0 where
   pub linked : (x y : ℕ) → w.linked x y ≡ contains (w.state x).neighbours y
   pub mirrored : (x y : ℕ) → contains (w.state x).neighbours y ≡ contains (w.state y).neighbours x
   pub apart : (x : ℕ) → contains (w.state x).neighbours x ≡ false
-
--- both ends of a link have one version
-abbrev pub SameVersions : Ideal → Type 0
-SameVersions w = (x y : ℕ) → contains (w.state x).neighbours y ≡ true → (w.state x).version ≡ (w.state y).version

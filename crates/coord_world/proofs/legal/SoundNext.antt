@@ -17,7 +17,7 @@ use Rattle.coord_world.proofs.view.ViewOfNext.{view_next}
 use Rattle.coord_world.proofs.acceptance.FreshOrder.{Passes, fresh_order}
 use Rattle.coord_world.proofs.legal.StateKept.{confirm_kept, new_kept}
 use Rattle.coord_world.proofs.legal.RulesKept.{reset_kept, taken_kept}
-use Rattle.coord_world.proofs.legal.Sound.{SameVersions, Sound}
+use Rattle.coord_world.proofs.legal.Sound.{Sound}
 
 -- a new node has no neighbours
 pub new_alone : is_empty no_node.neighbours ≡ true
@@ -25,23 +25,23 @@ new_alone = grind (arith, nat_tests, len-empty)
 
 -- by the command
 ordered_kept : (w : World) (c n : ℕ) (x : Command) → Sound (view w) → Passes w x → Sound (ideal_next (view w) (Order c n x))
-ordered_kept w c n (Add u g) sound new = new_kept (view w) u sound w.version g (ap (λ o. is_empty (state_or_none o).neighbours) new ∙ new_alone)
-ordered_kept w c n (Remove u) sound removable = new_kept (view w) u sound 1 0 removable.alone
+ordered_kept w c n (Add u g) sound new = new_kept (view w) u sound g (ap (λ o. is_empty (state_or_none o).neighbours) new ∙ new_alone)
+ordered_kept w c n (Remove u) sound removable = new_kept (view w) u sound 0 removable.alone
 ordered_kept w c n (Join a b) sound joinable = join_kept (view w) a b joinable.apart joinable.free sound
 ordered_kept w c n (Drop a b) sound droppable = drop_kept (view w) a b droppable.linked sound
 ordered_kept w c n (Reset u) sound known = reset_kept (view w) u sound
 ordered_kept w c n (Confirm u e) sound confirmable = confirm_kept (view w) u sound e
 
 -- the ideal step of a fresh step
-ideal_kept : (w settled : World) (s : Step) → Sound (view w) → SameVersions (view w) → IsFresh w settled s → Sound (ideal_next (view w) s)
-ideal_kept w settled (Order c n x) sound even fresh = ordered_kept w c n x sound (fresh_order w settled c n x fresh)
-ideal_kept w settled (Take p) sound even fresh =
+ideal_kept : (w settled : World) (s : Step) → Sound (view w) → IsFresh w settled s → Sound (ideal_next (view w) s)
+ideal_kept w settled (Order c n x) sound fresh = ordered_kept w c n x sound (fresh_order w settled c n x fresh)
+ideal_kept w settled (Take p) sound fresh =
     let take = fresh_take w settled p fresh in
     let out : contains (state w p.from).neighbours p.to ≡ true = sym (sound.linked p.from p.to) ∙ ap is_some take.there in
     let front : transit_or_none (lane_at w.links p.from p.to) ≡ p.msg ∷ take.rest = ap transit_or_none take.there ∙ grind (arith, nat_tests, take.idle) ∙ take.front in
-    taken_kept (view w) p.from p.to p.msg take.rest (sym (even p.from p.to out)) front (sym (sound.mirrored p.from p.to) ∙ out) sound
-ideal_kept w settled (Clear p) sound even fresh = sound
+    taken_kept (view w) p.from p.to p.msg take.rest front (sym (sound.mirrored p.from p.to) ∙ out) sound
+ideal_kept w settled (Clear p) sound fresh = sound
 
 -- and so the step itself
-pub sound_next : (w settled : World) (s : Step) → Sound (view w) → SameVersions (view w) → AllCount w → IsFresh w settled s → Sound (view (next w s))
-sound_next w settled s sound even counts fresh = subst Sound (sym (view_next w settled s counts fresh)) (ideal_kept w settled s sound even fresh)
+pub sound_next : (w settled : World) (s : Step) → Sound (view w) → AllCount w → IsFresh w settled s → Sound (view (next w s))
+sound_next w settled s sound counts fresh = subst Sound (sym (view_next w settled s counts fresh)) (ideal_kept w settled s sound fresh)

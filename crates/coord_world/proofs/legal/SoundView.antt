@@ -20,7 +20,7 @@ at_each w P none some u = of_option (get w.nodes u) refl
 pub sound_view : (w : World) → InRange w → Legal w → Sound (view w)
 sound_view w range legal = record {
   links = λ x y near. sound_link (link (view w) x y) (legal.links x y (range.linked x y ∙ near));
-  nodes = at_each w SoundNode (new_legal 1 0) (λ u r is. sound_node w.count r (legal.nodes u r is));
+  nodes = at_each w SoundNode (new_legal 0) (λ u r is. sound_node w.count r (legal.nodes u r is));
   linked = range.linked;
   mirrored = λ x y. sym (range.linked x y) ∙ lane-mirrored w.links x y ∙ range.linked y x;
   apart = λ x. sym (range.linked x x) ∙ lane-apart w.links range.turned x;

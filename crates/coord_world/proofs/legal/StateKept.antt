@@ -25,17 +25,17 @@ module _ (w : Ideal) (u : ℕ) (r : NodeState) (sound : Sound w) where
       same x y = grind (arith, nat_tests, contains-empty y, append-nil (w.way x y))
 
   -- it keeps a world sound where the neighbours and the ends of the links stay
-  pub row_kept : r.neighbours ≡ (w.state u).neighbours → SoundNode r → ((y : ℕ) → w.linked u y ≡ true → end_of r y ≡ end_of (w.state u) y) → Sound (set_state w u r)
+  pub row_kept : r.neighbours ≡ (w.state u).neighbours → SoundNode r → ((y : ℕ) → w.linked u y ≡ true → end_of w.version r y ≡ end_of w.version (w.state u) y) → Sound (set_state w u r)
   row_kept neighbours node ends = subst Sound (sym set_acts) (deed_kept w u (idle r) (but_of w u sound)
-      (λ y with_y. subst LegalBoth (λ i. record { here = sym (ends y with_y) i; there = end_of (w.state y) u; out = sym (nothing y) i; back = w.way y u }) ((links_of w sound).links u y with_y))
+      (λ y with_y. subst LegalBoth (λ i. record { here = sym (ends y with_y) i; there = end_of w.version (w.state y) u; out = sym (nothing y) i; back = w.way y u }) ((links_of w sound).links u y with_y))
       neighbours node)
     where
       nothing : (y : ℕ) → w.way u y ++ added (idle r) y ≡ w.way u y
       nothing y = grind (arith, contains-empty y, append-nil (w.way u y))
 
 -- a node as it is added
-pub new_legal : (version g : ℕ) → SoundNode (new_node version g)
-new_legal version g = record {
+pub new_legal : (g : ℕ) → SoundNode (new_node g)
+new_legal g = record {
   awaits = λ e. cc;
   quiet = λ e. grind (arith, nat_tests, len-empty);
   no_parent = λ e. refl;
@@ -51,6 +51,6 @@ module _ (w : Ideal) (u : ℕ) (sound : Sound w) where
   confirm_kept e = grind (arith, nat_tests)
 
   -- a node without neighbours begins anew
-  pub new_kept : (version g : ℕ) → is_empty (w.state u).neighbours ≡ true → Sound (set_state w u (new_node version g))
-  new_kept version g alone = row_kept w u (new_node version g) sound (sym (empty_of_len (w.state u).neighbours (grind (arith, nat_tests)))) (new_legal version g)
+  pub new_kept : (g : ℕ) → is_empty (w.state u).neighbours ≡ true → Sound (set_state w u (new_node g))
+  new_kept g alone = row_kept w u (new_node g) sound (sym (empty_of_len (w.state u).neighbours (grind (arith, nat_tests)))) (new_legal g)
       (λ y with_y. absurd (grind (arith, sound.linked u y, empty_has (w.state u).neighbours y alone)))

@@ -36,22 +36,22 @@ module _ (w : Ideal) (v u : ℕ) (m : Msg) (rest : List Msg) (front : w.way v u 
       record { links = λ x y p q with_y. subst LegalBoth (sym (apart_is x y p q)) (ok.links x y with_y); nodes = sound.nodes; linked = sound.linked; mirrored = ok.mirrored; apart = ok.apart }
     where
       apart_is : (x y : ℕ) → x ≢ u → y ≢ u → link (headed w v u) x y ≡ link w x y
-      apart_is x y p q i = record { here = end_of (w.state x) y; there = end_of (w.state y) x; out = way_apart w v u x y q i; back = way_apart w v u y x p i }
+      apart_is x y p q i = record { here = end_of w.version (w.state x) y; there = end_of w.version (w.state y) x; out = way_apart w v u x y q i; back = way_apart w v u y x p i }
 
   module _ (d : Transition) where
     -- the link to the sender after the transition
     abbrev pub near_after : Link
-    near_after = record { here = end_of d.state v; there = end_of (w.state v) u; out = w.way u v ++ added d v; back = rest }
+    near_after = record { here = end_of w.version d.state v; there = end_of w.version (w.state v) u; out = w.way u v ++ added d v; back = rest }
 
     near_is : v ≢ u → far_after (headed w v u) u d v ≡ near_after
-    near_is apart i = record { here = end_of d.state v; there = end_of (w.state v) u; out = way_apart w v u u v apart i ++ added d v; back = way_back w v u m rest front i }
+    near_is apart i = record { here = end_of w.version d.state v; there = end_of w.version (w.state v) u; out = way_apart w v u u v apart i ++ added d v; back = way_back w v u m rest front i }
 
     -- any other link of the node
     far_is : (y : ℕ) → y ≢ u → y ≢ v → far_after (headed w v u) u d y ≡ far_after w u d y
-    far_is y apart far i = record { here = end_of d.state y; there = end_of (w.state y) u; out = way_apart w v u u y apart i ++ added d y; back = way_back_far w v u y far i }
+    far_is y apart far i = record { here = end_of w.version d.state y; there = end_of w.version (w.state y) u; out = way_apart w v u u y apart i ++ added d y; back = way_back_far w v u y far i }
 
     -- so the world is sound
-    pub take_kept : d.state.neighbours ≡ (w.state u).neighbours → Keeps (w.state u) v d → LegalBoth near_after → Sound (after_take w v u d)
+    pub take_kept : d.state.neighbours ≡ (w.state u).neighbours → Keeps w.version (w.state u) v d → LegalBoth near_after → Sound (after_take w v u d)
     take_kept same keeps at_sender = deed_kept (headed w v u) u d headed_but each same keeps.node
       where
         each : (y : ℕ) → w.linked u y ≡ true → LegalBoth (far_after (headed w v u) u d y)

@@ -11,8 +11,8 @@ use Rattle.coord_world.proofs.legal.Sound.{Sound}
 use Rattle.coord_world.proofs.legal.SoundNode.{SoundNode}
 
 -- what a node's own rules say at each of its ends
-pub legal_end : (r : NodeState) (v : ℕ) → SoundNode r → LegalEnd (end_of r v)
-legal_end r v node = grind (arith, node, empty_has r.pend v, node.parent_outside v)
+pub legal_end : (version : ℕ) (r : NodeState) (v : ℕ) → SoundNode r → LegalEnd (end_of version r v)
+legal_end version r v node = grind (arith, node, empty_has r.pend v, node.parent_outside v)
 
 module _ (w : Ideal) (u : ℕ) (sound : Sound w) where
   -- no node is its own neighbour
@@ -22,8 +22,8 @@ module _ (w : Ideal) (u : ℕ) (sound : Sound w) where
   -- before the transition
   pub both_before : (y : ℕ) → contains (w.state u).neighbours y ≡ true → LegalBoth (link w u y)
   both_before y with_y = record {
-    here = legal_end _ y (sound.nodes u);
-    there = legal_end _ u (sound.nodes y);
+    here = legal_end _ _ y (sound.nodes u);
+    there = legal_end _ _ u (sound.nodes y);
     from = sound.links u y with_y;
     to = sound.links y u (sym (sound.mirrored u y) ∙ with_y);
   }
@@ -86,15 +86,15 @@ module _ (w : Ideal) (u : ℕ) (d : Transition) where
 
   -- the link to y after the transition
   abbrev pub far_after : ℕ → Link
-  far_after y = record { here = end_of d.state y; there = end_of (w.state y) u; out = w.way u y ++ added d y; back = w.way y u }
+  far_after y = record { here = end_of w.version d.state y; there = end_of w.version (w.state y) u; out = w.way u y ++ added d y; back = w.way y u }
 
   -- that link is what the transition leaves
   far_is : (y : ℕ) → y ≢ u → w.linked u y ≡ true → link (ideal_applied w u d) u y ≡ far_after y
-  far_is y apart with_y i = record { here = end_of (row_here i) y; there = end_of (row_there y apart i) u; out = way_out y with_y i; back = way_apart y u apart i }
+  far_is y apart with_y i = record { here = end_of w.version (row_here i) y; there = end_of w.version (row_there y apart i) u; out = way_out y with_y i; back = way_apart y u apart i }
 
   -- a link of two other nodes stays
   apart_is : (x y : ℕ) → x ≢ u → y ≢ u → link (ideal_applied w u d) x y ≡ link w x y
-  apart_is x y p q i = record { here = end_of (row_there x p i) y; there = end_of (row_there y q i) x; out = way_apart x y p i; back = way_apart y x q i }
+  apart_is x y p q i = record { here = end_of w.version (row_there x p i) y; there = end_of w.version (row_there y q i) x; out = way_apart x y p i; back = way_apart y x q i }
 
   module _ (mirrored : (x y : ℕ) → w.linked x y ≡ w.linked y x) (apart : (x y : ℕ) → w.linked x y ≡ true → y ≢ x)
       (others : (x y : ℕ) → x ≢ u → y ≢ u → w.linked x y ≡ true → LegalBoth (link w x y)) (elsewhere : (y : ℕ) → w.linked u y ≡ true → LegalBoth (far_after y)) where

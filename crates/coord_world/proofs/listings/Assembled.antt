@@ -26,8 +26,8 @@ use Rattle.coord_world.proofs.legal.SoundView.{at_each}
 
 module _ (rows : Rows) (fit : RowsFit rows) where
   -- entries of nodes and clients rise as their rows do
-  pub nodes_sorted : is_sorted nat_cmp (map (node_entry rows.version rows.links) rows.nodes) ≡ true
-  nodes_sorted = sorted-keys nat_cmp (node_entry rows.version rows.links) (λ r. (r.id, r)) (λ _. refl) rows.nodes ∙ fit.nodes_rise
+  pub nodes_sorted : is_sorted nat_cmp (map (node_entry rows.links) rows.nodes) ≡ true
+  nodes_sorted = sorted-keys nat_cmp (node_entry rows.links) (λ r. (r.id, r)) (λ _. refl) rows.nodes ∙ fit.nodes_rise
 
   pub clients_sorted : is_sorted nat_cmp (map client_entry rows.clients) ≡ true
   clients_sorted = sorted-keys nat_cmp client_entry (λ r. (r.client, r)) (λ _. refl) rows.clients ∙ fit.clients_rise
@@ -47,8 +47,8 @@ module _ (rows : Rows) (fit : RowsFit rows) where
   links_in_order = record { turned = turned; rise = sorted-keys pair_cmp link_entry (λ r. ((r.a, r.b), r)) (λ _. refl) rows.links ∙ fit.links_rise }
 
   -- what the world has
-  get-node : (u : ℕ) → get (assembled rows).nodes u ≡ option_map (state_of rows.version rows.links) (find nat_cmp u (by_id rows.nodes))
-  get-node u = get-from_sorted nat_cmp_total (map (node_entry rows.version rows.links) rows.nodes) u nodes_sorted ∙ find-values nat_cmp (λ r. r.id) (state_of rows.version rows.links) u rows.nodes
+  get-node : (u : ℕ) → get (assembled rows).nodes u ≡ option_map (state_of rows.links) (find nat_cmp u (by_id rows.nodes))
+  get-node u = get-from_sorted nat_cmp_total (map (node_entry rows.links) rows.nodes) u nodes_sorted ∙ find-values nat_cmp (λ r. r.id) (state_of rows.links) u rows.nodes
 
   get-link : (q : ℕ × ℕ) → get (assembled rows).links q ≡ option_map lanes_in (link_row_at q)
   get-link q = get-from_sorted pair_cmp_total (map link_entry rows.links) q links_in_order.rise ∙ find-values pair_cmp (λ r. (r.a, r.b)) lanes_in q rows.links
@@ -73,8 +73,8 @@ module _ (rows : Rows) (fit : RowsFit rows) where
   client_fits c s there = found nat_cmp (λ r. r.client) same_number (λ r. SessionInRange rows.count r.client r.session) c rows.clients s fit.clients there
 
   -- what holds of the node of each row holds of each node
-  each_node : (P : NodeState → Type 0) → P (state_or_none None) → ((s : NodeRow) → NodeRowFits rows.count s → P (state_of rows.version rows.links s)) → (u : ℕ) → P (state (assembled rows) u)
-  each_node P none some = at_each (assembled rows) P none (λ u r is. each_value (state_of rows.version rows.links) P (row_at u) (λ s there. some s (node_fits u s there).0) r (sym (get-node u) ∙ is))
+  each_node : (P : NodeState → Type 0) → P (state_or_none None) → ((s : NodeRow) → NodeRowFits rows.count s → P (state_of rows.links s)) → (u : ℕ) → P (state (assembled rows) u)
+  each_node P none some = at_each (assembled rows) P none (λ u r is. each_value (state_of rows.links) P (row_at u) (λ s there. some s (node_fits u s there).0) r (sym (get-node u) ∙ is))
 
   -- both are listed, in one group
   abbrev Listed : ℕ → ℕ → Type 0
@@ -97,16 +97,16 @@ module _ (rows : Rows) (fit : RowsFit rows) where
       same_there (Some r) = refl
 
   -- a node that is listed in a group
-  known : (o : Option NodeRow) (g : ℕ) → group_in o ≡ Some g → is_some (option_map (state_of rows.version rows.links) o) ≡ true
+  known : (o : Option NodeRow) (g : ℕ) → group_in o ≡ Some g → is_some (option_map (state_of rows.links) o) ≡ true
   known None g is = cc
   known (Some s) g is = refl
 
-  group_known : (o : Option NodeRow) (g : ℕ) → group_in o ≡ Some g → (state_or_none (option_map (state_of rows.version rows.links) o)).group ≡ g
+  group_known : (o : Option NodeRow) (g : ℕ) → group_in o ≡ Some g → (state_or_none (option_map (state_of rows.links) o)).group ≡ g
   group_known None g is = cc
   group_known (Some s) g is = cc
 
   -- the neighbours of a node are those that it has lanes to
-  near_lanes : (u v : ℕ) (o : Option NodeRow) → row_at u ≡ o → is_some (row_between u v rows.links) ≡ contains (state_or_none (option_map (state_of rows.version rows.links) o)).neighbours v
+  near_lanes : (u v : ℕ) (o : Option NodeRow) → row_at u ≡ o → is_some (row_between u v rows.links) ≡ contains (state_or_none (option_map (state_of rows.links) o)).neighbours v
   near_lanes u v None none = by_test (is_some (row_between u v rows.links)) (λ t. is_some (row_between u v rows.links) ≡ t → t ≡ contains no_node.neighbours v)
       (λ _ is. let listed = both_listed u v is in let unknown = ap group_in none in cc) (λ _ _. sym (contains-empty v)) refl
   near_lanes u v (Some s) there =
@@ -118,14 +118,14 @@ module _ (rows : Rows) (fit : RowsFit rows) where
   assembled_in_range = record {
     first = fit.first;
     last = fit.last;
-    distances = λ u r is. each_value (state_of rows.version rows.links) (IsDistant rows.version rows.count) (row_at u) (λ s there.
+    distances = λ u r is. each_value (state_of rows.links) (IsDistant rows.version rows.count) (row_at u) (λ s there.
         let far = (found nat_cmp (λ r. r.id) same_number (RowIsDistant rows.version rows.count) u rows.nodes s fit.distances there).0 in
-        record { version = refl; within = far.within; ready = far.ready })
+        record { within = far.within; ready = far.ready })
         r (sym (get-node u) ∙ is);
     carried = lane_of_row (λ k. CarryWithin (farthest rows.version rows.count) k.queue) (λ q r there.
         let near = (found pair_cmp (λ r. (r.a, r.b)) same_pair (LanesCarryWithin (farthest rows.version rows.count)) q rows.links r fit.carried there).0 in (near.forth, near.back));
     count = fit.count;
-    nodes = λ u r is. each_value (state_of rows.version rows.links) (NodeInRange rows.count u) (row_at u) (λ s there.
+    nodes = λ u r is. each_value (state_of rows.links) (NodeInRange rows.count u) (row_at u) (λ s there.
         let at = node_fits u s there in
         record {
           least = omega (arith, at.0.least, at.1);
@@ -156,7 +156,7 @@ module _ (rows : Rows) (fit : RowsFit rows) where
   }
 
   -- the rows of nodes and clients come back
-  same_nodes_listed : (rs : List NodeRow) → map node_row (map (node_entry rows.version rows.links) rs) ≡ rs
+  same_nodes_listed : (rs : List NodeRow) → map node_row (map (node_entry rows.links) rs) ≡ rs
   same_nodes_listed [] = refl
   same_nodes_listed (r ∷ rs) = ap (λ l. r ∷ l) (same_nodes_listed rs)
 
@@ -167,6 +167,6 @@ module _ (rows : Rows) (fit : RowsFit rows) where
   -- the rows are those that it was made from
   pub rows_assembled : rows_of (assembled rows) ≡ rows
   rows_assembled =
-      let nodes = ap (map node_row) (entries-from_sorted nat_cmp_total (map (node_entry rows.version rows.links) rows.nodes) nodes_sorted) ∙ same_nodes_listed rows.nodes in
+      let nodes = ap (map node_row) (entries-from_sorted nat_cmp_total (map (node_entry rows.links) rows.nodes) nodes_sorted) ∙ same_nodes_listed rows.nodes in
       let clients = ap (map client_row) (entries-from_sorted nat_cmp_total (map client_entry rows.clients) clients_sorted) ∙ same_clients_listed rows.clients in
       λ i. record { version = rows.version; count = rows.count; nodes = nodes i; links = rows_come_back rows.links links_in_order i; clients = clients i }

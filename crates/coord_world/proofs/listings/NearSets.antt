@@ -42,7 +42,7 @@ both_noted near r long is_a is_b u is_u =
     (λ _. refl)
 
 -- rows of nodes with the same neighbours are the same
-pub same_with : (version : ℕ) (near : List NodeSet) (links : List LinkRow) → AreNear links near → (rs : List NodeRow) → AllByRecursion (λ r. IsNode r.id) rs → map (entry_with version (near_in near)) rs ≡ map (node_entry version links) rs
-same_with version near links known [] all = refl
-same_with version near links known (r ∷ rs) all = λ i.
-    (r.id, record { version = version; group = r.group; mode = r.mode; parent = r.parent; pend = r.pend; neighbours = known r.id all.0 i; epoch = r.epoch; confirmed = r.confirmed; distance = r.distance }) ∷ same_with version near links known rs all.1 i
+pub same_with : (near : List NodeSet) (links : List LinkRow) → AreNear links near → (rs : List NodeRow) → AllByRecursion (λ r. IsNode r.id) rs → map (entry_with (near_in near)) rs ≡ map (node_entry links) rs
+same_with near links known [] all = refl
+same_with near links known (r ∷ rs) all = λ i.
+    (r.id, record { group = r.group; mode = r.mode; parent = r.parent; pend = r.pend; neighbours = known r.id all.0 i; epoch = r.epoch; confirmed = r.confirmed; distance = r.distance }) ∷ same_with near links known rs all.1 i

@@ -19,14 +19,9 @@ same_entry : (es : List (ℕ × Session)) → map (λ r. (r.client, r.session)) 
 same_entry [] = refl
 same_entry (e ∷ es) = ap (λ l. e ∷ l) (same_entry es)
 
--- what is changed is there where it was
-some_mapped : {X Y : Type 0} (f : X → Y) (o : Option X) → is_some (option_map f o) ≡ is_some o
-some_mapped f None = refl
-some_mapped f (Some x) = refl
-
--- two nodes, there or not, whose rows and neighbours are the same, and whose versions are
-same_node : (u : ℕ) (o p : Option NodeState) → option_map (λ r. node_row (u, r)) o ≡ option_map (λ r. node_row (u, r)) p → (state_or_none o).neighbours ≡ (state_or_none p).neighbours → (state_or_none o).version ≡ (state_or_none p).version → o ≡ p
-same_node u o p h1 h2 h3 = grind (arith, nat_tests, h1, h2, h3)
+-- two nodes, there or not, whose rows and neighbours are the same
+same_node : (u : ℕ) (o p : Option NodeState) → option_map (λ r. node_row (u, r)) o ≡ option_map (λ r. node_row (u, r)) p → (state_or_none o).neighbours ≡ (state_or_none p).neighbours → o ≡ p
+same_node u o p h1 h2 = grind (arith, nat_tests, h1, h2)
 
 -- a node's row by its number
 rows_keyed : (w : World) → entries (change (λ u r. node_row (u, r)) w.nodes) ≡ by_id (map node_row (entries w.nodes))
@@ -50,20 +45,9 @@ module _ (v w : World) (in_v : InRange v) (in_w : InRange w) (same : rows_of v �
   same_neighbours : (u : ℕ) → (state v u).neighbours ≡ (state w u).neighbours
   same_neighbours u = same_nodes _ _ (λ x. sym (in_v.linked u x) ∙ ap (λ t. is_some (lane_at t u x)) same_links ∙ in_w.linked u x)
 
-  -- the nodes that are there have the version of their world
-  version_of : (z : World) → InRange z → (u : ℕ) → (state z u).version ≡ (if is_some (get z.nodes u) then z.version else 1)
-  version_of z h1 u = grind (arith, nat_tests, h1)
-
-  -- a node is listed in both
-  same_there : (u : ℕ) → is_some (get v.nodes u) ≡ is_some (get w.nodes u)
-  same_there u = sym (some_mapped (λ r. node_row (u, r)) (get v.nodes u)) ∙ ap is_some (sym (row_listed v u) ∙ ap (λ rows. find nat_cmp u (by_id rows.nodes)) same ∙ row_listed w u) ∙ some_mapped (λ r. node_row (u, r)) (get w.nodes u)
-
-  same_version : (u : ℕ) → (state v u).version ≡ (state w u).version
-  same_version u = version_of v in_v u ∙ (λ i. if same_there u i then (same i).version else 1) ∙ sym (version_of w in_w u)
-
   -- every node
   each_node : (u : ℕ) → get v.nodes u ≡ get w.nodes u
-  each_node u = same_node u (get v.nodes u) (get w.nodes u) (sym (row_listed v u) ∙ ap (λ rows. find nat_cmp u (by_id rows.nodes)) same ∙ row_listed w u) (same_neighbours u) (same_version u)
+  each_node u = same_node u (get v.nodes u) (get w.nodes u) (sym (row_listed v u) ∙ ap (λ rows. find nat_cmp u (by_id rows.nodes)) same ∙ row_listed w u) (same_neighbours u)
 
   same_sessions : entries v.sessions ≡ entries w.sessions
   same_sessions = sym (same_entry (entries v.sessions)) ∙ ap (λ rows. map (λ r. (r.client, r.session)) rows.clients) same ∙ same_entry (entries w.sessions)

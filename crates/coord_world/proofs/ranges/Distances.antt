@@ -25,19 +25,18 @@ use Rattle.coord_tables.proofs.Cases.{by_test}
 -- each change of a node keeps its distance within the ranges, as the count rises
 carries_distances : (version count n : ℕ) → n ≤ farthest version count → Carries n (λ x r. IsDistant version count r) (λ x r. IsDistant version (count + 1) r)
 carries_distances version count n near = record {
-  weaken = λ x r far. record { version = far.version; within = omega (arith, far.within, farthest_grows version count); ready = far.ready };
+  weaken = λ x r far. record { within = omega (arith, far.within, farthest_grows version count); ready = far.ready };
   goes = λ x r s near_s far room goes. record {
-    version = goes.version ∙ far.version;
     within = omega (arith, goes.distance (farthest version count) far.within near, farthest_grows version count);
     ready = goes.ready far.ready;
   };
-  confirm = λ x r e far entered. record { version = far.version; within = omega (arith, far.within, farthest_grows version count); ready = far.ready };
-  widen = λ x r v far room. record { version = far.version; within = omega (arith, far.within, farthest_grows version count); ready = far.ready };
+  confirm = λ x r e far entered. record { within = omega (arith, far.within, farthest_grows version count); ready = far.ready };
+  widen = λ x r v far room. record { within = omega (arith, far.within, farthest_grows version count); ready = far.ready };
 }
 
 -- a new node has none
-new_distant : (version count : ℕ) (s : Step) → Adds version (λ x r. IsDistant version count r) s
-new_distant version count (Order c n (Add u g)) = record { version = refl; within = omega arith; ready = λ _. refl }
+new_distant : (version count : ℕ) (s : Step) → Adds (λ x r. IsDistant version count r) s
+new_distant version count (Order c n (Add u g)) = record { within = omega arith; ready = λ _. refl }
 new_distant version count s = tt
 
 -- each node after a fresh step
@@ -82,14 +81,14 @@ sends_within : (n : ℕ) (d : Transition) → brought d.message ≤ n → (y : �
 sends_within n d near y = by_test (set.contains d.to y) (λ b. CarryWithin n (cond b (d.message ∷ []) [])) (λ _. (near, tt)) (λ _. tt)
 
 -- a reset brings one step, and in version 1 none
-request_near : (r : NodeState) (n : ℕ) → kept r 1 ≤ n → brought (request r).message ≤ n
-request_near r n step = request_cases r (λ d k. brought d.message ≤ n) (λ _ _. omega arith) (λ _ _. omega (arith, step)) (omega arith)
+request_near : (version : ℕ) (r : NodeState) (n : ℕ) → kept version 1 ≤ n → brought (request version r).message ≤ n
+request_near version r n step = request_cases version r (λ d k. brought d.message ≤ n) (λ _ _. omega arith) (λ _ _. omega (arith, step)) (omega arith)
 
 -- an Abort that is taken one more than it brought
-take_near : (r : NodeState) (v : ℕ) (m : Msg) (n : ℕ) → kept r (brought m + 1) ≤ n → brought (transition m r v).message ≤ n
-take_near r v (msg.Abort k) n more = abort_cases r v (λ d. brought d.message ≤ n) k (λ _ _. omega arith) (λ _ _. grind (arith, nat_tests, more)) (λ _. omega arith)
-take_near r v msg.Ack n more = ack_cases r v (λ d. brought d.message ≤ n) (λ _. omega arith) (λ _. omega arith) (λ _ _. omega arith) (λ _ _ _. omega arith)
-take_near r v msg.Ready n more = ready_cases r v (λ d. brought d.message ≤ n) (λ _. omega arith) (λ _ _. omega arith)
+take_near : (version : ℕ) (r : NodeState) (v : ℕ) (m : Msg) (n : ℕ) → kept version (brought m + 1) ≤ n → brought (transition version m r v).message ≤ n
+take_near version r v (msg.Abort k) n more = abort_cases version r v (λ d. brought d.message ≤ n) k (λ _ _. omega arith) (λ _ _. grind (arith, nat_tests, more)) (λ _. omega arith)
+take_near version r v msg.Ack n more = ack_cases r v (λ d. brought d.message ≤ n) (λ _. omega arith) (λ _. omega arith) (λ _ _. omega arith) (λ _ _ _. omega arith)
+take_near version r v msg.Ready n more = ready_cases r v (λ d. brought d.message ≤ n) (λ _. omega arith) (λ _ _. omega arith)
 
 -- a link that vanishes sends no Abort
 lost_near : (r : NodeState) (v n : ℕ) → brought (lost r v).message ≤ n
@@ -97,26 +96,24 @@ lost_near r v n = lost_cases r v (λ d. brought d.message ≤ n) (λ _. omega ar
 
 module _ (w settled : World) (range : InRange w) where
   -- what a node that is there sends on is within the next world's ranges
-  step_within : (u d : ℕ) → has w.nodes u ≡ true → d ≤ farthest w.version w.count → kept (state w u) (d + 1) ≤ farthest w.version (w.count + 1)
-  step_within u d known near =
-      let same = (range.distances u (state w u) (there_is w u known)).version in
-      subst (λ v. cond (eqb v 1) 0 (d + 1) ≤ farthest w.version (w.count + 1)) (sym same) (carried_within w.version w.count d near)
+  step_within : (d : ℕ) → d ≤ farthest w.version w.count → kept w.version (d + 1) ≤ farthest w.version (w.count + 1)
+  step_within d near = carried_within w.version w.count d near
 
-  ordered_sends : (c n : ℕ) (x : Command) → Passes w x → AllSend (CarryWithin (farthest w.version (w.count + 1))) (transitions (state w) (Order c n x))
+  ordered_sends : (c n : ℕ) (x : Command) → Passes w x → AllSend (CarryWithin (farthest w.version (w.count + 1))) (transitions w.version (state w) (Order c n x))
   ordered_sends c n (Add u g) passes = tt
   ordered_sends c n (Remove u) passes = tt
   ordered_sends c n (Join a b) passes = tt
   ordered_sends c n (Drop a b) passes = (sends_within _ (lost (state w a) b) (lost_near (state w a) b _), (sends_within _ (lost (state w b) a) (lost_near (state w b) a _), tt))
-  ordered_sends c n (Reset u) known = (sends_within _ (request (state w u)) (request_near (state w u) (farthest w.version (w.count + 1)) (step_within u 0 known (omega arith))), tt)
+  ordered_sends c n (Reset u) known = (sends_within _ (request w.version (state w u)) (request_near w.version (state w u) (farthest w.version (w.count + 1)) (step_within 0 (omega arith))), tt)
   ordered_sends c n (Confirm u e) passes = tt
 
   -- what the transitions of a fresh step send
-  fresh_sends : (s : Step) → IsFresh w settled s → AllSend (CarryWithin (farthest w.version (w.count + 1))) (transitions (state w) s)
+  fresh_sends : (s : Step) → IsFresh w settled s → AllSend (CarryWithin (farthest w.version (w.count + 1))) (transitions w.version (state w) s)
   fresh_sends (Order c n x) fresh = ordered_sends c n x (fresh_order w settled c n x fresh)
   fresh_sends (Take p) fresh =
       let take = fresh_take w settled p fresh in
       let known = range.ends p.to p.from (sym (lane-mirrored w.links p.from p.to) ∙ ap is_some take.there) in
-      (sends_within _ (transition p.msg (state w p.to) p.from) (take_near (state w p.to) p.from p.msg _ (step_within p.to (brought p.msg) known (brought_within w settled (Take p) range fresh))), tt)
+      (sends_within _ (transition w.version p.msg (state w p.to) p.from) (take_near w.version (state w p.to) p.from p.msg _ (step_within (brought p.msg) (brought_within w settled (Take p) range fresh))), tt)
   fresh_sends (Clear p) fresh = tt
 
 -- each lane after a fresh step

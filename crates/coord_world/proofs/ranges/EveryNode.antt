@@ -37,9 +37,9 @@ abbrev pub AllRows : (ℕ → NodeState → Type 0) → Table nat_cmp_total Node
 AllRows P rows = (x : ℕ) (r : NodeState) → get rows x ≡ Some r → P x r
 
 -- a node that a step adds has it too
-abbrev pub Adds : ℕ → (ℕ → NodeState → Type 0) → Step → Type 0
-Adds version Q (Order c n (Add u g)) = Q u (new_node version g)
-Adds version Q s = Unit {0}
+abbrev pub Adds : (ℕ → NodeState → Type 0) → Step → Type 0
+Adds Q (Order c n (Add u g)) = Q u (new_node g)
+Adds Q s = Unit {0}
 
 -- a node is put
 all_set : (Q : ℕ → NodeState → Type 0) (rows : Table nat_cmp_total NodeState) (u : ℕ) (s : NodeState) → AllRows Q rows → Q u s → AllRows Q (insert rows u s)
@@ -74,8 +74,8 @@ module _ (P Q : ℕ → NodeState → Type 0) (w : World) (n : ℕ) (carries : C
 
 module _ (P Q : ℕ → NodeState → Type 0) (w : World) (before : AllRows P w.nodes) where
   -- by the command
-  ordered_rows : (c n : ℕ) (x : Command) → Carries 0 P Q → Passes w x → Adds w.version Q (Order c n x) → AllRows Q (next w (Order c n x)).nodes
-  ordered_rows c n (Add u g) carries new adds = all_set Q w.nodes u (new_node w.version g) (later P Q w 0 carries before) adds
+  ordered_rows : (c n : ℕ) (x : Command) → Carries 0 P Q → Passes w x → Adds Q (Order c n x) → AllRows Q (next w (Order c n x)).nodes
+  ordered_rows c n (Add u g) carries new adds = all_set Q w.nodes u (new_node g) (later P Q w 0 carries before) adds
   ordered_rows c n (Remove u) carries removable adds = all_unset Q w.nodes u (later P Q w 0 carries before)
   ordered_rows c n (Join a b) carries joinable adds =
       all_set Q _ b _ (all_set Q w.nodes a _ (later P Q w 0 carries before) (carries.widen a (state w a) b (here P Q w 0 carries before a joinable.first) joinable.first_room))
@@ -83,15 +83,15 @@ module _ (P Q : ℕ → NodeState → Type 0) (w : World) (before : AllRows P w.
   ordered_rows c n (Drop a b) carries droppable adds =
       all_set Q _ b _ (all_set Q w.nodes a _ (later P Q w 0 carries before) (less_near P Q w 0 carries before a droppable.first b _ (goes_lost (state w a) b)))
       (less_near P Q w 0 carries before b droppable.second a _ (goes_lost (state w b) a))
-  ordered_rows c n (Reset u) carries known adds = all_set Q w.nodes u _ (later P Q w 0 carries before) (same_near P Q w 0 carries before u known _ (goes_request (state w u)))
+  ordered_rows c n (Reset u) carries known adds = all_set Q w.nodes u _ (later P Q w 0 carries before) (same_near P Q w 0 carries before u known _ (goes_request w.version (state w u)))
   ordered_rows c n (Confirm u e) carries confirmable adds =
       all_set Q w.nodes u _ (later P Q w 0 carries before) (carries.confirm u (state w u) e (here P Q w 0 carries before u confirmable.there) confirmable.entered)
 
   -- every node after a fresh step
-  pub rows_next : (settled : World) (s : Step) → Carries (brought_by s) P Q → InRange w → Adds w.version Q s → IsFresh w settled s → AllRows Q (next w s).nodes
+  pub rows_next : (settled : World) (s : Step) → Carries (brought_by s) P Q → InRange w → Adds Q s → IsFresh w settled s → AllRows Q (next w s).nodes
   rows_next settled (Order c n x) carries range adds fresh = ordered_rows c n x carries (fresh_order w settled c n x fresh) adds
   rows_next settled (Take p) carries range adds fresh =
       let take = fresh_take w settled p fresh in
       let known = range.ends p.to p.from (sym (lane-mirrored w.links p.from p.to) ∙ ap is_some take.there) in
-      all_set Q w.nodes p.to _ (later P Q w (brought p.msg) carries before) (same_near P Q w (brought p.msg) carries before p.to known _ (goes_deed (state w p.to) p.from p.msg))
+      all_set Q w.nodes p.to _ (later P Q w (brought p.msg) carries before) (same_near P Q w (brought p.msg) carries before p.to known _ (goes_deed w.version (state w p.to) p.from p.msg))
   rows_next settled (Clear p) carries range adds fresh = later P Q w 0 carries before

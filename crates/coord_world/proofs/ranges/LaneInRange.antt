@@ -26,7 +26,7 @@ new_in_range count s = tt
 
 -- each lane keeps its ranges through a step
 pub lane_ranges_next : (w : World) (s : Step) → InRange w → AllLanes (λ x y l. LaneInRange (w.count + 1) l) (next w s)
-lane_ranges_next w s range = lanes_next Any (λ x y l. LaneInRange w.count l) (λ x y l. LaneInRange (w.count + 1) l) (carries_ranges w.count) w range.lanes s (new_in_range w.count s) (all_any (transitions (state w) s))
+lane_ranges_next w s range = lanes_next Any (λ x y l. LaneInRange w.count l) (λ x y l. LaneInRange (w.count + 1) l) (carries_ranges w.count) w range.lanes s (new_in_range w.count s) (all_any (transitions w.version (state w) s))
 
 -- a lane was there before, of the same incarnation
 abbrev Stems : World → ℕ → ℕ → Lane → Type 0
@@ -43,7 +43,7 @@ OneInc w = (u v : ℕ) (l k : Lane) → lane_at w.links u v ≡ Some l → lane_
 -- a step that makes no link leaves the incarnations
 of_stems : (w : World) (s : Step) → InRange w → Makes (Stems w) w.count s → OneInc (next w s)
 of_stems w s range makes u v l k out back =
-    let all = lanes_next Any (λ x y l. lane_at w.links x y ≡ Some l) (Stems w) (carries_stems w) w (λ x y l is. is) s makes (all_any (transitions (state w) s)) in
+    let all = lanes_next Any (λ x y l. lane_at w.links x y ≡ Some l) (Stems w) (carries_stems w) w (λ x y l is. is) s makes (all_any (transitions w.version (state w) s)) in
     let from = all u v l out in
     let to = all v u k back in
     sym from.1.1 ∙ range.one_incarnation u v from.0 to.0 from.1.0 to.1.0 ∙ to.1.1

@@ -63,10 +63,10 @@ links_next w settled (Order c n (Join a b)) range fresh =
     omega (arith, room, one)
 links_next w settled (Order c n (Drop a b)) range fresh =
     let fewer : len (with_command w (Drop a b)).links ≤ 128 = omega (arith, range.links, len-remove w.links (ends a b)) in
-    subst (λ k. k ≤ 128) (sym (len-all_do (with_command w (Drop a b)) (transitions_ordered (state w) (Drop a b)))) fewer
-links_next w settled (Order c n (Reset u)) range fresh = subst (λ k. k ≤ 128) (sym (len-all_do w (transitions_ordered (state w) (Reset u)))) range.links
+    subst (λ k. k ≤ 128) (sym (len-all_do (with_command w (Drop a b)) (transitions_ordered w.version (state w) (Drop a b)))) fewer
+links_next w settled (Order c n (Reset u)) range fresh = subst (λ k. k ≤ 128) (sym (len-all_do w (transitions_ordered w.version (state w) (Reset u)))) range.links
 links_next w settled (Order c n (Confirm u e)) range fresh = range.links
-links_next w settled (Take p) range fresh = subst (λ k. k ≤ 128) (sym (len-all_do (on_lane w p.from p.to took) (transitions (state w) (Take p)) ∙ len-change _ w.links)) range.links
+links_next w settled (Take p) range fresh = subst (λ k. k ≤ 128) (sym (len-all_do (on_lane w p.from p.to took) (transitions w.version (state w) (Take p)) ∙ len-change _ w.links)) range.links
 links_next w settled (Clear p) range fresh = subst (λ k. k ≤ 128) (sym (len-change _ w.links)) range.links
 
 -- transitions leave the links turned
@@ -79,10 +79,10 @@ pub turned_next : (w settled : World) (s : Step) → Turned w.links → IsFresh 
 turned_next w settled (Order c n (Add u g)) turned fresh = turned
 turned_next w settled (Order c n (Remove u)) turned fresh = turned
 turned_next w settled (Order c n (Join a b)) turned fresh = turned-joined w.links a b (new_lane (w.count + 1)) (fresh_order w settled c n (Join a b) fresh).apart turned
-turned_next w settled (Order c n (Drop a b)) turned fresh = turned-all_do (with_command w (Drop a b)) (transitions_ordered (state w) (Drop a b)) (turned-parted w.links a b turned)
-turned_next w settled (Order c n (Reset u)) turned fresh = turned-all_do w (transitions_ordered (state w) (Reset u)) turned
+turned_next w settled (Order c n (Drop a b)) turned fresh = turned-all_do (with_command w (Drop a b)) (transitions_ordered w.version (state w) (Drop a b)) (turned-parted w.links a b turned)
+turned_next w settled (Order c n (Reset u)) turned fresh = turned-all_do w (transitions_ordered w.version (state w) (Reset u)) turned
 turned_next w settled (Order c n (Confirm u e)) turned fresh = turned
-turned_next w settled (Take p) turned fresh = turned-all_do (on_lane w p.from p.to took) (transitions (state w) (Take p)) (turned-changed _ w.links turned)
+turned_next w settled (Take p) turned fresh = turned-all_do (on_lane w p.from p.to took) (transitions w.version (state w) (Take p)) (turned-changed _ w.links turned)
 turned_next w settled (Clear p) turned fresh = turned-changed _ w.links turned
 
 -- all ranges together

@@ -51,8 +51,8 @@ carries_ranges count n = record {
 }
 
 -- a node that is added is in its ranges
-new_in_range : (version count : ℕ) (s : Step) → StepInRange s → Adds version (NodeInRange count) s
-new_in_range version count (Order c n (Add u g)) within =
+new_in_range : (count : ℕ) (s : Step) → StepInRange s → Adds (NodeInRange count) s
+new_in_range count (Order c n (Add u g)) within =
     let ids = within.2 in
     record {
       least = ids.0.0;
@@ -63,9 +63,9 @@ new_in_range version count (Order c n (Add u g)) within =
       confirmed = omega arith;
       degree = omega (arith, len-empty);
     }
-new_in_range version count s within = tt
+new_in_range count s within = tt
 
 -- each node stays in its ranges through a fresh step
 pub nodes_next : (w settled : World) (s : Step) → StepInRange s → InRange w → IsFresh w settled s → AllRows (NodeInRange (w.count + 1)) (next w s).nodes
 nodes_next w settled s within range fresh =
-    rows_next (NodeInRange w.count) (NodeInRange (w.count + 1)) w range.nodes settled s (carries_ranges w.count (brought_by s)) range (new_in_range w.version (w.count + 1) s within) fresh
+    rows_next (NodeInRange w.count) (NodeInRange (w.count + 1)) w range.nodes settled s (carries_ranges w.count (brought_by s)) range (new_in_range (w.count + 1) s within) fresh

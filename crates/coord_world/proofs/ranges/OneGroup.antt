@@ -63,12 +63,12 @@ module _ (w settled : World) (sound : Sound (view w)) (one : OneGroup (view w)) 
   -- linked nodes have one group after a fresh step
   pub group_next : (s : Step) → IsFresh w settled s → OneGroup (ideal_next (view w) s)
   group_next (Order c n (Add u g)) fresh =
-      alone_group (view w) u (new_node w.version g) sound (ap (λ o. is_empty (state_or_none o).neighbours) (fresh_order w settled c n (Add u g) fresh) ∙ new_alone) one
+      alone_group (view w) u (new_node g) sound (ap (λ o. is_empty (state_or_none o).neighbours) (fresh_order w settled c n (Add u g) fresh) ∙ new_alone) one
   group_next (Order c n (Remove u)) fresh = alone_group (view w) u no_node sound (fresh_order w settled c n (Remove u) fresh).alone one
   group_next (Order c n (Join a b)) fresh = join_group (view w) a b (fresh_order w settled c n (Join a b) fresh).one_group one
   group_next (Order c n (Drop a b)) fresh = of_groups (view w) _ (dropped_groups (view w) a b) one
-  group_next (Order c n (Reset u)) fresh = of_groups (view w) _ (acts_groups (view w) u (request (state w u)) (goes_request (state w u)).group) one
+  group_next (Order c n (Reset u)) fresh = of_groups (view w) _ (acts_groups (view w) u (request w.version (state w u)) (goes_request w.version (state w u)).group) one
   group_next (Order c n (Confirm u e)) fresh = of_groups (view w) _ (set_groups (view w) u (record (state w u) { confirmed = e }) refl) one
   group_next (Take p) fresh =
-      of_groups (headed (view w) p.from p.to) _ (acts_groups (headed (view w) p.from p.to) p.to (transition p.msg (state w p.to) p.from) (goes_deed (state w p.to) p.from p.msg).group) one
+      of_groups (headed (view w) p.from p.to) _ (acts_groups (headed (view w) p.from p.to) p.to (transition w.version p.msg (state w p.to) p.from) (goes_deed w.version (state w p.to) p.from p.msg).group) one
   group_next (Clear p) fresh = one

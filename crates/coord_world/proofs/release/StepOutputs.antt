@@ -63,15 +63,15 @@ module _ (w : World) (s : Step) (turned : Turned (next w s).links) where
       (Contains-flat_map_found pair_cmp same_pair (λ e. sent_by (lane_at w.links e.0.0 e.0.1) e.0 e.1 e.1.queue) (lanes_in_order (next w s).links) k l o (in_order-found (next w s).links turned k.0 k.1 ∙ there) h)
 
   -- what a step gives out is a receipt, a signal, or sent
-  outputs_cases : {A : Type 0} (o : Output) → (Contains (receipts s) o → A) → (Contains (signals (transitions (state w) s)) o → A) → (Contains (all_sent w.links (lanes_in_order (next w s).links)) o → A) → Contains (outputs w s) o → A
-  outputs_cases o first second third h = elim (Contains-append_cases (receipts s ++ signals (transitions (state w) s)) (all_sent w.links (lanes_in_order (next w s).links)) o h) [
-    | inl early ↦ elim (Contains-append_cases (receipts s) (signals (transitions (state w) s)) o early) [ inl receipt ↦ first receipt | inr signal ↦ second signal ]
+  outputs_cases : {A : Type 0} (o : Output) → (Contains (receipts s) o → A) → (Contains (signals (transitions w.version (state w) s)) o → A) → (Contains (all_sent w.links (lanes_in_order (next w s).links)) o → A) → Contains (outputs w s) o → A
+  outputs_cases o first second third h = elim (Contains-append_cases (receipts s ++ signals (transitions w.version (state w) s)) (all_sent w.links (lanes_in_order (next w s).links)) o h) [
+    | inl early ↦ elim (Contains-append_cases (receipts s) (signals (transitions w.version (state w) s)) o early) [ inl receipt ↦ first receipt | inr signal ↦ second signal ]
     | inr sends ↦ third sends
   ]
 
   -- a data packet that is given out is a front
   pub outputs_front : (p : DataPacket) → Contains (outputs w s) (Sent p) → IsFront (next w s) p
-  outputs_front p h = outputs_cases (Sent p) (receipts_no_data s p) (signals_no_packet (transitions (state w) s) (Sent p) tt)
+  outputs_front p h = outputs_cases (Sent p) (receipts_no_data s p) (signals_no_packet (transitions w.version (state w) s) (Sent p) tt)
       (λ last.
       let on = all_sent_lane (Sent p) last in
       let by = sent_by_front (lane_at w.links on.0.0.0 on.0.0.1) on.0.0 on.0.1 on.0.1.queue (Sent p) on.1.1 in
@@ -81,7 +81,7 @@ module _ (w : World) (s : Step) (turned : Turned (next w s).links) where
 
   -- a receipt that is given out is of the packet that is taken
   outputs_receipt_taken : (p : ReceiptPacket) → Contains (outputs w s) (Receipted p) → (q : DataPacket) × ((s ≡ Take q) × (receipt q ≡ p))
-  outputs_receipt_taken p h = outputs_cases (Receipted p) (receipts_taken s p) (signals_no_packet (transitions (state w) s) (Receipted p) tt)
+  outputs_receipt_taken p h = outputs_cases (Receipted p) (receipts_taken s p) (signals_no_packet (transitions w.version (state w) s) (Receipted p) tt)
       (λ last.
       let on = all_sent_lane (Receipted p) last in
       let by = sent_by_front (lane_at w.links on.0.0.0 on.0.0.1) on.0.0 on.0.1 on.0.1.queue (Receipted p) on.1.1 in
@@ -97,7 +97,7 @@ module _ (w : World) (s : Step) (turned : Turned (next w s).links) where
       subst (λ q. Contains (sent_by before (p.from, p.to) l q) (Sent p)) (sym front.queue)
       (subst (λ b. Contains (cond b [] (Sent (front_packet (p.from, p.to) l p.msg) ∷ [])) (Sent p)) (sym new)
       (subst (λ z. Contains (Sent (front_packet (p.from, p.to) l p.msg) ∷ []) (Sent z)) (front_packet_is (next w s) p front) (Contains-head (Sent (front_packet (p.from, p.to) l p.msg)) []))) in
-      Contains-append_right (receipts s ++ signals (transitions (state w) s)) (all_sent w.links (lanes_in_order (next w s).links)) (Sent p) (lane_sent (Sent p) (p.from, p.to) l front.at.there sends)
+      Contains-append_right (receipts s ++ signals (transitions w.version (state w) s)) (all_sent w.links (lanes_in_order (next w s).links)) (Sent p) (lane_sent (Sent p) (p.from, p.to) l front.at.there sends)
 
 -- a receipt that is given out is of a front that was taken
 pub outputs_receipt : (w : World) (s : Step) (p : ReceiptPacket) → Turned (next w s).links → IsFresh w w s → Contains (outputs w s) (Receipted p) → IsFrontReceipt (next w s) p
@@ -169,7 +169,7 @@ receipt_from_step w s p sound fresh r = by_step (lane_step w s p.from p.to)
         let number : q.number ≡ p.number = sym is.front.at.number ∙ ap (λ z. z.base + 1) here ∙ ap (λ z. z.base + 1) same ∙ at.number in
         let named : receipt q ≡ p = λ i. record { from = ends.0 i; to = ends.1 i; inc = inc i; number = number i } in
         let first : Contains (receipts s) (Receipted p) = subst (λ z. Contains (receipts z) (Receipted p)) (sym t) (subst (λ z. Contains (Receipted (receipt q) ∷ []) (Receipted z)) named (Contains-head (Receipted (receipt q)) [])) in
-        inl (Contains-append_left (receipts s ++ signals (transitions (state w) s)) (all_sent w.links (lanes_in_order (next w s).links)) (Receipted p) (Contains-append_left (receipts s) (signals (transitions (state w) s)) (Receipted p) first))
+        inl (Contains-append_left (receipts s ++ signals (transitions w.version (state w) s)) (all_sent w.links (lanes_in_order (next w s).links)) (Receipted p) (Contains-append_left (receipts s) (signals (transitions w.version (state w) s)) (Receipted p) first))
     by_step (LaneStep.is_cleared k q t ends was e) =
         let same = one_lane _ (cleared k) at.lane e at.there in
         let got = ap (λ z. z.got) same in

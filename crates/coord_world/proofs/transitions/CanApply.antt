@@ -71,7 +71,7 @@ module _ (w : World) (c n : ℕ) where
   pub drop_there : (a b : ℕ) → IsReadyFor w (Order c n (Drop a b)) → IsSome (get w.nodes a) × IsSome (get w.nodes b)
   drop_there a b ready = let droppable = fresh_order w w c n (Drop a b) ready.fresh in (droppable.first, droppable.second)
 
-  pub can_reset : (u : ℕ) → IsReadyFor w (Order c n (Reset u)) → CanApply w u (request (state w u)) w.links
+  pub can_reset : (u : ℕ) → IsReadyFor w (Order c n (Reset u)) → CanApply w u (request w.version (state w u)) w.links
   can_reset u ready = record {
     there = reset_there u ready;
     epoch = epoch_room w ready.ranges u;
@@ -92,7 +92,7 @@ module _ (w : World) (c n : ℕ) where
     room = room_drop_second w w ready.ranges ready.legal c n a b ready.fresh;
   }
 
-pub can_take : (w : World) (p : DataPacket) → IsReadyFor w (Take p) → CanApply w p.to (transition p.msg (state w p.to) p.from) (on_lane w p.from p.to took).links
+pub can_take : (w : World) (p : DataPacket) → IsReadyFor w (Take p) → CanApply w p.to (transition w.version p.msg (state w p.to) p.from) (on_lane w p.from p.to took).links
 can_take w p ready = record {
   there = ready.ranges.ends p.to p.from (lane-mirrored w.links p.to p.from ∙ ap is_some (fresh_take w w p ready.fresh).there);
   epoch = epoch_room w ready.ranges p.to;

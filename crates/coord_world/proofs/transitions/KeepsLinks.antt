@@ -27,7 +27,6 @@ child_left p b y = grind (arith, nat_tests)
 pub record Aside (r s : NodeState) (v : ℕ) : Type 0 where
   pub mode : s.mode ≡ r.mode
   pub distance : s.distance ≡ r.distance
-  pub version : s.version ≡ r.version
   pub awaits : (y : ℕ) → y ≢ v → contains s.pend y ≡ contains r.pend y
   pub child : (y : ℕ) → y ≢ v → is_parent s.parent y ≡ is_parent r.parent y
   pub near : (y : ℕ) → y ≢ v → contains s.neighbours y ≡ contains r.neighbours y
@@ -38,14 +37,13 @@ pub record Aside (r s : NodeState) (v : ℕ) : Type 0 where
 module _ (r : NodeState) (v : ℕ) (node : SoundNode r) where
   -- the state itself
   pub aside_self : Aside r r v
-  aside_self = record { mode = refl; distance = refl; version = refl; awaits = λ y far. refl; child = λ y far. refl; near = λ y far. refl; parent_outside = node.parent_outside; parent_near = node.parent_near; within = node.within }
+  aside_self = record { mode = refl; distance = refl; awaits = λ y far. refl; child = λ y far. refl; near = λ y far. refl; parent_outside = node.parent_outside; parent_near = node.parent_near; within = node.within }
 
   -- when v is awaited no more
   pub aside_acked : Aside r (acked_by r v) v
   aside_acked = record {
     mode = refl;
     distance = refl;
-    version = refl;
     awaits = λ y far. grind (arith, nat_tests, contains-remove r.pend v y);
     child = λ y far. refl;
     near = λ y far. refl;
@@ -59,7 +57,6 @@ module _ (r : NodeState) (v : ℕ) (node : SoundNode r) where
   aside_lost = record {
     mode = refl;
     distance = refl;
-    version = refl;
     awaits = λ y far. grind (arith, nat_tests, contains-remove r.pend v y);
     child = λ y far. grind (arith, nat_tests, child_left r.parent v y);
     near = λ y far. grind (arith, nat_tests, contains-remove r.neighbours v y);
@@ -69,13 +66,13 @@ module _ (r : NodeState) (v : ℕ) (node : SoundNode r) where
   }
 
 -- what the transition d at a node with the state r keeps, where its cause is v
-pub record Keeps (r : NodeState) (v : ℕ) (d : Transition) : Type 0 where
+pub record Keeps (version : ℕ) (r : NodeState) (v : ℕ) (d : Transition) : Type 0 where
   pub node : SoundNode d.state
-  pub elsewhere : (l : Link) (y : ℕ) → y ≢ v → contains r.neighbours y ≡ true → l.here ≡ end_of r y → LegalBoth l → LegalBoth (record l { here = end_of d.state y; out = l.out ++ added d y })
+  pub elsewhere : (l : Link) (y : ℕ) → y ≢ v → contains r.neighbours y ≡ true → l.here ≡ end_of version r y → LegalBoth l → LegalBoth (record l { here = end_of version d.state y; out = l.out ++ added d y })
 
 -- a transition that changes no other end, and sends there nothing
-quiet : (r : NodeState) (v : ℕ) (d : Transition) → SoundNode d.state → ((y : ℕ) → y ≢ v → end_of r y ≡ end_of d.state y) → ((y : ℕ) → y ≢ v → contains d.to y ≡ false) → Keeps r v d
-quiet r v d node ends none = record {
+quiet : (version : ℕ) (r : NodeState) (v : ℕ) (d : Transition) → SoundNode d.state → ((y : ℕ) → y ≢ v → end_of version r y ≡ end_of version d.state y) → ((y : ℕ) → y ≢ v → contains d.to y ≡ false) → Keeps version r v d
+quiet version r v d node ends none = record {
   node = node;
   elsewhere = λ l y far near here both. subst LegalBoth (λ i. record l { here = (here ∙ ends y far) i; out = sym (nothing l y far) i }) both;
 }
@@ -83,20 +80,20 @@ quiet r v d node ends none = record {
     nothing : (l : Link) (y : ℕ) → y ≢ v → l.out ++ added d y ≡ l.out
     nothing l y far = grind (arith, none y far, append-nil l.out)
 
-module _ (r s : NodeState) (v : ℕ) (aside : Aside r s v) where
+module _ (version : ℕ) (r s : NodeState) (v : ℕ) (aside : Aside r s v) where
   -- it sends what it sent before
-  same_carried : carried s ≡ carried r
-  same_carried i = cond (eqb (aside.version i) 1) 0 (aside.distance i + 1)
+  same_carried : carried version s ≡ carried version r
+  same_carried i = cond (eqb version 1) 0 (aside.distance i + 1)
 
   -- nothing happens
-  pub keeps_idle : SoundNode s → Keeps r v (idle s)
-  keeps_idle node = quiet r v (idle s) node (λ y far i. record { mode = sym aside.mode i; awaits = sym (aside.awaits y far) i; child = sym (aside.child y far) i; distance = sym aside.distance i; carries = sym same_carried i }) (λ y far. contains-empty y)
+  pub keeps_idle : SoundNode s → Keeps version r v (idle s)
+  keeps_idle node = quiet version r v (idle s) node (λ y far i. record { mode = sym aside.mode i; awaits = sym (aside.awaits y far) i; child = sym (aside.child y far) i; distance = sym aside.distance i; carries = sym same_carried i }) (λ y far. contains-empty y)
 
   -- a node that awaits nobody finishes
   pub finished : is_empty s.pend ≡ true → SoundNode (finish s).state
   finished none = record { awaits = λ e. cc; quiet = λ e. none; no_parent = λ e. refl; has_parent = λ e n. cc; parent_outside = λ y e. cc; parent_near = λ y e. cc; within = aside.within }
 
-  pub keeps_finish : is_ready r.mode ≡ false → is_empty s.pend ≡ true → ((y : ℕ) → y ≢ v → is_parent s.parent y ≡ false) → Keeps r v (finish s)
+  pub keeps_finish : is_ready r.mode ≡ false → is_empty s.pend ≡ true → ((y : ℕ) → y ≢ v → is_parent s.parent y ≡ false) → Keeps version r v (finish s)
   keeps_finish busy none top = record {
     node = finished none;
     elsewhere = λ l y far near here both. finishes l _ (ap (λ e. is_ready e.mode) here ∙ busy)
@@ -108,7 +105,7 @@ module _ (r s : NodeState) (v : ℕ) (aside : Aside r s v) where
       sends y far near = grind (arith, nat_tests, has_without s.neighbours s.parent y, aside.near y far, top y far)
 
   -- a node that awaits nobody acknowledges to its parent
-  pub keeps_converge : (p : ℕ) → r.mode ≡ Abort → is_empty s.pend ≡ true → s.parent ≡ Some p → Keeps r v (answer (record s { mode = Converge }) p)
+  pub keeps_converge : (p : ℕ) → r.mode ≡ Abort → is_empty s.pend ≡ true → s.parent ≡ Some p → Keeps version r v (answer (record s { mode = Converge }) p)
   keeps_converge p mode none up = record {
     node = record { awaits = λ e. cc; quiet = λ e. none; no_parent = λ e. cc; has_parent = λ e n. cc (up, n); parent_outside = aside.parent_outside; parent_near = aside.parent_near; within = aside.within };
     elsewhere = λ l y far near here both.
@@ -116,7 +113,7 @@ module _ (r s : NodeState) (v : ℕ) (aside : Aside r s v) where
         let child : l.here.child ≡ eqb p y = ap (λ e. e.child) here ∙ sym (aside.child y far) ∙ ap (λ q. is_parent q y) up in
         let wait : l.here.mode ≡ Abort = ap (λ e. e.mode) here ∙ mode in
         let apart : s.distance ≡ l.here.distance = aside.distance ∙ sym (ap (λ e. e.distance) here) in
-        let sent : carried s ≡ l.here.carries = same_carried ∙ sym (ap (λ e. e.carries) here) in
+        let sent : carried version s ≡ l.here.carries = same_carried ∙ sym (ap (λ e. e.carries) here) in
         elim (eqb_tells y p) [
           | inl same ↦ converges_up l _ apart sent wait still (child ∙ grind (arith, nat_tests)) refl (empty_has s.pend y none) (ap (λ q. is_parent q y) up ∙ grind (arith, nat_tests)) refl
               (grind (arith, nat_tests, has_only p y)) refl both
@@ -125,26 +122,26 @@ module _ (r s : NodeState) (v : ℕ) (aside : Aside r s v) where
         ];
   }
 
-module _ (r : NodeState) (v : ℕ) (node : SoundNode r) where
+module _ (version : ℕ) (r : NodeState) (v : ℕ) (node : SoundNode r) where
   -- v is answered
-  pub keeps_answer : Keeps r v (answer r v)
-  keeps_answer = quiet r v (answer r v) node (λ y far. refl) (λ y far. grind (arith, nat_tests, has_only v y))
+  pub keeps_answer : Keeps version r v (answer r v)
+  keeps_answer = quiet version r v (answer r v) node (λ y far. refl) (λ y far. grind (arith, nat_tests, has_only v y))
 
   -- a Ready node awaits nobody
   ready_quiet : r.mode ≡ Ready → is_empty r.pend ≡ true
   ready_quiet ready = node.quiet (ap is_abort ready)
 
   -- one without neighbours finishes
-  pub keeps_alone : r.mode ≡ Ready → is_empty r.neighbours ≡ true → Keeps r v (finish r)
+  pub keeps_alone : r.mode ≡ Ready → is_empty r.neighbours ≡ true → Keeps version r v (finish r)
   keeps_alone ready none = record {
-    node = finished r r v (aside_self r v node) (ready_quiet ready);
+    node = finished version r r v (aside_self r v node) (ready_quiet ready);
     elsewhere = λ l y far near here both. absurd (grind (arith, near, empty_has r.neighbours y none));
   }
 
   -- a Ready node passes the wave on to all neighbours but its new parent
   pub keeps_wave_on : (parent : Option ℕ) (others : NodeSet) (n : ℕ) → r.mode ≡ Ready → is_empty others ≡ false →
       ((y : ℕ) → is_parent parent y ≡ true → y ≡ v) → ((y : ℕ) → contains others y ≡ (not (is_parent parent y) && contains r.neighbours y)) → (is_parent parent v ≡ true → contains r.neighbours v ≡ true) →
-      Keeps r v (wave_on r parent others n)
+      Keeps version r v (wave_on version r parent others n)
   keeps_wave_on parent others n ready some up rest near_v = record {
     node = record {
       awaits = λ _. some;
@@ -166,7 +163,7 @@ module _ (r : NodeState) (v : ℕ) (node : SoundNode r) where
       no_parent y far false e = refl
 
   -- one with no other neighbour than v answers it
-  pub keeps_wave_back : (n : ℕ) → r.mode ≡ Ready → is_empty (set.remove r.neighbours v) ≡ true → contains r.neighbours v ≡ true → Keeps r v (wave_back r v n)
+  pub keeps_wave_back : (n : ℕ) → r.mode ≡ Ready → is_empty (set.remove r.neighbours v) ≡ true → contains r.neighbours v ≡ true → Keeps version r v (wave_back r v n)
   keeps_wave_back n ready none near_v = record {
     node = record {
       awaits = λ e. cc;

@@ -154,9 +154,9 @@ fronts_are w (Order c n (Join a b)) ready = quiet_step w (with_command w (Join a
     made true k o l is = let same : new_lane (w.count + 1) ≡ l = cc in subst (λ z. sent_by o k z z.queue ≡ []) same refl
     made false k o l is = still_same k o l is
 fronts_are w (Order c n (Drop a b)) ready = drop_fronts w a b (fresh_order w w c n (Drop a b) ready.fresh).apart (after w (Order c n (Drop a b)) ready)
-fronts_are w (Order c n (Reset u)) ready = reset_fronts w u (request (state w u)) (after w (Order c n (Reset u)) ready)
+fronts_are w (Order c n (Reset u)) ready = reset_fronts w u (request w.version (state w u)) (after w (Order c n (Reset u)) ready)
 fronts_are w (Order c n (Confirm u e)) ready = quiet_step w w.links ready.ranges.turned (λ k. still_same k (lane_at w.links k.0 k.1))
-fronts_are w (Take p) ready = take_fronts w p.from p.to (transition p.msg (state w p.to) p.from) (λ same.
+fronts_are w (Take p) ready = take_fronts w p.from p.to (transition w.version p.msg (state w p.to) p.from) (λ same.
     let there : is_some (lane_at w.links p.from p.to) ≡ true = ap is_some (fresh_take w w p ready.fresh).there in
     let none : is_some (lane_at w.links p.from p.to) ≡ false = ap (λ x. is_some (lane_at w.links x p.to)) same ∙ lane-apart w.links ready.ranges.turned p.to in
     cc) (after w (Take p) ready)

@@ -27,30 +27,31 @@ acknowledged_cases s P tops climbs = of_parent s.parent refl
     of_parent (Some p) e = climbs p e
 
 -- a reset is asked for, with the kind of its reply
-pub request_cases : (r : NodeState) (P : Transition → Kind → Type 0) →
+pub request_cases : (version : ℕ) (r : NodeState) (P : Transition → Kind → Type 0) →
     (r.mode ≡ Ready → is_empty r.neighbours ≡ true → P (finish r) Finished) →
-    (r.mode ≡ Ready → is_empty r.neighbours ≡ false → P (wave_on r None r.neighbours 0) Started) →
-    P (idle r) Joined → P (request r) (kind_of_request r.mode r)
-request_cases r P alone starts joins = in_mode r.mode refl
+    (r.mode ≡ Ready → is_empty r.neighbours ≡ false → P (wave_on version r None r.neighbours 0) Started) →
+    P (idle r) Joined → P (request version r) (kind_of_request r.mode r)
+request_cases version r P alone starts joins = in_mode r.mode refl
   where
-    in_mode : (m : Mode) → r.mode ≡ m → P (request_in m r) (kind_of_request m r)
-    in_mode Ready e = by_test (is_empty r.neighbours) (λ b. P (cond b (finish r) (wave_on r None r.neighbours 0)) (cond b Finished Started)) (alone e) (starts e)
+    in_mode : (m : Mode) → r.mode ≡ m → P (request_in m version r) (kind_of_request m r)
+    in_mode Ready e = by_test (is_empty r.neighbours) (λ b. P (cond b (finish r) (wave_on version r None r.neighbours 0)) (cond b Finished Started)) (alone e) (starts e)
     in_mode Abort e = joins
     in_mode Converge e = joins
 
-module _ (r : NodeState) (v : ℕ) (P : Transition → Type 0) where
-  -- Abort comes from v
+-- Abort comes from v
+module _ (version : ℕ) (r : NodeState) (v : ℕ) (P : Transition → Type 0) where
   pub abort_cases : (n : ℕ) →
-      (r.mode ≡ Ready → is_empty (remove r.neighbours v) ≡ true → P (wave_back r v (kept r n))) →
-      (r.mode ≡ Ready → is_empty (remove r.neighbours v) ≡ false → P (wave_on r (Some v) (remove r.neighbours v) (kept r n))) →
-      (is_ready r.mode ≡ false → P (answer r v)) → P (on_abort r v n)
+      (r.mode ≡ Ready → is_empty (remove r.neighbours v) ≡ true → P (wave_back r v (kept version n))) →
+      (r.mode ≡ Ready → is_empty (remove r.neighbours v) ≡ false → P (wave_on version r (Some v) (remove r.neighbours v) (kept version n))) →
+      (is_ready r.mode ≡ false → P (answer r v)) → P (on_abort version r v n)
   abort_cases n ends spreads answers = in_mode r.mode refl
     where
-      in_mode : (m : Mode) → r.mode ≡ m → P (on_abort_in m r v n)
-      in_mode Ready e = by_test (is_empty (remove r.neighbours v)) (λ b. P (cond b (wave_back r v (kept r n)) (wave_on r (Some v) (remove r.neighbours v) (kept r n)))) (ends e) (spreads e)
+      in_mode : (m : Mode) → r.mode ≡ m → P (on_abort_in m version r v n)
+      in_mode Ready e = by_test (is_empty (remove r.neighbours v)) (λ b. P (cond b (wave_back r v (kept version n)) (wave_on version r (Some v) (remove r.neighbours v) (kept version n)))) (ends e) (spreads e)
       in_mode Abort e = answers (ap is_ready e)
       in_mode Converge e = answers (ap is_ready e)
 
+module _ (r : NodeState) (v : ℕ) (P : Transition → Type 0) where
   -- Ack comes from v
   pub ack_cases :
       (is_empty r.pend ≡ true → P (idle r)) →

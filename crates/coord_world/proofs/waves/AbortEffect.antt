@@ -64,9 +64,9 @@ module _ (z : Ideal) (v t n : ℕ) (rest : List Msg) (front : z.way v t ≡ msg.
       alone = let count = (sound.links v t (sym (sound.mirrored t v) ∙ near)).counted in grind (arith, count, ap aborts front)
 
   -- a Ready node with other neighbours passes the wave on
-  waits : (distance : ℕ) → (z.state t).mode ≡ Ready → is_empty others ≡ false → TakeEffect z v t (wave_on (z.state t) (Some v) others distance)
+  waits : (distance : ℕ) → (z.state t).mode ≡ Ready → is_empty others ≡ false → TakeEffect z v t (wave_on z.version (z.state t) (Some v) others distance)
   waits distance ready some =
-      let d = wave_on (z.state t) (Some v) others distance in
+      let d = wave_on z.version (z.state t) (Some v) others distance in
       Effect.reaches t v (away d ready refl refl (λ x near_x far. grind (arith, nat_tests, contains-remove (z.state t).neighbours v x))) (λ x. refl) refl
 
   -- one without acknowledges
@@ -86,5 +86,5 @@ module _ (z : Ideal) (v t n : ℕ) (rest : List Msg) (front : z.way v t ≡ msg.
       }) (λ x. refl) refl
 
   -- an Abort that is taken
-  pub abort_effect : TakeEffect z v t (on_abort (z.state t) v n)
-  abort_effect = abort_cases (z.state t) v (TakeEffect z v t) n (acknowledges (kept (z.state t) n)) (waits (kept (z.state t) n)) answers
+  pub abort_effect : TakeEffect z v t (on_abort z.version (z.state t) v n)
+  abort_effect = abort_cases z.version (z.state t) v (TakeEffect z v t) n (acknowledges (kept z.version n)) (waits (kept z.version n)) answers

@@ -30,7 +30,7 @@ last_phase [] w ready none settled x some = let r = ap is_ready (ready x) in gri
 last_phase (s ∷ ss) w run none settled x some =
     let goes = run.0 in
     let nobody = front_empty (started_by (kind (state w) s) s) (started (next w s) ss) none in
-    let step = settles (view w) (view (next w s)) (signals_in (state w) s) (started_by (kind (state w) s) s) (kind (state w) s) goes.before settled nobody.0 goes.effect in
+    let step = settles (view w) (view (next w s)) (signals_in w.version (state w) s) (started_by (kind (state w) s) s) (kind (state w) s) goes.before settled nobody.0 goes.effect in
     let rest = last_phase ss (next w s) run.1 nobody.1 step.settled x (near_kept w s goes x ∙ some) in
     let now = step.once x some in
     let all = signals_first x w s ss in
@@ -77,7 +77,7 @@ first_phase base u (s ∷ ss) w run none within xs front x path =
     let goes = run.0 in
     let nobody = front_empty (started_by (kind (state w) s) s) (started (next w s) ss) none in
     let all = signals_first x w s ss in
-    elim (turn base u (view w) (view (next w s)) (signals_in (state w) s) (started_by (kind (state w) s) s) (kind (state w) s) xs goes.before goes.after goes.near within.like within.near front nobody.0 goes.effect) [
+    elim (turn base u (view w) (view (next w s)) (signals_in w.version (state w) s) (started_by (kind (state w) s) s) (kind (state w) s) xs goes.before goes.after goes.near within.like within.near front nobody.0 goes.effect) [
       | on more front_next silent ↦
           let rest = first_phase base u ss (next w s) run.1 nobody.1 (within_next base u w s goes within) more front_next x path in
           let now = silent x path in

@@ -9,7 +9,6 @@ use Rattle.coord_world.proofs.waves.Connected.{connected_self}
 use Rattle.coord_world.proofs.waves.StepsInTurn.{AllGo, running, taken_in_turn}
 use Rattle.coord_world.proofs.legal.Sound.{Sound}
 use Rattle.coord_world.proofs.legal.SoundView.{sound_view}
-use Rattle.coord_world.proofs.legal.Versions.{versions_view}
 use Rattle.coord_world.proofs.waves.WaveBegins.{whole_run}
 
 -- the connected nodes by the phases, the others by who signals at all
@@ -27,7 +26,7 @@ once_per_wave w steps u wave = record {
 
     -- and what each step does to it
     run : AllGo w steps
-    run = running steps w sound (versions_view w wave.in_range) wave.legal.lanes (taken_in_turn w steps wave.in_turn) wave.same_topology wave.ready_after
+    run = running steps w sound wave.legal.lanes (taken_in_turn w steps wave.in_turn) wave.same_topology wave.ready_after
 
     -- nobody else starts
     alone : (t : ℕ) → among (started w steps) t ≡ true → t ≡ u

@@ -36,9 +36,9 @@ module _ (z : Ideal) (c n t : ℕ) (sound : Sound z) where
       }) none (λ x. omega arith) refl refl
 
   -- a node with neighbours sends its wave
-  starts : r.mode ≡ Ready → is_empty r.neighbours ≡ false → ResetEffect (wave_on r None r.neighbours 0) Started
+  starts : r.mode ≡ Ready → is_empty r.neighbours ≡ false → ResetEffect (wave_on z.version r None r.neighbours 0) Started
   starts ready some =
-      let d = wave_on r None r.neighbours 0 in
+      let d = wave_on z.version r None r.neighbours 0 in
       Effect.starts_at t
       (record {
         was = ready;
@@ -58,5 +58,5 @@ module _ (z : Ideal) (c n t : ℕ) (sound : Sound z) where
       }) (λ x. refl) refl
 
   -- an order to reset
-  pub reset_effect : ResetEffect (request r) (kind_of_request r.mode r)
-  reset_effect = request_cases r ResetEffect finishes_alone starts joins
+  pub reset_effect : ResetEffect (request z.version r) (kind_of_request r.mode r)
+  reset_effect = request_cases z.version r ResetEffect finishes_alone starts joins

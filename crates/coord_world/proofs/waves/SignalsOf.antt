@@ -34,13 +34,13 @@ module _ (v : ℕ) where
   none_receipted s = grind (arith, nat_tests)
 
   -- the signals are those of the transitions
-  pub signals_given : (w : World) (s : Step) → count_by (is_signal_of v) (outputs w s) ≡ signals_in (state w) s v
+  pub signals_given : (w : World) (s : Step) → count_by (is_signal_of v) (outputs w s) ≡ signals_in w.version (state w) s v
   signals_given w s =
-      sum_by-append signal_in (receipts s ++ signals (transitions (state w) s)) (all_sent w.links (lanes_in_order (next w s).links))
-      ∙ omega (arith, sum_by-append signal_in (receipts s) (signals (transitions (state w) s)), none_receipted s, none_sent w.links (lanes_in_order (next w s).links))
+      sum_by-append signal_in (receipts s ++ signals (transitions w.version (state w) s)) (all_sent w.links (lanes_in_order (next w s).links))
+      ∙ omega (arith, sum_by-append signal_in (receipts s) (signals (transitions w.version (state w) s)), none_receipted s, none_sent w.links (lanes_in_order (next w s).links))
 
   -- those of a step come first
-  pub signals_first : (w : World) (s : Step) (ss : List Step) → signals_of v (outs w (s ∷ ss)) ≡ signals_in (state w) s v + signals_of v (outs (next w s) ss)
+  pub signals_first : (w : World) (s : Step) (ss : List Step) → signals_of v (outs w (s ∷ ss)) ≡ signals_in w.version (state w) s v + signals_of v (outs (next w s) ss)
   signals_first w s ss =
       let now : StepOutcome = record { reply = reply w s; outputs = outputs w s } in
       sum_by-cons (λ (r : StepOutcome). count_by (is_signal_of v) r.outputs) now (outs (next w s) ss) ∙ omega (arith, signals_given w s)

@@ -22,18 +22,18 @@ use Rattle.coord_world.proofs.waves.ResetEffect.{reset_effect}
 use Rattle.coord_world.proofs.legal.Sound.{Sound}
 
 -- by the message
-taken : (z : Ideal) (v t : ℕ) (m : Msg) (rest : List Msg) → z.way v t ≡ m ∷ rest → contains (z.state t).neighbours v ≡ true → Sound z → TakeEffect z v t (transition m (z.state t) v)
+taken : (z : Ideal) (v t : ℕ) (m : Msg) (rest : List Msg) → z.way v t ≡ m ∷ rest → contains (z.state t).neighbours v ≡ true → Sound z → TakeEffect z v t (transition z.version m (z.state t) v)
 taken z v t (msg.Abort n) rest front near sound = abort_effect z v t n rest front near sound
 taken z v t msg.Ack rest front near sound = ack_effect z v t rest front near sound
 taken z v t msg.Ready rest front near sound = ready_effect z v t rest front near
 
 -- how often each node is signalled in a step
-abbrev pub signals_in : (ℕ → NodeState) → Step → ℕ → ℕ
-signals_in rows s v = count_by (is_signal_of v) (signals (transitions rows s))
+abbrev pub signals_in : ℕ → (ℕ → NodeState) → Step → ℕ → ℕ
+signals_in version rows s v = count_by (is_signal_of v) (signals (transitions version rows s))
 
 -- what a step that makes y of the view does to a wave
 abbrev pub StepEffect : Ideal → Ideal → Step → Type 0
-StepEffect z y s = Effect z y (signals_in z.state s) (started_by (kind z.state s) s) (kind z.state s)
+StepEffect z y s = Effect z y (signals_in z.version z.state s) (started_by (kind z.state s) s) (kind z.state s)
 
 -- a node whose state is put and stays in its place
 confirmed : (z : Ideal) (c n u e : ℕ) → StepEffect z (ideal_next z (Order c n (Confirm u e))) (Order c n (Confirm u e))
@@ -44,7 +44,7 @@ confirmed z c n u e = Effect.passes (record { same = same; calm = record { fewer
         (record { mode = grind (arith, nat_tests); parent = grind (arith, nat_tests) }) (λ x apart. record { mode = grind (arith, nat_tests); parent = grind (arith, nat_tests) })
 
 -- a step that leaves the view
-unchanged : (z : Ideal) (s : Step) → ((v : ℕ) → signals_in z.state s v ≡ 0) → started_by (kind z.state s) s ≡ [] → StepEffect z z s
+unchanged : (z : Ideal) (s : Step) → ((v : ℕ) → signals_in z.version z.state s v ≡ 0) → started_by (kind z.state s) s ≡ [] → StepEffect z z s
 unchanged z s silent none = Effect.passes (record { same = λ x. record { mode = refl; parent = refl }; calm = record { fewer = λ a b. omega arith; kept = λ a b ready. omega arith } }) silent none
 
 -- the ideal step

@@ -10,8 +10,7 @@ use Rattle.coord_world.proofs.lanes.Counts.{AllCount}
 use Rattle.coord_world.proofs.waves.FrontGoesOn.{SameNear}
 use Rattle.coord_world.proofs.legal.SoundNext.{sound_next}
 use Rattle.coord_world.proofs.view.ViewOfNext.{counts_next}
-use Rattle.coord_world.proofs.legal.Sound.{SameVersions, Sound}
-use Rattle.coord_world.proofs.legal.Versions.{versions_next}
+use Rattle.coord_world.proofs.legal.Sound.{Sound}
 use Rattle.coord_world.proofs.waves.StepEffect.{StepEffect, step_effect, same_links}
 
 -- a step, between the world before it and the world after it
@@ -34,7 +33,7 @@ IsTaken w steps = (before rest : List Step) (s : Step) → steps ≡ before ++ s
 pub taken_in_turn : (w : World) (steps : List Step) → InTurn w steps → IsTaken w steps
 taken_in_turn w steps in_turn before rest s is = let turn = in_turn before rest s is in (fold w turn.0, turn.1.1.1)
 
-module _ (w settled : World) (s : Step) (stays : changes_topology s ≡ false) (sound : Sound (view w)) (even : SameVersions (view w)) (counts : AllCount w) (fresh : IsFresh w settled s) where
+module _ (w settled : World) (s : Step) (stays : changes_topology s ≡ false) (sound : Sound (view w)) (counts : AllCount w) (fresh : IsFresh w settled s) where
   -- the links are those of the nodes, before and after
   near_next : Sound (view (next w s)) → SameNear (view w) (view (next w s))
   near_next after a b = sym (after.linked a b) ∙ same_links w settled s stays counts fresh a b ∙ sound.linked a b
@@ -42,17 +41,17 @@ module _ (w settled : World) (s : Step) (stays : changes_topology s ≡ false) (
   -- one step
   goes : Goes w s
   goes =
-      let after = sound_next w settled s sound even counts fresh in
+      let after = sound_next w settled s sound counts fresh in
       record { before = sound; after = after; near = near_next after; effect = step_effect w settled s stays sound counts fresh }
 
 -- step by step
-pub running : (steps : List Step) (w : World) → Sound (view w) → SameVersions (view w) → AllCount w → IsTaken w steps → All (λ s. changes_topology s ≡ false) steps → AllReady (fold w steps) → AllGo w steps
-running [] w sound even counts taken stays ready = ready
-running (s ∷ ss) w sound even counts taken stays ready =
+pub running : (steps : List Step) (w : World) → Sound (view w) → AllCount w → IsTaken w steps → All (λ s. changes_topology s ≡ false) steps → AllReady (fold w steps) → AllGo w steps
+running [] w sound counts taken stays ready = ready
+running (s ∷ ss) w sound counts taken stays ready =
     let first = taken [] ss s refl in
     let stay = All-head (λ s. changes_topology s ≡ false) s ss stays in (
-      goes w first.0 s stay sound even counts first.1,
-      running ss (next w s) (sound_next w first.0 s sound even counts first.1) (versions_next w first.0 s stay even counts first.1) (counts_next w first.0 s counts first.1)
+      goes w first.0 s stay sound counts first.1,
+      running ss (next w s) (sound_next w first.0 s sound counts first.1) (counts_next w first.0 s counts first.1)
           (λ before rest q is. taken (s ∷ before) rest q (ap (λ l. s ∷ l) is)) (All-tail (λ s. changes_topology s ≡ false) s ss stays) ready,
     )
 

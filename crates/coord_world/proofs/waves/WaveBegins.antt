@@ -52,7 +52,7 @@ module _ (base : World) (u : ℕ) (w : World) (s : Step) (ss : List Step) (goes 
   like_next a b linked = goes.near a b ∙ like a b linked
 
   -- the wave begins with this step
-  starting : AllGo (next w s) ss → Starts (view w) (view (next w s)) u → Silent (signals_in (state w) s) → started (next w s) ss ≡ [] → Whole base u w (s ∷ ss)
+  starting : AllGo (next w s) ss → Starts (view w) (view (next w s)) u → Silent (signals_in w.version (state w) s) → started (next w s) ss ≡ [] → Whole base u w (s ∷ ss)
   starting run start silent nobody = record {
     some = start.some;
     once = λ x path.
@@ -67,7 +67,7 @@ module _ (base : World) (u : ℕ) (w : World) (s : Step) (ss : List Step) (goes 
   -- it hasn't begun yet
   waiting : started_by (kind (state w) s) s ≡ [] → (AllReady (next w s) → Whole base u (next w s) ss) → Whole base u w (s ∷ ss)
   waiting none rest =
-      let step = settles (view w) (view (next w s)) (signals_in (state w) s) (started_by (kind (state w) s) s) (kind (state w) s) goes.before (λ x. ap is_abort (ready x)) none goes.effect in
+      let step = settles (view w) (view (next w s)) (signals_in w.version (state w) s) (started_by (kind (state w) s) s) (kind (state w) s) goes.before (λ x. ap is_abort (ready x)) none goes.effect in
       let whole = rest (λ x. mode_is_ready (state (next w s) x).mode (step.ready x (ap is_ready (ready x)))) in
       let some : is_empty (state w u).neighbours ≡ false = sym (near_kept w s goes u) ∙ whole.some in
       record {
@@ -78,14 +78,14 @@ module _ (base : World) (u : ℕ) (w : World) (s : Step) (ss : List Step) (goes 
             let was = ap is_ready (ready x) in
             let later = whole.once x path in
             let all = signals_first x w s ss in
-            let none_now : signals_in (state w) s x ≡ 0 = grind (arith, now, was) in
+            let none_now : signals_in w.version (state w) s x ≡ 0 = grind (arith, now, was) in
             omega arith;
       }
 
 -- all steps
 pub whole_run : (base : World) (u : ℕ) (steps : List Step) (w : World) → AllGo w steps → AllReady w → started w steps ≡ u ∷ [] → ((a b : ℕ) → is_linked base a b ≡ true → contains (state w a).neighbours b ≡ true) → Whole base u w steps
 whole_run base u [] w run ready one like = cc
-whole_run base u (s ∷ ss) w run ready one like = elim (start_of (view w) (view (next w s)) (signals_in (state w) s) (started_by (kind (state w) s) s) (kind (state w) s) run.0.effect) [
+whole_run base u (s ∷ ss) w run ready one like = elim (start_of (view w) (view (next w s)) (signals_in w.version (state w) s) (started_by (kind (state w) s) s) (kind (state w) s) run.0.effect) [
   | nowhere none ↦
       let later : started (next w s) ss ≡ u ∷ [] = subst (λ l. l ++ started (next w s) ss ≡ u ∷ []) none one in
       waiting base u w s ss run.0 ready like none (λ ready_next. whole_run base u ss (next w s) run.1 ready_next later (like_next base u w s ss run.0 ready like))

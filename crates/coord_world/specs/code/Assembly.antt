@@ -24,19 +24,19 @@ near_in near u = slice_index_or near (u - 1) set.empty
 abbrev pub AreNear : List LinkRow → List NodeSet → Type 0
 AreNear links near = (u : ℕ) → IsNode u → near_in near u ≡ near_with u set.empty links
 
--- a row's node in a world of this version, with these neighbours
-abbrev pub state_with : ℕ → (ℕ → NodeSet) → NodeRow → NodeState
-state_with version near r = record { version = version; group = r.group; mode = r.mode; parent = r.parent; pend = r.pend; neighbours = near r.id; epoch = r.epoch; confirmed = r.confirmed; distance = r.distance }
+-- a row's node, with these neighbours
+abbrev pub state_with : (ℕ → NodeSet) → NodeRow → NodeState
+state_with near r = record { group = r.group; mode = r.mode; parent = r.parent; pend = r.pend; neighbours = near r.id; epoch = r.epoch; confirmed = r.confirmed; distance = r.distance }
 
-abbrev pub entry_with : ℕ → (ℕ → NodeSet) → NodeRow → ℕ × NodeState
-entry_with version near r = (r.id, state_with version near r)
+abbrev pub entry_with : (ℕ → NodeSet) → NodeRow → ℕ × NodeState
+entry_with near r = (r.id, state_with near r)
 
 -- a row's node; its neighbours are those that the links give it
-abbrev pub state_of : ℕ → List LinkRow → NodeRow → NodeState
-state_of version links = state_with version (λ u. near_with u set.empty links)
+abbrev pub state_of : List LinkRow → NodeRow → NodeState
+state_of links = state_with (λ u. near_with u set.empty links)
 
-abbrev pub node_entry : ℕ → List LinkRow → NodeRow → ℕ × NodeState
-node_entry version links = entry_with version (λ u. near_with u set.empty links)
+abbrev pub node_entry : List LinkRow → NodeRow → ℕ × NodeState
+node_entry links = entry_with (λ u. near_with u set.empty links)
 
 abbrev pub client_entry : ClientRow → ℕ × Session
 client_entry r = (r.client, r.session)
@@ -45,7 +45,7 @@ abbrev pub assembled : Rows → World
 assembled rows = record {
   version = rows.version;
   count = rows.count;
-  nodes = from_sorted (map (node_entry rows.version rows.links) rows.nodes);
+  nodes = from_sorted (map (node_entry rows.links) rows.nodes);
   links = links_of rows.links;
   sessions = from_sorted (map client_entry rows.clients);
 }

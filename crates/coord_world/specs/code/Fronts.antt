@@ -50,11 +50,11 @@ fronts_ordered w (Add u g) = []
 fronts_ordered w (Remove u) = []
 fronts_ordered w (Join a b) = []
 fronts_ordered w (Drop a b) = by_lesser a b (fronts_sent w.links a (sends_of (lost (state w a) b))) (fronts_sent w.links b (sends_of (lost (state w b) a)))
-fronts_ordered w (Reset u) = fronts_sent w.links u (sends_of (request (state w u)))
+fronts_ordered w (Reset u) = fronts_sent w.links u (sends_of (request w.version (state w u)))
 fronts_ordered w (Confirm u e) = []
 
 -- the new fronts of a step, in ascending order of their lanes
 abbrev pub new_fronts : World → Step → List Output
 new_fronts w (Order c n x) = fronts_ordered w x
-new_fronts w (Take p) = fronts_sent w.links p.to (sends_of (transition p.msg (state w p.to) p.from))
+new_fronts w (Take p) = fronts_sent w.links p.to (sends_of (transition w.version p.msg (state w p.to) p.from))
 new_fronts w (Clear p) = front_behind (lane_at w.links p.from p.to) (p.from, p.to)

@@ -1,18 +1,14 @@
 -- A world of version 1 in which every node is Ready, as one of version 2.
 use Rattle.std.specs.Prelude.{◌≡◌, ℕ}
-use Rattle.coord_types.specs.Facade.{NodeState, change}
 use Rattle.coord_world.specs.laws.Waves.{AllReady}
 use Rattle.coord_world.specs.protocol.Legal.{Legal}
 use Rattle.coord_world.specs.protocol.NumberedWorld.{World}
 use Rattle.coord_world.specs.protocol.Outputs.{again}
 use Rattle.coord_world.specs.protocol.Ranges.{InRange}
 
-abbrev pub raised_node : ℕ → NodeState → NodeState
-raised_node u r = record r { version = 2 }
-
--- all distances of version 1 are 0, so the version alone changes
+-- the version alone changes: all distances of version 1 are 0
 abbrev pub raised : World → World
-raised w = record w { version = 2; nodes = change raised_node w.nodes }
+raised w = record w { version = 2 }
 
 -- it stays legal and in its ranges, and sends the same again
 pub record RaisesWell (w : World) : Type 0 where

@@ -23,11 +23,11 @@ pub record Link : Type 0 where
   pub out : List Msg
   pub back : List Msg
 
-abbrev pub end_of : NodeState → ℕ → End
-end_of r v = record { mode = r.mode; awaits = set.contains r.pend v; child = is_parent r.parent v; distance = r.distance; carries = carried r }
+abbrev pub end_of : ℕ → NodeState → ℕ → End
+end_of version r v = record { mode = r.mode; awaits = set.contains r.pend v; child = is_parent r.parent v; distance = r.distance; carries = carried version r }
 
 abbrev pub link : Ideal → ℕ → ℕ → Link
-link w u v = record { here = end_of (w.state u) v; there = end_of (w.state v) u; out = w.way u v; back = w.way v u }
+link w u v = record { here = end_of w.version (w.state u) v; there = end_of w.version (w.state v) u; out = w.way u v; back = w.way v u }
 
 abbrev pub turned : Link → Link
 turned l = record { here = l.there; there = l.here; out = l.back; back = l.out }

@@ -36,7 +36,7 @@ with_transitions w (d ∷ ds) = with_transitions (with_transition w d.0 d.1) ds
 
 -- what a command changes before any node acts on it; the incarnation of a link is the number of the step that makes it
 abbrev pub with_command : World → Command → World
-with_command w (Add u g) = with_state w u (new_node w.version g)
+with_command w (Add u g) = with_state w u (new_node g)
 with_command w (Remove u) = record w { nodes = remove w.nodes u }
 with_command w (Join a b) = record w {
   nodes = insert (insert w.nodes a (with_neighbour (state w a) b)) b (with_neighbour (state w b) a);
@@ -63,7 +63,7 @@ with_reply w r (Clear p) = w
 
 -- the world after a step
 abbrev pub next : World → Step → World
-next w s = record (with_reply (with_transitions (prepared w s) (transitions (state w) s)) (reply w s) s) { count = w.count + 1 }
+next w s = record (with_reply (with_transitions (prepared w s) (transitions w.version (state w) s)) (reply w s) s) { count = w.count + 1 }
 
 -- the world after steps, one after the other
 abbrev pub fold : World → List Step → World

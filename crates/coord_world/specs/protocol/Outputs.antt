@@ -50,7 +50,7 @@ all_sent before (e ∷ es) = sent_by (lane_at before e.0.0 e.0.1) e.0 e.1 e.1.qu
 
 -- what a step gives out after its reply; packets come in ascending order of their lanes' ends
 abbrev pub outputs : World → Step → List Output
-outputs w s = receipts s ++ signals (transitions (state w) s) ++ all_sent w.links (lanes_in_order (next w s).links)
+outputs w s = receipts s ++ signals (transitions w.version (state w) s) ++ all_sent w.links (lanes_in_order (next w s).links)
 
 -- a step's reply, and what it gives out after that
 pub record StepOutcome : Type 0 where

@@ -42,10 +42,9 @@ farthest version count = if version == 1 then 0 else count
 abbrev pub CarryWithin : ℕ → List Msg → Type 0
 CarryWithin n ms = AllByRecursion (λ m. brought m ≤ n) ms
 
--- a node has the world's version, and a distance within it, 0 where it is Ready
-pub record IsDistant (v count : ℕ) (r : NodeState) : Type 0 where
-  pub version : r.version ≡ v
-  pub within : r.distance ≤ farthest v count
+-- a node has a distance that the version allows, 0 where it is Ready
+pub record IsDistant (version count : ℕ) (r : NodeState) : Type 0 where
+  pub within : r.distance ≤ farthest version count
   pub ready : r.mode ≡ Ready → r.distance ≡ 0
 
 -- the kinds that a command may be answered with

@@ -12,7 +12,7 @@ use crate::rows::parts::{ClientRow, NodeRow, Parts};
 use crate::tables::Tables;
 use coord_node::{Node, NodeFields};
 use coord_tables::{LinkTable, NodeTable, SessionTable};
-use coord_types::{Client, NodeId, Session, Version};
+use coord_types::{Client, NodeId, Session};
 use std::alloc::{AllocError, Global};
 
 impl Tables {
@@ -29,7 +29,7 @@ impl Tables {
             clients,
         } = parts;
         let near = Neighbours::by(&links);
-        let nodes = node_table(alloc, version, nodes, &near)?;
+        let nodes = node_table(alloc, nodes, &near)?;
         let sessions = session_table(alloc, clients)?;
         let links = LinkTable::from_rows(links)?;
         Ok(Tables {
@@ -43,17 +43,12 @@ impl Tables {
 }
 
 /// The nodes of these rows, with these neighbours.
-fn node_table(
-    alloc: Global,
-    version: Version,
-    rows: Vec<NodeRow>,
-    near: &Neighbours,
-) -> Result<NodeTable, AllocError>
+fn node_table(alloc: Global, rows: Vec<NodeRow>, near: &Neighbours) -> Result<NodeTable, AllocError>
     requires { is_sorted nat_cmp (by_id rows.items) ≡ true }
     ensures { IfOk result (λ nodes. nodes ≡
-        table.from_sorted (map (entry_with version (near_in near.now.sets)) rows.items)) }
+        table.from_sorted (map (entry_with (near_in near.now.sets)) rows.items)) }
 {
-    let nodes = nodes_of(alloc, version, &rows, near)?;
+    let nodes = nodes_of(alloc, &rows, near)?;
     NodeTable::from_sorted(alloc, &nodes)
 }
 
@@ -68,25 +63,23 @@ fn session_table(alloc: Global, rows: Vec<ClientRow>) -> Result<SessionTable, Al
 
 fn nodes_of(
     alloc: Global,
-    version: Version,
     rows: &[NodeRow],
     near: &Neighbours,
 ) -> Result<Vec<(NodeId, Node)>, AllocError>
     ensures { IfOk result (λ nodes. nodes.items ≡
-        map (entry_with version (near_in near.now.sets)) rows.now) }
+        map (entry_with (near_in near.now.sets)) rows.now) }
 {
     let mut nodes = Vec::with_capacity(alloc, rows.len())?;
     for row in rows {
-        nodes.push((row.id, node_of(version, row, near)))?;
+        nodes.push((row.id, node_of(row, near)))?;
     }
     Ok(nodes)
 }
 
-fn node_of(version: Version, row: &NodeRow, near: &Neighbours) -> Node
-    ensures { result ≡ state_with version (near_in near.now.sets) row.now }
+fn node_of(row: &NodeRow, near: &Neighbours) -> Node
+    ensures { result ≡ state_with (near_in near.now.sets) row.now }
 {
     Node::restore(NodeFields {
-        version,
         group: row.group,
         mode: row.mode,
         parent: row.parent,

@@ -41,9 +41,9 @@ impl Tables {
         requires { IsReadyFor self.old step.now }
         ensures world { OnOk result (self.new ≡
             with_reply (with_transitions (prepared self.old step.now)
-            (transitions (state self.old) step.now)) reply step.now) }
+            (transitions self.old.version (state self.old) step.now)) reply step.now) }
         ensures outputs { IfOk result (λ outputs. outputs.items ≡
-            receipts step.now ++ signals (transitions (state self.old) step.now) ++
+            receipts step.now ++ signals (transitions self.old.version (state self.old) step.now) ++
             new_fronts self.old step.now) }
         ensures err { OnErr result (self.new ≡ self.old) }
     {
@@ -94,10 +94,10 @@ impl Tables {
         requires { IsReadyFor self.old (Step.Order client number command.now) }
         ensures world { OnOk result (self.new ≡
             with_reply (with_transitions (with_command self.old command.now)
-            (transitions_ordered (state self.old) command.now)) reply
+            (transitions_ordered self.old.version (state self.old) command.now)) reply
             (Step.Order client number command.now)) }
         ensures outputs { IfOk result (λ outputs. outputs.items ≡
-            signals (transitions_ordered (state self.old) command.now) ++
+            signals (transitions_ordered self.old.version (state self.old) command.now) ++
             fronts_ordered self.old command.now) }
         ensures err { OnErr result (self.new ≡ self.old) }
     {

@@ -36,14 +36,14 @@ impl Tables {
     ) -> Result<Vec<Output>, AllocError>
         requires { IsReadyFor self.old (Order client number command.now) }
         ensures world { OnOk result (self.new ≡ with_transitions (with_command self.old command.now)
-            (transitions_ordered (state self.old) command.now)) }
+            (transitions_ordered self.old.version (state self.old) command.now)) }
         ensures outputs { IfOk result (λ outputs. outputs.items ≡
-            signals (transitions_ordered (state self.old) command.now) ++
+            signals (transitions_ordered self.old.version (state self.old) command.now) ++
             fronts_ordered self.old command.now) }
         ensures err { OnErr result (self.new ≡ self.old) }
     {
         match *command {
-            Command::Add(id, group) => self.nodes.insert(id, Node::new(self.version, group))?,
+            Command::Add(id, group) => self.nodes.insert(id, Node::new(group))?,
             Command::Remove(id) => self.nodes.remove(id),
             Command::Join(a, b) => self.join(alloc, a, b)?,
             Command::Drop(a, b) => return self.drop_link(alloc, a, b),
@@ -57,21 +57,21 @@ impl Tables {
     pub fn deliver(&mut self, alloc: Global, packet: &DataPacket) -> Result<Vec<Output>, AllocError>
         requires taken { ForSome (lane_at self.old.links packet.now.from packet.now.to) (λ l. l.got < 2 ^ 64 - 1) }
         requires acts { CanApply self.old packet.now.to
-            (transition packet.now.msg (state self.old packet.now.to) packet.now.from)
+            (transition self.old.version packet.now.msg (state self.old packet.now.to) packet.now.from)
             (on_lane self.old packet.now.from packet.now.to took).links }
         requires numbered { AreNumbered self.old.links }
         requires near { brought packet.now.msg < 2 ^ 64 - 1 }
         ensures world { OnOk result (self.new ≡
             with_transition (on_lane self.old packet.now.from packet.now.to took) packet.now.to
-            (transition packet.now.msg (state self.old packet.now.to) packet.now.from)) }
+            (transition self.old.version packet.now.msg (state self.old packet.now.to) packet.now.from)) }
         ensures outputs { IfOk result (λ outputs. outputs.items ≡
             Output.Receipted (receipt packet.now) ∷ (signals
             (record {
               0 = packet.now.to;
-              1 = transition packet.now.msg (state self.old packet.now.to) packet.now.from;
+              1 = transition self.old.version packet.now.msg (state self.old packet.now.to) packet.now.from;
             } ∷ []) ++
             fronts_sent self.old.links packet.now.to
-            (sends_of (transition packet.now.msg
+            (sends_of (transition self.old.version packet.now.msg
             (state self.old packet.now.to) packet.now.from)))) }
         ensures err { OnErr result (self.new ≡ self.old) }
     {
@@ -86,13 +86,13 @@ impl Tables {
     }
     /// A reset is asked for at a node.
     fn reset(&mut self, alloc: Global, id: NodeId) -> Result<Vec<Output>, AllocError>
-        requires acts { CanApply self.old id (request (state self.old id)) self.old.links }
+        requires acts { CanApply self.old id (request self.old.version (state self.old id)) self.old.links }
         requires numbered { AreNumbered self.old.links }
         ensures world { OnOk result (self.new ≡
-            with_transition self.old id (request (state self.old id))) }
+            with_transition self.old id (request self.old.version (state self.old id))) }
         ensures outputs { IfOk result (λ outputs. outputs.items ≡
-            signals (record { 0 = id; 1 = request (state self.old id) } ∷ []) ++
-            fronts_sent self.old.links id (sends_of (request (state self.old id)))) }
+            signals (record { 0 = id; 1 = request self.old.version (state self.old id) } ∷ []) ++
+            fronts_sent self.old.links id (sends_of (request self.old.version (state self.old id)))) }
         ensures err { OnErr result (self.new ≡ self.old) }
     {
         let node_step = self.requested(alloc, id)?;

@@ -26,10 +26,10 @@ impl Tables {
         requires there { IsSome (table.get self.now.nodes id) }
         requires room { (state self.now id).epoch < 2 ^ 64 - 1 }
         ensures { IfOk result (λ node_step.
-            IsNodeStepOf node_step id (request (state self.now id))) }
+            IsNodeStepOf node_step id (request self.now.version (state self.now id))) }
     {
         let mut node = *self.node(id).unwrap();
-        let deed = node.request(alloc)?;
+        let deed = node.request(alloc, self.version)?;
         Ok(NodeStep { id, node, deed })
     }
 
@@ -40,11 +40,11 @@ impl Tables {
         requires near { brought packet.msg < 2 ^ 64 - 1 }
         ensures { IfOk result (λ node_step.
             IsNodeStepOf node_step packet.to
-            (transition packet.msg (state self.now packet.to) packet.from)) }
+            (transition self.now.version packet.msg (state self.now packet.to) packet.from)) }
     {
         let mut node = *self.node(packet.to).unwrap();
         let deed = match packet.msg {
-            Msg::Abort(distance) => node.on_abort(alloc, packet.from, distance)?,
+            Msg::Abort(distance) => node.on_abort(alloc, self.version, packet.from, distance)?,
             Msg::Ack => node.on_ack(alloc, packet.from)?,
             Msg::Ready => node.on_ready(alloc, packet.from)?,
         };

@@ -7,10 +7,9 @@ ghost use Rattle.coord_world.specs.laws.Waves.{AllReady};
 ghost use Rattle.coord_world.specs.protocol.Legal.{Legal};
 ghost use Rattle.coord_world.specs.protocol.Links.{is_ready};
 ghost use Rattle.coord_world.specs.protocol.NumberedWorld.{state};
-ghost use Rattle.coord_world.specs.protocol.Rows.{listed};
 
 use super::World;
-use crate::rows::parts::Parts;
+use crate::tables::Tables;
 use coord_types::{MAX_NODES, Mode, NodeId, Version};
 use std::alloc::AllocError;
 
@@ -44,9 +43,22 @@ impl World {
         ensures value { IfOk result (λ v. v ≡ raised self.now) }
         ensures legal { IfOk result (λ v. Legal v) }
     {
-        self.ranges();
-        let parts = in_second(self.parts()?);
-        World::assemble(self.alloc, parts)
+        let tables = self.tables.raised()?;
+        Ok(World {
+            alloc: self.alloc,
+            tables,
+        })
+    }
+}
+
+impl Tables {
+    /// The same in version 2.
+    fn raised(&self) -> Result<Tables, AllocError>
+        ensures { IfOk result (λ tables. tables ≡ raised self.now) }
+    {
+        let mut tables = self.copy()?;
+        tables.version = second();
+        Ok(tables)
     }
 }
 
@@ -60,18 +72,12 @@ fn is_busy(world: &World, id: NodeId) -> bool
     }
 }
 
-/// These rows in version 2.
-fn in_second(parts: Parts) -> Parts
-    ensures { listed result ≡ record (listed parts) { version = 2 } }
+/// The second version.
+fn second() -> Version
+    ensures { result ≡ 2 }
 {
     let Some(version) = Version::new(2) else {
         unreachable!()
     };
-    Parts {
-        version,
-        count: parts.count,
-        nodes: parts.nodes,
-        links: parts.links,
-        clients: parts.clients,
-    }
+    version
 }

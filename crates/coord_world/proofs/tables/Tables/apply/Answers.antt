@@ -8,4 +8,4 @@ pub returns-clause-outputs : goal.returns-clause-outputs
 returns-clause-outputs c =
     let w = c.args.self.now in
     let s = c.args.step.now in
-    c.in_ok-outputs.ensures.outputs ∙ ap (λ fronts. receipts s ++ signals (transitions (state w) s) ++ fronts) (fronts_are w s c.requires)
+    c.in_ok-outputs.ensures.outputs ∙ ap (λ fronts. receipts s ++ signals (transitions w.version (state w) s) ++ fronts) (fronts_are w s c.requires)

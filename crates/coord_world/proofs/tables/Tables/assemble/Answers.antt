@@ -18,5 +18,5 @@ returns c =
     let rows = listed c.args.parts in
     let near = c.by-near.result.sets in
     let known = subst (λ links. AreNear links near) c.deref.ensures.value c.by-near.ensures in
-    let nodes = c.in_ok-nodes.ensures ∙ ap (from_sorted {o = nat_cmp_total}) (same_with rows.version near rows.links known rows.nodes (ids_are_nodes rows c.requires)) in
+    let nodes = c.in_ok-nodes.ensures ∙ ap (from_sorted {o = nat_cmp_total}) (same_with near rows.links known rows.nodes (ids_are_nodes rows c.requires)) in
     λ i. record { version = rows.version; count = rows.count; nodes = nodes i; links = c.in_ok-links.ensures i; sessions = c.in_ok-sessions.ensures i }
