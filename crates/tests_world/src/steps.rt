@@ -80,21 +80,26 @@ pub(crate) fn take(rt: &impl Host, world: &mut World, step: &Step) -> Outcome
     ensures { Legal world.new }
 {
     let before = world.copy().expect(rt, "not copied");
-    let Ok(Verdict::Fresh(_)) = world.judge(&before, step) else {
-        panic!(rt; "not fresh: {step:?}")
-    };
-    let outcome = match world.apply(step) {
-        Ok(outcome) => outcome,
-        Err(_) => {
+    let outcome = match tried(rt, world, &before, step) {
+        Some(outcome) => outcome,
+        None => {
             assert!(rt; *world == before, "changed");
-            let Ok(Verdict::Fresh(_)) = world.judge(&before, step) else {
-                panic!(rt; "not fresh then: {step:?}")
-            };
-            world.apply(step).expect(rt, "not taken")
+            tried(rt, world, &before, step).expect(rt, "not taken")
         }
     };
     assert!(rt; check(world).is_none(), "a fault behind {step:?}");
     outcome
+}
+
+// What a step that a world judges fresh gives; None where there was no memory.
+fn tried(rt: &impl Host, world: &mut World, before: &World, step: &Step) -> Option<Outcome>
+    requires { Legal world.old }
+    ensures { Legal world.new }
+{
+    let Ok(Verdict::Fresh(_)) = world.judge(before, step) else {
+        panic!(rt; "not fresh: {step:?}")
+    };
+    world.apply(step).ok()
 }
 
 /// Nodes 1 and 2 are added and linked, and a reset is asked for at the first.
