@@ -1,6 +1,6 @@
 -- Which values the fields can spell: those in their ranges.
 use Rattle.std.proofs.Common.{ℕ, zero, suc, ◌<◌, ◌≤◌, ◌^◌, Bool, true, false, eqb, refl, sym, subst, arith}
-use Rattle.coord_types.specs.Facade.{IsNode, brought}
+use Rattle.coord_types.specs.Facade.{IsNode, carried}
 use Rattle.coord_batch.specs.Format.{nothing}
 use Rattle.std.proofs.lemmas.Bool.Decides.{nat_tests}
 use Rattle.coord_types.specs.declared.messages.Msg.{Msg}
@@ -39,7 +39,7 @@ pub from_one_fits : (n : ℕ) → 1 ≤ n → n < 2 ^ 64 → from_one.Fits n
 unfolding from_one
 from_one_fits n least most = (most, grind (arith, nat_tests, least))
 
-pub message_fits : (version most : ℕ) (m : Msg) → (distance version most).Fits (brought m) → (message version most).Fits m
+pub message_fits : (version most : ℕ) (m : Msg) → (distance version most).Fits (carried m) → (message version most).Fits m
 unfolding message message_case
 message_fits version most (msg.Abort k) fits = ((0, msg.Abort k), ((omega arith, refl), (k, fits, refl)), refl)
 message_fits version most msg.Ack fits = ((1, msg.Ack), ((omega arith, refl), (0, refl, refl)), refl)
@@ -54,15 +54,15 @@ no_distance_fits version most small = by_version (eqb version 1)
     by_version true = refl
     by_version false = (omega arith, grind (arith, nat_tests))
 
-case_in_range : (version most t : ℕ) (m : Msg) → most < 2 ^ 64 → (message_case version most t).Fits m → (distance version most).Fits (brought m)
+case_in_range : (version most t : ℕ) (m : Msg) → most < 2 ^ 64 → (message_case version most t).Fits m → (distance version most).Fits (carried m)
 unfolding message_case
-case_in_range version most zero m small fits = subst (λ n. (distance version most).Fits (brought n)) (sym fits.2) fits.1
-case_in_range version most (suc zero) m small fits = subst (λ n. (distance version most).Fits (brought n)) (sym fits.2) (no_distance_fits version most small)
-case_in_range version most (suc (suc n)) m small fits = subst (λ n. (distance version most).Fits (brought n)) (sym fits.2) (no_distance_fits version most small)
+case_in_range version most zero m small fits = subst (λ n. (distance version most).Fits (carried n)) (sym fits.2) fits.1
+case_in_range version most (suc zero) m small fits = subst (λ n. (distance version most).Fits (carried n)) (sym fits.2) (no_distance_fits version most small)
+case_in_range version most (suc (suc n)) m small fits = subst (λ n. (distance version most).Fits (carried n)) (sym fits.2) (no_distance_fits version most small)
 
-pub message_in_range : (version most : ℕ) (m : Msg) → most < 2 ^ 64 → (message version most).Fits m → (distance version most).Fits (brought m)
+pub message_in_range : (version most : ℕ) (m : Msg) → most < 2 ^ 64 → (message version most).Fits m → (distance version most).Fits (carried m)
 unfolding message
-message_in_range version most m small fits = subst (λ n. (distance version most).Fits (brought n)) (sym fits.2) (case_in_range version most fits.0.0 fits.0.1 small fits.1.1)
+message_in_range version most m small fits = subst (λ n. (distance version most).Fits (carried n)) (sym fits.2) (case_in_range version most fits.0.0 fits.0.1 small fits.1.1)
 
 pub at_most_in_range : (most n : ℕ) → (at_most most).Fits n → n ≤ most
 unfolding at_most

@@ -1,6 +1,6 @@
 -- The formats of steps and batches are grammars.
 use Rattle.std.proofs.Common.{◌≡◌, ℕ, zero, suc, ◌-◌, ◌<◌, ◌^◌, Bool, true, false, refl, sym, ap, arith, eqb, leb, ◌&&◌}
-use Rattle.coord_types.specs.Messages.{brought}
+use Rattle.coord_types.specs.Messages.{carried}
 use Rattle.coord_types.specs.declared.messages.Msg.{Msg}
 use Rattle.coord_types.specs.declared.messages.Msg.TheVariants as msg
 use Rattle.coord_types.specs.declared.steps.Command.{Command}
@@ -42,9 +42,9 @@ distance_grammar version most = by_version (eqb version 1)
 
 message_case_grammar : (version most t : ℕ) → IsGrammar (message_case version most t)
 unfolding message_case
-message_case_grammar version most zero = made_grammar msg.Abort brought (distance version most) (distance_grammar version most) (λ n fits. refl)
-message_case_grammar version most (suc zero) = made_grammar (λ n. msg.Ack) brought nothing nothing_grammar (λ n fits. sym fits)
-message_case_grammar version most (suc (suc n)) = made_grammar (λ n. msg.Ready) brought nothing nothing_grammar (λ n fits. sym fits)
+message_case_grammar version most zero = made_grammar msg.Abort carried (distance version most) (distance_grammar version most) (λ n fits. refl)
+message_case_grammar version most (suc zero) = made_grammar (λ n. msg.Ack) carried nothing nothing_grammar (λ n fits. sym fits)
+message_case_grammar version most (suc (suc n)) = made_grammar (λ n. msg.Ready) carried nothing nothing_grammar (λ n fits. sym fits)
 
 message_case_told : (version most t : ℕ) (m : Msg) → t < 3 → (message_case version most t).Fits m → message_tag m ≡ t
 unfolding message_case

@@ -1,6 +1,6 @@
 -- Which steps and batches have a spelling.
 use Rattle.std.specs.Prelude.{◌≡◌, ℕ, ◌-◌, ◌^◌, ◌≤◌, ◌<◌, List, length}
-use Rattle.coord_types.specs.Facade.{CommandInRange, IsNode, brought}
+use Rattle.coord_types.specs.Facade.{CommandInRange, IsNode, carried}
 use Rattle.coord_batch.specs.Fields.{distance}
 use Rattle.std.specs.List.{AllByRecursion}
 use Rattle.coord_types.specs.declared.limits.TheConstants.{MAX_BATCH_STEPS, MAX_CLIENTS, MAX_STEPS}
@@ -8,10 +8,10 @@ use Rattle.coord_types.specs.declared.steps.Step.{Step}
 use Rattle.coord_types.specs.declared.steps.Step.TheVariants.{Order, Take, Clear}
 use Rattle.coord_batch.specs.declared.batch.Batch.{Batch}
 
--- what the types of a step keep, and orders are numbered from 1; in version 1 no packet brings a distance
+-- what the types of a step keep, and orders are numbered from 1; in version 1 no packet carries a distance
 abbrev pub StepFits : ℕ → Step → Type 0
 StepFits version (Order c n x) = ((1 ≤ c) × (c ≤ MAX_CLIENTS)) × ((1 ≤ n) × (n < 2 ^ 64)) × CommandInRange x
-StepFits version (Take p) = IsNode p.from × IsNode p.to × (p.inc < 2 ^ 64) × (p.number < 2 ^ 64) × (distance version (2 ^ 64 - 1)).Fits (brought p.msg)
+StepFits version (Take p) = IsNode p.from × IsNode p.to × (p.inc < 2 ^ 64) × (p.number < 2 ^ 64) × (distance version (2 ^ 64 - 1)).Fits (carried p.msg)
 StepFits version (Clear r) = IsNode r.from × IsNode r.to × (r.inc < 2 ^ 64) × (r.number < 2 ^ 64)
 
 -- a batch as its format has it: the number of its first step, and its steps
@@ -35,15 +35,15 @@ IsNumbered (Order c n x) = 1 ≤ n
 IsNumbered (Take p) = Unit {0}
 IsNumbered (Clear r) = Unit {0}
 
--- in version 1 a packet brings no distance
-abbrev pub BringsRightly : ℕ → Step → Type 0
-BringsRightly version (Order c n x) = Unit {0}
-BringsRightly version (Take p) = version ≡ 1 → brought p.msg ≡ 0
-BringsRightly version (Clear r) = Unit {0}
+-- in version 1 a packet carries no distance
+abbrev pub CarriesRightly : ℕ → Step → Type 0
+CarriesRightly version (Order c n x) = Unit {0}
+CarriesRightly version (Take p) = version ≡ 1 → carried p.msg ≡ 0
+CarriesRightly version (Clear r) = Unit {0}
 
 -- What is asked of a step beside the ranges of its types: an order's number is at least 1, and in
--- version 1 no packet brings a distance.
+-- version 1 no packet carries a distance.
 abbrev pub IsWritable : ℕ → Step → Type 0
 IsWritable version (Order c n x) = 1 ≤ n
-IsWritable version (Take p) = version ≡ 1 → brought p.msg ≡ 0
+IsWritable version (Take p) = version ≡ 1 → carried p.msg ≡ 0
 IsWritable version (Clear r) = Unit {0}

@@ -1,6 +1,6 @@
 -- The fields that batches and worlds are made of.
 use Rattle.std.specs.Prelude.{ℕ, zero, suc, ◌==◌, ◌&&◌, nat_le, Bool, true, false}
-use Rattle.coord_types.specs.Messages.{brought}
+use Rattle.coord_types.specs.Messages.{carried}
 use Rattle.coord_types.specs.declared.limits.TheConstants.{MAX_CLIENTS, MAX_GROUPS, MAX_NODES}
 use Rattle.coord_types.specs.declared.messages.Msg.{Msg}
 use Rattle.coord_types.specs.declared.messages.Msg.TheVariants as msg
@@ -49,9 +49,9 @@ message_tag msg.Ack = 1
 message_tag msg.Ready = 2
 
 unfoldable pub message_case : ℕ → ℕ → ℕ → Format Msg
-message_case version most zero = made msg.Abort brought (distance version most)
-message_case version most (suc zero) = made (λ n. msg.Ack) brought nothing
-message_case version most (suc (suc n)) = made (λ n. msg.Ready) brought nothing
+message_case version most zero = made msg.Abort carried (distance version most)
+message_case version most (suc zero) = made (λ n. msg.Ack) carried nothing
+message_case version most (suc (suc n)) = made (λ n. msg.Ready) carried nothing
 
 -- 0 Abort, with a distance up to this one, 1 Ack, 2 Ready
 unfoldable pub message : ℕ → ℕ → Format Msg

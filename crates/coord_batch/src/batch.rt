@@ -74,7 +74,7 @@ pub fn read_batch(alloc: Global, version: u8, bytes: &[u8]) -> Result<Batch, Cod
 }
 
 /// Spells a batch of 1 to 256 steps in a version; the first step has this number, from 1 to 2^40.
-/// In version 1 no packet may bring a distance.
+/// In version 1 no packet may carry a distance.
 #[tactic(auto, using(std::proofs::Common::append_assoc), unfolding(crate::specs::Steps::batch, crate::specs::Steps::steps, crate::specs::Fields::from_one_to, crate::specs::Steps::how_many_steps))]
 pub fn write_batch(
     alloc: Global,

@@ -2,7 +2,7 @@
 
 ghost use Rattle.std.specs.Prelude.{◌≡◌, ℕ, ◌-◌, ◌^◌, ◌++◌, [], ◌∷◌, OnOk};
 ghost use Rattle.std.specs.Int.{w64, to_be_bytes};
-ghost use Rattle.coord_types.specs.Messages.{brought};
+ghost use Rattle.coord_types.specs.Messages.{carried};
 ghost use Rattle.coord_batch.specs.Fields.{distance, message};
 ghost use Rattle.coord_types.specs.StepRanges.{CommandInRange, IsNode};
 ghost use Rattle.coord_batch.specs.Steps.{command, data_packet, receipt_packet, step};
@@ -71,13 +71,13 @@ fn put_address(
 }
 
 /// Puts a message's spelling at the end: 0 Abort, in version 2 with its distance, 1 Ack, 2 Ready. In
-/// version 1 an Abort brings no distance.
+/// version 1 an Abort carries no distance.
 #[tactic(auto, unfolding(crate::specs::Fields::message, crate::specs::Fields::message_case, crate::specs::Fields::distance, crate::specs::Fields::unless, crate::specs::Fields::at_most))]
 pub fn put_message(out: &mut Vec<u8>, version: Version, msg: Msg) -> Result<(), AllocError>
     ensures spelled { (most : ℕ) →
         OnOk result (out.new.items ≡ out.old.items ++ (message version most).text msg) }
-    ensures fits { (version ≡ 1 → brought msg ≡ 0) →
-        OnOk result ((distance version (2 ^ 64 - 1)).Fits (brought msg)) }
+    ensures fits { (version ≡ 1 → carried msg ≡ 0) →
+        OnOk result ((distance version (2 ^ 64 - 1)).Fits (carried msg)) }
 {
     match msg {
         Msg::Abort(distance) => {

@@ -8,8 +8,8 @@ use Rattle.coord_check.specs.declared.violation.Letter.{Letter}
 use Rattle.coord_check.specs.declared.violation.Letter.TheVariants as letter
 use Rattle.coord_check.specs.declared.violation.Violation.{Violation}
 use Rattle.coord_check.specs.Faults.{first, nodes_from, holds_of, link_holds, fault_unless, end_faults, letter_faults, link_letters, link_faults}
-use Rattle.coord_check.specs.Sides.{side, end_at, lane_or_none, seen}
-use Rattle.coord_check.specs.declared.side.Side.{Side}
+use Rattle.coord_check.specs.LinkEnds.{link_end, end_at, lane_or_none, seen}
+use Rattle.coord_check.specs.declared.link_end.LinkEnd.{LinkEnd}
 
 -- a list with a first element has that one before another list too; one with none is empty
 pub first_here : {X : Type 0} (xs ys : List X) (x : X) → first xs ≡ Some x → first (xs ++ ys) ≡ Some x
@@ -64,8 +64,8 @@ way_is None = refl
 way_is (Some l) = refl
 
 -- the code's reading of two ends
-link_is : (w : World) (u v : ℕ) → link (view w) u v ≡ seen (side w u v) (side w v u)
-link_is w u v i = record { here = end_at (side w u v); there = end_at (side w v u); out = way_is (lane_at w.links u v) i; back = way_is (lane_at w.links v u) i }
+link_is : (w : World) (u v : ℕ) → link (view w) u v ≡ seen (link_end w u v) (link_end w v u)
+link_is w u v i = record { here = end_at (link_end w u v); there = end_at (link_end w v u); out = way_is (lane_at w.links u v) i; back = way_is (lane_at w.links v u) i }
 
 told_true : (b : Bool) (v : Violation) → b ≡ true → fault_unless b v ≡ []
 told_true true v is = refl
@@ -98,12 +98,12 @@ module _ (w : World) (a b : ℕ) where
   pub none_left : (i : ℕ) → 8 ≤ i → i ≤ 8 → first (flat_map (letter_faults w a b) (drop i link_letters)) ≡ None
   none_left i le ge = let e : i ≡ 8 = omega arith in sym (left_is i) ∙ ap (λ k. first (flat_map (letter_faults w a b) (drop k tried))) e
 
-  module _ (i : ℕ) (lt : i < 8) (x : Letter) (at : get_or tried i letter.N ≡ x) (near far : Side) (n : near ≡ side w a b) (f : far ≡ side w b a) where
+  module _ (i : ℕ) (lt : i < 8) (x : Letter) (at : get_or tried i letter.N ≡ x) (near far : LinkEnd) (n : near ≡ link_end w a b) (f : far ≡ link_end w b a) where
     here : (t s : Bool) → t ≡ holds_of x near.lane (seen near far) → t ≡ s → link_holds w a b x ≡ s
-    here t s e is = ap (holds_of x (side w a b).lane) (link_is w a b) ∙ sym (λ j. holds_of x (n j).lane (seen (n j) (f j))) ∙ sym e ∙ is
+    here t s e is = ap (holds_of x (link_end w a b).lane) (link_is w a b) ∙ sym (λ j. holds_of x (n j).lane (seen (n j) (f j))) ∙ sym e ∙ is
 
     back : (t s : Bool) → t ≡ holds_of x far.lane (seen far near) → t ≡ s → link_holds w b a x ≡ s
-    back t s e is = ap (holds_of x (side w b a).lane) (link_is w b a) ∙ sym (λ j. holds_of x (f j).lane (seen (f j) (n j))) ∙ sym e ∙ is
+    back t s e is = ap (holds_of x (link_end w b a).lane) (link_is w b a) ∙ sym (λ j. holds_of x (f j).lane (seen (f j) (n j))) ∙ sym e ∙ is
 
     met_letter : (v : Violation) → first (letter_faults w a b x) ≡ Some v → first (flat_map (letter_faults w a b) (drop i link_letters)) ≡ Some v
     met_letter v is = sym (left_is i) ∙ met_at (letter_faults w a b) tried i letter.N v lt (ap (λ y. first (letter_faults w a b y)) at ∙ is)

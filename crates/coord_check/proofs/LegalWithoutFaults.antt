@@ -4,8 +4,8 @@ use Rattle.std.specs.List.{flat_map}
 use Rattle.coord_types.specs.Facade.{NodeState, get}
 use Rattle.coord_world.specs.Facade.{InRange, Legal, World, is_legal_node, is_linked, lane_at, state_or_none}
 use Rattle.coord_link.specs.LaneMachine.{Lane, has_front_taken_at_most}
-use Rattle.coord_world.proofs.Facade.{lane-apart, lane-mirrored}
-use Rattle.coord_check.specs.Sides.{lane_or_none}
+use Rattle.coord_world.proofs.Facade.{lane-apart, lane-mirrored, some_value}
+use Rattle.coord_check.specs.LinkEnds.{lane_or_none}
 use Rattle.coord_check.specs.declared.violation.Letter.{Letter}
 use Rattle.coord_check.specs.declared.violation.Letter.TheVariants as letter
 use Rattle.coord_check.specs.declared.violation.Violation.{Violation}
@@ -16,10 +16,6 @@ use Rattle.coord_check.proofs.FirstFault.{no_first, there}
 order : (u v : ℕ) → (u < v) ⊎ ((v < u) ⊎ (u ≡ v))
 order u v = grind arith
 
-has_one : {X : Type 0} (o : Option X) → is_some o ≡ true → (x : X) × (o ≡ Some x)
-has_one None is = cc
-has_one (Some x) is = (x, refl)
-
 module _ (w : World) (range : InRange w) where
   -- what is told of a node, there or not
   abbrev node_told : ℕ → Option NodeState → List Violation
@@ -27,7 +23,7 @@ module _ (w : World) (range : InRange w) where
 
   pub is_node : (u v : ℕ) → is_linked w u v ≡ true → (1 ≤ u) × (u ≤ 64)
   is_node u v is =
-      let found : (r : NodeState) × (get w.nodes u ≡ Some r) = has_one (get w.nodes u) (range.ends u v is) in
+      let found : (r : NodeState) × (get w.nodes u ≡ Some r) = some_value (get w.nodes u) (range.ends u v is) in
       let named = range.nodes u found.0 found.1 in
       (named.least, named.greatest)
 
@@ -81,7 +77,7 @@ module _ (w : World) (range : InRange w) where
     holds : (u v : ℕ) → is_linked w u v ≡ true → (x : Letter) → link_holds w u v x ≡ true
     holds u v is letter.N = refl
     holds u v is letter.A =
-        let found : (l : Lane) × (lane_at w.links u v ≡ Some l) = has_one (lane_at w.links u v) is in
+        let found : (l : Lane) × (lane_at w.links u v ≡ Some l) = some_value (lane_at w.links u v) is in
         ap (λ o. has_front_taken_at_most (lane_or_none o)) found.1 ∙ legal.lanes u v found.0 found.1
     holds u v is letter.B = (legal.links u v is).ack_in_one_place
     holds u v is letter.C = (legal.links u v is).one_ready_at_most

@@ -5,7 +5,7 @@ use Rattle.std.specs.List.Sorted.{IsStrictlySortedBy}
 use Rattle.std.proofs.lemmas.Bool.Decides.{nat_tests}
 use Rattle.std.proofs.lemmas.Map.Keys.{sorted_head, sorted_tail}
 use Rattle.coord_types.specs.NodeSet.{NodeSet, first as first_member, items, remove}
-use Rattle.coord_types.proofs.Sets.{contains-items, items-first, items-sorted}
+use Rattle.coord_types.proofs.Sets.{contains-items, items-first, items-sorted, all_listed}
 use Rattle.coord_world.specs.Facade.{InRange, World, is_linked, state}
 use Rattle.coord_world.proofs.Facade.{lane-mirrored}
 use Rattle.coord_check.specs.declared.violation.Violation.{Violation}
@@ -35,15 +35,6 @@ not_listed u v (x ∷ xs) rise lt =
 
 other : (x v : ℕ) (b : Bool) → x < v → b ≡ false → (nat_eq x v || b) ≡ false
 other x v b lt none = grind (arith, nat_tests)
-
-or_later : (a b : Bool) → b ≡ true → (a || b) ≡ true
-or_later true b e = refl
-or_later false b e = e
-
--- what holds of each number that is listed
-all_listed : (P : ℕ → Type 0) (xs : List ℕ) → ((q : ℕ) → list_any (λ y. nat_eq y q) xs ≡ true → P q) → AllByRecursion P xs
-all_listed P [] each = tt
-all_listed P (x ∷ xs) each = (each x (grind (arith, nat_tests)), all_listed P xs (λ q any. each q (or_later (nat_eq x q) _ any)))
 
 lesser_or_same : (u x : ℕ) → u ≤ x → (u ≡ x) ⊎ (u < x)
 lesser_or_same u x le = grind arith

@@ -5,7 +5,7 @@ use Rattle.coord_types.specs.declared.limits.TheConstants.{MAX_NODES}
 use Rattle.coord_types.specs.Table.{has}
 use Rattle.coord_link.specs.LaneMachine.{Lane, has_front_taken_at_most}
 use Rattle.coord_world.specs.Facade.{Link, World, has_ack_in_one_place, has_no_early_ready, has_one_parent_at_most, has_one_ready_at_most, has_readies_first, has_ready_for_child, has_right_distances, is_legal_node, is_linked, lane_at, link, state, view}
-use Rattle.coord_check.specs.Sides.{lane_or_none}
+use Rattle.coord_check.specs.LinkEnds.{lane_or_none}
 use Rattle.coord_check.specs.declared.violation.Letter.{Letter}
 use Rattle.coord_check.specs.declared.violation.Letter.TheVariants as letter
 use Rattle.coord_check.specs.declared.violation.Violation.{Violation}

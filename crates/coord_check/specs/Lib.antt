@@ -1,3 +1,3 @@
 pub mod Names
-pub mod Sides
+pub mod LinkEnds
 pub mod Faults

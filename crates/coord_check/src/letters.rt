@@ -4,16 +4,16 @@ ghost use Rattle.std.specs.Prelude.{◌≡◌};
 ghost use Rattle.coord_link.specs.LaneMachine.{has_front_taken_at_most};
 ghost use Rattle.coord_world.specs.protocol.Links.{has_ack_in_one_place, has_no_early_ready, has_ready_for_child, has_right_distances};
 ghost use Rattle.coord_check.specs.Faults.{holds_of};
-ghost use Rattle.coord_check.specs.Sides.{seen};
+ghost use Rattle.coord_check.specs.LinkEnds.{seen};
 
-use crate::side::Side;
+use crate::in_transit::{count_of, late_readies, strays_of};
+use crate::link_end::LinkEnd;
 use crate::violation::Letter;
-use crate::way::{count_of, late_readies, strays_of};
 use coord_link::Lane;
 use coord_types::{Mode, Msg};
 
 /// Whether a letter holds of the link with these ends, as `here` sees it.
-pub(crate) fn holds(letter: Letter, here: &Side, there: &Side) -> bool
+pub(crate) fn holds(letter: Letter, here: &LinkEnd, there: &LinkEnd) -> bool
     ensures { result ≡ holds_of letter here.now.lane (seen here.now there.now) }
 {
     match letter {
@@ -37,7 +37,7 @@ fn has_front_taken_at_most(lane: &Lane) -> bool
     got == base || (got > base && got - base == 1 && !lane.queue().is_empty())
 }
 
-fn has_ack_in_one_place(here: &Side, there: &Side) -> bool
+fn has_ack_in_one_place(here: &LinkEnd, there: &LinkEnd) -> bool
     ensures { result ≡ has_ack_in_one_place (seen here.now there.now) }
 {
     let aborts = count_of(here.lane.transit(), Msg::Abort(0));
@@ -53,7 +53,7 @@ fn has_ack_in_one_place(here: &Side, there: &Side) -> bool
     }
 }
 
-fn has_ready_for_child(here: &Side, there: &Side) -> bool
+fn has_ready_for_child(here: &LinkEnd, there: &LinkEnd) -> bool
     ensures { result ≡ has_ready_for_child (seen here.now there.now) }
 {
     let is_child_waiting = there.mode == Mode::Converge && there.child;
@@ -61,7 +61,7 @@ fn has_ready_for_child(here: &Side, there: &Side) -> bool
     !is_child_waiting || readies != 0 || here.mode != Mode::Ready
 }
 
-fn has_no_early_ready(here: &Side) -> bool
+fn has_no_early_ready(here: &LinkEnd) -> bool
     ensures { result ≡ has_no_early_ready (seen here.now here.now) }
 {
     let messages = here.lane.transit();
@@ -71,7 +71,7 @@ fn has_no_early_ready(here: &Side) -> bool
         || count_of(messages, Msg::Ready) == 0
 }
 
-fn has_right_distances(here: &Side, there: &Side) -> bool
+fn has_right_distances(here: &LinkEnd, there: &LinkEnd) -> bool
     ensures { result ≡ has_right_distances (seen here.now there.now) }
 {
     let messages = here.lane.transit();

@@ -9,12 +9,12 @@
 //! and else the first of that list, whose letter fails where it says.
 #![tactic(auto)]
 
+mod in_transit;
 mod letters;
+mod link_end;
 mod node_check;
 mod search;
-mod side;
 mod violation;
-mod way;
 
 pub use search::check;
 pub use violation::{Letter, Violation};

@@ -8,8 +8,8 @@ ghost use Rattle.coord_world.specs.protocol.Ranges.{InRange};
 ghost use Rattle.coord_check.specs.Faults.{Fails, faults, first, link_faults, faults_from, node_faults, nodes_from};
 
 use crate::letters::holds;
+use crate::link_end::LinkEnd;
 use crate::node_check::is_legal_node;
-use crate::side::Side;
 use crate::violation::{Letter, Violation};
 use coord_types::{MAX_NODES, NodeId, NodeSet};
 use coord_world::World;
@@ -37,7 +37,7 @@ pub fn check(world: &World) -> Option<Violation>
     ensures legal { IsNone result ↔ Legal world.now }
     ensures named { IfSome result (Fails world.now) }
 {
-    world.ranges();
+    world.lemma_in_range();
     let count = world.count();
     if let Some(fault) = first_of_nodes(world, count) {
         return Some(fault);
@@ -123,8 +123,8 @@ fn first_of_link(world: &World, a: NodeId, b: NodeId) -> Option<Violation>
     requires { InRange world.now }
     ensures { result ≡ first (link_faults world.now a b) }
 {
-    let near = Side::of(world, a, b)?;
-    let far = Side::of(world, b, a)?;
+    let near = LinkEnd::of(world, a, b)?;
+    let far = LinkEnd::of(world, b, a)?;
     for letter in LINK_LETTERS {
         if !holds(letter, &near, &far) {
             return Some(Violation { a, b, letter });

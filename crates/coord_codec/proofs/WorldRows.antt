@@ -5,7 +5,7 @@ use Rattle.std.specs.Cmp.{nat_cmp_total}
 use Rattle.std.specs.List.{AllByRecursion}
 use Rattle.std.specs.FinMap.Entries.{below_all, find}
 use Rattle.std.proofs.lemmas.Bool.Decides.{nat_tests}
-use Rattle.coord_types.specs.Facade.{IsMaskable, NodeSet, brought, mask_of}
+use Rattle.coord_types.specs.Facade.{IsMaskable, NodeSet, carried, mask_of}
 use Rattle.coord_types.specs.declared.messages.Mode.{Mode}
 use Rattle.coord_types.specs.declared.messages.Mode.TheVariants as modes
 use Rattle.coord_types.specs.declared.messages.Msg.{Msg}
@@ -19,14 +19,14 @@ use Rattle.coord_world.specs.Facade.{CarryWithin, IsNode, LaneInRange, LanesCarr
 use Rattle.coord_world.specs.declared.rows.parts.NodeRow.{NodeRow}
 use Rattle.coord_tables.specs.declared.links.LinkRow.{LinkRow}
 use Rattle.coord_world.specs.declared.rows.parts.ClientRow.{ClientRow}
-use Rattle.coord_world.proofs.Facade.{all_weaker}
+use Rattle.coord_world.proofs.Facade.{all_weaker, both}
 use Rattle.coord_batch.specs.Decoding.{is_version}
 use Rattle.coord_batch.specs.Fields.{distance, message, unless}
 use Rattle.coord_batch.specs.Format.{FitBehind, Format}
 use Rattle.coord_codec.specs.Worlds.{client_row, clients, ends, kind, lane, last_by, last_ends, link_row, links, mask, mode, most_distance, node_row, nodes, parent, queue, same_group, world}
 use Rattle.coord_batch.proofs.Batched.{command_fits, command_in_range}
 use Rattle.coord_batch.proofs.FieldRanges.{at_most_fits, at_most_in_range, client_fits, client_in_range, from_one_to_fits, from_one_to_in_range, group_fits, group_in_range, how_many_fits, how_many_in_range, message_fits, message_in_range, node_fits, node_in_range}
-use Rattle.coord_codec.proofs.Rising.{RiseFrom, above_zero, both, few_keys, last_push, rise_of_sorted, sorted_of_rise}
+use Rattle.coord_codec.proofs.Rising.{RiseFrom, above_zero, few_keys, last_push, rise_of_sorted, sorted_of_rise}
 
 -- ---- fields
 
@@ -233,7 +233,7 @@ module _ (version count : ℕ) (small : count < 2 ^ 64) where
   messages_in : (front ms : List Msg) → FitBehind (λ _. message version count) front ms → CarryWithin (farthest version count) ms
   unfolding FitBehind
   messages_in front [] fits = tt
-  messages_in front (m ∷ ms) fits = (distance_in version count (brought m) (message_in_range version count m small fits.0), messages_in (front ++ m ∷ []) ms fits.1)
+  messages_in front (m ∷ ms) fits = (distance_in version count (carried m) (message_in_range version count m small fits.0), messages_in (front ++ m ∷ []) ms fits.1)
 
   queue_in : (ms : List Msg) → (queue version count).Fits ms → (length ms ≤ 4) × CarryWithin (farthest version count) ms
   unfolding queue
@@ -242,7 +242,7 @@ module _ (version count : ℕ) (small : count < 2 ^ 64) where
   each_message : (front ms : List Msg) → CarryWithin (farthest version count) ms → FitBehind (λ _. message version count) front ms
   unfolding FitBehind
   each_message front [] carry = tt
-  each_message front (m ∷ ms) carry = (message_fits version count m (distance_fits version count (brought m) small carry.0), each_message (front ++ m ∷ []) ms carry.1)
+  each_message front (m ∷ ms) carry = (message_fits version count m (distance_fits version count (carried m) small carry.0), each_message (front ++ m ∷ []) ms carry.1)
 
   queue_fits : (ms : List Msg) → length ms ≤ 4 → CarryWithin (farthest version count) ms → (queue version count).Fits ms
   unfolding queue

@@ -1,5 +1,6 @@
 -- The grammar of worlds, by version.
 use Rattle.std.specs.Prelude.{ℕ, zero, suc, ◌==◌, ◌&&◌, ◌||◌, not, nat_le, nat_lt, Bool, false, List, [], ◌∷◌, Option, Some, None}
+use Rattle.coord_link.specs.declared.lane.TheConstants.{PLACES}
 use Rattle.coord_types.specs.Facade.{NodeSet, mask_of, mode_from, mode_number, nodes_of}
 use Rattle.coord_types.specs.declared.limits.TheConstants.{MAX_CLIENTS, MAX_DEGREE, MAX_LINKS, MAX_NODES, MAX_STEPS}
 use Rattle.coord_types.specs.declared.messages.Mode.{Mode}
@@ -106,7 +107,7 @@ ends nodes front =
 
 -- oldest first
 unfoldable pub queue : ℕ → ℕ → Format (List Msg)
-queue version count = counted (how_many 4) (λ _. message version count)
+queue version count = counted (how_many PLACES) (λ _. message version count)
 
 -- what a lane has beside its link's incarnation: base, got and queue
 abbrev pub content_of_lane : Lane → ℕ × (ℕ × List Msg)

@@ -79,7 +79,7 @@ pub fn write_world(alloc: Global, written: &World) -> Result<Vec<u8>, AllocError
     // 13,515 bytes, so that a snapshot has room for each legal world.
     ensures most { Legal written.now → IfOk result (λ v. length v.items ≤ most_bytes) }
 {
-    written.ranges();
+    written.lemma_in_range();
     let mut out = Vec::with_capacity(alloc, most_world_bytes(written.version()))?;
     put_world(&mut out, written)?;
     Ok(out)

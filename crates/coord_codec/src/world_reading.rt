@@ -4,6 +4,7 @@ ghost use Rattle.std.specs.Prelude.{◌≡◌, ◌≤◌, [], List, IfOk, OnOk};
 ghost use Rattle.coord_batch.specs.Format.{items_at};
 ghost use Rattle.coord_batch.specs.Fields.{message};
 ghost use Rattle.coord_batch.specs.Reading.{Reads};
+ghost use Rattle.coord_link.specs.declared.lane.TheConstants.{PLACES};
 ghost use Rattle.coord_codec.specs.Worlds.{client_row, clients, content_of_lane, ends, kind, lane, last_by, link_row, links, mask, mode, most_distance, node_row, nodes, parent, queue, world};
 ghost use Rattle.coord_world.specs.protocol.Rows.{listed};
 ghost use Rattle.coord_world.specs.declared.rows.parts.ClientRow.{ClientRow};
@@ -127,7 +128,7 @@ fn read_messages(
     count: u8,
 ) -> Result<(), ReadError>
     requires empty { lane.old.queue ≡ [] }
-    requires most { count ≤ 4 }
+    requires most { count ≤ PLACES }
     ensures read { Reads (λ _. lane.new.queue) result
         (items_at (λ _. message version most) count [] input.old) input.new }
     ensures same { OnOk result ((lane.new.inc ≡ lane.old.inc) × (lane.new.base ≡ lane.old.base) ×

@@ -4,6 +4,7 @@ ghost use Rattle.std.specs.Prelude.{◌≡◌, ◌≤◌, ℕ, List, ◌++◌, [
 ghost use Rattle.std.specs.List.{flat_map};
 ghost use Rattle.std.specs.Int.{w64, to_be_bytes};
 ghost use Rattle.coord_batch.specs.Fields.{distance, message};
+ghost use Rattle.coord_link.specs.declared.lane.TheConstants.{PLACES};
 ghost use Rattle.coord_codec.specs.Worlds.{clients, content_of_lane, kind_number, lane, link_row, links, most_distance, nodes, parent_number, queue};
 ghost use Rattle.coord_codec.specs.ByNumber.{HasKeysTo, entry_at, node_text, session_text};
 ghost use Rattle.coord_types.specs.NodeState.{mode_number};
@@ -137,7 +138,7 @@ fn put_messages(out: &mut Vec<u8>, version: Version, queue: &[Msg]) -> Result<()
 
 #[tactic(auto, using(std::proofs::Common::append_assoc), unfolding(crate::specs::Worlds::queue, coord_batch::specs::Fields::how_many))]
 fn put_queue(out: &mut Vec<u8>, version: Version, messages: &[Msg]) -> Result<(), AllocError>
-    requires { length messages.now ≤ 4 }
+    requires { length messages.now ≤ PLACES }
     ensures { OnOk result (out.new.items ≡ out.old.items ++ (queue version 0).text messages.now) }
 {
     out.push(messages.len() as u8)?;

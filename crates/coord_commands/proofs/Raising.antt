@@ -1,5 +1,6 @@
 -- Raising the store on a disk, from what its parts answer.
 use Rattle.std.proofs.Common.{◌≡◌, ◌≢◌, ℕ, Bool, true, false, List, Option, Some, None, IfSome, is_some, Result, Ok, Err, inl, inr, refl, sym, subst, if◌then◌else◌, ◌∙◌, OnOk, IfOk, IfErr, IsErrOf, MatchResult}
+use Rattle.coord_disk.specs.Model.DiskModel.{DiskModel}
 use Rattle.coord_disk.specs.Model.Present.{Present}
 use Rattle.coord_store.specs.Facade.{GivesEither, GivesKept, Kept, Recovered, has_stopped, risen}
 use Rattle.coord_store.specs.declared.faults.StoreFault.TheVariants as of_store
@@ -145,22 +146,22 @@ unwritten before after line of (Refused refusal) is = absurd is
 unwritten before after line of (NotClosed fault) is = absurd is
 
 -- the disk of a name was taken and put back
-pub raised_named : {A D : Type 0} (keeps_model : D → Bool) (present : D → Present) (clock : D → ℕ) (left_since : D → ℕ → List ℕ → Type 0) (failures : D → ℕ) (ended : Result A Fault) (before after : Option Present) (taken back : D) → known_of keeps_model present taken ≡ before →
-    IfSome after (λ known. known_of keeps_model present back ≡ Some known) → Raises keeps_model present clock left_since failures (failures_in ended) taken back →
-    MatchResult ended (λ _. RaisesNamed keeps_model present clock left_since failures 0 before after) (EndsRaising keeps_model present clock left_since failures before after)
-raised_named keeps_model present clock left_since failures (Ok line) before after taken back was is raises = record { taken = taken; back = back; was = was; is = is; raises = raises }
-raised_named keeps_model present clock left_since failures (Err fault) before after taken back was is raises = inr (record { taken = taken; back = back; was = was; is = is; raises = raises })
+pub raised_named : {A D : Type 0} (model : DiskModel D) (ended : Result A Fault) (before after : Option Present) (taken back : D) → known_of model.keeps_model model.present taken ≡ before →
+    IfSome after (λ known. known_of model.keeps_model model.present back ≡ Some known) → Raises model (failures_in ended) taken back →
+    MatchResult ended (λ _. RaisesNamed model 0 before after) (EndsRaising model before after)
+raised_named model (Ok line) before after taken back was is raises = record { taken = taken; back = back; was = was; is = is; raises = raises }
+raised_named model (Err fault) before after taken back was is raises = inr (record { taken = taken; back = back; was = was; is = is; raises = raises })
 
 -- so where the line is not written then
-pub raised_unwritten : {D : Type 0} (keeps_model : D → Bool) (present : D → Present) (clock : D → ℕ) (left_since : D → ℕ → List ℕ → Type 0) (failures : D → ℕ) (before after : Option Present) → RaisesNamed keeps_model present clock left_since failures 0 before after → (fault : Fault) → IsOfWriting fault →
-    EndsRaising keeps_model present clock left_since failures before after fault
-raised_unwritten keeps_model present clock left_since failures before after raised Usage is = absurd is
-raised_unwritten keeps_model present clock left_since failures before after raised Read is = absurd is
-raised_unwritten keeps_model present clock left_since failures before after raised Write is = inr raised
-raised_unwritten keeps_model present clock left_since failures before after raised Socket is = absurd is
-raised_unwritten keeps_model present clock left_since failures before after raised TooManyReads is = absurd is
-raised_unwritten keeps_model present clock left_since failures before after raised OutOfMemory is = inr raised
-raised_unwritten keeps_model present clock left_since failures before after raised (Topology fault) is = absurd is
-raised_unwritten keeps_model present clock left_since failures before after raised (Store fault) is = absurd is
-raised_unwritten keeps_model present clock left_since failures before after raised (Refused refusal) is = absurd is
-raised_unwritten keeps_model present clock left_since failures before after raised (NotClosed fault) is = absurd is
+pub raised_unwritten : {D : Type 0} (model : DiskModel D) (before after : Option Present) → RaisesNamed model 0 before after → (fault : Fault) → IsOfWriting fault →
+    EndsRaising model before after fault
+raised_unwritten model before after raised Usage is = absurd is
+raised_unwritten model before after raised Read is = absurd is
+raised_unwritten model before after raised Write is = inr raised
+raised_unwritten model before after raised Socket is = absurd is
+raised_unwritten model before after raised TooManyReads is = absurd is
+raised_unwritten model before after raised OutOfMemory is = inr raised
+raised_unwritten model before after raised (Topology fault) is = absurd is
+raised_unwritten model before after raised (Store fault) is = absurd is
+raised_unwritten model before after raised (Refused refusal) is = absurd is
+raised_unwritten model before after raised (NotClosed fault) is = absurd is

@@ -1,6 +1,7 @@
 -- What `migrate` does to the disk of a name, as far as what it holds before and after is known.
 use Rattle.std.specs.Prelude.{◌≡◌, ◌⊎◌, ℕ, ◌+◌, Bool, true, List, Option, Some, IfSome, Result, Ok, Err}
 use Rattle.coord_disk.specs.Model.Moments.{LeavesOnly}
+use Rattle.coord_disk.specs.Model.DiskModel.{DiskModel}
 use Rattle.coord_disk.specs.Model.Present.{Present, IsImage}
 use Rattle.coord_store.specs.Facade.{GivesEither, IsOpenFault, Recovered, RefusesMigration, RefusesOpen, risen}
 use Rattle.coord_store.specs.Refused.{failed_in as failed_in_store}
@@ -36,17 +37,17 @@ abbrev pub GivesEitherVersion : Option Present → Option Present → Type 0
 GivesEitherVersion before after = IfSome before (λ old. IfSome after (λ new. (image : List ℕ) → IsImage new image → IsEitherVersion old image))
 
 -- nor does it at any moment from the one disk to the other, in which the device has failed so often
-pub record Raises {D : Type 0} (keeps_model : D → Bool) (present : D → Present) (clock : D → ℕ) (left_since : D → ℕ → List ℕ → Type 0) (failures_of : D → ℕ) (failed : ℕ) (old new : D) : Type 0 where
-  pub any_moment : keeps_model old ≡ true → LeavesOnly clock left_since old new (IsEitherVersion (present old))
-  pub failures : failures_of new ≡ failures_of old + failed
+pub record Raises {D : Type 0} (model : DiskModel D) (failed : ℕ) (old new : D) : Type 0 where
+  pub any_moment : model.keeps_model old ≡ true → LeavesOnly model old new (IsEitherVersion (model.present old))
+  pub failures : model.failures new ≡ model.failures old + failed
 
 -- so with the disk of a name, which was taken and put back
-pub record RaisesNamed {D : Type 0} (keeps_model : D → Bool) (present : D → Present) (clock : D → ℕ) (left_since : D → ℕ → List ℕ → Type 0) (failures : D → ℕ) (failed : ℕ) (before after : Option Present) : Type 0 where
+pub record RaisesNamed {D : Type 0} (model : DiskModel D) (failed : ℕ) (before after : Option Present) : Type 0 where
   pub taken : D
   pub back : D
-  pub was : known_of keeps_model present taken ≡ before
-  pub is : IfSome after (λ known. known_of keeps_model present back ≡ Some known)
-  pub raises : Raises keeps_model present clock left_since failures failed taken back
+  pub was : known_of model.keeps_model model.present taken ≡ before
+  pub is : IfSome after (λ known. known_of model.keeps_model model.present back ≡ Some known)
+  pub raises : Raises model failed taken back
 
 -- this is the least node in a reset of the world that it gives, and it reads as before
 pub record IsNotQuiet (before after : Option Present) (node : ℕ) : Type 0 where
@@ -79,9 +80,9 @@ failures_in (Ok line) = 0
 failures_in (Err fault) = failed_in fault
 
 -- the disk of the name was not to be had, or it was taken and put back
-abbrev pub EndsRaising : {D : Type 0} → (D → Bool) → (D → Present) → (D → ℕ) → (D → ℕ → List ℕ → Type 0) → (D → ℕ) → Option Present → Option Present → Fault → Type 0
-EndsRaising keeps_model present clock left_since failures before after fault =
-    ((fault ≡ Store Device) × (after ≡ before)) ⊎ RaisesNamed keeps_model present clock left_since failures (failed_in fault) before after
+abbrev pub EndsRaising : {D : Type 0} → DiskModel D → Option Present → Option Present → Fault → Type 0
+EndsRaising model before after fault =
+    ((fault ≡ Store Device) × (after ≡ before)) ⊎ RaisesNamed model (failed_in fault) before after
 
 -- why an opened store of a world is not raised
 abbrev pub RefusesRaising : World → Fault → Type 0

@@ -5,7 +5,8 @@ ghost use Rattle.coord_commands.specs.Creation.{IsOfCreation, RefusesCommitted, 
 ghost use Rattle.coord_commands.specs.Founding.{RefusesToBegin, orders};
 ghost use Rattle.coord_commands.specs.declared.fault.Fault.TheVariants.{Refused, Store as Failed};
 ghost use Rattle.coord_config.specs.Topology.{content};
-ghost use Rattle.coord_store.specs.Kept.{IsUntouched, made};
+ghost use Rattle.coord_disk.specs.Model.Moments.{IsUntouched};
+ghost use Rattle.coord_store.specs.Kept.{made};
 ghost use Rattle.coord_store.specs.declared.faults.StoreFault.TheVariants.{Device, HalfSize, NotEmpty};
 ghost use Rattle.coord_types.specs.declared.refusals.Refusal.{Refusal as Reason};
 ghost use Rattle.coord_world.specs.protocol.Next.{fold};
@@ -25,33 +26,33 @@ pub fn create_store<D: Disk>(
     disk: D,
     topology: &Topology,
 ) -> Result<Store<D>, (Fault, D)>
-    ensures empty { D.keeps_model disk ≡ true →
-        IfOk result (λ store. length (D.present disk).read ≡ 0) }
+    ensures empty { D.model.keeps_model disk ≡ true →
+        IfOk result (λ store. length (D.model.present disk).read ≡ 0) }
     ensures world { IfOk result (λ store. store.world ≡
         fold (no_world 2) (orders (content topology.now))) }
     ensures going { IfOk result (λ store. store.torn ≡ None) }
     ensures refused { (reason : Reason) → IfErr result (λ refused. refused.0 ≡ Refused reason →
         RefusesToBegin (orders (content topology.now)) reason) }
-    ensures fault { D.keeps_model disk ≡ true →
+    ensures fault { D.model.keeps_model disk ≡ true →
         IfErr result (λ refused. RefusesCommitted
-        (D.present disk).read topology.now.half refused.0) }
+        (D.model.present disk).read topology.now.half refused.0) }
     ensures named { IfErr result (λ refused. IsOfCreation refused.0) }
 
     // What a refusal leaves, the device's own faults aside.
-    ensures unchanged { D.keeps_model disk ≡ true →
+    ensures unchanged { D.model.keeps_model disk ≡ true →
         IfErr result (λ refused. (refused.0 ≡ Failed NotEmpty) ⊎ (refused.0 ≡ Failed HalfSize) →
-        IsUntouched D.present D.clock D.left_since disk refused.1) }
-    ensures taken { D.keeps_model disk ≡ true → 0 < length (D.present disk).read →
+        IsUntouched D.model disk refused.1) }
+    ensures taken { D.model.keeps_model disk ≡ true → 0 < length (D.model.present disk).read →
         IfErr result (λ refused. refused.0 ≢ Failed Device →
-        IsUntouched D.present D.clock D.left_since disk refused.1) }
-    ensures left_empty { (reason : Reason) → D.keeps_model disk ≡ true →
+        IsUntouched D.model disk refused.1) }
+    ensures left_empty { (reason : Reason) → D.model.keeps_model disk ≡ true →
         IfErr result (λ refused. refused.0 ≡ Refused reason
-        → D.present refused.1 ≡ made topology.now.half 2) }
+        → D.model.present refused.1 ≡ made topology.now.half 2) }
 
-    ensures model { MatchResult result (λ store. D.keeps_model store.disk ≡ D.keeps_model disk)
-        (λ refused. D.keeps_model refused.1 ≡ D.keeps_model disk) }
-    ensures failures { MatchResult result (λ store. D.failures store.disk ≡ D.failures disk)
-        (λ refused. D.failures refused.1 ≡ D.failures disk + failures_at refused.0) }
+    ensures model { MatchResult result (λ store. D.model.keeps_model store.disk ≡ D.model.keeps_model disk)
+        (λ refused. D.model.keeps_model refused.1 ≡ D.model.keeps_model disk) }
+    ensures failures { MatchResult result (λ store. D.model.failures store.disk ≡ D.model.failures disk)
+        (λ refused. D.model.failures refused.1 ≡ D.model.failures disk + failures_at refused.0) }
 {
     let mut store = match Store::create(alloc, disk, topology.half, VERSION) {
         Ok(store) => store,

@@ -36,11 +36,9 @@ pub fn migrate_in<F: Folder, W: Write, E: Write>(
 ) -> u8
     ensures { Ends (λ fault.
         IsOfMigrating (F.holds folder.old file.now) (F.holds folder.new file.now) fault
-        × EndsRaising F.Disk.keeps_model F.Disk.present F.Disk.clock F.Disk.left_since
-        F.Disk.failures (F.holds folder.old file.now) (F.holds folder.new file.now) fault) (λ line.
+        × EndsRaising F.Disk.model (F.holds folder.old file.now) (F.holds folder.new file.now) fault) (λ line.
         IsMigratedLine (F.holds folder.old file.now) (F.holds folder.new file.now) line
-        × RaisesNamed F.Disk.keeps_model F.Disk.present F.Disk.clock F.Disk.left_since
-        F.Disk.failures 0 (F.holds folder.old file.now) (F.holds folder.new file.now))
+        × RaisesNamed F.Disk.model 0 (F.holds folder.old file.now) (F.holds folder.new file.now))
         result (record { output = W.contents output.old; errors = E.contents errors.old })
         (record { output = W.contents output.new; errors = E.contents errors.new }) }
 {
@@ -55,17 +53,14 @@ fn migrate_at<F: Folder, W: Write>(
 ) -> Result<(), Fault>
     ensures printed { OnOk result (PrintsOne (λ line.
         IsMigratedLine (F.holds folder.old file.now) (F.holds folder.new file.now) line
-        × RaisesNamed F.Disk.keeps_model F.Disk.present F.Disk.clock F.Disk.left_since
-        F.Disk.failures 0 (F.holds folder.old file.now) (F.holds folder.new file.now))
+        × RaisesNamed F.Disk.model 0 (F.holds folder.old file.now) (F.holds folder.new file.now))
         (W.contents output.old) (W.contents output.new)) }
     ensures fault { IfErr result (λ fault.
         IsOfMigrating (F.holds folder.old file.now) (F.holds folder.new file.now) fault
-        × EndsRaising F.Disk.keeps_model F.Disk.present F.Disk.clock F.Disk.left_since
-        F.Disk.failures (F.holds folder.old file.now) (F.holds folder.new file.now) fault) }
+        × EndsRaising F.Disk.model (F.holds folder.old file.now) (F.holds folder.new file.now) fault) }
     ensures cut { IfErr result (IsCutShort (λ line.
         IsMigratedLine (F.holds folder.old file.now) (F.holds folder.new file.now) line
-        × RaisesNamed F.Disk.keeps_model F.Disk.present F.Disk.clock F.Disk.left_since
-        F.Disk.failures 0 (F.holds folder.old file.now) (F.holds folder.new file.now))
+        × RaisesNamed F.Disk.model 0 (F.holds folder.old file.now) (F.holds folder.new file.now))
         (W.contents output.old) (W.contents output.new)) }
 {
     let line = migrate_named(alloc, folder, file)?;
@@ -80,10 +75,8 @@ fn migrate_named<F: Folder>(alloc: Global, folder: &mut F, file: &str) -> Result
     ensures fault { IfErr result (IsOfRaising (F.holds folder.old file.now)
         (F.holds folder.new file.now)) }
     ensures raises { MatchResult result (λ _.
-        RaisesNamed F.Disk.keeps_model F.Disk.present F.Disk.clock F.Disk.left_since
-        F.Disk.failures 0 (F.holds folder.old file.now) (F.holds folder.new file.now)) (λ fault.
-        EndsRaising F.Disk.keeps_model F.Disk.present F.Disk.clock F.Disk.left_since
-        F.Disk.failures (F.holds folder.old file.now) (F.holds folder.new file.now) fault) }
+        RaisesNamed F.Disk.model 0 (F.holds folder.old file.now) (F.holds folder.new file.now)) (λ fault.
+        EndsRaising F.Disk.model (F.holds folder.old file.now) (F.holds folder.new file.now) fault) }
 {
     let disk = folder.open(file)?;
     let (line, disk) = migrate_disk(alloc, disk);
@@ -93,17 +86,17 @@ fn migrate_named<F: Folder>(alloc: Global, folder: &mut F, file: &str) -> Result
 
 /// Raises the store on a disk, and answers the line that is to be printed.
 fn migrate_disk<D: Disk>(alloc: Global, disk: D) -> (Result<String, Fault>, D)
-    ensures line { IfOk result.0 (λ line. IsMigratedLine (known_of D.keeps_model D.present disk)
-        (known_of D.keeps_model D.present result.1) (string_bytes line)) }
-    ensures fault { IfErr result.0 (IsOfRaising (known_of D.keeps_model D.present disk)
-        (known_of D.keeps_model D.present result.1)) }
-    ensures raises { Raises D.keeps_model D.present D.clock D.left_since D.failures
+    ensures line { IfOk result.0 (λ line. IsMigratedLine (known_of D.model.keeps_model D.model.present disk)
+        (known_of D.model.keeps_model D.model.present result.1) (string_bytes line)) }
+    ensures fault { IfErr result.0 (IsOfRaising (known_of D.model.keeps_model D.model.present disk)
+        (known_of D.model.keeps_model D.model.present result.1)) }
+    ensures raises { Raises D.model
         (failures_in result.0) disk result.1 }
 {
     match Store::open(alloc, disk) {
         Ok(mut store) => {
             let line = migrate_store(alloc, &mut store);
-            store.images_give_world();
+            store.lemma_images_give_world();
             (line, store.into_disk())
         }
         Err((fault, disk)) => (Err(Fault::Store(fault)), disk),
@@ -124,20 +117,20 @@ pub fn migrate_store<D: Disk>(alloc: Global, store: &mut Store<D>) -> Result<Str
     ensures stopped { IsErrOf result (Failed Stopped) → has_stopped store.old ≡ true }
     ensures fault { IfErr result (RefusesRaising store.old.world) }
     // A crash at any moment of the call leaves what gives the world in one version or the other, and unless the device fails in a refusal, the one from before it.
-    ensures any_moment { D.keeps_model store.old.disk ≡ true → store.old.torn ≡ None
-        → LeavesOnly D.clock D.left_since store.old.disk store.new.disk
+    ensures any_moment { D.model.keeps_model store.old.disk ≡ true → store.old.torn ≡ None
+        → LeavesOnly D.model store.old.disk store.new.disk
         (GivesEither store.old.world (risen store.old.world)) }
-    ensures any_moment_refused { D.keeps_model store.old.disk ≡ true → store.old.torn ≡ None
+    ensures any_moment_refused { D.model.keeps_model store.old.disk ≡ true → store.old.torn ≡ None
         → IfErr result (λ fault. fault ≢ Failed Device →
-        LeavesOnly D.clock D.left_since store.old.disk store.new.disk
+        LeavesOnly D.model store.old.disk store.new.disk
         (IsOnlyWorld store.old.world)) }
-    ensures failures { D.failures store.new.disk ≡
-        D.failures store.old.disk + failures_in result }
-    ensures calls { D.keeps_model store.old.disk ≡ true →
-        D.clock store.new.disk ≤ D.clock store.old.disk + 4 }
-    ensures model { D.keeps_model store.new.disk ≡ D.keeps_model store.old.disk }
+    ensures failures { D.model.failures store.new.disk ≡
+        D.model.failures store.old.disk + failures_in result }
+    ensures calls { D.model.keeps_model store.old.disk ≡ true →
+        D.model.clock store.new.disk ≤ D.model.clock store.old.disk + 4 }
+    ensures model { D.model.keeps_model store.new.disk ≡ D.model.keeps_model store.old.disk }
 {
-    store.images_give_world();
+    store.lemma_images_give_world();
     let count = store.world().count();
     let line = format!(in alloc; "migrated {count}\n")?;
     match store.migrate() {

@@ -54,7 +54,7 @@ pub fn serve_in<
     ensures served { Serves address.now (reads (F.holds folder.old file.now))
         (reads (F.holds folder.new file.now)) result (E.contents errors.old)
         (E.contents errors.new) }
-    ensures closed { result ≡ 0 → IsServedToEnd F.Disk.keeps_model F.Disk.present
+    ensures closed { result ≡ 0 → IsServedToEnd F.Disk.model.keeps_model F.Disk.model.present
         (reads (F.holds folder.old file.now)) (reads (F.holds folder.new file.now)) }
     ensures usage { ((a : SocketAddrV4) → ¬ IsSocketV4Text address.now a) → (result ≡ 2) ×
         (folder.new ≡ folder.old) × Keeps (W.contents output.old) (W.contents output.new) }
@@ -73,7 +73,7 @@ fn serve_at<S: Net + Threads + Wait + Clock + Sync + AllocGlobal, F: Folder, W: 
     address: SocketAddrV4,
     output: &mut W,
 ) -> Result<(), Fault>
-    ensures served { OnOk result (IsServedToEnd F.Disk.keeps_model F.Disk.present
+    ensures served { OnOk result (IsServedToEnd F.Disk.model.keeps_model F.Disk.model.present
         (reads (F.holds folder.old file.now)) (reads (F.holds folder.new file.now))) }
     ensures fault { IfErr result (IsOfServing (reads (F.holds folder.old file.now))) }
 {
@@ -97,9 +97,9 @@ fn serve_at<S: Net + Threads + Wait + Clock + Sync + AllocGlobal, F: Folder, W: 
 /// The store on a disk.
 fn opened<D: Disk>(alloc: Global, disk: D) -> Result<Store<D>, Fault>
     ensures world { IfOk result (λ store.
-        IfSome (bytes_of D.keeps_model D.present disk) (λ known. Recovered known store.world)) }
+        IfSome (bytes_of D.model.keeps_model D.model.present disk) (λ known. Recovered known store.world)) }
     ensures going { IfOk result (λ store. has_stopped store ≡ false) }
-    ensures fault { IfErr result (IsOfServing (bytes_of D.keeps_model D.present disk)) }
+    ensures fault { IfErr result (IsOfServing (bytes_of D.model.keeps_model D.model.present disk)) }
 {
     match Store::open(alloc, disk) {
         Ok(store) => Ok(store),
@@ -120,7 +120,7 @@ fn bound<S: Net>(rt: &S, address: SocketAddrV4) -> Result<S::Listener, Fault>
 /// The disk of a store that was served and has not stopped.
 fn left<D: Disk>(closed: Closed<D>) -> D
     requires { has_stopped closed.store ≡ false }
-    ensures { IfSome (bytes_of D.keeps_model D.present result) (λ known.
+    ensures { IfSome (bytes_of D.model.keeps_model D.model.present result) (λ known.
         Recovered known closed.store.world) }
 {
     closed.store.into_disk()

@@ -1,23 +1,25 @@
 -- How a run of disk calls goes on.
-use Rattle.std.proofs.Common.{◌⊎◌, inl, inr, ⊎_elim, ℕ, List, arith}
-use Rattle.coord_disk.specs.Model.Moments.{Elapses, LeavesOnly}
+use Rattle.std.proofs.Common.{◌≡◌, ◌⊎◌, inl, inr, ⊎_elim, ◌∙◌, refl, ℕ, List, arith, true}
+use Rattle.coord_disk.specs.Model.DiskModel.{DiskModel, IsModel}
+use Rattle.coord_disk.specs.Model.Calls.{Calls}
+use Rattle.coord_disk.specs.Model.Moments.{AddsNothing, LeavesOnly, Passes}
+use Rattle.coord_disk.specs.Model.Present.{Present, IsImage, FitsNoMore}
 
-module _ {D : Type 0} (clock : D → ℕ) (left_since : D → ℕ → List ℕ → Type 0) where
+module _ {D : Type 0} (m : DiskModel D) where
   -- before the first call
-  pub started : (old : D) (P : List ℕ → Type 0) → ((c : List ℕ) → left_since old (clock old) c → P c) → LeavesOnly clock left_since old old P
-  started old P here = record { later = omega arith; each = here; before = λ t c le left. inl left }
+  pub started : IsModel m → (old : D) (P : List ℕ → Type 0) → m.keeps_model old ≡ true → ((c : List ℕ) → IsImage (m.present old) c → P c) → LeavesOnly m old old P
+  started laws old P keeps here = record { later = omega arith; each = λ c left. here c (laws.only_now old c keeps left); before = λ t c le left. inl left }
 
   -- one call more, after which a crash leaves what has P
-  pub goes_on : (old mid new : D) (P may_leave : List ℕ → Type 0) → LeavesOnly clock left_since old mid P → Elapses (clock mid) (clock new) (left_since mid) (left_since new) may_leave
-      → ((c : List ℕ) → may_leave c → P c) → LeavesOnly clock left_since old new P
-  goes_on old mid new P may_leave so_far time here = record {
+  pub goes_on : (old mid new : D) (P : List ℕ → Type 0) → LeavesOnly m old mid P → Passes m mid new → ((c : List ℕ) → IsImage (m.present new) c → P c) → LeavesOnly m old new P
+  goes_on old mid new P so_far time here = record {
     later = omega (arith, so_far.later, time.later);
-    each = λ c left. ⊎_elim (so_far.each c) (here c) (time.nothing_else (clock old) c so_far.later left);
+    each = λ c left. ⊎_elim (so_far.each c) (here c) (time.nothing_else (m.clock old) c so_far.later left);
     before = λ t c le left. ⊎_elim (so_far.before t c le) (λ now. inr (here c now)) (time.nothing_else t c (omega (arith, le, so_far.later)) left);
   }
 
   -- what has P has Q
-  pub weaker : (old new : D) (P Q : List ℕ → Type 0) → LeavesOnly clock left_since old new P → ((c : List ℕ) → P c → Q c) → LeavesOnly clock left_since old new Q
+  pub weaker : (old new : D) (P Q : List ℕ → Type 0) → LeavesOnly m old new P → ((c : List ℕ) → P c → Q c) → LeavesOnly m old new Q
   weaker old new P Q leaves implies = record {
     later = leaves.later;
     each = λ c left. implies c (leaves.each c left);
@@ -25,9 +27,30 @@ module _ {D : Type 0} (clock : D → ℕ) (left_since : D → ℕ → List ℕ �
   }
 
   -- one run of calls, and then another
-  pub and_then : (old mid new : D) (P Q : List ℕ → Type 0) → LeavesOnly clock left_since old mid P → LeavesOnly clock left_since mid new Q → LeavesOnly clock left_since old new (λ c. P c ⊎ Q c)
+  pub and_then : (old mid new : D) (P Q : List ℕ → Type 0) → LeavesOnly m old mid P → LeavesOnly m mid new Q → LeavesOnly m old new (λ c. P c ⊎ Q c)
   and_then old mid new P Q one other = record {
     later = omega (arith, one.later, other.later);
-    each = λ c left. ⊎_elim (λ was. inl (one.each c was)) (λ has. inr has) (other.before (clock old) c one.later left);
+    each = λ c left. ⊎_elim (λ was. inl (one.each c was)) (λ has. inr has) (other.before (m.clock old) c one.later left);
     before = λ t c le left. ⊎_elim (λ was. ⊎_elim (λ first. inl first) (λ has. inr (inl has)) (one.before t c le was)) (λ has. inr (inr has)) (other.before t c (omega (arith, le, one.later)) left);
   }
+
+  -- ---- runs that add nothing
+
+  -- So far a crash leaves nothing that it could not have left at first.
+  pub record Quiet (first now : D) : Type 0 where
+    pub model : m.keeps_model now ≡ m.keeps_model first
+    pub any_moment : AddsNothing m first now
+    pub fits : m.keeps_model first ≡ true → FitsNoMore (m.present first) (m.present now)
+
+  pub at_first : IsModel m → (first : D) → Quiet first first
+  at_first laws first = record { model = refl; any_moment = λ k. started laws first _ k (λ image is. is); fits = λ k image is. is }
+
+  -- one call more, which adds nothing
+  pub and_quiet : {P : Present → Present → Type 0} (first mid new : D) → Quiet first mid → Calls m mid new P → ((p q : Present) → P p q → FitsNoMore p q) → Quiet first new
+  and_quiet {P} first mid new quiet call adds_nothing =
+      let fits : m.keeps_model first ≡ true → FitsNoMore (m.present first) (m.present new) = λ k image is. quiet.fits k image (adds_nothing (m.present mid) (m.present new) (call.change (quiet.model ∙ k)) image is) in
+      record {
+        model = call.model ∙ quiet.model;
+        any_moment = λ k. goes_on first mid new _ (quiet.any_moment k) (call.time (quiet.model ∙ k)) (fits k);
+        fits = fits;
+      }

@@ -2,7 +2,7 @@
 use Rattle.std.proofs.Common.{◌≡◌, ◌⊎◌, inl, inr, ℕ, zero, suc, ◌+◌, ◌-◌, ◌<◌, ◌≤◌, max, false, List, [], ◌∷◌, ◌++◌, length, take, drop, refl, sym, ◌∙◌, ap, arith, append_assoc, length-append, length-take, length-drop, slice_get, replicate, nat_le, nat_lt, ◌&&◌, ◌||◌, Bool, true}
 use Rattle.std.proofs.lemmas.List.{append-nil, drop-drop, drop_all, take-replicate, take_all}
 use Rattle.std.proofs.lemmas.Bool.Decides.{nat_tests}
-use Rattle.coord_disk.specs.Model.Present.{Present, Range, IsImage, Writes, is_within, overwritten, range_of, written_at}
+use Rattle.coord_disk.specs.Model.Present.{Present, Range, IsImage, WritesWithin, is_within, overwritten, range_of, written_at}
 
 pub get_left : (xs ys : List ℕ) (i : ℕ) → i < length xs → slice_get (xs ++ ys) i ≡ slice_get xs i
 get_left [] ys i lt = absurd (omega (arith, lt))
@@ -97,7 +97,7 @@ outside at i bytes written out =
     let here = (either_false (nat_le at i && nat_lt i (at + length bytes)) (is_within written i) out).0 in grind (arith, nat_tests, here)
 
 -- what is written is a write
-pub wrote : (at : ℕ) (bytes : List ℕ) (disk : Present) → Writes at bytes disk (written_at at bytes disk)
+pub wrote : (at : ℕ) (bytes : List ℕ) (disk : Present) → WritesWithin at bytes disk (written_at at bytes disk)
 wrote at bytes disk = record {
   synced = refl;
   written = λ i out. out;

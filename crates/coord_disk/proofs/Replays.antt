@@ -1,7 +1,9 @@
 -- What one more write or sync makes of a disk in memory.
-use Rattle.std.proofs.Common.{◌≡◌, ℕ, ◌+◌, ◌<◌, List, [], ◌∷◌, ◌++◌, length, take, drop, get_or, refl, sym, ◌∙◌, ap, subst, arith, ◌-◌, ◌≤◌, false, ◌&&◌, ◌||◌, nat_le, nat_lt, Vec, Some, Global}
-use Rattle.std.proofs.lemmas.List.{take_more}
-use Rattle.coord_disk.specs.Disks.History.{Past, LedTo, Adds, after, past_with, present_after, replayed}
+use Rattle.std.proofs.Common.{◌≡◌, ◌⊎◌, inl, inr, length-append, ℕ, ◌+◌, ◌<◌, List, [], ◌∷◌, ◌++◌, length, take, drop, get_or, refl, sym, ◌∙◌, ap, subst, arith, ◌-◌, ◌≤◌, false, ◌&&◌, ◌||◌, nat_le, nat_lt, Vec, Some, Global}
+use Rattle.std.proofs.lemmas.List.{take_all, take_more, take-append-le}
+use Rattle.std.proofs.lemmas.Bool.{cases_lt}
+use Rattle.coord_disk.specs.Disks.History.{Past, LedTo, LeftSince, Adds, after, past_with, present_after, replayed}
+use Rattle.coord_disk.specs.Model.Moments.{Elapses}
 use Rattle.coord_disk.specs.Model.Present.{Present, IsImage, is_within, overwritten, whole, written_at}
 use Rattle.coord_disk.specs.declared.history.Entry.{Entry}
 use Rattle.coord_disk.specs.declared.history.Entry.TheVariants.{Wrote, Synced}
@@ -39,21 +41,6 @@ present-push old new entry first entries =
     ap (λ (l : List Entry). replayed (whole new.first) l) entries
     ∙ ap (λ (f : List ℕ). replayed (whole f) (old.entries ++ entry ∷ [])) first
     ∙ replayed-push (whole old.first) old.entries entry
-
--- nothing more
-module _ (old new : History) (read now : List ℕ) (led : LedTo old read) (first : new.first.items ≡ old.first.items) (entries : new.entries.items ≡ old.entries.items) (synced : new.synced.items ≡ old.synced.items) (same : now ≡ read) where
-  pub same_past : past_with now (Some new) ≡ past_with read (Some old)
-  same_past =
-      let from_first : List ℕ → Past = λ f. record { first = f; entries = new.entries.items } in
-      let from_entries : List Entry → Past = λ l. record { first = old.first.items; entries = l } in
-      ap from_first first ∙ ap from_entries entries
-
-  pub same_led : LedTo new now
-  same_led = record {
-    reads = ap (λ (p : Past). (present_after p).read) same_past ∙ led.reads ∙ sym same;
-    syncs = ap (λ (p : Past). (present_after p).synced) same_past ∙ led.syncs ∙ sym synced;
-    image = subst (λ (r : List ℕ). IsImage (present_after (past_with now (Some new))) r) (sym same) (subst (λ (p : Past). IsImage (present_after p) read) (sym same_past) led.image);
-  }
 
 -- the synced bytes once they are as long as what is read, where nothing was recorded since
 pub is_ready : (old : History) (read read_now tail synced : List ℕ) (entries : List Entry) → LedTo old read → read_now ≡ read → entries ≡ old.entries.items → tail ≡ drop (length old.synced.items) read → synced ≡ old.synced.items ++ tail
@@ -103,3 +90,25 @@ module _ (old new : History) (read next bytes : List ℕ) (at : ℕ) (v : Vec �
 
   pub write_adds : Adds (past_with read (Some old)) (past_with next (Some new)) (written_at at bytes before)
   write_adds = record { added = Wrote at v; first = first; entries = entries; present = written }
+
+-- time goes on by one write or sync
+pub adds_time : (old new : Past) (now : Present) → Adds old new now → Elapses (length old.entries) (length new.entries) (LeftSince old) (LeftSince new) (IsImage (present_after new))
+adds_time old new now adds = record {
+  later = omega (arith, size);
+  soon = omega (arith, size);
+  nothing_else = λ t image le left. since t image left (cases_lt left.0 (length new.entries));
+  keeps = λ t image le left. (left.0, left.1, omega (arith, left.2, size), subst (λ (p : Present). IsImage p image) (sym (front left.0 left.2)) left.3);
+}
+  where
+    size : length new.entries ≡ length old.entries + 1
+    size = ap length adds.entries ∙ length-append old.entries (adds.added ∷ [])
+
+    front : (k : ℕ) → k ≤ length old.entries → replayed (whole new.first) (take k new.entries) ≡ replayed (whole old.first) (take k old.entries)
+    front k le =
+        ap (λ (l : List Entry). replayed (whole new.first) (take k l)) adds.entries
+        ∙ ap (λ (l : List Entry). replayed (whole new.first) l) (take-append-le k old.entries (adds.added ∷ []) le)
+        ∙ ap (λ (f : List ℕ). replayed (whole f) (take k old.entries)) adds.first
+
+    since : (t : ℕ) (image : List ℕ) (left : LeftSince new t image) → (left.0 < length new.entries) ⊎ (length new.entries ≤ left.0) → LeftSince old t image ⊎ IsImage (present_after new) image
+    since t image left (inl before) = let le : left.0 ≤ length old.entries = omega (arith, before, size) in inl (left.0, left.1, le, subst (λ (p : Present). IsImage p image) (front left.0 le) left.3)
+    since t image left (inr behind) = inr (subst (λ (l : List Entry). IsImage (replayed (whole new.first) l) image) (take_all left.0 new.entries behind) left.3)

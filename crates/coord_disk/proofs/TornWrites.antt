@@ -2,13 +2,13 @@
 use Rattle.std.proofs.Common.{◌≡◌, ◌⊎◌, inl, inr, ℕ, suc, ◌+◌, ◌-◌, ◌<◌, ◌≤◌, List, [], ◌∷◌, ◌++◌, length, take, drop, Some, refl, sym, ◌∙◌, ap, subst, arith, append_assoc, length-append, length-take, slice_get, replicate, unwrap_or}
 use Rattle.std.proofs.lemmas.List.{take_at, append-nil}
 use Rattle.std.proofs.Math.Seq.{drop-append-add, take-append-add}
-use Rattle.coord_disk.specs.Model.Present.{Present, IsImage, Writes, Torn, overwritten, whole}
+use Rattle.coord_disk.specs.Model.Present.{Present, IsImage, WritesWithin, Torn, overwritten, whole}
 use Rattle.coord_disk.proofs.Overwritten.{length_zeros, no_shorter, wrote_reads}
 
 -- a write that may have failed leaves the torn bytes
-pub torn : (bytes new : List ℕ) (at : ℕ) (p q : Present) → p ≡ whole bytes → Writes at new p q → (c : List ℕ) → IsImage q c → Torn bytes at new c
+pub torn : (bytes new : List ℕ) (at : ℕ) (p q : Present) → p ≡ whole bytes → WritesWithin at new p q → (c : List ℕ) → IsImage q c → Torn bytes at new c
 torn bytes new at p q is wrote c image =
-    let writes = subst (λ p. Writes at new p q) is wrote in
+    let writes = subst (λ p. WritesWithin at new p q) is wrote in
     record {
       no_shorter = omega (arith, image.no_shorter, ap length writes.synced);
       no_longer = omega (arith, image.no_longer, writes.no_longer);

@@ -35,6 +35,10 @@ impl Rule for Blip {
         self.left = self.left.and_then(|left| left.checked_sub(1));
         due
     }
+
+    fn tears(&self) -> Option<usize> {
+        None
+    }
 }
 
 impl<D: Disk> FailingDisk<D, Blip> {

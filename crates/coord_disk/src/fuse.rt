@@ -24,6 +24,10 @@ impl Rule for Fuse {
         self.left = self.left.saturating_sub(1);
         blown
     }
+
+    fn tears(&self) -> Option<usize> {
+        None
+    }
 }
 
 impl<D: Disk> FailingDisk<D, Fuse> {

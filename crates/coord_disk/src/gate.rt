@@ -44,6 +44,10 @@ impl Rule for Gate {
             Call::Len | Call::Read | Call::Write => false,
         }
     }
+
+    fn tears(&self) -> Option<usize> {
+        None
+    }
 }
 
 impl<D: Disk> FailingDisk<D, Gate> {

@@ -1,11 +1,13 @@
 //! A disk in memory, which may be crashed at will.
 
-ghost use Rattle.std.specs.Prelude.{◌≡◌, ◌↔◌, ◌+◌, ◌<◌, ◌≤◌, ◌^◌, [], true, length, Some, None, IsTrue, IfOk, OnOk, OnErr, IsSome};
+ghost use Rattle.std.specs.Prelude.{◌≡◌, ◌↔◌, ◌+◌, ◌<◌, ◌^◌, [], length, Some, None, IsTrue, IfOk, OnOk, OnErr, IsSome};
 ghost use Rattle.std.specs.Option.{ForSome};
-ghost use Rattle.coord_disk.specs.Model.Present.{IsImage, whole, written_at};
-ghost use Rattle.coord_disk.specs.Disks.History.{LedTo, Adds, LeftSince};
+ghost use Rattle.coord_disk.specs.Model.Calls.{Crashes};
+ghost use Rattle.coord_disk.specs.Model.Present.{whole, written_at};
+ghost use Rattle.coord_disk.specs.Disks.History.{LedTo, Adds};
 
 use crate::crash::crash_bytes;
+use crate::fault::fail;
 use crate::history::{History, record_sync, write};
 use crate::{Choice, CrashDisk, Disk, DiskFault};
 use http_server::Log;
@@ -23,8 +25,7 @@ pub struct MemDisk {
 }
 
 impl MemDisk {
-    ghost use Rattle.coord_disk.specs.Disks.Memory.{past_of, present_of, choice_of, failures_of};
-    ghost use Rattle.coord_disk.specs.Disks.Left.{IsLeft};
+    ghost use Rattle.coord_disk.specs.Disks.Memory.{CrashesByChoice, in_memory, past_of, present_of, choice_of, failures_of};
     ghost use Rattle.coord_disk.specs.declared.choice.Choice.TheVariants.{Lost};
 
     /// A disk with nothing on it, that loses what is not synced.
@@ -129,22 +130,9 @@ impl MemDisk {
         }
     }
 
-    // A call fails for want of memory.
-    fn fail(&mut self) -> DiskFault
-        ensures past { past_of self.new ≡ past_of self.old }
-        ensures failures { failures_of self.new ≡ failures_of self.old + 1 }
-    {
-        self.failed = self.failed.and(&0, &0);
-        DiskFault
-    }
-
     fn crash_in_place(&mut self)
-        ensures present { present_of self.new ≡ whole (present_of self.new).read }
-        ensures left { IsLeft (choice_of self.old) (present_of self.old)
-            (present_of self.new).read }
-        ensures image { IsImage (present_of self.old) (present_of self.new).read }
-        ensures choice { choice_of self.new ≡ choice_of self.old }
-        ensures failures { failures_of self.new ≡ failures_of self.old }
+        ensures leaves { Crashes in_memory self.old self.new }
+        ensures left { CrashesByChoice self.old self.new }
     {
         if let Some(history) = self.history.take() {
             crash_bytes(&mut self.read, history, &self.choice);
@@ -153,28 +141,17 @@ impl MemDisk {
 }
 
 impl Disk for MemDisk {
-    ghost use Rattle.std.specs.Prelude.{◌≡◌, ◌+◌, ◌<◌, ◌≤◌, ◌^◌, true, length, take, drop, Ok, IsOk, OnOk, OnErr};
-    ghost use Rattle.coord_disk.specs.Disks.History.{Adds, LeftSince};
-    ghost use Rattle.coord_disk.specs.Disks.Memory.{past_of, present_of, clock_of, failures_of};
-    ghost use Rattle.coord_disk.specs.Model.Moments.{Elapses, HasCause};
-    ghost use Rattle.coord_disk.specs.Model.Present.{FitsNoMore, IsImage, Writes, whole, written_at};
-    ghost use Rattle.coord_disk.specs.Disks.MemoryLaws.{counts_now, only_now, reads_image};
+    ghost use Rattle.std.specs.Prelude.{◌≡◌, ◌+◌, ◌<◌, ◌≤◌, ◌^◌, length, take, drop, Ok, IsOk, OnOk, OnErr};
+    ghost use Rattle.coord_disk.specs.Disks.History.{Adds};
+    ghost use Rattle.coord_disk.specs.Disks.Memory.{in_memory, past_of, present_of, failures_of};
+    ghost use Rattle.coord_disk.specs.Disks.MemoryLaws.{reads_image, recorded_is_model};
+    ghost use Rattle.coord_disk.specs.Model.Calls.{HasCause, Syncs, Writes};
+    ghost use Rattle.coord_disk.specs.Model.Present.{whole, written_at};
 
-    ghost present = { present_of };
+    ghost model = { in_memory };
 
-    ghost keeps_model = { λ _. true };
-
-    ghost clock = { clock_of };
-
-    ghost left_since = { λ d. LeftSince (past_of d) };
-
-    ghost failures = { failures_of };
-
-    ghost counts_now = { λ d t image _ le now. counts_now (past_of d) t image le now };
-
-    ghost only_now = { λ d image _ left. only_now (past_of d) image left };
-
-    ghost reads_image = { λ d _. reads_image d.read.items d.history d.led };
+    ghost laws = { recorded_is_model past_of failures_of
+        (λ d. reads_image d.read.items d.history d.led) };
 
     fn len(&mut self) -> Result<u64, DiskFault>
         ensures value { result ≡ Ok (length (present_of self.old).read) }
@@ -200,17 +177,12 @@ impl Disk for MemDisk {
         ensures ok { OnOk result (Adds (past_of self.old) (past_of self.new)
             (written_at at bytes.now (present_of self.old))) }
         ensures err { OnErr result (past_of self.new ≡ past_of self.old) }
-        ensures written { OnOk result (present_of self.new ≡
-            written_at at bytes.now (present_of self.old)) }
-        ensures crash { Writes at bytes.now (present_of self.old) (present_of self.new) }
-        ensures time { Elapses (clock_of self.old) (clock_of self.new)
-            (LeftSince (past_of self.old)) (LeftSince (past_of self.new))
-            (IsImage (present_of self.new)) }
+        ensures call { Writes in_memory at bytes.now self.old self.new result }
         ensures cause { HasCause (failures_of self.old) (failures_of self.new) result }
     {
         match self.record_write(at, bytes) {
             Ok(()) => Ok(()),
-            Err(_) => Err(self.fail()),
+            Err(_) => Err(fail(&mut self.failed)),
         }
     }
 
@@ -219,33 +191,26 @@ impl Disk for MemDisk {
         ensures ok { OnOk result (Adds (past_of self.old) (past_of self.new)
             (whole (present_of self.old).read)) }
         ensures err { OnErr result (past_of self.new ≡ past_of self.old) }
-        ensures durable { OnOk result (present_of self.new ≡ whole (present_of self.old).read) }
-        ensures crash { FitsNoMore (present_of self.old) (present_of self.new) }
-        ensures time { Elapses (clock_of self.old) (clock_of self.new)
-            (LeftSince (past_of self.old)) (LeftSince (past_of self.new))
-            (IsImage (present_of self.new)) }
+        ensures call { Syncs in_memory self.old self.new result }
         ensures cause { HasCause (failures_of self.old) (failures_of self.new) result }
     {
         match self.record_sync() {
             Ok(()) => Ok(()),
-            Err(_) => Err(self.fail()),
+            Err(_) => Err(fail(&mut self.failed)),
         }
     }
 }
 
 impl CrashDisk for MemDisk {
-    ghost use Rattle.std.specs.Prelude.{◌≡◌};
-    ghost use Rattle.coord_disk.specs.Disks.Memory.{CrashesByChoice, present_of, failures_of};
-    ghost use Rattle.coord_disk.specs.Model.Present.{IsImage, whole};
+    ghost use Rattle.coord_disk.specs.Disks.Memory.{CrashesByChoice, in_memory};
+    ghost use Rattle.coord_disk.specs.Model.Calls.{Crashes};
 
     ghost crashes = { CrashesByChoice };
 
     /// It leaves what was chosen.
     fn crash(mut self) -> Self
         ensures crashes { CrashesByChoice self result }
-        ensures image { IsImage (present_of self) (present_of result).read }
-        ensures synced { present_of result ≡ whole (present_of result).read }
-        ensures failures { failures_of result ≡ failures_of self }
+        ensures leaves { Crashes in_memory self result }
     {
         self.crash_in_place();
         self

@@ -2,7 +2,8 @@
 
 ghost use Rattle.std.specs.Prelude.{◌≡◌, ◌<◌, [], true, false, is_ok, Ok, IfOk};
 ghost use Rattle.coord_disk.specs.Disks.Memory.{present_of};
-ghost use Rattle.coord_disk.specs.Model.Present.{IsImage, whole};
+ghost use Rattle.coord_disk.specs.Model.Calls.{Crashes};
+ghost use Rattle.coord_disk.specs.Model.Present.{whole};
 
 use crate::{Choice, CrashDisk, Disk, DiskFault, MemDisk, RawFile};
 use std::alloc::Global;
@@ -30,7 +31,7 @@ pub struct MemFile {
 }
 
 impl MemFile {
-    ghost use Rattle.coord_disk.specs.Disks.Memory.{choice_of, CrashesByChoice};
+    ghost use Rattle.coord_disk.specs.Disks.Memory.{CrashesByChoice, choice_of, in_memory};
     ghost use Rattle.coord_disk.specs.Disks.MemoryFile.{disk_of, has_entry, syncs_of};
     ghost use Rattle.coord_disk.specs.declared.choice.Choice.TheVariants.{Lost};
 
@@ -80,8 +81,7 @@ impl MemFile {
     /// then.
     pub fn crash(self) -> Self
         ensures crashes { CrashesByChoice (disk_of self) (disk_of result) }
-        ensures image { IsImage (present_of (disk_of self)) (present_of (disk_of result)).read }
-        ensures synced { present_of (disk_of result) ≡ whole (present_of (disk_of result)).read }
+        ensures leaves { Crashes in_memory (disk_of self) (disk_of result) }
         ensures entry { has_entry self ≡ true → has_entry result ≡ true }
         ensures syncs { syncs_of result ≡ syncs_of self }
     {
@@ -107,29 +107,19 @@ fn told<T>(answer: Result<T, DiskFault>) -> io::Result<T>
 }
 
 impl RawFile for MemFile {
-    ghost use Rattle.std.specs.Prelude.{is_ok, Ok, IfOk};
-    ghost use Rattle.coord_disk.specs.Disks.History.{LeftSince};
-    ghost use Rattle.coord_disk.specs.Disks.Memory.{past_of, clock_of};
-    ghost use Rattle.coord_disk.specs.Disks.MemoryFile.{counted, disk_of, has_entry, syncs_of};
-    ghost use Rattle.coord_disk.specs.Disks.MemoryLaws.{counts_now, only_now, reads_image};
+    ghost use Rattle.coord_disk.specs.Disks.History.{recorded};
+    ghost use Rattle.coord_disk.specs.Disks.Memory.{past_of};
+    ghost use Rattle.coord_disk.specs.Disks.MemoryFile.{counted, has_entry, syncs_of};
+    ghost use Rattle.coord_disk.specs.Disks.MemoryLaws.{reads_image, recorded_is_model};
 
-    ghost present = { λ f. present_of f.disk };
-
-    ghost keeps_model = { λ _. true };
-
-    ghost clock = { λ f. clock_of f.disk };
-
-    ghost left_since = { λ f. LeftSince (past_of f.disk) };
+    ghost model = { recorded (λ f. past_of f.disk) (λ _. 0) };
 
     ghost is_entered = { has_entry };
 
     ghost made = { λ old call _ new. syncs_of new ≡ counted call (syncs_of old) };
 
-    ghost counts_now = { λ f t image _ le now. counts_now (past_of f.disk) t image le now };
-
-    ghost only_now = { λ f image _ left. only_now (past_of f.disk) image left };
-
-    ghost reads_image = { λ f _. reads_image f.disk.read.items f.disk.history f.disk.led };
+    ghost laws = { recorded_is_model (λ f. past_of f.disk) (λ _. 0)
+        (λ f. reads_image f.disk.read.items f.disk.history f.disk.led) };
 
     ghost may_be_absent = { λ f _ out. f.absent out };
 

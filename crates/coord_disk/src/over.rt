@@ -1,10 +1,11 @@
 //! A disk over a raw file.
 
-ghost use Rattle.std.specs.Prelude.{◌≡◌, ◌+◌, ◌<◌, ◌≤◌, ◌^◌, false, true, length, take, drop, Ok, is_ok, IfOk, IsOk, OnOk, OnErr, if◌then◌else◌};
-ghost use Rattle.coord_disk.specs.Model.Moments.{HasCause, Elapses};
-ghost use Rattle.coord_disk.specs.Model.Present.{IsImage, Writes, FitsNoMore, whole, written_at};
+ghost use Rattle.std.specs.Prelude.{◌≡◌, ◌+◌, ◌<◌, ◌≤◌, ◌^◌, false, true, length, Ok, is_ok, IfOk, IsOk, OnOk, OnErr, if◌then◌else◌};
+ghost use Rattle.coord_disk.specs.Model.Calls.{HasBytes, HasCause, Measures, Reads, Syncs, Writes};
+ghost use Rattle.coord_disk.specs.Model.RawCalls.{StaysEntered};
 ghost use Rattle.coord_disk.specs.Model.RawCalls.RawCall.{Len, Read, Write, SyncData, SyncAll, SyncFolder};
 
+use crate::fault::{counted, fail};
 use crate::{Disk, DiskFault, RawFile};
 use http_server::Log;
 use std::io;
@@ -24,11 +25,11 @@ pub struct RawDisk<F: RawFile> {
     grown: bool,
     lost: bool,
     failed: Log<u8, u8>,
-    ghost entered: { F.keeps_model file ≡ true → F.is_entered file ≡ true },
-    ghost within: { F.keeps_model file ≡ true → lost ≡ false →
-        size ≤ length (F.present file).read },
-    ghost level: { F.keeps_model file ≡ true → lost ≡ false → grown ≡ false →
-        length (F.present file).synced ≡ length (F.present file).read },
+    ghost entered: { F.model.keeps_model file ≡ true → F.is_entered file ≡ true },
+    ghost within: { F.model.keeps_model file ≡ true → lost ≡ false →
+        size ≤ length (F.model.present file).read },
+    ghost level: { F.model.keeps_model file ≡ true → lost ≡ false → grown ≡ false →
+        length (F.model.present file).synced ≡ length (F.model.present file).read },
 }
 
 impl<F: RawFile> RawDisk<F> {
@@ -61,96 +62,19 @@ impl<F: RawFile> RawDisk<F> {
     {
         self.file
     }
-
-    fn write_through(&mut self, at: u64, bytes: &[u8]) -> io::Result<()>
-        requires { at + length bytes.now < 2 ^ 64 }
-        ensures bound { OnOk result (at + length bytes.now < 2 ^ 63) }
-        ensures failures { failures_of self.new ≡ failures_of self.old }
-        ensures lost { has_lost self.new ≡ has_lost self.old }
-        ensures written { F.keeps_model (file_of self.old) ≡ true →
-            OnOk result (F.present (file_of self.new) ≡
-            written_at at bytes.now (F.present (file_of self.old))) }
-        ensures crash { F.keeps_model (file_of self.old) ≡ true →
-            Writes at bytes.now (F.present (file_of self.old)) (F.present (file_of self.new)) }
-        ensures time { F.keeps_model (file_of self.old) ≡ true →
-            Elapses (F.clock (file_of self.old)) (F.clock (file_of self.new))
-            (F.left_since (file_of self.old)) (F.left_since (file_of self.new))
-            (IsImage (F.present (file_of self.new))) }
-        ensures model { F.keeps_model (file_of self.new) ≡ F.keeps_model (file_of self.old) }
-        ensures call { at + length bytes.now < 2 ^ 63 →
-            F.made (file_of self.old) (Write at bytes.now) (is_ok result) (file_of self.new) }
-    {
-        let end = end_of(at, bytes.len())?;
-        let grows = !bytes.is_empty() && self.size < end;
-        // A write that fails may have changed the length too.
-        self.grown = self.grown || grows;
-        self.file.write_at(at, bytes)?;
-        if grows {
-            self.size = end;
-        }
-        Ok(())
-    }
-
-    /// Syncs the bytes, with the length where it may have changed.
-    fn sync_bytes(&mut self) -> io::Result<()>
-        ensures ok { OnOk result ((has_lost self.old ≡ false) × (has_lost self.new ≡ false)) }
-        ensures err { OnErr result (has_lost self.new ≡ true) }
-        ensures failures { failures_of self.new ≡ failures_of self.old }
-        ensures durable { F.keeps_model (file_of self.old) ≡ true →
-            OnOk result (F.present (file_of self.new) ≡ whole (F.present (file_of self.old)).read) }
-        ensures crash { F.keeps_model (file_of self.old) ≡ true →
-            FitsNoMore (F.present (file_of self.old)) (F.present (file_of self.new)) }
-        ensures time { F.keeps_model (file_of self.old) ≡ true →
-            Elapses (F.clock (file_of self.old)) (F.clock (file_of self.new))
-            (F.left_since (file_of self.old)) (F.left_since (file_of self.new))
-            (IsImage (F.present (file_of self.new))) }
-        ensures model { F.keeps_model (file_of self.new) ≡ F.keeps_model (file_of self.old) }
-        ensures call { has_lost self.old ≡ false →
-            F.made (file_of self.old) (if has_grown self.old then SyncAll else SyncData)
-            (is_ok result) (file_of self.new) }
-        ensures none { has_lost self.old ≡ true → file_of self.new ≡ file_of self.old }
-    {
-        if self.lost {
-            return Err(io::Error::other("a sync has failed before"));
-        }
-        // Whatever fails from here on, no later sync can make up for it.
-        self.lost = true;
-        if self.grown {
-            self.file.sync_all()?;
-        } else {
-            self.file.sync_data()?;
-        }
-        self.grown = false;
-        self.lost = false;
-        Ok(())
-    }
 }
 
 /// Syncs the file's entry in its folder, and gives its length.
 fn opened<F: RawFile>(file: &mut F) -> io::Result<u64>
     ensures calls { OnOk result ((entered : F) × F.made file.old SyncFolder true entered ×
         F.made entered Len true file.new) }
-    ensures entered { F.keeps_model file.new ≡ true → OnOk result (F.is_entered file.new ≡ true) }
-    ensures value { F.keeps_model file.new ≡ true →
-        IfOk result (λ size. size ≡ length (F.present file.new).read) }
+    ensures entered { F.model.keeps_model file.new ≡ true →
+        OnOk result (F.is_entered file.new ≡ true) }
+    ensures value { F.model.keeps_model file.new ≡ true →
+        IfOk result (λ size. size ≡ length (F.model.present file.new).read) }
 {
     file.sync_folder()?;
     file.len()
-}
-
-/// Counts a call that failed.
-fn told<T>(failed: &mut Log<u8, u8>, answer: io::Result<T>) -> Result<T, DiskFault>
-    ensures ok { IfOk result (λ value. answer ≡ Ok value) }
-    ensures same { is_ok result ≡ is_ok answer }
-    ensures cause { HasCause (length failed.old.items) (length failed.new.items) result }
-{
-    match answer {
-        Ok(value) => Ok(value),
-        Err(_) => {
-            *failed = failed.and(&0, &0);
-            Err(DiskFault)
-        }
-    }
 }
 
 /// The place behind so many bytes from a place on, which a file has to have.
@@ -164,108 +88,59 @@ fn end_of(at: u64, len: usize) -> io::Result<u64>
     }
 }
 
-fn read_all<F: RawFile>(file: &mut F, at: u64, buf: &mut [u8]) -> io::Result<()>
-    requires { F.keeps_model file.old ≡ true →
-        at + length buf.old ≤ length (F.present file.old).read }
-    ensures bound { OnOk result (at + length buf.old < 2 ^ 63) }
-    ensures value { F.keeps_model file.old ≡ true →
-        OnOk result (buf.new ≡ take (length buf.old) (drop at (F.present file.old).read)) }
-    ensures present { F.keeps_model file.old ≡ true → F.present file.new ≡ F.present file.old }
-    ensures time { F.keeps_model file.old ≡ true →
-        Elapses (F.clock file.old) (F.clock file.new) (F.left_since file.old)
-        (F.left_since file.new) (IsImage (F.present file.new)) }
-    ensures entered { F.keeps_model file.old ≡ true →
-        F.is_entered file.new ≡ F.is_entered file.old }
-    ensures model { F.keeps_model file.new ≡ F.keeps_model file.old }
-    ensures call { at + length buf.old < 2 ^ 63 →
-        F.made file.old (Read at (length buf.old)) (is_ok result) file.new }
-{
-    end_of(at, buf.len())?;
-    file.read(at, buf)
-}
-
 impl<F: RawFile> Disk for RawDisk<F> {
     ghost use Rattle.coord_disk.specs.Disks.Raw.{file_of, failures_of, has_grown, has_lost};
+    ghost use Rattle.coord_disk.specs.Model.DiskModel.{seen_through, seen_through_is_model};
 
-    ghost present = { λ d. F.present d.file };
+    ghost model = { seen_through F.model (λ d. d.file) failures_of };
 
-    ghost keeps_model = { λ d. F.keeps_model d.file };
-
-    ghost clock = { λ d. F.clock d.file };
-
-    ghost left_since = { λ d. F.left_since d.file };
-
-    ghost failures = { failures_of };
-
-    ghost counts_now = { λ d t image. F.counts_now d.file t image };
-
-    ghost only_now = { λ d image. F.only_now d.file image };
-
-    ghost reads_image = { λ d. F.reads_image d.file };
+    ghost laws = { seen_through_is_model F.model (λ d. d.file) failures_of F.laws };
 
     fn len(&mut self) -> Result<u64, DiskFault>
-        ensures value { F.keeps_model (file_of self.old) ≡ true →
-            IfOk result (λ n. n ≡ length (F.present (file_of self.old)).read) }
-        ensures present { F.keeps_model (file_of self.old) ≡ true →
-            F.present (file_of self.new) ≡ F.present (file_of self.old) }
-        ensures time { F.keeps_model (file_of self.old) ≡ true →
-            Elapses (F.clock (file_of self.old)) (F.clock (file_of self.new))
-            (F.left_since (file_of self.old)) (F.left_since (file_of self.new))
-            (IsImage (F.present (file_of self.new))) }
-        ensures model { F.keeps_model (file_of self.new) ≡ F.keeps_model (file_of self.old) }
+        ensures call { Measures F.model (file_of self.old) (file_of self.new) result }
         ensures cause { HasCause (failures_of self.old) (failures_of self.new) result }
         ensures lost { has_lost self.new ≡ has_lost self.old }
-        ensures call { F.made (file_of self.old) Len (is_ok result) (file_of self.new) }
+        ensures made { F.made (file_of self.old) Len (is_ok result) (file_of self.new) }
     {
         let answer = self.file.len();
-        told(&mut self.failed, answer)
+        counted(&mut self.failed, answer)
     }
 
     /// Fails past the end of the file, and past place 2^63 - 1.
     fn read(&mut self, at: u64, buf: &mut [u8]) -> Result<(), DiskFault>
-        requires { F.keeps_model (file_of self.old) ≡ true →
-            at + length buf.old ≤ length (F.present (file_of self.old)).read }
+        requires { HasBytes F.model (file_of self.old) at (length buf.old) }
         ensures bound { OnOk result (at + length buf.old < 2 ^ 63) }
-        ensures value { F.keeps_model (file_of self.old) ≡ true →
-            OnOk result (buf.new ≡ take (length buf.old)
-            (drop at (F.present (file_of self.old)).read)) }
-        ensures present { F.keeps_model (file_of self.old) ≡ true →
-            F.present (file_of self.new) ≡ F.present (file_of self.old) }
-        ensures time { F.keeps_model (file_of self.old) ≡ true →
-            Elapses (F.clock (file_of self.old)) (F.clock (file_of self.new))
-            (F.left_since (file_of self.old)) (F.left_since (file_of self.new))
-            (IsImage (F.present (file_of self.new))) }
-        ensures model { F.keeps_model (file_of self.new) ≡ F.keeps_model (file_of self.old) }
+        ensures call { Reads F.model at buf.old buf.new (file_of self.old) (file_of self.new) result }
         ensures cause { HasCause (failures_of self.old) (failures_of self.new) result }
         ensures lost { has_lost self.new ≡ has_lost self.old }
-        ensures call { at + length buf.old < 2 ^ 63 →
+        ensures made { at + length buf.old < 2 ^ 63 →
             F.made (file_of self.old) (Read at (length buf.old)) (is_ok result) (file_of self.new) }
     {
-        let answer = read_all(&mut self.file, at, buf);
-        told(&mut self.failed, answer)
+        counted(&mut self.failed, end_of(at, buf.len()))?;
+        let answer = self.file.read(at, buf);
+        counted(&mut self.failed, answer)
     }
 
     /// Fails past place 2^63 - 1.
     fn write_at(&mut self, at: u64, bytes: &[u8]) -> Result<(), DiskFault>
         requires { at + length bytes.now < 2 ^ 64 }
         ensures bound { OnOk result (at + length bytes.now < 2 ^ 63) }
-        ensures written { F.keeps_model (file_of self.old) ≡ true →
-            OnOk result (F.present (file_of self.new) ≡
-            written_at at bytes.now (F.present (file_of self.old))) }
-        ensures crash { F.keeps_model (file_of self.old) ≡ true →
-            Writes at bytes.now (F.present (file_of self.old)) (F.present (file_of self.new)) }
-        ensures time { F.keeps_model (file_of self.old) ≡ true →
-            Elapses (F.clock (file_of self.old)) (F.clock (file_of self.new))
-            (F.left_since (file_of self.old)) (F.left_since (file_of self.new))
-            (IsImage (F.present (file_of self.new))) }
-        ensures model { F.keeps_model (file_of self.new) ≡ F.keeps_model (file_of self.old) }
+        ensures call { Writes F.model at bytes.now (file_of self.old) (file_of self.new) result }
         ensures cause { HasCause (failures_of self.old) (failures_of self.new) result }
         ensures lost { has_lost self.new ≡ has_lost self.old }
-        ensures call { at + length bytes.now < 2 ^ 63 →
+        ensures made { at + length bytes.now < 2 ^ 63 →
             F.made (file_of self.old) (Write at bytes.now) (is_ok result) (file_of self.new) }
     {
-        let answer = self.write_through(at, bytes);
-        told(&mut self.failed, answer)
+        let end = counted(&mut self.failed, end_of(at, bytes.len()))?;
+        let grows = !bytes.is_empty() && self.size < end;
+        // A write that fails may have changed the length too.
+        self.grown = self.grown || grows;
+        let answer = self.file.write_at(at, bytes);
+        counted(&mut self.failed, answer)?;
+        if grows {
+            self.size = end;
+        }
+        Ok(())
     }
 
     /// Syncs the length too where it may have changed. After a failure each later call fails, and makes
@@ -273,22 +148,26 @@ impl<F: RawFile> Disk for RawDisk<F> {
     fn sync(&mut self) -> Result<(), DiskFault>
         ensures ok { OnOk result ((has_lost self.old ≡ false) × (has_lost self.new ≡ false)) }
         ensures err { OnErr result (has_lost self.new ≡ true) }
-        ensures durable { F.keeps_model (file_of self.old) ≡ true →
-            OnOk result (F.present (file_of self.new) ≡ whole (F.present (file_of self.old)).read) }
-        ensures crash { F.keeps_model (file_of self.old) ≡ true →
-            FitsNoMore (F.present (file_of self.old)) (F.present (file_of self.new)) }
-        ensures time { F.keeps_model (file_of self.old) ≡ true →
-            Elapses (F.clock (file_of self.old)) (F.clock (file_of self.new))
-            (F.left_since (file_of self.old)) (F.left_since (file_of self.new))
-            (IsImage (F.present (file_of self.new))) }
-        ensures model { F.keeps_model (file_of self.new) ≡ F.keeps_model (file_of self.old) }
+        ensures call { Syncs F.model (file_of self.old) (file_of self.new) result }
         ensures cause { HasCause (failures_of self.old) (failures_of self.new) result }
-        ensures call { has_lost self.old ≡ false →
+        ensures made { has_lost self.old ≡ false →
             F.made (file_of self.old) (if has_grown self.old then SyncAll else SyncData)
             (is_ok result) (file_of self.new) }
         ensures none { has_lost self.old ≡ true → file_of self.new ≡ file_of self.old }
     {
-        let answer = self.sync_bytes();
-        told(&mut self.failed, answer)
+        if self.lost {
+            return Err(fail(&mut self.failed));
+        }
+        // Whatever fails from here on, no later sync can make up for it.
+        self.lost = true;
+        let answer = if self.grown {
+            self.file.sync_all()
+        } else {
+            self.file.sync_data()
+        };
+        counted(&mut self.failed, answer)?;
+        self.grown = false;
+        self.lost = false;
+        Ok(())
     }
 }

@@ -68,27 +68,15 @@ impl RawDisk<SystemFile<File>> {
 }
 
 impl<F: OpenFile + FileExt + Drop> RawFile for SystemFile<F> {
-    ghost use Rattle.std.specs.Prelude.{[]};
-    ghost use Rattle.coord_disk.specs.Disks.System.{claims_nothing};
-    ghost use Rattle.coord_disk.specs.Model.Present.{IsImage, whole};
+    ghost use Rattle.coord_disk.specs.Disks.System.{claims_nothing, no_model, no_model_is_model};
 
-    ghost present = { λ _. whole [] };
-
-    ghost keeps_model = { λ _. false };
-
-    ghost clock = { λ _. 0 };
-
-    ghost left_since = { λ _ _ image. IsImage (whole []) image };
+    ghost model = { no_model };
 
     ghost is_entered = { λ _. false };
 
     ghost made = { λ _ _ _ _. Unit {0} };
 
-    ghost counts_now = { λ _ _ _ _ _ now. now };
-
-    ghost only_now = { λ _ _ _ left. left };
-
-    ghost reads_image = { λ _ claim. claims_nothing claim };
+    ghost laws = { no_model_is_model };
 
     ghost may_be_absent = { λ _ claim _. claims_nothing claim };
 

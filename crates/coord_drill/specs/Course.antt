@@ -19,11 +19,12 @@ use Rattle.std.specs.Prelude.{◌≡◌, ◌⊎◌, ℕ, ◌+◌, ◌≤◌, Lis
 use Rattle.std.specs.List.{AllByRecursion}
 use Rattle.coord_disk.specs.Model.Moments.{LeavesOnly}
 use Rattle.coord_disk.specs.Model.Present.{Present, IsImage}
-use Rattle.coord_disk.specs.declared.disk.Disk.{Ghosts}
+use Rattle.coord_disk.specs.Model.DiskModel.{DiskModel}
 use Rattle.coord_lines.specs.Lines.{Line, lines_of}
 use Rattle.coord_lines.specs.Written.{WritesFirstPart}
 use Rattle.coord_store.specs.Facade.{Recovered}
-use Rattle.coord_store.specs.Kept.{IsUntouched, made}
+use Rattle.coord_disk.specs.Model.Moments.{IsUntouched}
+use Rattle.coord_store.specs.Kept.{made}
 use Rattle.coord_store.specs.Refused.{RefusesCreate}
 use Rattle.coord_store.specs.declared.faults.StoreFault.{StoreFault}
 use Rattle.coord_store.specs.declared.faults.StoreFault.TheVariants.{NotEmpty}
@@ -69,7 +70,7 @@ AllKept m told present = (image : List ℕ) → IsImage present image → IsKept
 
 -- These events with these answers lead from one disk to the other: between two of them, and at each moment of each,
 -- whatever a crash may leave is kept.
-abbrev pub Passes : {D : Type 0} → Ghosts D → (D → D → Type 0) → Machine → List ℕ → List Event → List Answer → D → D → Type 0
+abbrev pub Passes : {D : Type 0} → DiskModel D → (D → D → Type 0) → Machine → List ℕ → List Event → List Answer → D → D → Type 0
 Passes {D} disk crashes m told [] [] old new = (new ≡ old) × AllKept m told (disk.present new)
 Passes {D} disk crashes m told [] (a ∷ given) old new = ⊥
 Passes {D} disk crashes m told (e ∷ es) [] old new = ⊥
@@ -89,11 +90,11 @@ told_in s None given = []
 told_in s (Some a) given = told_by s a given
 
 -- the store of the empty world is raised: at each moment the disk gives that of one version or the other
-abbrev pub Raises : {D : Type 0} → Ghosts D → Place D → D → Type 0
-Raises disk p new = LeavesOnly disk.clock disk.left_since p.disk new (λ bytes. IsKept p.machine p.told bytes ⊎ IsKept (adopted (no_world 2)) p.told bytes)
+abbrev pub Raises : {D : Type 0} → DiskModel D → Place D → D → Type 0
+Raises disk p new = LeavesOnly disk p.disk new (λ bytes. IsKept p.machine p.told bytes ⊎ IsKept (adopted (no_world 2)) p.told bytes)
 
 -- what is asked leads from one place to the other
-abbrev pub Moves : {D : Type 0} → Ghosts D → (D → D → Type 0) → Option Asked → List Answer → Place D → Place D → Type 0
+abbrev pub Moves : {D : Type 0} → DiskModel D → (D → D → Type 0) → Option Asked → List Answer → Place D → Place D → Type 0
 Moves disk crashes None given p q = (q.machine ≡ p.machine) × (q.disk ≡ p.disk)
 Moves disk crashes (Some Version2) given p q = (q.machine ≡ adopted (no_world 2)) × (Raises disk p q.disk × (disk.failures q.disk ≡ disk.failures p.disk))
 Moves disk crashes (Some a) given p q =
@@ -101,7 +102,7 @@ Moves disk crashes (Some a) given p q =
     (q.machine ≡ run p.machine events given) × (Passes disk crashes p.machine p.told events given p.disk q.disk × (disk.failures q.disk ≡ disk.failures p.disk + failed_until events given))
 
 -- the line of this number prints this, and leads from one place to the other
-pub record LineGoes {D : Type 0} (disk : Ghosts D) (crashes : D → D → Type 0) (p : Place D) (n : ℕ) (line : Line) (text : List ℕ) (q : Place D) : Type 0 where
+pub record LineGoes {D : Type 0} (disk : DiskModel D) (crashes : D → D → Type 0) (p : Place D) (n : ℕ) (line : Line) (text : List ℕ) (q : Place D) : Type 0 where
   pub given : List Answer
   pub responds : LineResponds p.state n line given text q.state
   pub told : q.told ≡ p.told ++ told_in p.state (asked_in p.state line) given
@@ -119,12 +120,12 @@ pub record GoesOn {D : Type 0} (Line : List ℕ → Place D → Type 0) (Behind 
   pub whole : text ≡ told ++ rest
 
 -- lines of which the first has this number print this, and lead from one place to the other
-abbrev pub Goes : {D : Type 0} → Ghosts D → (D → D → Type 0) → Place D → ℕ → List Line → List ℕ → Place D → Type 0
+abbrev pub Goes : {D : Type 0} → DiskModel D → (D → D → Type 0) → Place D → ℕ → List Line → List ℕ → Place D → Type 0
 Goes disk crashes p n [] text q = (text ≡ []) × (q ≡ p) × AllKept p.machine p.told (disk.present p.disk)
 Goes disk crashes p n (l ∷ ls) text q = GoesOn (LineGoes disk crashes p n l) (λ next rest. Goes disk crashes next (n + 1) ls rest q) text
 
 -- so from a store that was just made on the disk that was given
-pub record Course {D : Type 0} (disk : Ghosts D) (crashes : D → D → Type 0) (given : D) (lines : List Line) (text : List ℕ) (place : Place D) : Type 0 where
+pub record Course {D : Type 0} (disk : DiskModel D) (crashes : D → D → Type 0) (given : D) (lines : List Line) (text : List ℕ) (place : Place D) : Type 0 where
   pub begun : D
   pub made : disk.present begun ≡ made HALF_SIZE 1
   pub unfailed : disk.failures begun ≡ disk.failures given
@@ -133,20 +134,20 @@ pub record Course {D : Type 0} (disk : Ghosts D) (crashes : D → D → Type 0) 
 -- ---- the end
 
 -- all lines of the input were carried out, with this text, and this disk is given back
-pub record Ended {D : Type 0} (disk : Ghosts D) (crashes : D → D → Type 0) (given : D) (input text : List ℕ) (last : D) : Type 0 where
+pub record Ended {D : Type 0} (disk : DiskModel D) (crashes : D → D → Type 0) (given : D) (input text : List ℕ) (last : D) : Type 0 where
   pub place : Place D
   pub course : Course disk crashes given (lines_of input) text place
   pub given_back : last ≡ place.disk
 
 -- The line is cut short, and this disk given up: behind some of its events, as they have left it; in a crash perhaps
 -- behind the taking of an image, and in `version 2` at a moment of the raising.
-abbrev pub IsLeftBy : {D : Type 0} → Ghosts D → (D → D → Type 0) → Place D → Asked → Machine → D → D → Type 0
+abbrev pub IsLeftBy : {D : Type 0} → DiskModel D → (D → D → Type 0) → Place D → Asked → Machine → D → D → Type 0
 IsLeftBy disk crashes p Crash m mid lost = (lost ≡ mid) ⊎ Reopens disk crashes (IsKept m p.told) mid lost
 IsLeftBy disk crashes p Version2 m mid lost = Raises disk p lost
 IsLeftBy disk crashes p a m mid lost = lost ≡ mid
 
 -- It was so for this fault, and the disk has failed where a commit and the fault tell so, and nowhere else.
-pub record CutShort {D : Type 0} (disk : Ghosts D) (crashes : D → D → Type 0) (p : Place D) (a : Asked) (why : Fault) (lost : D) : Type 0 where
+pub record CutShort {D : Type 0} (disk : DiskModel D) (crashes : D → D → Type 0) (p : Place D) (a : Asked) (why : Fault) (lost : D) : Type 0 where
   pub cause : IsPassing why
   pub given : List Answer  -- so far
   pub mid : D
@@ -155,18 +156,18 @@ pub record CutShort {D : Type 0} (disk : Ghosts D) (crashes : D → D → Type 0
   pub failed : disk.failures lost ≡ disk.failures p.disk + (failed_until (take (length given) (line_events p.state.holds a given)) given + failed_by why)
 
 -- the first of these lines was
-abbrev pub FirstCutShort : {D : Type 0} → Ghosts D → (D → D → Type 0) → Place D → List Line → Fault → D → Type 0
+abbrev pub FirstCutShort : {D : Type 0} → DiskModel D → (D → D → Type 0) → Place D → List Line → Fault → D → Type 0
 FirstCutShort disk crashes p [] why lost = ⊥
 FirstCutShort disk crashes p (l ∷ ls) why lost = (a : Asked) × ((asked_in p.state l ≡ Some a) × CutShort disk crashes p a why lost)
 
 -- The disk is given back as these lines find it, and no store was refused; or the first of them was cut short, and that
 -- is told, unless the writer then failed.
-abbrev pub IsGivenBack : {D : Type 0} → Ghosts D → (D → D → Type 0) → Place D → List Line → Fault → D → Type 0
+abbrev pub IsGivenBack : {D : Type 0} → DiskModel D → (D → D → Type 0) → Place D → List Line → Fault → D → Type 0
 IsGivenBack disk crashes p ls fault lost =
     ((lost ≡ p.disk) × IsOfNoStore fault) ⊎ ((why : Fault) × (FirstCutShort disk crashes p ls why lost × ((fault ≡ why) ⊎ IsOfWriting fault)))
 
 -- some first lines of the input were carried out, of whose text a first part was written; this disk is given back
-pub record BrokeOff {D : Type 0} (disk : Ghosts D) (crashes : D → D → Type 0) (given : D) (input : List ℕ) (written now : Option (List ℕ)) (fault : Fault) (lost : D) : Type 0 where
+pub record BrokeOff {D : Type 0} (disk : DiskModel D) (crashes : D → D → Type 0) (given : D) (input : List ℕ) (written now : Option (List ℕ)) (fault : Fault) (lost : D) : Type 0 where
   pub lines : List Line
   pub others : List Line
   pub split : lines_of input ≡ lines ++ others
@@ -177,9 +178,9 @@ pub record BrokeOff {D : Type 0} (disk : Ghosts D) (crashes : D → D → Type 0
   pub given_back : IsGivenBack disk crashes place others fault lost
 
 -- no store was made on the disk that was given; one that was not empty stays as it was
-pub record NotMade {D : Type 0} (disk : Ghosts D) (given : D) (fault : Fault) (lost : D) : Type 0 where
+pub record NotMade {D : Type 0} (disk : DiskModel D) (given : D) (fault : Fault) (lost : D) : Type 0 where
   pub why : StoreFault
   pub fault_is : fault ≡ store_fault why
   pub refused : RefusesCreate (disk.present given).read HALF_SIZE why
-  pub untouched : why ≡ NotEmpty → IsUntouched disk.present disk.clock disk.left_since given lost
+  pub untouched : why ≡ NotEmpty → IsUntouched disk given lost
   pub failed : disk.failures lost ≡ disk.failures given + failed_by fault

@@ -6,7 +6,7 @@
 use Rattle.std.specs.Prelude.{◌≡◌, ◌≢◌, ◌⊎◌, ℕ, ◌+◌, ◌≤◌, List, [], ◌∷◌, length, take, false, true, Option, Some, Result}
 use Rattle.std.specs.List.{AllByRecursion}
 use Rattle.coord_disk.specs.Model.Moments.{LeavesOnly}
-use Rattle.coord_disk.specs.declared.disk.Disk.{Ghosts}
+use Rattle.coord_disk.specs.Model.DiskModel.{DiskModel}
 use Rattle.coord_store.specs.Facade.{GivesEither}
 use Rattle.coord_store.specs.Migrating.{risen}
 use Rattle.coord_store.specs.Kept.{made}
@@ -35,14 +35,14 @@ use Rattle.coord_drill.specs.declared.fault.Fault.{Fault}
 -- ---- events
 
 -- events have led from this disk to one that is held now
-pub record LedDisk {D : Type 0} (disk : Ghosts D) (crashes : D → D → Type 0) (s : Machine) (events : List Event) (given : List Answer) (old : D) (now : Option D) : Type 0 where
+pub record LedDisk {D : Type 0} (disk : DiskModel D) (crashes : D → D → Type 0) (s : Machine) (events : List Event) (given : List Answer) (old : D) (now : Option D) : Type 0 where
   pub new : D
   pub holds : now ≡ Some new
   pub keeps : disk.keeps_model new ≡ true
   pub moments : EachMoment disk crashes true s events given old new
 
 -- events have led from one driver to another, where the first represents this machine
-pub record Led {D : Type 0} (disk : Ghosts D) (crashes : D → D → Type 0) (s : Machine) (events : List Event) (given : List Answer) (d new : DriverState D) : Type 0 where
+pub record Led {D : Type 0} (disk : DiskModel D) (crashes : D → D → Type 0) (s : Machine) (events : List Event) (given : List Answer) (d new : DriverState D) : Type 0 where
   pub in_range : AllByRecursion EventInRange events
   pub answered : Answered s events given
   pub consistent : IsConsistent (run s events given)
@@ -51,7 +51,7 @@ pub record Led {D : Type 0} (disk : Ghosts D) (crashes : D → D → Type 0) (s 
   pub failed : (n : ℕ) → HasFailed disk.failures (disk_held d) n → HasFailed disk.failures (disk_held new) (n + failed_until events given)
 
 -- so whatever machine it represents
-abbrev pub Leads : {D : Type 0} → Ghosts D → (D → D → Type 0) → DriverState D → List Event → List Answer → DriverState D → Type 0
+abbrev pub Leads : {D : Type 0} → DiskModel D → (D → D → Type 0) → DriverState D → List Event → List Answer → DriverState D → Type 0
 Leads disk crashes d events given new = (s : Machine) → IsConsistent s → Represents d s → Led disk crashes s events given d new
 
 -- a driver represents the machine over its own log
@@ -60,22 +60,22 @@ pub record Begins {D : Type 0} (d : DriverState D) : Type 0 where
   pub represents : Represents d (started d.ledger)
 
 -- from there the events have led to another driver
-abbrev pub IsRun : {D : Type 0} → Ghosts D → (D → D → Type 0) → DriverState D → List Event → List Answer → DriverState D → Type 0
+abbrev pub IsRun : {D : Type 0} → DiskModel D → (D → D → Type 0) → DriverState D → List Event → List Answer → DriverState D → Type 0
 IsRun disk crashes d events given new = Led disk crashes (started d.ledger) events given d new
 
 -- so a flight does
-abbrev pub GoesBy : {D : Type 0} → Ghosts D → (D → D → Type 0) → DriverState D → List Answer → DriverState D → Type 0
+abbrev pub GoesBy : {D : Type 0} → DiskModel D → (D → D → Type 0) → DriverState D → List Answer → DriverState D → Type 0
 GoesBy disk crashes d given new = Leads disk crashes d (flight_events given) given new
 
 -- Of these events, by their answers, a first part was answered, and the disk was given up as it was then.
-pub record LeadsPart {D : Type 0} (disk : Ghosts D) (crashes : D → D → Type 0) (d : DriverState D) (events : List Answer → List Event) (lost : D) : Type 0 where
+pub record LeadsPart {D : Type 0} (disk : DiskModel D) (crashes : D → D → Type 0) (d : DriverState D) (events : List Answer → List Event) (lost : D) : Type 0 where
   pub given : List Answer
   pub mid : DriverState D
   pub moments : Leads disk crashes d (take (length given) (events given)) given mid
   pub left : disk_held mid ≡ Some lost
 
 -- a driver is handed a step
-pub record Hands {D : Type 0} (disk : Ghosts D) (crashes : D → D → Type 0) (d : DriverState D) (x : Step) (answer : Result Handed Refusal) (new : DriverState D) : Type 0 where
+pub record Hands {D : Type 0} (disk : DiskModel D) (crashes : D → D → Type 0) (d : DriverState D) (x : Step) (answer : Result Handed Refusal) (new : DriverState D) : Type 0 where
   pub handed : HandedTo d.ledger x answer new.ledger
   pub flight : new.flight ≡ d.flight
   pub stays : disk_held new ≡ disk_held d
@@ -88,7 +88,7 @@ abbrev pub GivesRaised : {D : Type 0} → DriverState D → List ℕ → Type 0
 GivesRaised d = GivesEither (settled_world d.ledger.log) (risen (settled_world d.ledger.log))
 
 -- the store at home, which has not stopped, was raised, and is the new ledger's
-pub record RaisesTo {D : Type 0} (disk : Ghosts D) (crashes : D → D → Type 0) (d new : DriverState D) : Type 0 where
+pub record RaisesTo {D : Type 0} (disk : DiskModel D) (crashes : D → D → Type 0) (d new : DriverState D) : Type 0 where
   pub begins : MayBegin disk crashes new
   pub old : D
   pub there : disk_held d ≡ Some old
@@ -97,57 +97,57 @@ pub record RaisesTo {D : Type 0} (disk : Ghosts D) (crashes : D → D → Type 0
   pub now : disk_held new ≡ Some raised
   pub keeps : disk.keeps_model old ≡ true → disk.keeps_model raised ≡ true
   pub failed : disk.failures raised ≡ disk.failures old
-  pub moments : has_stopped d.ledger.log ≡ false → disk.keeps_model old ≡ true → LeavesOnly disk.clock disk.left_since old raised (GivesRaised d)
+  pub moments : has_stopped d.ledger.log ≡ false → disk.keeps_model old ≡ true → LeavesOnly disk old raised (GivesRaised d)
 
 -- it was given up at a moment of that, for this fault
-pub record RaisesPart {D : Type 0} (disk : Ghosts D) (d : DriverState D) (why : Fault) (lost : D) : Type 0 where
+pub record RaisesPart {D : Type 0} (disk : DiskModel D) (d : DriverState D) (why : Fault) (lost : D) : Type 0 where
   pub old : D
   pub there : disk_held d ≡ Some old
-  pub moments : has_stopped d.ledger.log ≡ false → disk.keeps_model old ≡ true → LeavesOnly disk.clock disk.left_since old lost (GivesRaised d)
+  pub moments : has_stopped d.ledger.log ≡ false → disk.keeps_model old ≡ true → LeavesOnly disk old lost (GivesRaised d)
   pub cause : IsEmptyLog d.ledger.log → IsPassing why
   pub failed : disk.failures lost ≡ disk.failures old + failed_by why
 
 -- ---- what is asked
 
 -- events, or the raising of the store
-abbrev pub LeadsBy : {D : Type 0} → Ghosts D → (D → D → Type 0) → Asked → Drill D → List Answer → Drill D → Type 0
+abbrev pub LeadsBy : {D : Type 0} → DiskModel D → (D → D → Type 0) → Asked → Drill D → List Answer → Drill D → Type 0
 LeadsBy disk crashes Version2 d given new = RaisesTo disk crashes d.driver new.driver
 LeadsBy disk crashes a d given new = Leads disk crashes d.driver (line_events d.holds a given) given new.driver
 
 -- what is asked prints this and leaves this drill: text, state and disk go by the same answers to its events
-pub record Carries {D : Type 0} (disk : Ghosts D) (crashes : D → D → Type 0) (d : Drill D) (a : Asked) (told : List ℕ) (new : Drill D) : Type 0 where
+pub record Carries {D : Type 0} (disk : DiskModel D) (crashes : D → D → Type 0) (d : Drill D) (a : Asked) (told : List ℕ) (new : Drill D) : Type 0 where
   pub given : List Answer
   pub answered : IsAnswered (state_of d) a given told (state_of new)
   pub moments : LeadsBy disk crashes a d given new
 
 -- What is said of a line's moments: on a disk that keeps the model, and of `version 2` before any step.
-abbrev pub IsPromised : {D : Type 0} → Ghosts D → Drill D → Asked → Type 0
+abbrev pub IsPromised : {D : Type 0} → DiskModel D → Drill D → Asked → Type 0
 IsPromised disk d a = (model_held disk.keeps_model d.driver ≡ Some true) × (a ≡ Version2 → IsEmptyLog d.driver.ledger.log)
 
-abbrev pub CarriesIf : {D : Type 0} → Ghosts D → (D → D → Type 0) → Drill D → Asked → List ℕ → Drill D → Type 0
+abbrev pub CarriesIf : {D : Type 0} → DiskModel D → (D → D → Type 0) → Drill D → Asked → List ℕ → Drill D → Type 0
 CarriesIf disk crashes d a told new = IsPromised disk d a → Carries disk crashes d a told new
 
 -- the disk was given up in a crash, behind the taking of an image
-pub record IsLostInCrash {D : Type 0} (disk : Ghosts D) (crashes : D → D → Type 0) (d : DriverState D) (why : Fault) (lost : D) : Type 0 where
+pub record IsLostInCrash {D : Type 0} (disk : DiskModel D) (crashes : D → D → Type 0) (d : DriverState D) (why : Fault) (lost : D) : Type 0 where
   pub moments : (s : Machine) → IsConsistent s → Represents d s → (old : D) → disk_held d ≡ Some old → disk.keeps_model old ≡ true → Reopens disk crashes (Survives s) old lost
   pub cause : model_held disk.keeps_model d ≡ Some true → IsPassing why
   pub failed : (n : ℕ) → HasFailed disk.failures (disk_held d) n → disk.failures lost ≡ n + failed_by why
 
 -- for want of memory behind a part of its events
-abbrev pub LacksMemory : {D : Type 0} → Ghosts D → (D → D → Type 0) → Asked → Drill D → Fault → D → Type 0
+abbrev pub LacksMemory : {D : Type 0} → DiskModel D → (D → D → Type 0) → Asked → Drill D → Fault → D → Type 0
 LacksMemory disk crashes a d why lost = IsOfMemory why × LeadsPart disk crashes d.driver (line_events d.holds a) lost
 
 -- what is asked was cut short for this fault, and this disk given up
-abbrev pub Cuts : {D : Type 0} → Ghosts D → (D → D → Type 0) → Asked → Drill D → Fault → D → Type 0
+abbrev pub Cuts : {D : Type 0} → DiskModel D → (D → D → Type 0) → Asked → Drill D → Fault → D → Type 0
 Cuts disk crashes Version2 d why lost = RaisesPart disk d.driver why lost
 Cuts disk crashes Crash d why lost = LacksMemory disk crashes Crash d why lost ⊎ IsLostInCrash disk crashes d.driver why lost
 Cuts disk crashes a d why lost = LacksMemory disk crashes a d why lost
 
-abbrev pub CutsIf : {D : Type 0} → Ghosts D → (D → D → Type 0) → Asked → Drill D → Fault → D → Type 0
+abbrev pub CutsIf : {D : Type 0} → DiskModel D → (D → D → Type 0) → Asked → Drill D → Fault → D → Type 0
 CutsIf disk crashes a d why lost = IsPromised disk d a → Cuts disk crashes a d why lost
 
 -- a flight prints this and leaves this drill, whatever tickets the machine has given before it
-pub record Flies {D : Type 0} (disk : Ghosts D) (crashes : D → D → Type 0) (d : Drill D) (told : List ℕ) (new : Drill D) : Type 0 where
+pub record Flies {D : Type 0} (disk : DiskModel D) (crashes : D → D → Type 0) (d : Drill D) (told : List ℕ) (new : Drill D) : Type 0 where
   pub given : List Answer
   pub with_memory : AllByRecursion (λ answer. answer ≢ Refused OutOfMemory) given
   pub printed : told ≡ flight_lines (state_of d).log given
@@ -158,7 +158,7 @@ pub record Flies {D : Type 0} (disk : Ghosts D) (crashes : D → D → Type 0) (
 
 -- It stands at this place, on a disk that keeps the model. What was told of is settled, and as long as no step was
 -- accepted its world is empty.
-pub record Stands {D : Type 0} (disk : Ghosts D) (d : Drill D) (p : Place D) : Type 0 where
+pub record Stands {D : Type 0} (disk : DiskModel D) (d : Drill D) (p : Place D) : Type 0 where
   pub state : p.state ≡ state_of d
   pub holds : disk_held d.driver ≡ Some p.disk
   pub keeps : disk.keeps_model p.disk ≡ true
@@ -169,7 +169,7 @@ pub record Stands {D : Type 0} (disk : Ghosts D) (d : Drill D) (p : Place D) : T
   pub kept : AllKept p.machine p.told (disk.present p.disk)
 
 -- a ledger over a store that was made on this disk
-pub record IsMade {D : Type 0} (disk : Ghosts D) (given : D) (l : LedgerState D) : Type 0 where
+pub record IsMade {D : Type 0} (disk : DiskModel D) (given : D) (l : LedgerState D) : Type 0 where
   pub begun : D
   pub is : l ≡ ledger_over (no_world 1) begun
   pub keeps : disk.keeps_model begun ≡ disk.keeps_model given
@@ -177,7 +177,7 @@ pub record IsMade {D : Type 0} (disk : Ghosts D) (given : D) (l : LedgerState D)
   pub made : disk.keeps_model given ≡ true → disk.present begun ≡ made HALF_SIZE 1
 
 -- a store was just made on the disk that was given
-pub record IsBegun {D : Type 0} (disk : Ghosts D) (given : D) (d : Drill D) : Type 0 where
+pub record IsBegun {D : Type 0} (disk : DiskModel D) (given : D) (d : Drill D) : Type 0 where
   pub begun : D
   pub made : disk.present begun ≡ made HALF_SIZE 1
   pub unfailed : disk.failures begun ≡ disk.failures given

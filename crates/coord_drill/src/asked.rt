@@ -74,7 +74,7 @@ fn next_number(world: &World, client: Client) -> u64
     ensures { result ≡ next_number world.now client }
 {
     // No client's last number is above the count.
-    world.ranges();
+    world.lemma_in_range();
     match world.last(client) {
         Some(session) => session.number + 1,
         None => 1,
@@ -87,7 +87,7 @@ fn front_packet(world: &World, from: NodeId, to: NodeId) -> Result<Option<DataPa
     ensures { result ≡ front world.now from to }
 {
     // No lane's numbers are above the count.
-    world.ranges();
+    world.lemma_in_range();
     let Some(lane) = world.lane(from, to) else {
         return Err(Refusal::NoLink);
     };

@@ -69,17 +69,17 @@ pub fn coord_drill_on<R: Read, W: Write, D: CrashDisk>(
     writer: &mut W,
     disk: D,
 ) -> Result<D, (Fault, D)>
-    ensures ended { D.keeps_model disk ≡ true → IfOk result (λ last. (seen text : List ℕ)
+    ensures ended { D.model.keeps_model disk ≡ true → IfOk result (λ last. (seen text : List ℕ)
         × Consumes (R.remaining reader.old) (R.remaining reader.new) seen
-        × Ended ⟦<D as Disk>⟧ D.crashes disk seen text last
+        × Ended D.model D.crashes disk seen text last
         × Appends (W.contents writer.old) (W.contents writer.new) text) }
     ensures end { OnOk result (IsAtEnd (R.remaining reader.new)) }
-    ensures failed { D.keeps_model disk ≡ true → IfErr result (λ refused. ((seen : List ℕ)
+    ensures failed { D.model.keeps_model disk ≡ true → IfErr result (λ refused. ((seen : List ℕ)
         × Consumes (R.remaining reader.old) (R.remaining reader.new) seen
-        × BrokeOff ⟦<D as Disk>⟧ D.crashes disk seen
+        × BrokeOff D.model D.crashes disk seen
         (W.contents writer.old) (W.contents writer.new) refused.0 refused.1
         × (refused.0 ≡ TooManyReads → MOST_READS ≤ length seen))
-        ⊎ (NotMade ⟦<D as Disk>⟧ disk refused.0 refused.1
+        ⊎ (NotMade D.model disk refused.0 refused.1
         × (R.remaining reader.new ≡ R.remaining reader.old)
         × (W.contents writer.new ≡ W.contents writer.old))) }
 {
@@ -110,12 +110,12 @@ struct Console<D: CrashDisk> {
 impl<D: CrashDisk> Console<D> {
     fn new(alloc: Global, disk: D) -> Result<Self, (Fault, D)>
         ensures ready { IfOk result (λ console. IsReady console.drill) }
-        ensures begun { D.keeps_model disk ≡ true →
-            IfOk result (λ console. IsBegun ⟦<D as Disk>⟧ disk console.drill) }
+        ensures begun { D.model.keeps_model disk ≡ true →
+            IfOk result (λ console. IsBegun D.model disk console.drill) }
         ensures line { IfOk result (λ console. console.line ≡ Some []) }
         ensures number { IfOk result (λ console. console.number ≡ 0) }
-        ensures not_made { D.keeps_model disk ≡ true →
-            IfErr result (λ refused. NotMade ⟦<D as Disk>⟧ disk refused.0 refused.1) }
+        ensures not_made { D.model.keeps_model disk ≡ true →
+            IfErr result (λ refused. NotMade D.model disk refused.0 refused.1) }
         ensures fault { IfErr result (λ refused. IsOfDisk refused.0) }
     {
         Ok(Console {
@@ -137,12 +137,12 @@ impl<D: CrashDisk> Console<D> {
         requires number { self.number ≡ 0 }
         ensures ended { IfOk result (λ last. (seen : List ℕ)
             × Consumes (R.remaining reader.old) (R.remaining reader.new) seen
-            × EndsWith ⟦<D as Disk>⟧ D.crashes self.drill 1 (lines_on self.line seen)
+            × EndsWith D.model D.crashes self.drill 1 (lines_on self.line seen)
             (W.contents writer.old) (W.contents writer.new) last) }
         ensures end { OnOk result (IsAtEnd (R.remaining reader.new)) }
         ensures failed { IfErr result (λ refused. (seen : List ℕ)
             × Consumes (R.remaining reader.old) (R.remaining reader.new) seen
-            × BreaksOff ⟦<D as Disk>⟧ D.crashes self.drill 1 (lines_on self.line seen)
+            × BreaksOff D.model D.crashes self.drill 1 (lines_on self.line seen)
             (W.contents writer.old) (W.contents writer.new) refused.0 refused.1
             × (refused.0 ≡ TooManyReads → MOST_READS ≤ length seen)) }
     {
@@ -173,11 +173,11 @@ impl<D: CrashDisk> Console<D> {
         requires number { self.number + length piece.now < 2 ^ 64 - 1 }
         ensures ready { IfOk result (λ console. IsReady console.drill) }
         ensures number { IfOk result (λ console. console.number ≤ self.number + length piece.now) }
-        ensures taken { IfOk result (λ console. Takes ⟦<D as Disk>⟧ D.crashes
+        ensures taken { IfOk result (λ console. Takes D.model D.crashes
             self.drill self.number self.line piece.now []
             (W.contents writer.old) (W.contents writer.new)
             console.drill console.number console.line) }
-        ensures failed { IfErr result (λ refused. BreaksOff ⟦<D as Disk>⟧ D.crashes
+        ensures failed { IfErr result (λ refused. BreaksOff D.model D.crashes
             self.drill (self.number + 1) (lines_on self.line piece.now)
             (W.contents writer.old) (W.contents writer.new) refused.0 refused.1) }
         ensures fault { IfErr result (λ refused. IsOfWork refused.0) }
@@ -197,10 +197,10 @@ impl<D: CrashDisk> Console<D> {
     fn finish<W: Write>(self, writer: &mut W) -> Result<D, (Fault, D)>
         requires ready { IsReady self.drill }
         requires number { self.number < 2 ^ 64 - 1 }
-        ensures ended { IfOk result (λ last. EndsWith ⟦<D as Disk>⟧ D.crashes
+        ensures ended { IfOk result (λ last. EndsWith D.model D.crashes
             self.drill (self.number + 1) (lines_on self.line [])
             (W.contents writer.old) (W.contents writer.new) last) }
-        ensures failed { IfErr result (λ refused. BreaksOff ⟦<D as Disk>⟧ D.crashes
+        ensures failed { IfErr result (λ refused. BreaksOff D.model D.crashes
             self.drill (self.number + 1) (lines_on self.line [])
             (W.contents writer.old) (W.contents writer.new) refused.0 refused.1) }
         ensures fault { IfErr result (λ refused. IsOfWork refused.0) }

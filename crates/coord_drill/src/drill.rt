@@ -48,11 +48,11 @@ impl<D: CrashDisk> Drill<D> {
     /// disk. A refusal gives the disk back.
     pub fn new(alloc: Global, disk: D) -> Result<Self, (Fault, D)>
         ensures ready { IfOk result IsReady }
-        ensures begun { D.keeps_model disk ≡ true → IfOk result (IsBegun ⟦<D as Disk>⟧ disk) }
+        ensures begun { D.model.keeps_model disk ≡ true → IfOk result (IsBegun D.model disk) }
         ensures state { IfOk result (λ drill. state_of drill ≡ drill_over (no_world 1)) }
         ensures fault { IfErr result (λ refused. IsOfDisk refused.0) }
-        ensures not_made { D.keeps_model disk ≡ true →
-            IfErr result (λ refused. NotMade ⟦<D as Disk>⟧ disk refused.0 refused.1) }
+        ensures not_made { D.model.keeps_model disk ≡ true →
+            IfErr result (λ refused. NotMade D.model disk refused.0 refused.1) }
     {
         let driver = Driver::over(new_ledger(alloc, disk)?);
         driver.lemma_begins();
@@ -81,10 +81,10 @@ impl<D: CrashDisk> Drill<D> {
         requires ready { IsReady self }
         ensures ready { IfOk result IsReady }
         ensures told { IfOk result (λ drill. Tells (string_bytes text.old) (string_bytes text.new)
-            (λ told. CarriesIf ⟦<D as Disk>⟧ D.crashes self (asked (front_of self) request.now) told
+            (λ told. CarriesIf D.model D.crashes self (asked (front_of self) request.now) told
             drill)) }
         ensures cut { IfErr result (λ refused.
-            CutsIf ⟦<D as Disk>⟧ D.crashes (asked (front_of self) request.now) self refused.0
+            CutsIf D.model D.crashes (asked (front_of self) request.now) self refused.0
             refused.1) }
         ensures fault { IfErr result (λ refused.
             MayEnd (asked (front_of self) request.now) refused.0) }
@@ -130,10 +130,10 @@ impl<D: CrashDisk> Drill<D> {
 
 /// Makes a store of version 1 on a disk, and a ledger over it.
 fn new_ledger<D: CrashDisk>(alloc: Global, disk: D) -> Result<Ledger<D>, (Fault, D)>
-    ensures made { IfOk result (IsMade ⟦<D as Disk>⟧ disk) }
+    ensures made { IfOk result (IsMade D.model disk) }
     ensures fault { IfErr result (λ refused. IsOfDisk refused.0) }
-    ensures not_made { D.keeps_model disk ≡ true →
-        IfErr result (λ refused. NotMade ⟦<D as Disk>⟧ disk refused.0 refused.1) }
+    ensures not_made { D.model.keeps_model disk ≡ true →
+        IfErr result (λ refused. NotMade D.model disk refused.0 refused.1) }
 {
     let store = match Store::create(alloc, disk, HALF_SIZE, 1) {
         Ok(store) => store,

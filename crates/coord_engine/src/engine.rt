@@ -21,7 +21,7 @@ use std::thread;
 
 /// Commits a flight.
 fn commit<D: Disk>(flight: &mut Flight<D>) -> Result<(), CommitFault>
-    ensures { flight.old.mark ≡ New → Commits D.failures flight.old result flight.new }
+    ensures { flight.old.mark ≡ New → Commits D.model.failures flight.old result flight.new }
 {
     flight.commit()
 }
@@ -76,10 +76,10 @@ impl<D: Disk, L: Origin> Engine<D, L> {
     /// A share without notes, where not all 65,535 were given out.
     pub fn share<R: Wait>(&self, rt: &R) -> Option<Share<L>>
         ensures given { IfSome result (λ share. (share ≡ []) ×
-            AtSomeMoment (based_on D.keeps_model D.present L.base L.before) (λ g.
+            AtSomeMoment (based_on D.model.keeps_model D.model.present L.base L.before) (λ g.
             g.given < most_shares)) }
         ensures none { IfNone result (AtSomeMoment
-            (based_on D.keeps_model D.present L.base L.before) (λ g. g.given ≡ most_shares)) }
+            (based_on D.model.keeps_model D.model.present L.base L.before) (λ g. g.given ≡ most_shares)) }
     {
         let mut guarded = self.guarded.lock(rt);
         guarded.keeps();
@@ -94,7 +94,7 @@ impl<D: Disk, L: Origin> Engine<D, L> {
         step: Step,
         mine: &mut Share<L>,
     ) -> Result<Ticket, Refusal>
-        ensures { AtSomeMoment (based_on D.keeps_model D.present L.base L.before)
+        ensures { AtSomeMoment (based_on D.model.keeps_model D.model.present L.base L.before)
             (Submits {D = D} step result mine.old mine.new) }
     {
         let mut guarded = self.guarded.lock(rt);
@@ -111,7 +111,7 @@ impl<D: Disk, L: Origin> Engine<D, L> {
     /// Accepts a step as `submit` does, but does not wake the flusher. Whoever posts several steps
     /// wakes it behind the last one, so that one flight takes them all.
     pub fn post<R: Wait>(&self, rt: &R, step: Step, mine: &mut Share<L>) -> Result<Ticket, Refusal>
-        ensures { AtSomeMoment (based_on D.keeps_model D.present L.base L.before)
+        ensures { AtSomeMoment (based_on D.model.keeps_model D.model.present L.base L.before)
             (Submits {D = D} step result mine.old mine.new) }
     {
         let mut guarded = self.guarded.lock(rt);
@@ -130,7 +130,7 @@ impl<D: Disk, L: Origin> Engine<D, L> {
     /// of another ledger, and `Stopped` one whose step will not be settled any more; both give it
     /// back.
     pub fn collect<R: Wait>(&self, rt: &R, ticket: Ticket) -> Result<Reply, (Refusal, Ticket)>
-        ensures { AnswersTicket (based_on D.keeps_model D.present L.base L.before) ticket result }
+        ensures { AnswersTicket (based_on D.model.keeps_model D.model.present L.base L.before) ticket result }
     {
         let mut waiting = ticket;
         let mut guarded = self.guarded.lock(rt);
@@ -148,7 +148,7 @@ impl<D: Disk, L: Origin> Engine<D, L> {
 
     /// Shows the settled world, of which the caller must not have seen more.
     pub fn show<R: Wait>(&self, rt: &R, seen: &mut Seen) -> Result<View, Refusal>
-        ensures { AnswersShow (based_on D.keeps_model D.present L.base L.before) result seen.old
+        ensures { AnswersShow (based_on D.model.keeps_model D.model.present L.base L.before) result seen.old
             seen.new }
     {
         let guarded = self.guarded.lock(rt);
@@ -159,7 +159,7 @@ impl<D: Disk, L: Origin> Engine<D, L> {
     /// How many steps it keeps: those that its ledger had accepted when the engine was made, and all
     /// since.
     pub fn kept<R: Wait>(&self, rt: &R) -> usize
-        ensures { AtSomeMoment (based_on D.keeps_model D.present L.base L.before) (λ g. result ≡
+        ensures { AtSomeMoment (based_on D.model.keeps_model D.model.present L.base L.before) (λ g. result ≡
             length g.ledger.log.trail) }
     {
         let guarded = self.guarded.lock(rt);
@@ -170,7 +170,7 @@ impl<D: Disk, L: Origin> Engine<D, L> {
     /// The packets that may have been lost, to be sent again as of step 0.
     pub fn resend<R: Wait>(&self, rt: &R) -> Result<Releases, AllocError>
         ensures { IfOk result (λ releases.
-            AtSomeMoment (based_on D.keeps_model D.present L.base L.before)
+            AtSomeMoment (based_on D.model.keeps_model D.model.present L.base L.before)
             (SendsAgain {D = D} releases)) }
     {
         let guarded = self.guarded.lock(rt);
@@ -183,7 +183,7 @@ impl<D: Disk, L: Origin> Engine<D, L> {
     ///
     /// After `OutOfMemory` it may be tried again; after `Device` the ledger has stopped.
     pub fn flush_once<R: Wait>(&self, rt: &R) -> Result<Option<Releases>, CommitFault>
-        ensures { AnswersFlush (based_on D.keeps_model D.present L.base L.before) D.failures result }
+        ensures { AnswersFlush (based_on D.model.keeps_model D.model.present L.base L.before) D.model.failures result }
     {
         let mut flight = match self.begin(rt) {
             Ok(Some(flight)) => flight,
@@ -204,7 +204,7 @@ impl<D: Disk, L: Origin> Engine<D, L> {
 
     /// Sends the next flight out.
     pub(crate) fn begin<R: Wait>(&self, rt: &R) -> Result<Option<Flight<D>>, AllocError>
-        ensures { AnswersBegin (based_on D.keeps_model D.present L.base L.before) result }
+        ensures { AnswersBegin (based_on D.model.keeps_model D.model.present L.base L.before) result }
     {
         let mut guarded = self.guarded.lock(rt);
         guarded.count_leaving();
@@ -215,7 +215,7 @@ impl<D: Disk, L: Origin> Engine<D, L> {
     /// Takes a flight back. Where it is refused, for memory, it is tried again.
     pub(crate) fn end<R: Wait>(&self, rt: &R, flight: Flight<D>) -> Releases
         ensures released { result ≡ releases_in flight flight.mark }
-        ensures back { AtSomeMoment (based_on D.keeps_model D.present L.base L.before)
+        ensures back { AtSomeMoment (based_on D.model.keeps_model D.model.present L.base L.before)
             (ComesBack flight) }
     {
         let mut out = flight;
@@ -252,10 +252,10 @@ impl<D: Disk, L: Origin> Engine<D, L> {
         ensures since { IfOk result (λ closed.
             IsSince L.base L.before shares.items closed.base closed.trail.items) }
         ensures closed { IfOk result (λ closed.
-            AtSomeMoment (based_on D.keeps_model D.present L.base L.before)
+            AtSomeMoment (based_on D.model.keeps_model D.model.present L.base L.before)
             (Closes closed.store closed.base closed.trail.items closed.settled shares.items)) }
         ensures refused { IfErr result (λ refused.
-            AtSomeMoment (based_on D.keeps_model D.present L.base L.before) (λ g.
+            AtSomeMoment (based_on D.model.keeps_model D.model.present L.base L.before) (λ g.
             RefusesClosing g shares.items refused.0)) }
         ensures back { IfErr result (λ refused. refused.2.items ≡ shares.items) }
     {

@@ -83,10 +83,10 @@ impl<D: Disk, L: Origin> Engine<D, L> {
     /// flight will start any more.
     fn waits_for_flight<R: Wait + Clock>(&self, rt: &R, for_callers: Duration) -> bool
         ensures starts { result ≡ true →
-            AtSomeMoment (based_on D.keeps_model D.present L.base L.before) (λ g.
+            AtSomeMoment (based_on D.model.keeps_model D.model.present L.base L.before) (λ g.
             is_idle g ≡ false) }
         ensures ends { result ≡ false →
-            AtSomeMoment (based_on D.keeps_model D.present L.base L.before) (λ g.
+            AtSomeMoment (based_on D.model.keeps_model D.model.present L.base L.before) (λ g.
             is_over g ≡ true) }
     {
         let guarded = self.lock_for_flight(rt);
@@ -158,7 +158,7 @@ fn flush<D: Disk, L: Origin, R: Wait + Clock>(
     engine: &Engine<D, L>,
     patience: &mut Duration,
 ) -> Result<Option<Releases>, CommitFault>
-    ensures { AnswersFlush (based_on D.keeps_model D.present L.base L.before) D.failures result }
+    ensures { AnswersFlush (based_on D.model.keeps_model D.model.present L.base L.before) D.model.failures result }
 {
     let start = Instant::now(rt);
     let flushed = engine.flush_once(rt);
@@ -178,7 +178,7 @@ pub fn flusher<D: Disk, L: Origin, P: Port, R: Wait + Clock>(
     engine: &Engine<D, L>,
     port: &mut P,
 )
-    ensures { HasFlushed (based_on D.keeps_model D.present L.base L.before) D.failures
+    ensures { HasFlushed (based_on D.model.keeps_model D.model.present L.base L.before) D.model.failures
         P.carried P.signalled port.old port.new }
 {
     let mut patience = Duration::ZERO;

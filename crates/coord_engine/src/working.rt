@@ -28,7 +28,7 @@ fn submit<D: Disk, L: Origin, R: Wait>(
     packet: Packet,
     share: &mut Share<L>,
 ) -> bool
-    ensures { Tries (based_on D.keeps_model D.present L.base L.before) share.old packet result
+    ensures { Tries (based_on D.model.keeps_model D.model.present L.base L.before) share.old packet result
         share.new }
 {
     match engine.submit(rt, step_of(packet), share) {
@@ -47,7 +47,7 @@ fn try_waiting<D: Disk, L: Origin, R: Wait>(
     share: &mut Share<L>,
     waiting: &mut Waiting,
 )
-    ensures { TriesAll (based_on D.keeps_model D.present L.base L.before) share.old waiting.old
+    ensures { TriesAll (based_on D.model.keeps_model D.model.present L.base L.before) share.old waiting.old
         share.new waiting.new }
 {
     for _tried in 0..waiting.len() {
@@ -76,7 +76,7 @@ fn take<D: Disk, L: Origin, R: Wait>(
     share: &mut Share<L>,
     waiting: &mut Waiting,
 )
-    ensures { Takes (based_on D.keeps_model D.present L.base L.before) share.old waiting.old
+    ensures { Takes (based_on D.model.keeps_model D.model.present L.base L.before) share.old waiting.old
         packet.now share.new waiting.new }
 {
     if submit(rt, engine, *packet, share) {
@@ -100,7 +100,7 @@ pub fn worker<D: Disk, L: Origin, I: Iterator<Item = Packet>, R: Wait>(
 ) -> Share<L>
     requires { I.can_next packets × IsFinite (I.remaining packets) }
     ensures worked { (came : List Asked) × (left : List Asked) × Drains I.next_gives packets came ×
-        Works (based_on D.keeps_model D.present L.base L.before) share [] came result left }
+        Works (based_on D.model.keeps_model D.model.present L.base L.before) share [] came result left }
     ensures packets { AddsPackets share result }
 {
     let mut share = share;

@@ -3,3 +3,4 @@ pub mod Halves
 pub mod Reading
 pub mod Replaced
 pub mod Texts
+pub mod Writing

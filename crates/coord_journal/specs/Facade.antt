@@ -5,3 +5,4 @@ pub use Rattle.coord_journal.specs.Half.{IsHalf, half_number}
 pub use Rattle.coord_journal.specs.Journal.{HasRoomFor, IsReady, disk_of, half_of, half_size_of, has_stopped, used_of}
 pub use Rattle.coord_journal.specs.Text.{BeginsWithBody, Content, HasHeader, HasPlaceIn, IsEitherText, IsHalfSize, IsOpened, IsText, IsTextAt, IsTextIn, ReadsAs, formatted, gate_place, half_front, half_start, lead, magic, size_of, sized, used_by, with_batch, without_batch}
 pub use Rattle.coord_journal.specs.Turns.{TornInTurn}
+pub use Rattle.coord_journal.specs.Writing.{Answers, Rewrites}

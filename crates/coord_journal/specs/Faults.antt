@@ -10,10 +10,7 @@ RefusesFormat bytes half_size OutOfMemory = (length bytes ≡ 0) × IsHalfSize h
 RefusesFormat bytes half_size Device = Unit {0}
 RefusesFormat bytes half_size NotEmpty = 0 < length bytes
 RefusesFormat bytes half_size HalfSize = (length bytes ≡ 0) × ¬ IsHalfSize half_size
-RefusesFormat bytes half_size NoMagic = ⊥
-RefusesFormat bytes half_size BadRecord = ⊥
-RefusesFormat bytes half_size JournalFull = ⊥
-RefusesFormat bytes half_size Stopped = ⊥
+RefusesFormat bytes half_size fault = ⊥
 
 abbrev pub BeginsWithHeader : List ℕ → Type 0
 BeginsWithHeader bytes = (selector half_size : ℕ) × (rest : List ℕ) × HasHeader bytes selector half_size rest
@@ -22,12 +19,9 @@ BeginsWithHeader bytes = (selector half_size : ℕ) × (rest : List ℕ) × HasH
 abbrev pub RefusesOpen : List ℕ → JournalFault → Type 0
 RefusesOpen bytes OutOfMemory = Unit {0}
 RefusesOpen bytes Device = Unit {0}
-RefusesOpen bytes NotEmpty = ⊥
-RefusesOpen bytes HalfSize = ⊥
 RefusesOpen bytes NoMagic = ¬ BeginsWithHeader bytes
 RefusesOpen bytes BadRecord = BeginsWithHeader bytes × ((content : Content) → IsText content bytes → ⊥)
-RefusesOpen bytes JournalFull = ⊥
-RefusesOpen bytes Stopped = ⊥
+RefusesOpen bytes fault = ⊥
 
 -- the faults of reading bytes that begin with a header
 abbrev pub IsReadFault : JournalFault → Type 0

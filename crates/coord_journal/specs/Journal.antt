@@ -1,6 +1,7 @@
 -- An open journal.
-use Rattle.std.specs.Prelude.{◌≡◌, ℕ, ◌+◌, ◌≤◌, Bool, false}
-use Rattle.coord_disk.specs.Model.Present.{Present, whole}
+use Rattle.std.specs.Prelude.{◌≡◌, ℕ, ◌+◌, ◌≤◌, Bool, true, false}
+use Rattle.coord_disk.specs.Model.DiskModel.{DiskModel}
+use Rattle.coord_disk.specs.Model.Present.{whole}
 use Rattle.coord_journal.specs.Half.{half_number}
 use Rattle.coord_journal.specs.Text.{Content, IsTextAt, used_by}
 use Rattle.coord_journal.specs.declared.journal.Journal.{Journal}
@@ -28,9 +29,11 @@ has_stopped journal = journal.stopped
 abbrev pub HasRoomFor : {D : Type 0} → Journal D → ℕ → Type 0
 HasRoomFor journal len = used_of journal + 5 + len ≤ half_size_of journal
 
--- its disk holds the text of this content, all of it synced, and it may be written to
-pub record IsReady {D : Type 0} (present : D → Present) (journal : Journal D) (content : Content) : Type 0 where
-  pub synced : present (disk_of journal) ≡ whole (present (disk_of journal)).read
-  pub text : IsTextAt (present (disk_of journal)).read content (half_size_of journal) (half_of journal) (used_of journal)
+-- Its disk keeps the model and holds the text of this content, all of it synced, and it may be
+-- written to.
+pub record IsReady {D : Type 0} (m : DiskModel D) (journal : Journal D) (content : Content) : Type 0 where
+  pub keeps : m.keeps_model (disk_of journal) ≡ true
+  pub synced : m.present (disk_of journal) ≡ whole (m.present (disk_of journal)).read
+  pub text : IsTextAt (m.present (disk_of journal)).read content (half_size_of journal) (half_of journal) (used_of journal)
   pub used : used_of journal ≡ used_by content
   pub going : has_stopped journal ≡ false

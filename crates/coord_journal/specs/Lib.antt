@@ -5,4 +5,5 @@ pub mod Half
 pub mod Journal
 pub mod Text
 pub mod Turns
+pub mod Writing
 pub mod Facade

@@ -1,8 +1,8 @@
 //! How an opening reads a disk: it first makes durable whatever an earlier fault left undecided.
 
-ghost use Rattle.std.specs.Prelude.{◌≡◌, ◌≢◌, ◌⊎◌, ◌+◌, ◌≤◌, true, IfOk, IfErr, OnOk};
-ghost use Rattle.coord_disk.specs.Model.Present.{whole, IsImage};
-ghost use Rattle.coord_disk.specs.Model.Moments.{LeavesOnly};
+ghost use Rattle.std.specs.Prelude.{◌≡◌, ◌≢◌, ◌⊎◌, true, IfOk, IfErr, OnOk};
+ghost use Rattle.coord_disk.specs.Model.Present.{whole};
+ghost use Rattle.coord_disk.specs.Model.Moments.{AddsNothing, Runs};
 ghost use Rattle.coord_journal.specs.Faults.{failures_in};
 ghost use Rattle.coord_journal.specs.declared.fault.JournalFault.TheVariants.{OutOfMemory, Device};
 
@@ -13,18 +13,15 @@ use std::alloc::Global;
 /// Syncs, and then reads all the bytes, which are on the disk then. A crash meanwhile leaves
 /// nothing that it could not have left before.
 pub fn read_durable<D: Disk>(alloc: Global, disk: &mut D) -> Result<Vec<u8>, JournalFault>
-    ensures bytes { D.keeps_model disk.old ≡ true →
-        IfOk result (λ bytes. bytes.items ≡ (D.present disk.old).read) }
-    ensures durable { D.keeps_model disk.old ≡ true →
-        OnOk result (D.present disk.new ≡ whole (D.present disk.old).read) }
-    ensures any_moment { D.keeps_model disk.old ≡ true →
-        LeavesOnly D.clock D.left_since disk.old disk.new (IsImage (D.present disk.old)) }
-    ensures unchanged { D.keeps_model disk.old ≡ true → IfErr result (λ fault. fault ≢ Device →
-        D.present disk.new ≡ whole (D.present disk.old).read) }
+    ensures bytes { D.model.keeps_model disk.old ≡ true →
+        IfOk result (λ bytes. bytes.items ≡ (D.model.present disk.old).read) }
+    ensures durable { D.model.keeps_model disk.old ≡ true →
+        OnOk result (D.model.present disk.new ≡ whole (D.model.present disk.old).read) }
+    ensures unchanged { D.model.keeps_model disk.old ≡ true → IfErr result (λ fault. fault ≢ Device →
+        D.model.present disk.new ≡ whole (D.model.present disk.old).read) }
     ensures fault { IfErr result (λ fault. (fault ≡ OutOfMemory) ⊎ (fault ≡ Device)) }
-    ensures model { D.keeps_model disk.new ≡ D.keeps_model disk.old }
-    ensures failures { D.failures disk.new ≡ D.failures disk.old + failures_in result }
-    ensures calls { D.keeps_model disk.old ≡ true → D.clock disk.new ≤ D.clock disk.old + 3 }
+    ensures any_moment { AddsNothing D.model disk.old disk.new }
+    ensures runs { Runs D.model disk.old disk.new 3 (failures_in result) }
 {
     disk.sync()?;
     let size = disk.len()?;

@@ -1,8 +1,8 @@
 //! Makes a journal.
 
-ghost use Rattle.std.specs.Prelude.{◌≡◌, ◌≢◌, ◌+◌, ◌<◌, ◌≤◌, true, length, IfErr, OnOk};
-ghost use Rattle.coord_disk.specs.Model.Present.{IsImage, whole};
-ghost use Rattle.coord_disk.specs.Model.Moments.{LeavesOnly};
+ghost use Rattle.std.specs.Prelude.{◌≡◌, ◌≢◌, ◌<◌, ◌≤◌, true, length, IfErr, OnOk};
+ghost use Rattle.coord_disk.specs.Model.Present.{whole};
+ghost use Rattle.coord_disk.specs.Model.Moments.{IsUntouched, Runs};
 ghost use Rattle.coord_journal.specs.Faults.{IsFormatFault, RefusesFormat, failures_in};
 ghost use Rattle.coord_journal.specs.declared.layout.TheConstants.{MAX_SNAPSHOT};
 ghost use Rattle.coord_journal.specs.Text.{IsText, IsHalfSize, formatted, without_batch};
@@ -27,23 +27,19 @@ pub fn format<D: Disk>(
     snapshot: &[u8],
 ) -> Result<(), JournalFault>
     requires { length snapshot.now ≤ MAX_SNAPSHOT }
-    ensures empty { D.keeps_model disk.old ≡ true →
-        OnOk result (length (D.present disk.old).read ≡ 0) }
+    ensures empty { D.model.keeps_model disk.old ≡ true →
+        OnOk result (length (D.model.present disk.old).read ≡ 0) }
     ensures half_size { OnOk result (IsHalfSize half_size) }
-    ensures bytes { D.keeps_model disk.old ≡ true →
-        OnOk result (D.present disk.new ≡ whole (formatted half_size version snapshot.now)) }
-    ensures text { D.keeps_model disk.old ≡ true →
-        OnOk result (IsText (without_batch version snapshot.now) (D.present disk.new).read) }
-    ensures fault { D.keeps_model disk.old ≡ true →
-        IfErr result (RefusesFormat (D.present disk.old).read half_size) }
-    ensures unchanged { D.keeps_model disk.old ≡ true → IfErr result (λ fault. fault ≢ Device →
-        D.present disk.new ≡ D.present disk.old) }
-    ensures any_moment { D.keeps_model disk.old ≡ true → IfErr result (λ fault. fault ≢ Device →
-        LeavesOnly D.clock D.left_since disk.old disk.new (IsImage (D.present disk.old))) }
-    ensures model { D.keeps_model disk.new ≡ D.keeps_model disk.old }
+    ensures bytes { D.model.keeps_model disk.old ≡ true →
+        OnOk result (D.model.present disk.new ≡ whole (formatted half_size version snapshot.now)) }
+    ensures text { D.model.keeps_model disk.old ≡ true →
+        OnOk result (IsText (without_batch version snapshot.now) (D.model.present disk.new).read) }
+    ensures fault { D.model.keeps_model disk.old ≡ true →
+        IfErr result (RefusesFormat (D.model.present disk.old).read half_size) }
+    ensures unchanged { D.model.keeps_model disk.old ≡ true → IfErr result (λ fault. fault ≢ Device →
+        IsUntouched D.model disk.old disk.new) }
     ensures named { IfErr result IsFormatFault }
-    ensures failures { D.failures disk.new ≡ D.failures disk.old + failures_in result }
-    ensures calls { D.keeps_model disk.old ≡ true → D.clock disk.new ≤ D.clock disk.old + 3 }
+    ensures runs { Runs D.model disk.old disk.new 3 (failures_in result) }
 {
     if disk.len()? != 0 {
         return Err(JournalFault::NotEmpty);

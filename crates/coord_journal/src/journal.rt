@@ -1,10 +1,9 @@
 //! A journal: a version, a snapshot and the batches that were appended since.
 
-ghost use Rattle.std.specs.Prelude.{◌≡◌, ◌≢◌, ◌↔◌, ◌+◌, ◌-◌, ◌*◌, ◌≤◌, true, false, length, IsTrue, IfErr, is_ok, OnOk, IsErrOf, if◌then◌else◌};
-ghost use Rattle.coord_disk.specs.Model.Moments.{LeavesOnly};
+ghost use Rattle.std.specs.Prelude.{◌≡◌, ◌↔◌, ◌+◌, ◌-◌, ◌*◌, ◌≤◌, true, false, length, IsTrue, is_ok, OnOk, if◌then◌else◌};
 ghost use Rattle.coord_disk.specs.Model.Present.{whole};
 ghost use Rattle.coord_journal.specs.declared.layout.TheConstants.{MAX_BODY, MAX_HALF, MAX_SNAPSHOT, MIN_HALF};
-ghost use Rattle.coord_journal.specs.Text.{Content, IsEitherText, gate_place, with_batch, with_body_at, with_half, without_batch};
+ghost use Rattle.coord_journal.specs.Text.{Content, gate_place, with_batch, with_body_at, with_half, without_batch};
 
 use crate::JournalFault;
 use crate::half::Half;
@@ -32,8 +31,7 @@ pub struct Journal<D> {
 impl<D: Disk> Journal<D> {
     ghost use Rattle.coord_journal.specs.Journal.{HasRoomFor, IsReady, disk_of, half_of, half_size_of, used_of, has_stopped};
     ghost use Rattle.coord_journal.specs.Half.{half_number};
-    ghost use Rattle.coord_journal.specs.Faults.{IsWriteFault, failures_in};
-    ghost use Rattle.coord_journal.specs.declared.fault.JournalFault.TheVariants.{Device};
+    ghost use Rattle.coord_journal.specs.Writing.{Answers, Rewrites};
 
     // A journal with so many bytes of this half used.
     pub(crate) fn at(alloc: Global, disk: D, half_size: u64, half: Half, used: u64) -> Self
@@ -94,37 +92,16 @@ impl<D: Disk> Journal<D> {
     pub fn append(&mut self, body: &[u8]) -> Result<(), JournalFault>
         requires short { length body.now ≤ MAX_BODY }
         requires fits { HasRoomFor self.old (length body.now) }
-
-        // A crash at any moment of the call leaves the text of the content from before it, with the batch or without.
-        ensures any_moment { (content : Content) → D.keeps_model (disk_of self.old) ≡ true →
-            IsReady D.present self.old content
-            → LeavesOnly D.clock D.left_since (disk_of self.old) (disk_of self.new)
-            (IsEitherText content (with_batch content body.now)) }
-
-        // Once it has returned Ok, with it.
-        ensures done { (content : Content) → D.keeps_model (disk_of self.old) ≡ true →
-            IsReady D.present self.old content
-            → OnOk result (IsReady D.present self.new (with_batch content body.now)) }
-        ensures bytes { D.keeps_model (disk_of self.old) ≡ true →
+        ensures writes { (content : Content) → IsReady D.model self.old content →
+            Rewrites D.model content (with_batch content body.now) self.old self.new result }
+        ensures bytes { D.model.keeps_model (disk_of self.old) ≡ true →
             let gate = gate_place (half_size_of self.old) (half_of self.old) (used_of self.old) in
-            OnOk result (D.present (disk_of self.new) ≡
-            whole (with_body_at gate body.now (D.present (disk_of self.old)).read)) }
+            OnOk result (D.model.present (disk_of self.new) ≡
+            whole (with_body_at gate body.now (D.model.present (disk_of self.old)).read)) }
         ensures used { used_of self.new ≡
             (if is_ok result then used_of self.old + 5 + length body.now else used_of self.old) }
         ensures half { half_of self.new ≡ half_of self.old }
-        ensures half_size { half_size_of self.new ≡ half_size_of self.old }
-        ensures calls { D.keeps_model (disk_of self.old) ≡ true →
-            D.clock (disk_of self.new) ≤ D.clock (disk_of self.old) + 4 }
-
-        // When it is refused, and what it is then.
-        ensures stopped { IsErrOf result JournalFault.Stopped ↔ (has_stopped self.old ≡ true) }
-        ensures fault { IfErr result IsWriteFault }
-        ensures failures { D.failures (disk_of self.new) ≡
-            D.failures (disk_of self.old) + failures_in result }
-        ensures device { IsErrOf result JournalFault.Device → has_stopped self.new ≡ true }
-        ensures going { OnOk result (has_stopped self.new ≡ false) }
-        ensures unchanged { IfErr result (λ fault. fault ≢ Device → self.new ≡ self.old) }
-        ensures model { D.keeps_model (disk_of self.new) ≡ D.keeps_model (disk_of self.old) }
+        ensures answers { Answers D.model self.old self.new result }
     {
         if self.stopped {
             return Err(JournalFault::Stopped);
@@ -144,39 +121,19 @@ impl<D: Disk> Journal<D> {
     /// each later call answers `Stopped`, and opening the device tells which of both it holds.
     pub fn replace(&mut self, version: u8, snapshot: &[u8]) -> Result<(), JournalFault>
         requires { length snapshot.now ≤ MAX_SNAPSHOT }
-
-        // A crash at any moment of the call leaves the text of the content from before it, or of the new one.
-        ensures any_moment { (content : Content) → D.keeps_model (disk_of self.old) ≡ true →
-            IsReady D.present self.old content
-            → LeavesOnly D.clock D.left_since (disk_of self.old) (disk_of self.new)
-            (IsEitherText content (without_batch version snapshot.now)) }
-
-        // Once it has returned Ok, of the new one, and a body of any size fits.
-        ensures done { (content : Content) → D.keeps_model (disk_of self.old) ≡ true →
-            IsReady D.present self.old content
-            → OnOk result (IsReady D.present self.new (without_batch version snapshot.now)) }
-        ensures bytes { D.keeps_model (disk_of self.old) ≡ true → let half = 1 - half_of self.old in
-            OnOk result (D.present (disk_of self.new) ≡
+        ensures writes { (content : Content) → IsReady D.model self.old content →
+            Rewrites D.model content (without_batch version snapshot.now) self.old self.new result }
+        ensures bytes { D.model.keeps_model (disk_of self.old) ≡ true →
+            let half = 1 - half_of self.old in
+            OnOk result (D.model.present (disk_of self.new) ≡
             whole (with_half half (half_size_of self.old) version snapshot.now
-            (D.present (disk_of self.old)).read)) }
+            (D.model.present (disk_of self.old)).read)) }
         ensures fits { OnOk result (HasRoomFor self.new MAX_BODY) }
         ensures used { used_of self.new ≡
             (if is_ok result then 6 + length snapshot.now else used_of self.old) }
         ensures half { half_of self.new ≡
             (if is_ok result then 1 - half_of self.old else half_of self.old) }
-        ensures half_size { half_size_of self.new ≡ half_size_of self.old }
-        ensures calls { D.keeps_model (disk_of self.old) ≡ true →
-            D.clock (disk_of self.new) ≤ D.clock (disk_of self.old) + 4 }
-
-        // When it is refused, and what it is then.
-        ensures stopped { IsErrOf result JournalFault.Stopped ↔ (has_stopped self.old ≡ true) }
-        ensures fault { IfErr result IsWriteFault }
-        ensures failures { D.failures (disk_of self.new) ≡
-            D.failures (disk_of self.old) + failures_in result }
-        ensures device { IsErrOf result JournalFault.Device → has_stopped self.new ≡ true }
-        ensures going { OnOk result (has_stopped self.new ≡ false) }
-        ensures unchanged { IfErr result (λ fault. fault ≢ Device → self.new ≡ self.old) }
-        ensures model { D.keeps_model (disk_of self.new) ≡ D.keeps_model (disk_of self.old) }
+        ensures answers { Answers D.model self.old self.new result }
     {
         if self.stopped {
             return Err(JournalFault::Stopped);

@@ -1,8 +1,8 @@
 //! Opens a journal.
 
-ghost use Rattle.std.specs.Prelude.{◌≡◌, ◌≢◌, ◌+◌, ◌≤◌, true, false, MatchResult, IfOk, IfErr};
-ghost use Rattle.coord_disk.specs.Model.Moments.{LeavesOnly};
-ghost use Rattle.coord_disk.specs.Model.Present.{IsImage, whole};
+ghost use Rattle.std.specs.Prelude.{◌≡◌, ◌≢◌, true, false, MatchResult, IfOk, IfErr};
+ghost use Rattle.coord_disk.specs.Model.Moments.{AddsNothing, Runs};
+ghost use Rattle.coord_disk.specs.Model.Present.{whole};
 ghost use Rattle.coord_journal.specs.Contents.{content_of};
 ghost use Rattle.coord_journal.specs.Faults.{RefusesOpen, IsOpenFault, failed_in};
 ghost use Rattle.coord_journal.specs.Journal.{IsReady, disk_of, has_stopped};
@@ -66,39 +66,30 @@ pub fn open<D: Disk>(
     mut disk: D,
 ) -> Result<(Journal<D>, Contents), (JournalFault, D)>
     // Where the bytes of the device are the text of a content, it gives that content, or there is no memory or the device fails.
-    ensures text { D.keeps_model disk ≡ true →
-        IfOk result (λ opened. IsText (content_of opened.1) (D.present disk).read) }
-    ensures only { (content : Content) → D.keeps_model disk ≡ true →
-        IsText content (D.present disk).read →
+    ensures text { D.model.keeps_model disk ≡ true →
+        IfOk result (λ opened. IsText (content_of opened.1) (D.model.present disk).read) }
+    ensures only { (content : Content) → D.model.keeps_model disk ≡ true →
+        IsText content (D.model.present disk).read →
         IfOk result (λ opened. content_of opened.1 ≡ content) }
-    ensures fault { D.keeps_model disk ≡ true →
-        IfErr result (λ refused. RefusesOpen (D.present disk).read refused.0) }
+    ensures fault { D.model.keeps_model disk ≡ true →
+        IfErr result (λ refused. RefusesOpen (D.model.present disk).read refused.0) }
+    ensures named { IfErr result (λ refused. IsOpenFault refused.0) }
 
     // It may be added to, and the device reads as before.
-    ensures ready { D.keeps_model disk ≡ true →
-        IfOk result (λ opened. IsReady D.present opened.0 (content_of opened.1)) }
-    ensures bytes { D.keeps_model disk ≡ true →
-        IfOk result (λ opened. D.present (disk_of opened.0) ≡ whole (D.present disk).read) }
+    ensures ready { D.model.keeps_model disk ≡ true →
+        IfOk result (λ opened. IsReady D.model opened.0 (content_of opened.1)) }
+    ensures bytes { D.model.keeps_model disk ≡ true → IfOk result (λ opened.
+        D.model.present (disk_of opened.0) ≡ whole (D.model.present disk).read) }
     ensures going { IfOk result (λ opened. has_stopped opened.0 ≡ false) }
-    ensures unchanged { D.keeps_model disk ≡ true → IfErr result (λ refused. refused.0 ≢ Device →
-        D.present refused.1 ≡ whole (D.present disk).read) }
+    ensures unchanged { D.model.keeps_model disk ≡ true →
+        IfErr result (λ refused. refused.0 ≢ Device →
+        D.model.present refused.1 ≡ whole (D.model.present disk).read) }
 
     // A crash at any moment leaves nothing that it could not have left before.
-    ensures any_moment { D.keeps_model disk ≡ true →
-        IfOk result (λ opened. LeavesOnly D.clock D.left_since disk (disk_of opened.0)
-        (IsImage (D.present disk))) }
-    ensures any_moment_refused { D.keeps_model disk ≡ true →
-        IfErr result (λ refused. LeavesOnly D.clock D.left_since disk refused.1
-        (IsImage (D.present disk))) }
-
-    ensures model { MatchResult result (λ opened. D.keeps_model (disk_of opened.0) ≡
-        D.keeps_model disk) (λ refused. D.keeps_model refused.1 ≡ D.keeps_model disk) }
-    ensures failures { MatchResult result (λ opened. D.failures (disk_of opened.0) ≡
-        D.failures disk) (λ refused. D.failures refused.1 ≡ D.failures disk + failed_in refused.0) }
-    ensures calls { MatchResult result (λ opened. D.keeps_model disk ≡ true →
-        D.clock (disk_of opened.0) ≤ D.clock disk + 3) (λ refused. D.keeps_model disk ≡ true →
-        D.clock refused.1 ≤ D.clock disk + 3) }
-    ensures named { IfErr result (λ refused. IsOpenFault refused.0) }
+    ensures any_moment { MatchResult result (λ opened. AddsNothing D.model disk (disk_of opened.0))
+        (λ refused. AddsNothing D.model disk refused.1) }
+    ensures runs { MatchResult result (λ opened. Runs D.model disk (disk_of opened.0) 3 0)
+        (λ refused. Runs D.model disk refused.1 3 (failed_in refused.0)) }
 {
     let bytes = match read_durable(alloc, &mut disk) {
         Ok(bytes) => bytes,

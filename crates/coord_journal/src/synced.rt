@@ -1,8 +1,8 @@
 //! Writes that are made durable one after the other.
 
-ghost use Rattle.std.specs.Prelude.{◌≡◌, ◌+◌, ◌<◌, ◌≤◌, ◌^◌, true, List, ℕ, length, OnOk};
+ghost use Rattle.std.specs.Prelude.{◌≡◌, ◌+◌, ◌<◌, ◌^◌, true, List, ℕ, length, OnOk};
 ghost use Rattle.coord_disk.specs.Model.Present.{whole, overwritten, Torn};
-ghost use Rattle.coord_disk.specs.Model.Moments.{LeavesOnly, HasCause};
+ghost use Rattle.coord_disk.specs.Model.Moments.{LeavesOnly, Runs, failures_of};
 ghost use Rattle.coord_journal.specs.Turns.{TornInTurn};
 
 use coord_disk::{Disk, DiskFault};
@@ -10,15 +10,13 @@ use coord_disk::{Disk, DiskFault};
 /// Writes and syncs. Until it is done, a crash may leave anything in the range.
 pub fn write_synced<D: Disk>(disk: &mut D, at: u64, new: &[u8]) -> Result<(), DiskFault>
     requires { at + length new.now < 2 ^ 64 }
-    ensures any_moment { (bytes : List ℕ) → D.keeps_model disk.old ≡ true →
-        D.present disk.old ≡ whole bytes →
-        LeavesOnly D.clock D.left_since disk.old disk.new (Torn bytes at new.now) }
-    ensures done { D.keeps_model disk.old ≡ true →
-        OnOk result (D.present disk.new ≡
-        whole (overwritten (D.present disk.old).read at new.now)) }
-    ensures calls { D.keeps_model disk.old ≡ true → D.clock disk.new ≤ D.clock disk.old + 2 }
-    ensures model { D.keeps_model disk.new ≡ D.keeps_model disk.old }
-    ensures cause { HasCause (D.failures disk.old) (D.failures disk.new) result }
+    ensures any_moment { (bytes : List ℕ) → D.model.keeps_model disk.old ≡ true →
+        D.model.present disk.old ≡ whole bytes →
+        LeavesOnly D.model disk.old disk.new (Torn bytes at new.now) }
+    ensures done { D.model.keeps_model disk.old ≡ true →
+        OnOk result (D.model.present disk.new ≡
+        whole (overwritten (D.model.present disk.old).read at new.now)) }
+    ensures runs { Runs D.model disk.old disk.new 2 (failures_of result) }
 {
     disk.write_at(at, new)?;
     disk.sync()
@@ -36,16 +34,13 @@ pub fn write_in_turn<D: Disk>(
     requires second_in_range { next + length second.now < 2 ^ 64 }
 
     // The second write begins when the first one is on the disk.
-    ensures any_moment { (bytes : List ℕ) → D.keeps_model disk.old ≡ true →
-        D.present disk.old ≡ whole bytes
-        → LeavesOnly D.clock D.left_since disk.old disk.new
-        (TornInTurn bytes at first.now next second.now) }
-    ensures done { D.keeps_model disk.old ≡ true →
-        OnOk result (D.present disk.new ≡
-        whole (overwritten (overwritten (D.present disk.old).read at first.now) next second.now)) }
-    ensures calls { D.keeps_model disk.old ≡ true → D.clock disk.new ≤ D.clock disk.old + 4 }
-    ensures model { D.keeps_model disk.new ≡ D.keeps_model disk.old }
-    ensures cause { HasCause (D.failures disk.old) (D.failures disk.new) result }
+    ensures any_moment { (bytes : List ℕ) → D.model.keeps_model disk.old ≡ true →
+        D.model.present disk.old ≡ whole bytes →
+        LeavesOnly D.model disk.old disk.new (TornInTurn bytes at first.now next second.now) }
+    ensures done { D.model.keeps_model disk.old ≡ true →
+        OnOk result (D.model.present disk.new ≡ whole
+        (overwritten (overwritten (D.model.present disk.old).read at first.now) next second.now)) }
+    ensures runs { Runs D.model disk.old disk.new 4 (failures_of result) }
 {
     write_synced(disk, at, first)?;
     write_synced(disk, next, second)

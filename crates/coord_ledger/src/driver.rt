@@ -63,7 +63,7 @@ impl<D: CrashDisk> Driver<D> {
     /// parts keep that.
     pub fn lemma_survives(&self)
         ensures { (s : Machine) → IsConsistent s → Represents self.now s →
-            DiskSurvives D.keeps_model D.present (disk_held self.now) s }
+            DiskSurvives D.model.keeps_model D.model.present (disk_held self.now) s }
     {
         match &self.flight {
             Some(flight) => flight.lemma_images_give_world(),
@@ -75,7 +75,7 @@ impl<D: CrashDisk> Driver<D> {
     /// what a run keeps (`RunSoFar`) holds of the run of no event, from the ledger's disk on.
     pub fn lemma_begins(&self)
         requires { self.now.flight ≡ None }
-        ensures { MayBegin ⟦<D as Disk>⟧ D.crashes self.now }
+        ensures { MayBegin D.model D.crashes self.now }
     {
         self.ledger.lemma_log_is_consistent();
         self.lemma_survives();
@@ -96,7 +96,7 @@ impl<D: CrashDisk> Driver<D> {
     /// Gives the disk up, the ledger's or that of the flight that is out.
     pub fn into_disk(self) -> D
         ensures disk { disk_held self ≡ Some result }
-        ensures images { ImagesGive (D.keeps_model result) (D.present result) self.ledger.log
+        ensures images { ImagesGive (D.model.keeps_model result) (D.model.present result) self.ledger.log
             (kept_by self.ledger.log.settled
             (option_map flight_out self.flight) self.ledger.log.doubt) }
     {

@@ -44,28 +44,28 @@ pub fn run_events_keeping_disk<D: CrashDisk>(
     // A run that is answered: the main theorem, and the ledger that is left.
     ensures ran { IfOk result (λ r. (before : D) → (after : D) → ledger.disk ≡ Some before →
         r.1.disk ≡ Some after
-        → Promised (D.keeps_model before) events.now (Completed ⟦<D as Disk>⟧ D.crashes
+        → Promised (D.model.keeps_model before) events.now (Completed D.model D.crashes
         (started ledger) events.now r.0.answers.items r.0.released.items r.1
-        (D.keeps_model after) before after)) }
+        (D.model.keeps_model after) before after)) }
     ensures at_home { IfOk result (λ r. r.1.out ≡ None) }
-    ensures same_model { IfOk result (λ r. option_map D.keeps_model r.1.disk ≡
-        option_map D.keeps_model ledger.disk) }
+    ensures same_model { IfOk result (λ r. option_map D.model.keeps_model r.1.disk ≡
+        option_map D.model.keeps_model ledger.disk) }
 
     // A run that ended early.
     ensures broke { IfErr result (λ r. (before : D) → ledger.disk ≡ Some before
-        → Promised (D.keeps_model before) events.now (EndedEarly ⟦<D as Disk>⟧ D.crashes
+        → Promised (D.model.keeps_model before) events.now (EndedEarly D.model D.crashes
         (started ledger) events.now r.0.at r.0.trace.answers.items r.0.trace.released.items r.0.kind
-        (D.keeps_model before) before r.1)) }
+        (D.model.keeps_model before) before r.1)) }
     ensures cause { IfErr result (λ r. (before : D) → ledger.disk ≡ Some before →
-        HasCause (D.keeps_model before) events.now r.0.at r.0.trace.released.items r.0.kind) }
+        HasCause (D.model.keeps_model before) events.now r.0.at r.0.trace.released.items r.0.kind) }
 
     // On any disk: an answer to each event, and how often the device has failed.
     ensures answers { MatchResult result (λ r. length r.0.answers.items ≡ length events.now) (λ r.
         length r.0.trace.answers.items ≡ r.0.at) }
-    ensures failures { (n : ℕ) → HasFailed D.failures ledger.disk n
+    ensures failures { (n : ℕ) → HasFailed D.model.failures ledger.disk n
         → MatchResult result (λ r.
-        HasFailed D.failures r.1.disk (n + failed_until events.now r.0.answers.items)) (λ r.
-        D.failures r.1 ≡ (n + failed_until (take r.0.at events.now) r.0.trace.answers.items) +
+        HasFailed D.model.failures r.1.disk (n + failed_until events.now r.0.answers.items)) (λ r.
+        D.model.failures r.1 ≡ (n + failed_until (take r.0.at events.now) r.0.trace.answers.items) +
         failed_in r.0.kind) }
 {
     let driver = Driver::over(ledger);
@@ -108,29 +108,29 @@ pub fn run_events<D: CrashDisk>(
     // A run that is answered: the main theorem, and the ledger that is left.
     ensures ran { IfOk result (λ r. (before : D) → (after : D) → ledger.disk ≡ Some before →
         r.1.disk ≡ Some after
-        → Promised (D.keeps_model before) events.now (Completed ⟦<D as Disk>⟧ D.crashes
+        → Promised (D.model.keeps_model before) events.now (Completed D.model D.crashes
         (started ledger) events.now r.0.answers.items r.0.released.items r.1
-        (D.keeps_model after) before after)) }
+        (D.model.keeps_model after) before after)) }
     ensures at_home { IfOk result (λ r. r.1.out ≡ None) }
-    ensures same_model { IfOk result (λ r. option_map D.keeps_model r.1.disk ≡
-        option_map D.keeps_model ledger.disk) }
+    ensures same_model { IfOk result (λ r. option_map D.model.keeps_model r.1.disk ≡
+        option_map D.model.keeps_model ledger.disk) }
 
     // A run that ended early: with some disk that was dropped.
     ensures broke { IfErr result (λ fault. (before : D) → ledger.disk ≡ Some before
-        → (lost : D) × ((D.failures lost ≡
-        (D.failures before + failed_until (take fault.at events.now) fault.trace.answers.items) +
+        → (lost : D) × ((D.model.failures lost ≡
+        (D.model.failures before + failed_until (take fault.at events.now) fault.trace.answers.items) +
         failed_in fault.kind)
-        × Promised (D.keeps_model before) events.now (EndedEarly ⟦<D as Disk>⟧ D.crashes
+        × Promised (D.model.keeps_model before) events.now (EndedEarly D.model D.crashes
         (started ledger) events.now fault.at fault.trace.answers.items fault.trace.released.items
-        fault.kind (D.keeps_model before) before lost))) }
+        fault.kind (D.model.keeps_model before) before lost))) }
     ensures cause { IfErr result (λ fault. (before : D) → ledger.disk ≡ Some before →
-        HasCause (D.keeps_model before) events.now fault.at fault.trace.released.items fault.kind) }
+        HasCause (D.model.keeps_model before) events.now fault.at fault.trace.released.items fault.kind) }
 
     // On any disk: an answer to each event, and how often the device has failed.
     ensures answers { MatchResult result (λ r. length r.0.answers.items ≡ length events.now)
         (λ fault. length fault.trace.answers.items ≡ fault.at) }
-    ensures failures { (n : ℕ) → HasFailed D.failures ledger.disk n
-        → IfOk result (λ r. HasFailed D.failures r.1.disk
+    ensures failures { (n : ℕ) → HasFailed D.model.failures ledger.disk n
+        → IfOk result (λ r. HasFailed D.model.failures r.1.disk
         (n + failed_until events.now r.0.answers.items)) }
 {
     match run_events_keeping_disk(alloc, ledger, events) {

@@ -65,13 +65,13 @@ impl<D: Disk> Flight<D> {
     /// call answers `Stopped`; a flight that was committed answers `Again`.
     pub fn commit(&mut self) -> Result<(), CommitFault>
         // A crash at any moment of the call leaves what gives the world from before the steps or from after them.
-        ensures any_moment { D.keeps_model self.old.disk ≡ true → self.old.mark ≡ New
-            → LeavesOnly D.clock D.left_since self.old.disk self.new.disk
+        ensures any_moment { D.model.keeps_model self.old.disk ≡ true → self.old.mark ≡ New
+            → LeavesOnly D.model self.old.disk self.new.disk
             (GivesEither self.old.world (fold self.old.world self.old.steps)) }
         // Where it is refused for memory, the world from before them alone.
-        ensures any_moment_refused { D.keeps_model self.old.disk ≡ true → self.old.mark ≡ New →
+        ensures any_moment_refused { D.model.keeps_model self.old.disk ≡ true → self.old.mark ≡ New →
             IsErrOf result CommitFault.OutOfMemory
-            → LeavesOnly D.clock D.left_since self.old.disk self.new.disk
+            → LeavesOnly D.model self.old.disk self.new.disk
             (IsOnlyWorld self.old.world) }
 
         // What it answers, and what the flight is then.
@@ -87,23 +87,23 @@ impl<D: Disk> Flight<D> {
         ensures same_world { self.new.world ≡ self.old.world }
 
         // What it does to the disk.
-        ensures failures { D.failures self.new.disk ≡
-            D.failures self.old.disk + failures_in result }
-        ensures calls { D.keeps_model self.old.disk ≡ true →
-            D.clock self.new.disk ≤ D.clock self.old.disk + 8 }
+        ensures failures { D.model.failures self.new.disk ≡
+            D.model.failures self.old.disk + failures_in result }
+        ensures calls { D.model.keeps_model self.old.disk ≡ true →
+            D.model.clock self.new.disk ≤ D.model.clock self.old.disk + 8 }
 
         // Where the body of the batch fits behind what is there, no checkpoint is made.
         ensures calls_where_it_fits { (half : ℕ) (body : List ℕ) →
-            D.keeps_model self.old.disk ≡ true → self.old.mark ≡ New →
+            D.model.keeps_model self.old.disk ≡ true → self.old.mark ≡ New →
             IsBody self.old.world body self.old.steps →
-            HasPlaceIn half (length body) (D.present self.old.disk).read
-            → D.clock self.new.disk ≤ D.clock self.old.disk + 4 }
+            HasPlaceIn half (length body) (D.model.present self.old.disk).read
+            → D.model.clock self.new.disk ≤ D.model.clock self.old.disk + 4 }
         ensures half_where_it_fits { (half : ℕ) (body : List ℕ) →
-            D.keeps_model self.old.disk ≡ true → self.old.mark ≡ New →
+            D.model.keeps_model self.old.disk ≡ true → self.old.mark ≡ New →
             IsBody self.old.world body self.old.steps →
-            HasPlaceIn half (length body) (D.present self.old.disk).read
-            → OnOk result (IsTextIn half (D.present self.new.disk).read) }
-        ensures model { D.keeps_model self.new.disk ≡ D.keeps_model self.old.disk }
+            HasPlaceIn half (length body) (D.model.present self.old.disk).read
+            → OnOk result (IsTextIn half (D.model.present self.new.disk).read) }
+        ensures model { D.model.keeps_model self.new.disk ≡ D.model.keeps_model self.old.disk }
     {
         match self.mark {
             Mark::Good => Err(CommitFault::Again),
@@ -166,8 +166,8 @@ impl<D: Disk> Flight<D> {
     pub fn lemma_images_give_world(&self)
         ensures some { 1 ≤ length self.now.steps }
         ensures most { length self.now.steps ≤ MAX_BATCH_STEPS }
-        ensures images { D.keeps_model self.now.disk ≡ true → FlightGives D.present self.now }
+        ensures images { D.model.keeps_model self.now.disk ≡ true → FlightGives D.model.present self.now }
     {
-        self.store.images_give_world();
+        self.store.lemma_images_give_world();
     }
 }

@@ -113,8 +113,8 @@ impl<D: Disk> Ledger<D> {
             Ok(copies) => copies,
             Err(fault) => return Err((fault, store)),
         };
-        base.ranges();
-        store.images_give_world();
+        base.lemma_in_range();
+        store.lemma_images_give_world();
         Ok(Ledger {
             alloc,
             base,
@@ -149,7 +149,7 @@ impl<D: Disk> Ledger<D> {
         ensures value { result ≡ settled_count self.now.log }
         ensures bounded { result ≤ MAX_STEPS }
     {
-        self.settled.ranges();
+        self.settled.lemma_in_range();
         self.settled.count()
     }
 
@@ -158,7 +158,7 @@ impl<D: Disk> Ledger<D> {
         ensures value { result ≡ accepted_count self.now.log }
         ensures bounded { result ≤ MAX_STEPS }
     {
-        self.front.ranges();
+        self.front.lemma_in_range();
         self.front.count()
     }
 
@@ -193,12 +193,12 @@ impl<D: Disk> Ledger<D> {
 
     /// Does nothing: its contract is what the type keeps of every ledger.
     pub fn lemma_images_give_settled(&self)
-        ensures { IfSome self.now.disk (λ disk. D.keeps_model disk ≡ true →
-            LedgerGives D.present self.now disk) }
+        ensures { IfSome self.now.disk (λ disk. D.model.keeps_model disk ≡ true →
+            LedgerGives D.model.present self.now disk) }
     {
         let Some(store) = &self.store else {
             return;
         };
-        store.images_give_world();
+        store.lemma_images_give_world();
     }
 }

@@ -151,6 +151,19 @@ impl Lane {
         }
     }
 
+    /// What `current` is once the front is cleared.
+    pub fn next(&self) -> Option<(u64, Msg)>
+        requires front { 0 < length self.now.queue }
+        requires room { self.now.base < 2 ^ 64 - 2 }
+        ensures { result ≡ front_of (cleared self.now) }
+    {
+        if self.len < 2 {
+            None
+        } else {
+            Some((self.base + 2, self.queue[1]))
+        }
+    }
+
     /// Whether the message with this number is taken now. It is Old where it was taken already,
     /// Early where another one comes first or the one before it isn't receipted, and Differs where
     /// it isn't the front's.

@@ -22,7 +22,7 @@ set_state w u r = record w { state = λ x. if x == u then r else w.state x }
 abbrev pub ideal_applied : Ideal → ℕ → Transition → Ideal
 ideal_applied w u d = record w {
   state = λ x. if x == u then d.state else w.state x;
-  way = λ x y. if (x == u) && w.linked x y then w.way x y ++ added d y else w.way x y;
+  in_transit = λ x y. if (x == u) && w.linked x y then w.in_transit x y ++ added d y else w.in_transit x y;
 }
 
 -- transitions, one after the other
@@ -32,7 +32,7 @@ ideal_all_applied w (d ∷ ds) = ideal_all_applied (ideal_applied w d.0 d.1) ds
 
 -- the first message on the way from v to u leaves it
 abbrev pub headed : Ideal → ℕ → ℕ → Ideal
-headed w v u = record w { way = λ x y. if (x == v) && (y == u) then behind_front (w.way x y) else w.way x y }
+headed w v u = record w { in_transit = λ x y. if (x == v) && (y == u) then behind_front (w.in_transit x y) else w.in_transit x y }
 
 -- whether x and y are a and b
 abbrev pub is_link : ℕ → ℕ → ℕ → ℕ → Bool
@@ -43,12 +43,12 @@ abbrev pub linked_up : Ideal → ℕ → ℕ → Ideal
 linked_up w a b = record w {
   state = λ x. if x == b then with_neighbour (w.state b) a else (if x == a then with_neighbour (w.state a) b else w.state x);
   linked = λ x y. is_link a b x y || w.linked x y;
-  way = λ x y. if is_link a b x y then [] else w.way x y;
+  in_transit = λ x y. if is_link a b x y then [] else w.in_transit x y;
 }
 
 -- the link of a and b vanishes, with all that is on the way
 abbrev pub without_link : Ideal → ℕ → ℕ → Ideal
-without_link w a b = record w { linked = λ x y. not (is_link a b x y) && w.linked x y; way = λ x y. if is_link a b x y then [] else w.way x y }
+without_link w a b = record w { linked = λ x y. not (is_link a b x y) && w.linked x y; in_transit = λ x y. if is_link a b x y then [] else w.in_transit x y }
 
 -- what a step changes before any node acts on it
 abbrev pub ideal_ordered : Ideal → Command → Ideal

@@ -33,8 +33,8 @@ abbrev pub kept : ℕ → ℕ → ℕ
 kept version distance = if version == 1 then 0 else distance
 
 -- what an Abort carries that a node sends: the distance of those that it reaches, one more than the node's own
-abbrev pub carried : ℕ → NodeState → ℕ
-carried version r = kept version (r.distance + 1)
+abbrev pub carries : ℕ → NodeState → ℕ
+carries version r = kept version (r.distance + 1)
 
 -- nothing is sent
 abbrev pub idle : NodeState → Transition
@@ -53,7 +53,7 @@ finish r = record {
 abbrev pub wave_on : ℕ → NodeState → Option ℕ → NodeSet → ℕ → Transition
 wave_on version r parent others distance =
     let s : NodeState = record r { mode = Abort; parent = parent; pend = others; distance = distance } in
-    record { state = s; message = msg.Abort (carried version s); to = others; finished = false }
+    record { state = s; message = msg.Abort (carries version s); to = others; finished = false }
 
 -- A node that was Ready is at this distance, and has nobody to pass the wave on to: it acknowledges at once, and awaits
 -- nobody then by the rule itself, though in a legal world it awaited nobody before

@@ -1,7 +1,7 @@
 //! One node of the reset protocol: what it keeps, and what it does when a reset is asked for,
 //! a message comes, or a link comes or goes.
 //!
-//! `Node` is the code. A node sends nothing itself: each call answers a [`Deed`], the messages that
+//! `Node` is the code. A node sends nothing itself: each call answers a [`Effects`], the messages that
 //! are to be sent and whether the node finished a reset. The reset rules stand in
 //! `specs/Rules.antt`, as functions of a node's state; `specs/Steps.antt` and
 //! `specs/IdealRules.antt` make steps of a whole ideal world of them. The main theorem is the
@@ -10,9 +10,9 @@
 //! node as it was.
 #![tactic(auto)]
 
-mod deed;
+mod effects;
 mod node;
 
 pub use coord_types::NodeSet;
-pub use deed::Deed;
+pub use effects::Effects;
 pub use node::{Node, NodeFields};

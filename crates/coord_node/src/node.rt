@@ -4,9 +4,9 @@ ghost use Rattle.std.specs.Prelude.{◌≡◌, ◌<◌, ◌^◌, ◌-◌, OnOk, 
 ghost use Rattle.coord_types.specs.NodeSet as set;
 ghost use Rattle.coord_types.specs.NodeState.{new_node};
 ghost use Rattle.coord_node.specs.Rules.{request, on_abort, on_ack, on_ready, lost, with_neighbour};
-ghost use Rattle.coord_node.specs.Rules.{acknowledged, finish, wave_on, lost_in, without, sends_of, kept, carried};
+ghost use Rattle.coord_node.specs.Rules.{acknowledged, finish, wave_on, lost_in, without, sends_of, kept, carries};
 
-use crate::deed::{Deed, sends_to};
+use crate::effects::{Effects, sends_to};
 use coord_types::{Group, Mode, Msg, NodeId, NodeSet, Version};
 use std::alloc::{AllocError, Global};
 use std::marker::Model;
@@ -174,7 +174,7 @@ impl Node {
 
     /// A reset is asked for at this node, in a world of this version.
     #[tactic(auto, using(coord_types::proofs::Sets::listed))]
-    pub fn request(&mut self, alloc: Global, version: Version) -> Result<Deed, AllocError>
+    pub fn request(&mut self, alloc: Global, version: Version) -> Result<Effects, AllocError>
         requires { self.old.epoch < 2 ^ 64 - 1 }
         ensures state { OnOk result (self.new ≡ (request version self.old).state) }
         ensures sends { IfOk result (λ d. d.sends.items ≡ sends_of (request version self.old)) }
@@ -182,7 +182,7 @@ impl Node {
         ensures err { OnErr result (self.new ≡ self.old) }
     {
         if self.mode != Mode::Ready {
-            return Ok(Deed::idle(alloc));
+            return Ok(Effects::idle(alloc));
         }
         if self.neighbours.is_empty() {
             return self.finish(alloc);
@@ -200,7 +200,7 @@ impl Node {
         version: Version,
         from: NodeId,
         distance: u64,
-    ) -> Result<Deed, AllocError>
+    ) -> Result<Effects, AllocError>
         requires { distance < 2 ^ 64 - 1 }
         ensures state { OnOk result (self.new ≡ (on_abort version self.old from distance).state) }
         ensures sends { IfOk result (λ d. d.sends.items ≡
@@ -210,24 +210,24 @@ impl Node {
         ensures err { OnErr result (self.new ≡ self.old) }
     {
         if self.mode != Mode::Ready {
-            return Deed::answer(alloc, from);
+            return Effects::answer(alloc, from);
         }
         let others = self.neighbours.without(from);
         let distance = kept(version, distance);
         if !others.is_empty() {
             return self.wave_on(alloc, version, Some(from), others, distance);
         }
-        let deed = Deed::answer(alloc, from)?;
+        let effects = Effects::answer(alloc, from)?;
         self.mode = Mode::Converge;
         self.parent = Some(from);
         self.pend = NodeSet::new();
         self.distance = distance;
-        Ok(deed)
+        Ok(effects)
     }
 
     /// An Ack comes from a neighbour.
     #[tactic(auto, using(coord_types::proofs::Sets::listed))]
-    pub fn on_ack(&mut self, alloc: Global, from: NodeId) -> Result<Deed, AllocError>
+    pub fn on_ack(&mut self, alloc: Global, from: NodeId) -> Result<Effects, AllocError>
         requires { self.old.epoch < 2 ^ 64 - 1 }
         ensures state { OnOk result (self.new ≡ (on_ack self.old from).state) }
         ensures sends { IfOk result (λ d. d.sends.items ≡ sends_of (on_ack self.old from)) }
@@ -235,22 +235,22 @@ impl Node {
         ensures err { OnErr result (self.new ≡ self.old) }
     {
         if self.pend.is_empty() {
-            return Ok(Deed::idle(alloc));
+            return Ok(Effects::idle(alloc));
         }
         let mut after = *self;
         after.pend = self.pend.without(from);
         if !after.pend.is_empty() {
             *self = after;
-            return Ok(Deed::idle(alloc));
+            return Ok(Effects::idle(alloc));
         }
-        let deed = after.acknowledged(alloc)?;
+        let effects = after.acknowledged(alloc)?;
         *self = after;
-        Ok(deed)
+        Ok(effects)
     }
 
     /// A Ready comes from a neighbour.
     #[tactic(auto, using(coord_types::proofs::Sets::listed))]
-    pub fn on_ready(&mut self, alloc: Global, from: NodeId) -> Result<Deed, AllocError>
+    pub fn on_ready(&mut self, alloc: Global, from: NodeId) -> Result<Effects, AllocError>
         requires { self.old.epoch < 2 ^ 64 - 1 }
         ensures state { OnOk result (self.new ≡ (on_ready self.old from).state) }
         ensures sends { IfOk result (λ d. d.sends.items ≡ sends_of (on_ready self.old from)) }
@@ -260,12 +260,12 @@ impl Node {
         if self.mode == Mode::Converge && self.parent == Some(from) {
             self.finish(alloc)
         } else {
-            Ok(Deed::idle(alloc))
+            Ok(Effects::idle(alloc))
         }
     }
 
     /// The link to a neighbour is dropped.
-    pub fn lost(&mut self, alloc: Global, other: NodeId) -> Result<Deed, AllocError>
+    pub fn lost(&mut self, alloc: Global, other: NodeId) -> Result<Effects, AllocError>
         requires { self.old.epoch < 2 ^ 64 - 1 }
         ensures state { OnOk result (self.new ≡ (lost self.old other).state) }
         ensures sends { IfOk result (λ d. d.sends.items ≡ sends_of (lost self.old other)) }
@@ -275,19 +275,19 @@ impl Node {
         let awaited = self.pend.contains(other);
         let child = self.parent == Some(other);
         let mut rest = self.without(other);
-        let deed = rest.go_on(alloc, awaited, child)?;
+        let effects = rest.go_on(alloc, awaited, child)?;
         *self = rest;
-        Ok(deed)
+        Ok(effects)
     }
 
     /// A link to another node comes.
-    pub fn gained(&mut self, alloc: Global, other: NodeId) -> Deed
+    pub fn gained(&mut self, alloc: Global, other: NodeId) -> Effects
         ensures state { self.new ≡ with_neighbour self.old other }
         ensures sends { result.sends.items ≡ [] }
         ensures finished { result.finished ≡ false }
     {
         self.neighbours = self.neighbours.with(other);
-        Deed::idle(alloc)
+        Effects::idle(alloc)
     }
 
     /// The signals up to this epoch are known to have been acted on.
@@ -298,7 +298,7 @@ impl Node {
     }
 
     /// Sends Ready to every neighbour but the parent, and enters the next epoch.
-    fn finish(&mut self, alloc: Global) -> Result<Deed, AllocError>
+    fn finish(&mut self, alloc: Global) -> Result<Effects, AllocError>
         requires { self.old.epoch < 2 ^ 64 - 1 }
         ensures state { OnOk result (self.new ≡ (finish self.old).state) }
         ensures sends { IfOk result (λ d. d.sends.items ≡ sends_of (finish self.old)) }
@@ -314,7 +314,7 @@ impl Node {
         self.parent = None;
         self.epoch += 1;
         self.distance = 0;
-        Ok(Deed {
+        Ok(Effects {
             sends,
             finished: true,
         })
@@ -328,7 +328,7 @@ impl Node {
         parent: Option<NodeId>,
         others: NodeSet,
         distance: u64,
-    ) -> Result<Deed, AllocError>
+    ) -> Result<Effects, AllocError>
         requires { distance < 2 ^ 64 - 1 }
         ensures state { OnOk result (self.new ≡ (wave_on version self.old parent others distance).state) }
         ensures sends { IfOk result (λ d. d.sends.items ≡
@@ -341,25 +341,25 @@ impl Node {
         after.parent = parent;
         after.pend = others;
         after.distance = distance;
-        let sends = sends_to(alloc, others, Msg::Abort(after.carried(version)))?;
+        let sends = sends_to(alloc, others, Msg::Abort(after.carries(version)))?;
         *self = after;
-        Ok(Deed {
+        Ok(Effects {
             sends,
             finished: false,
         })
     }
 
     /// What an Abort carries that the node sends: the distance of those that it reaches.
-    pub fn carried(&self, version: Version) -> u64
+    pub fn carries(&self, version: Version) -> u64
         requires { self.now.distance < 2 ^ 64 - 1 }
-        ensures { result ≡ carried version self.now }
+        ensures { result ≡ carries version self.now }
     {
         kept(version, self.distance + 1)
     }
 
     /// The last acknowledgement that was awaited has come.
     #[tactic(auto, using(coord_types::proofs::Sets::listed))]
-    fn acknowledged(&mut self, alloc: Global) -> Result<Deed, AllocError>
+    fn acknowledged(&mut self, alloc: Global) -> Result<Effects, AllocError>
         requires { self.old.epoch < 2 ^ 64 - 1 }
         ensures state { OnOk result (self.new ≡ (acknowledged self.old self.old.parent).state) }
         ensures sends { IfOk result (λ d. d.sends.items ≡
@@ -371,9 +371,9 @@ impl Node {
         match self.parent {
             None => self.finish(alloc),
             Some(parent) => {
-                let deed = Deed::answer(alloc, parent)?;
+                let effects = Effects::answer(alloc, parent)?;
                 self.mode = Mode::Converge;
-                Ok(deed)
+                Ok(effects)
             }
         }
     }
@@ -402,7 +402,7 @@ impl Node {
     /// Goes on after a link was dropped: `awaited` says that its end's acknowledgement was
     /// awaited, and `child` that its end was the parent.
     #[tactic(auto, using(coord_types::proofs::Sets::listed))]
-    fn go_on(&mut self, alloc: Global, awaited: bool, child: bool) -> Result<Deed, AllocError>
+    fn go_on(&mut self, alloc: Global, awaited: bool, child: bool) -> Result<Effects, AllocError>
         requires { self.old.epoch < 2 ^ 64 - 1 }
         ensures state { OnOk result (self.new ≡
             (lost_in self.old.mode self.old awaited child).state) }
@@ -415,7 +415,7 @@ impl Node {
         match self.mode {
             Mode::Abort if awaited && self.pend.is_empty() => self.acknowledged(alloc),
             Mode::Converge if child => self.finish(alloc),
-            _ => Ok(Deed::idle(alloc)),
+            _ => Ok(Effects::idle(alloc)),
         }
     }
 }

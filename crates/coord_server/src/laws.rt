@@ -11,12 +11,12 @@ use coord_disk::Disk;
 /// All lives of a server are one history: one trail from the world of its first store, of which each
 /// step has a number of its own.
 pub fn lives_are_one<D: Disk, C: Callers>()
-    ensures { (most : ℕ) → LivesAreOne D.keeps_model D.present C.met C.failed most }
+    ensures { (most : ℕ) → LivesAreOne D.model.keeps_model D.model.present C.met C.failed most }
 {}
 
 /// The same, where a line has closed the last life.
 pub fn closed_lives_are_one<D: Disk>()
-    ensures { ClosedLivesAreOne D.keeps_model D.present }
+    ensures { ClosedLivesAreOne D.model.keeps_model D.model.present }
 {}
 
 /// An order that is told a reply was noted just then, with the number that it is told, or it repeats

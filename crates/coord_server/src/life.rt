@@ -52,7 +52,7 @@ pub fn serve_life<
 ) -> Result<Life<D, C>, ServerFault>
     requires { has_stopped store ≡ false }
     ensures { IfOk result
-        (IsLife (based_on D.keeps_model D.present store.world []) C.met C.failed setting.now.life_steps callers) }
+        (IsLife (based_on D.model.keeps_model D.model.present store.world []) C.met C.failed setting.now.life_steps callers) }
 {
     let Ok(ledger) = Ledger::adopt(setting.alloc, store) else {
         return Err(ServerFault::OutOfMemory);
@@ -80,7 +80,7 @@ fn serve_ledger<
     requires base { ledger.log.base ≡ L.base }
     requires before { (ledger.log.trail ≡ L.before) × (L.before ≡ []) }
     ensures { IfOk result
-        (IsLife (based_on D.keeps_model D.present L.base L.before) C.met C.failed setting.now.life_steps callers) }
+        (IsLife (based_on D.model.keeps_model D.model.present L.base L.before) C.met C.failed setting.now.life_steps callers) }
 {
     let engine: Engine<D, L> = Engine::new(setting.alloc, blank, ledger);
     let begun = begin(setting, &engine)?;
@@ -114,7 +114,7 @@ fn closed_life<D: Disk, L: Origin, C: Drop>(
     requires all { length ran.shares.items ≡ 9 }
     ensures { IfOk result (λ life.
         IsSince L.base L.before ran.shares.items life.closed.base life.closed.trail.items ×
-        AtSomeMoment (based_on D.keeps_model D.present L.base L.before)
+        AtSomeMoment (based_on D.model.keeps_model D.model.present L.base L.before)
         (Closes life.closed.store life.closed.base life.closed.trail.items life.closed.settled
         ran.shares.items) × (life.callers ≡ ran.callers) × (life.left ≡ ran.left)) }
 {

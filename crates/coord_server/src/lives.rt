@@ -51,7 +51,7 @@ pub fn serve_lives<
     output: W,
 ) -> Result<ServerEnd<D, C>, ServerFault>
     requires { has_stopped store ≡ false }
-    ensures lives { IfOk result (HasLived D.keeps_model D.present C.met C.failed most store.world callers) }
+    ensures lives { IfOk result (HasLived D.model.keeps_model D.model.present C.met C.failed most store.world callers) }
     ensures whole { IfOk result (λ ended. EndsOneHistory store.world ended.closed) }
 {
     let Outlet {
@@ -82,7 +82,7 @@ fn serve_and_print<
     printing: Printing<W>,
 ) -> Result<ServerEnd<D, C>, ServerFault>
     requires { has_stopped store ≡ false }
-    ensures { IfOk result (HasLived D.keeps_model D.present C.met C.failed setting.now.life_steps store.world callers) }
+    ensures { IfOk result (HasLived D.model.keeps_model D.model.present C.met C.failed setting.now.life_steps store.world callers) }
 {
     thread::scope(
         thread::scope_env(),
@@ -90,7 +90,7 @@ fn serve_and_print<
         |scope| -> Result<ServerEnd<D, C>, ServerFault>
             requires { IsSend D.row × IsSend W.row × IsSync R.row × (has_stopped store ≡ false) }
             ensures { IfOk result
-                (HasLived D.keeps_model D.present C.met C.failed setting.entry.now.life_steps store.world callers) }
+                (HasLived D.model.keeps_model D.model.present C.met C.failed setting.entry.now.life_steps store.world callers) }
         {
             let printing = start_printing(scope, setting.rt, printing);
             print_and_live(setting, store, callers, opening, printing)
@@ -125,7 +125,7 @@ fn print_and_live<
     requires { has_stopped store ≡ false }
     ensures printed { OnOk result (is_some printing ≡ true) }
     ensures lived { IfOk result
-        (HasLived D.keeps_model D.present C.met C.failed setting.now.life_steps store.world callers) }
+        (HasLived D.model.keeps_model D.model.present C.met C.failed setting.now.life_steps store.world callers) }
 {
     let Some(printing) = printing else {
         return Err(ServerFault::OutOfMemory);
@@ -148,7 +148,7 @@ fn live<D: Disk + Send, C: Callers + Drop, W: Write + Drop, R: Threads + Wait + 
 ) -> Result<ServerEnd<D, C>, ServerFault>
     requires { has_stopped store ≡ false }
     ensures { IfOk result
-        (HasLived D.keeps_model D.present C.met C.failed setting.now.life_steps store.world callers) }
+        (HasLived D.model.keeps_model D.model.present C.met C.failed setting.now.life_steps store.world callers) }
 {
     let mut store = store;
     let mut callers = callers;

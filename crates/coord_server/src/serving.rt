@@ -38,10 +38,10 @@ pub fn serve_store<
 >(rt: &R, alloc: Global, store: Store<D>, listener: &A, output: W) -> Result<Closed<D>, ServerFault>
     requires { has_stopped store ≡ false }
     ensures going { IfOk result (λ closed. has_stopped closed.store ≡ false) }
-    ensures lives { IfOk result (HasLivedToClose D.keeps_model D.present store.world) }
+    ensures lives { IfOk result (HasLivedToClose D.model.keeps_model D.model.present store.world) }
     ensures whole { IfOk result (EndsOneHistory store.world) }
-    ensures images { IfOk result (λ closed. D.keeps_model closed.store.disk ≡ true →
-        (image : List ℕ) → IsImage (D.present closed.store.disk) image →
+    ensures images { IfOk result (λ closed. D.model.keeps_model closed.store.disk ≡ true →
+        (image : List ℕ) → IsImage (D.model.present closed.store.disk) image →
         Recovered image closed.store.world) }
 {
     let callers = Accepted::new(rt, listener, Patience::usual());
@@ -65,10 +65,10 @@ fn serve_accepted<
     requires going { has_stopped store ≡ false }
     requires patience { IsUsual callers }
     ensures going { IfOk result (λ closed. has_stopped closed.store ≡ false) }
-    ensures lives { IfOk result (HasLivedToClose D.keeps_model D.present store.world) }
+    ensures lives { IfOk result (HasLivedToClose D.model.keeps_model D.model.present store.world) }
     ensures whole { IfOk result (EndsOneHistory store.world) }
-    ensures images { IfOk result (λ closed. D.keeps_model closed.store.disk ≡ true →
-        (image : List ℕ) → IsImage (D.present closed.store.disk) image →
+    ensures images { IfOk result (λ closed. D.model.keeps_model closed.store.disk ≡ true →
+        (image : List ℕ) → IsImage (D.model.present closed.store.disk) image →
         Recovered image closed.store.world) }
 {
     let ended = serve_callers(rt, alloc, store, callers, output)?;
@@ -115,12 +115,12 @@ pub fn serve_callers<
 ) -> Result<ServerEnd<D, C>, ServerFault>
     requires { has_stopped store ≡ false }
     ensures lives { IfOk result
-        (HasLived D.keeps_model D.present C.met C.failed life_steps store.world callers) }
+        (HasLived D.model.keeps_model D.model.present C.met C.failed life_steps store.world callers) }
     ensures whole { IfOk result (λ ended. EndsOneHistory store.world ended.closed) }
-    ensures images { IfOk result (λ ended. D.keeps_model ended.closed.store.disk ≡ true →
-        ImagesGive D.present ended.closed.store) }
+    ensures images { IfOk result (λ ended. D.model.keeps_model ended.closed.store.disk ≡ true →
+        ImagesGive D.model ended.closed.store) }
 {
     let ended = serve_lives(rt, alloc, LIFE_STEPS, store, callers, output)?;
-    ended.closed.store.images_give_world();
+    ended.closed.store.lemma_images_give_world();
     Ok(ended)
 }

@@ -68,7 +68,7 @@ pub fn run<
     opening: Option<Opening<W>>,
 ) -> Result<Ran<L, C>, ServerFault>
     ensures { IfOk result (λ ran.
-        HasRun (based_on D.keeps_model D.present L.base L.before) C.met C.failed setting.now.life_steps
+        HasRun (based_on D.model.keeps_model D.model.present L.base L.before) C.met C.failed setting.now.life_steps
         callers ran.callers ran.left ran.shares.items) }
 {
     thread::scope(
@@ -77,7 +77,7 @@ pub fn run<
         |scope| -> Result<Ran<L, C>, ServerFault>
             requires { IsSend D.row × IsSend L.row × IsSync L.row × IsSync R.row }
             ensures { IfOk result (λ ran.
-                HasRun (based_on D.keeps_model D.present L.base L.before) C.met C.failed
+                HasRun (based_on D.model.keeps_model D.model.present L.base L.before) C.met C.failed
                 setting.entry.now.life_steps callers ran.callers ran.left ran.shares.items) }
         { run_in(scope, setting, engine, begun, callers, opening) },
     )
@@ -104,7 +104,7 @@ fn run_in<
     opening: Option<Opening<W>>,
 ) -> Result<Ran<L, C>, ServerFault>
     ensures { IfOk result (λ ran.
-        HasRun (based_on D.keeps_model D.present L.base L.before) C.met C.failed setting.now.life_steps
+        HasRun (based_on D.model.keeps_model D.model.present L.base L.before) C.met C.failed setting.now.life_steps
         callers ran.callers ran.left ran.shares.items) }
 {
     let rt = setting.rt;
@@ -192,7 +192,7 @@ fn serve_over<D: Disk, L: Origin, C: Callers, W: Write + Drop, R: Wait>(
 ) -> (Share<L>, LifeEnd)
     requires { own ≡ [] }
     ensures { (seen : ℕ) × ServesLife
-        (based_on D.keeps_model D.present L.base L.before) C.met C.failed setting.now.life_steps callers.old
+        (based_on D.model.keeps_model D.model.present L.base L.before) C.met C.failed setting.now.life_steps callers.old
         callers.new (record { notes = result.0; seen = seen }) result.1 }
 {
     let opened = open(setting.rt, &*callers, opening);
@@ -228,9 +228,9 @@ fn serve_clients<D: Disk, L: Origin, C: Callers, P: Port, R: Wait>(
     ensures told { IfErr opened (λ fault. result ≡ LifeEnd.Ended (Some fault)) }
     ensures resent { IfOk opened (λ _.
         (result ≡ LifeEnd.Ended (Some ServerFault.OutOfMemory)) ⊎ ((count : ℕ) × (port : P) ×
-        (later : P) × HandsAgain (based_on D.keeps_model D.present L.base L.before) P.carried
+        (later : P) × HandsAgain (based_on D.model.keeps_model D.model.present L.base L.before) P.carried
         P.signalled count port later)) }
-    ensures served { ServesLife (based_on D.keeps_model D.present L.base L.before) C.met C.failed
+    ensures served { ServesLife (based_on D.model.keeps_model D.model.present L.base L.before) C.met C.failed
         setting.now.life_steps callers.old callers.new desk.new result }
 {
     if let Err(fault) = opened {

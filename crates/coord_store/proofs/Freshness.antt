@@ -5,11 +5,11 @@ use Rattle.std.proofs.Math.Seq.{drop-cons, take-length, take-suc}
 use Rattle.coord_types.specs.declared.steps.Step.{Step}
 use Rattle.coord_world.specs.Facade.{InRange, IsFresh, StepInRange, World, farthest, fold, next}
 use Rattle.std.specs.List.{AllByRecursion}
-use Rattle.coord_types.specs.Messages.{brought}
+use Rattle.coord_types.specs.Messages.{carried}
 use Rattle.coord_types.specs.declared.steps.Step.TheVariants.{Order, Take, Clear}
-use Rattle.coord_batch.specs.Batches.{BringsRightly, IsNumbered, IsWritable}
+use Rattle.coord_batch.specs.Batches.{CarriesRightly, IsNumbered, IsWritable}
 use Rattle.coord_world.specs.laws.Trails.{IsSound}
-use Rattle.coord_world.proofs.Facade.{EachFresh, brought_within, fresh_count, itself, same_version, trail_keeps_worlds, trail_of}
+use Rattle.coord_world.proofs.Facade.{EachFresh, carried_within, fresh_count, itself, same_version, trail_keeps_worlds, trail_of}
 use Rattle.coord_store.specs.Recovered.{AllFresh}
 
 -- the one that stands here is
@@ -49,11 +49,11 @@ pub first_number : (steps : List Step) (settled w : World) → 1 ≤ length step
 first_number [] settled w some all = absurd (omega arith)
 first_number (s ∷ steps) settled w some all = fresh_count w settled s all.0
 
--- in version 1 a fresh step brings no distance
-pub brings_rightly : (w settled : World) (s : Step) → InRange w → IsFresh w settled s → BringsRightly w.version s
-brings_rightly w settled (Order c n x) range fresh = tt
-brings_rightly w settled (Take p) range fresh = λ first. let near = subst (λ v. brought p.msg ≤ farthest v w.count) first (brought_within w settled (Take p) range fresh) in omega (arith, near)
-brings_rightly w settled (Clear r) range fresh = tt
+-- in version 1 a fresh step carries no distance
+pub carries_rightly : (w settled : World) (s : Step) → InRange w → IsFresh w settled s → CarriesRightly w.version s
+carries_rightly w settled (Order c n x) range fresh = tt
+carries_rightly w settled (Take p) range fresh = λ first. let near = subst (λ v. carried p.msg ≤ farthest v w.count) first (carried_within w settled (Take p) range fresh) in omega (arith, near)
+carries_rightly w settled (Clear r) range fresh = tt
 
 -- no step changes the version
 pub fold_version : (steps : List Step) (w : World) → (fold w steps).version ≡ w.version
@@ -64,13 +64,13 @@ pub all-push : {A : Type 0} (P : A → Type 0) (xs : List A) (x : A) → AllByRe
 all-push P [] x all last = (last, tt)
 all-push P (y ∷ xs) x all last = (all.0, all-push P xs x all.1 last)
 
--- what is numbered and brings no distance where it may not can be written
-writable : (version : ℕ) (s : Step) → IsNumbered s → BringsRightly version s → IsWritable version s
+-- what is numbered and carries no distance where it may not can be written
+writable : (version : ℕ) (s : Step) → IsNumbered s → CarriesRightly version s → IsWritable version s
 writable version (Order c n x) numbered brings = numbered
 writable version (Take p) numbered brings = brings
 writable version (Clear r) numbered brings = tt
 
-pub all_writable : (version : ℕ) (steps : List Step) → AllByRecursion IsNumbered steps → AllByRecursion (BringsRightly version) steps → AllByRecursion (IsWritable version) steps
+pub all_writable : (version : ℕ) (steps : List Step) → AllByRecursion IsNumbered steps → AllByRecursion (CarriesRightly version) steps → AllByRecursion (IsWritable version) steps
 all_writable version [] numbered brings = tt
 all_writable version (s ∷ steps) numbered brings = (writable version s numbered.0 brings.0, all_writable version steps numbered.1 brings.1)
 
@@ -85,10 +85,10 @@ each_fresh (s ∷ steps) settled w named fresh = ((itself w settled s fresh.0, n
 pub led_soundly : (steps : List Step) (w : World) → IsSound w → EachFresh w steps → IsSound (fold w steps)
 led_soundly steps w sound each = subst (λ l. IsSound (fold w l)) (take-length steps) (trail_keeps_worlds w steps (length steps) (trail_of steps w sound each))
 
--- and in version 1 none of them brings a distance
-pub all_brought : (steps : List Step) (w : World) → IsSound w → EachFresh w steps → AllByRecursion (BringsRightly w.version) steps
-all_brought [] w sound each = tt
-all_brought (s ∷ steps) w sound each = (
-  brings_rightly w w s sound.in_range each.0.0,
-  subst (λ v. AllByRecursion (BringsRightly v) steps) (same_version w s) (all_brought steps (next w s) (led_soundly (s ∷ []) w sound (each.0, tt)) each.1),
+-- and in version 1 none of them carries a distance
+pub all_carried : (steps : List Step) (w : World) → IsSound w → EachFresh w steps → AllByRecursion (CarriesRightly w.version) steps
+all_carried [] w sound each = tt
+all_carried (s ∷ steps) w sound each = (
+  carries_rightly w w s sound.in_range each.0.0,
+  subst (λ v. AllByRecursion (CarriesRightly v) steps) (same_version w s) (all_carried steps (next w s) (led_soundly (s ∷ []) w sound (each.0, tt)) each.1),
 )

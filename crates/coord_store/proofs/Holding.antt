@@ -1,9 +1,10 @@
 -- What the images of a journal's disk give.
-use Rattle.std.proofs.Common.{◌≡◌, ◌≢◌, ℕ, ◌+◌, Bool, true, false, List, length, None, Some, Option, is_some, Result, Ok, Err, IfErr, inl, inr, ⊎_elim, refl, sym, ap, ◌∙◌, subst, arith}
+use Rattle.std.proofs.Common.{◌≡◌, ◌≢◌, ℕ, ◌+◌, ◌≤◌, Bool, true, false, List, length, None, Some, Option, is_some, Result, Ok, Err, IfErr, inl, inr, ⊎_elim, refl, sym, ap, ◌∙◌, subst, arith}
 use Rattle.coord_batch.specs.Facade.{IsBatch, batch, pair}
 use Rattle.coord_codec.specs.Worlds.{world}
+use Rattle.coord_disk.specs.Model.DiskModel.{DiskModel, IsModel}
 use Rattle.coord_disk.specs.Model.Moments.{LeavesOnly}
-use Rattle.coord_disk.specs.Model.Present.{Present, IsImage}
+use Rattle.coord_disk.specs.Model.Present.{IsImage}
 use Rattle.coord_disk.proofs.MomentLemmas.{and_then, started, weaker}
 use Rattle.coord_disk.proofs.TornWrites.{whole_image}
 use Rattle.coord_journal.specs.Facade.{Content, HasPlaceIn, HasRoomFor, IsEitherText, IsText, IsTextAt, IsTextIn, disk_of, half_of, half_size_of, has_stopped, used_of, with_batch, without_batch}
@@ -11,7 +12,7 @@ use Rattle.coord_journal.specs.declared.journal.Journal.{Journal}
 use Rattle.coord_journal.proofs.Texts.{text_place}
 use Rattle.coord_types.specs.declared.steps.Step.{Step}
 use Rattle.coord_world.specs.Facade.{InRange, Legal, World, fold, rows_of}
-use Rattle.coord_store.specs.Facade.{AllFresh, Gives, GivesEither, Holds, ImagesGive, IsBody, IsKept, IsOnlyWorld, Kept, Recovered, Takes}
+use Rattle.coord_store.specs.Facade.{AllFresh, Ends, Gives, GivesEither, Holds, ImagesGive, IsBody, IsKept, IsOnlyWorld, Kept, Recovered, Stays, Takes}
 use Rattle.coord_store.specs.declared.faults.CommitFault.{CommitFault}
 use Rattle.coord_store.specs.declared.faults.CommitFault.TheVariants.{Device}
 use Rattle.coord_store.proofs.Replaying.{replays-push}
@@ -69,43 +70,65 @@ appending_gives content w body steps gives takes bytes either =
 pub replacing_either : (content other : Content) (v w : World) → Gives content v → Gives other w → (bytes : List ℕ) → IsEitherText content other bytes → GivesEither v w bytes
 replacing_either content other v w gives too bytes either = ⊎_elim (λ t. inl (text_gives content v bytes gives t)) (λ t. inr (text_gives other w bytes too t)) either
 
-module _ {D : Type 0} (clock : D → ℕ) (left_since : D → ℕ → List ℕ → Type 0) where
+module _ {D : Type 0} (m : DiskModel D) where
   -- a run that leaves one world, and then one that leaves it or another
-  pub only_then_either : (old mid new : D) (v w : World) → LeavesOnly clock left_since old mid (IsOnlyWorld v) → LeavesOnly clock left_since mid new (GivesEither v w) → LeavesOnly clock left_since old new (GivesEither v w)
-  only_then_either old mid new v w one other = weaker clock left_since old new _ _ (and_then clock left_since old mid new _ _ one other) (λ bytes either. ⊎_elim (λ first. inl first) (λ second. second) either)
+  pub only_then_either : (old mid new : D) (v w : World) → LeavesOnly m old mid (IsOnlyWorld v) → LeavesOnly m mid new (GivesEither v w) → LeavesOnly m old new (GivesEither v w)
+  only_then_either old mid new v w one other = weaker m old new _ _ (and_then m old mid new _ _ one other) (λ bytes either. ⊎_elim (λ first. inl first) (λ second. second) either)
 
   -- and one that leaves it alone
-  pub only_twice : (old mid new : D) (w : World) → LeavesOnly clock left_since old mid (IsOnlyWorld w) → LeavesOnly clock left_since mid new (IsOnlyWorld w) → LeavesOnly clock left_since old new (IsOnlyWorld w)
-  only_twice old mid new w one other = weaker clock left_since old new _ _ (and_then clock left_since old mid new _ _ one other) (λ bytes either. ⊎_elim (λ first. first) (λ second. second) either)
+  pub only_twice : (old mid new : D) (w : World) → LeavesOnly m old mid (IsOnlyWorld w) → LeavesOnly m mid new (IsOnlyWorld w) → LeavesOnly m old new (IsOnlyWorld w)
+  only_twice old mid new w one other = weaker m old new _ _ (and_then m old mid new _ _ one other) (λ bytes either. ⊎_elim (λ first. first) (λ second. second) either)
 
-module _ {D : Type 0} (present : D → Present) (keeps_model : D → Bool) where
+  pub only_is_either : (old new : D) (v w : World) → LeavesOnly m old new (IsOnlyWorld v) → LeavesOnly m old new (GivesEither v w)
+  only_is_either old new v w only = weaker m old new _ _ only (λ bytes gives. inl gives)
+
+  pub either_is_only : (old new : D) (w : World) → LeavesOnly m old new (GivesEither w w) → LeavesOnly m old new (IsOnlyWorld w)
+  either_is_only old new w either = weaker m old new _ _ either (λ bytes gives. ⊎_elim (λ first. first) (λ second. second) gives)
+
   -- each image of a journal that holds a world gives it
-  pub image_gives : (journal : Journal D) (w : World) → Holds present journal w → (image : List ℕ) → IsImage (present (disk_of journal)) image → Recovered image w
+  pub image_gives : (journal : Journal D) (w : World) → Holds m journal w → (image : List ℕ) → IsImage (m.present (disk_of journal)) image → Recovered image w
   image_gives journal w holds image is =
       text_gives holds.content w image holds.gives
-      (subst (IsText holds.content) (sym (whole_image (present (disk_of journal)).read (present (disk_of journal)) holds.ready.synced image is)) (half_size_of journal, half_of journal, used_of journal, holds.ready.text))
+      (subst (IsText holds.content) (sym (whole_image (m.present (disk_of journal)).read (m.present (disk_of journal)) holds.ready.synced image is)) (half_size_of journal, half_of journal, used_of journal, holds.ready.text))
 
   -- where its text has room, it has
-  pub has_room : (journal : Journal D) (w : World) (half len : ℕ) → Holds present journal w → HasPlaceIn half len (present (disk_of journal)).read → HasRoomFor journal len × (half_of journal ≡ half)
+  pub has_room : (journal : Journal D) (w : World) (half len : ℕ) → Holds m journal w → HasPlaceIn half len (m.present (disk_of journal)).read → HasRoomFor journal len × (half_of journal ≡ half)
   has_room journal w half len holds place =
-      let same = text_place (present (disk_of journal)).read holds.content place.0 (half_size_of journal) place.1 (half_of journal) half (used_of journal) place.2 holds.ready.text place.3 in
+      let same = text_place (m.present (disk_of journal)).read holds.content place.0 (half_size_of journal) place.1 (half_of journal) half (used_of journal) place.2 holds.ready.text place.3 in
       (omega (arith, same.0, same.2, place.4), same.1)
 
-  pub in_half : (journal : Journal D) (w : World) (half : ℕ) → Holds present journal w → half_of journal ≡ half → IsTextIn half (present (disk_of journal)).read
-  in_half journal w half holds same = (holds.content, half_size_of journal, used_of journal, subst (λ (h : ℕ). IsTextAt (present (disk_of journal)).read holds.content (half_size_of journal) h (used_of journal)) same holds.ready.text)
+  pub in_half : (journal : Journal D) (w : World) (half : ℕ) → Holds m journal w → half_of journal ≡ half → IsTextIn half (m.present (disk_of journal)).read
+  in_half journal w half holds same = (holds.content, half_size_of journal, used_of journal, subst (λ (h : ℕ). IsTextAt (m.present (disk_of journal)).read holds.content (half_size_of journal) h (used_of journal)) same holds.ready.text)
 
   -- before any call
-  pub begun : (clock : D → ℕ) (left_since : D → ℕ → List ℕ → Type 0) (journal : Journal D) (w : World) → Holds present journal w → ((image : List ℕ) → left_since (disk_of journal) (clock (disk_of journal)) image → IsImage (present (disk_of journal)) image)
-      → LeavesOnly clock left_since (disk_of journal) (disk_of journal) (IsOnlyWorld w)
-  begun clock left_since journal w holds now = started clock left_since (disk_of journal) (IsOnlyWorld w) (λ image left. image_gives journal w holds image (now image left))
+  pub begun : IsModel m → (journal : Journal D) (w : World) → Holds m journal w → LeavesOnly m (disk_of journal) (disk_of journal) (IsOnlyWorld w)
+  begun laws journal w holds = started m laws (disk_of journal) (IsOnlyWorld w) holds.ready.keeps (image_gives journal w holds)
 
   -- the same of a store of which no commit was torn
-  pub stays : (clock : D → ℕ) (left_since : D → ℕ → List ℕ → Type 0) (s : Kept D) → ImagesGive present s → s.torn ≡ None → ((image : List ℕ) → left_since s.disk (clock s.disk) image → IsImage (present s.disk) image) → LeavesOnly clock left_since s.disk s.disk (IsOnlyWorld s.world)
-  stays clock left_since s images none now =
-      started clock left_since s.disk (IsOnlyWorld s.world) (λ image left. ⊎_elim (λ gives. gives) (λ torn. let no : ⊥ = cc (none, torn.1) in absurd no) (images image (now image left)))
+  pub stays : IsModel m → (s : Kept D) → m.keeps_model s.disk ≡ true → ImagesGive m s → s.torn ≡ None → LeavesOnly m s.disk s.disk (IsOnlyWorld s.world)
+  stays laws s keeps images none =
+      started m laws s.disk (IsOnlyWorld s.world) keeps (λ image is. ⊎_elim (λ gives. gives) (λ torn. let no : ⊥ = cc (none, torn.1) in absurd no) (images image is))
+
+  -- where nothing was written
+  pub unwritten : IsModel m → (old new : Journal D) (w : World) → Holds m old w → new ≡ old → LeavesOnly m (disk_of old) (disk_of new) (IsOnlyWorld w) × Holds m new w
+  unwritten laws old new w holds same =
+      let P : Journal D → Type 0 = λ j. LeavesOnly m (disk_of old) (disk_of j) (IsOnlyWorld w) × Holds m j w in subst P (sym same) (begun laws old w holds, holds)
+
+  pub stays_by : {T : Type 0} → IsModel m → (old new : Journal D) (w : World) (fault : CommitFault) → Holds m old w → (fault ≢ Device → new ≡ old) → Stays {T = T} m w old new (Err fault)
+  stays_by laws old new w fault holds same = record { any_moment = λ other. (unwritten laws old new w holds (same other)).0; held = λ other. (unwritten laws old new w holds (same other)).1 }
+
+  -- what is done in at most so many calls is done in at most more
+  pub ends_within : {T : Type 0} (n k : ℕ) (old new : Journal D) (r : Result T CommitFault) → n ≤ k → Ends m n old new r → Ends m k old new r
+  ends_within n k old new r le ends = record {
+    runs = record { model = ends.runs.model; failures = ends.runs.failures; calls = λ keeps. omega (arith, le, ends.runs.calls keeps) };
+    fault = ends.fault;
+    going = ends.going;
+    still = ends.still;
+    device = ends.device;
+  }
 
   -- a store that goes on
-  pub kept_on : (journal : Journal D) (w : World) (torn : Option World) → torn ≡ None → Legal w → has_stopped journal ≡ false → (keeps_model (disk_of journal) ≡ true → Holds present journal w) → IsKept present keeps_model journal w torn
+  pub kept_on : (journal : Journal D) (w : World) (torn : Option World) → torn ≡ None → Legal w → has_stopped journal ≡ false → (m.keeps_model (disk_of journal) ≡ true → Holds m journal w) → IsKept m journal w torn
   kept_on journal w torn none legal going holds = record {
     legal = legal;
     stopped = going ∙ sym (ap is_some none);
@@ -114,11 +137,10 @@ module _ {D : Type 0} (present : D → Present) (keeps_model : D → Bool) where
   }
 
   -- a store after a torn commit
-  pub kept_torn : (journal : Journal D) (w next : World) → Legal w → has_stopped journal ≡ true → (keeps_model (disk_of journal) ≡ true → (image : List ℕ) → IsImage (present (disk_of journal)) image → GivesEither w next image)
-      → IsKept present keeps_model journal w (Some next)
-  kept_torn journal w next legal stopped each = record {
+  pub kept_torn : IsModel m → (old : D) (journal : Journal D) (w next : World) → Legal w → has_stopped journal ≡ true → (m.keeps_model (disk_of journal) ≡ true → LeavesOnly m old (disk_of journal) (GivesEither w next)) → IsKept m journal w (Some next)
+  kept_torn laws old journal w next legal stopped moments = record {
     legal = legal;
     stopped = stopped;
     holds = λ k none. absurd cc;
-    images = λ k image is. ⊎_elim (λ r. inl r) (λ r. inr (next, refl, r)) (each k image is);
+    images = λ k image is. ⊎_elim (λ r. inl r) (λ r. inr (next, refl, r)) ((moments k).each image (laws.counts_now (disk_of journal) (m.clock old) image k (moments k).later is));
   }

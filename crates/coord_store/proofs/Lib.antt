@@ -1,3 +1,4 @@
+pub mod Changing
 pub mod Exclusion
 pub mod Freshness
 pub mod Holding

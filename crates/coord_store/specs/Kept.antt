@@ -1,7 +1,7 @@
 -- A store: what its disk's images give.
 use Rattle.std.specs.Prelude.{◌≡◌, ◌⊎◌, ℕ, Bool, true, List, Option, Some, None, is_some}
 use Rattle.coord_codec.specs.Worlds.{world}
-use Rattle.coord_disk.specs.Model.Moments.{LeavesOnly}
+use Rattle.coord_disk.specs.Model.DiskModel.{DiskModel}
 use Rattle.coord_disk.specs.Model.Present.{Present, IsImage, whole}
 use Rattle.coord_journal.specs.Facade.{Content, IsReady, disk_of, formatted, has_stopped as journal_has_stopped}
 use Rattle.coord_journal.specs.declared.journal.Journal.{Journal}
@@ -29,21 +29,21 @@ abbrev pub GivesKept : {D : Type 0} → Kept D → List ℕ → Type 0
 GivesKept kept bytes = Recovered bytes kept.world ⊎ ((w : World) × (kept.torn ≡ Some w) × Recovered bytes w)
 
 -- so does each image of its disk
-abbrev pub ImagesGive : {D : Type 0} → (D → Present) → Kept D → Type 0
-ImagesGive present kept = (image : List ℕ) → IsImage (present kept.disk) image → GivesKept kept image
+abbrev pub ImagesGive : {D : Type 0} → DiskModel D → Kept D → Type 0
+ImagesGive m kept = (image : List ℕ) → IsImage (m.present kept.disk) image → GivesKept kept image
 
--- the journal is ready, and its content gives this world
-pub record Holds {D : Type 0} (present : D → Present) (journal : Journal D) (w : World) : Type 0 where
+-- the journal is ready, on a disk that keeps the model, and its content gives this world
+pub record Holds {D : Type 0} (m : DiskModel D) (journal : Journal D) (w : World) : Type 0 where
   pub content : Content
-  pub ready : IsReady present journal content
+  pub ready : IsReady m journal content
   pub gives : Gives content w
 
 -- what the type of a store keeps of its parts
-pub record IsKept {D : Type 0} (present : D → Present) (keeps_model : D → Bool) (journal : Journal D) (world : World) (torn : Option World) : Type 0 where
+pub record IsKept {D : Type 0} (m : DiskModel D) (journal : Journal D) (world : World) (torn : Option World) : Type 0 where
   pub legal : Legal world
   pub stopped : journal_has_stopped journal ≡ is_some torn
-  pub holds : keeps_model (disk_of journal) ≡ true → torn ≡ None → Holds present journal world
-  pub images : keeps_model (disk_of journal) ≡ true → ImagesGive present (record { disk = disk_of journal; world = world; torn = torn })
+  pub holds : m.keeps_model (disk_of journal) ≡ true → torn ≡ None → Holds m journal world
+  pub images : m.keeps_model (disk_of journal) ≡ true → ImagesGive m (record { disk = disk_of journal; world = world; torn = torn })
 
 -- these bytes give this world
 abbrev pub IsOnlyWorld : World → List ℕ → Type 0
@@ -52,9 +52,3 @@ IsOnlyWorld w bytes = Recovered bytes w
 -- what a disk holds on which a store was just made
 abbrev pub made : ℕ → ℕ → Present
 made half_size version = whole (formatted half_size version ((world version).text (rows_of (no_world version))))
-
--- A call leaves the disk as it was, and a crash at any moment of it leaves nothing that it could
--- not have left before.
-pub record IsUntouched {D : Type 0} (present : D → Present) (clock : D → ℕ) (left_since : D → ℕ → List ℕ → Type 0) (old new : D) : Type 0 where
-  pub same : present new ≡ present old
-  pub any_moment : LeavesOnly clock left_since old new (IsImage (present old))

@@ -4,4 +4,6 @@ pub mod Laws
 pub mod Recovered
 pub mod Refused
 pub mod Migrating
+pub mod Writing
+pub mod Changing
 pub mod Facade

@@ -1,10 +1,11 @@
 //! Makes a store.
 
-ghost use Rattle.std.specs.Prelude.{◌≡◌, ◌≢◌, ◌⊎◌, ◌+◌, ◌<◌, ◌≤◌, true, None, length, MatchResult, IfOk, IfErr};
+ghost use Rattle.std.specs.Prelude.{◌≡◌, ◌≢◌, ◌⊎◌, ◌<◌, ◌≤◌, true, None, length, MatchResult, IfOk, IfErr};
 ghost use Rattle.coord_codec.specs.Worlds.{world};
+ghost use Rattle.coord_disk.specs.Model.Moments.{IsUntouched, Runs};
 ghost use Rattle.coord_journal.specs.Text.{IsHalfSize, without_batch};
 ghost use Rattle.coord_journal.specs.declared.layout.TheConstants.{MAX_SNAPSHOT};
-ghost use Rattle.coord_store.specs.Kept.{IsUntouched, made};
+ghost use Rattle.coord_store.specs.Kept.{made};
 ghost use Rattle.coord_store.specs.Recovered.{Gives};
 ghost use Rattle.coord_store.specs.Refused.{IsCreateFault, RefusesCreate, failed_in};
 ghost use Rattle.coord_store.specs.declared.faults.StoreFault.TheVariants.{Device, HalfSize, NotEmpty, OutOfMemory};
@@ -29,7 +30,7 @@ fn first_snapshot(alloc: Global, version: Version) -> Result<Vec<u8>, AllocError
     ensures short { IfOk result (λ snapshot. length snapshot.items ≤ MAX_SNAPSHOT) }
 {
     let world = World::empty(alloc, version);
-    world.ranges();
+    world.lemma_in_range();
     match write_world(alloc, &world) {
         Ok(snapshot) => Ok(snapshot),
         Err(fault) => Err(fault),
@@ -51,36 +52,28 @@ impl<D: Disk> Store<D> {
         version: u8,
     ) -> Result<Self, (StoreFault, D)>
         requires { (1 ≤ version) × (version ≤ 2) }
-        ensures empty { D.keeps_model disk ≡ true →
-            IfOk result (λ store. length (D.present disk).read ≡ 0) }
+        ensures empty { D.model.keeps_model disk ≡ true →
+            IfOk result (λ store. length (D.model.present disk).read ≡ 0) }
         ensures half_size { IfOk result (λ store. IsHalfSize half_size) }
-        ensures bytes { D.keeps_model disk ≡ true →
-            IfOk result (λ store. D.present store.disk ≡ made half_size version) }
+        ensures bytes { D.model.keeps_model disk ≡ true →
+            IfOk result (λ store. D.model.present store.disk ≡ made half_size version) }
         ensures world { IfOk result (λ store. store.world ≡ no_world version) }
         ensures going { IfOk result (λ store. store.torn ≡ None) }
-        ensures fault { D.keeps_model disk ≡ true →
-            IfErr result (λ refused. RefusesCreate (D.present disk).read half_size refused.0) }
+        ensures fault { D.model.keeps_model disk ≡ true →
+            IfErr result (λ refused. RefusesCreate (D.model.present disk).read half_size refused.0) }
         ensures named { IfErr result (λ refused. IsCreateFault refused.0) }
 
         // What a refusal leaves, where the device itself did not fail.
-        ensures unchanged { D.keeps_model disk ≡ true →
+        ensures unchanged { D.model.keeps_model disk ≡ true →
             IfErr result (λ refused. (refused.0 ≡ NotEmpty) ⊎ (refused.0 ≡ HalfSize) →
-            IsUntouched D.present D.clock D.left_since disk refused.1) }
-        ensures memory { D.keeps_model disk ≡ true →
-            IfErr result (λ refused. refused.0 ≡ OutOfMemory →
-            IsUntouched D.present D.clock D.left_since disk refused.1 ⊎
-            (D.present refused.1 ≡ made half_size version)) }
-        ensures taken { D.keeps_model disk ≡ true → 0 < length (D.present disk).read →
-            IfErr result (λ refused. refused.0 ≢ Device →
-            IsUntouched D.present D.clock D.left_since disk refused.1) }
-
-        ensures model { MatchResult result (λ store. D.keeps_model store.disk ≡ D.keeps_model disk)
-            (λ refused. D.keeps_model refused.1 ≡ D.keeps_model disk) }
-        ensures failures { MatchResult result (λ store. D.failures store.disk ≡ D.failures disk)
-            (λ refused. D.failures refused.1 ≡ D.failures disk + failed_in refused.0) }
-        ensures calls { MatchResult result (λ store. D.keeps_model disk ≡ true →
-            D.clock store.disk ≤ D.clock disk + 6) (λ refused. D.keeps_model disk ≡ true →
-            D.clock refused.1 ≤ D.clock disk + 6) }
+            IsUntouched D.model disk refused.1) }
+        ensures memory { D.model.keeps_model disk ≡ true →
+            IfErr result (λ refused. refused.0 ≡ OutOfMemory → IsUntouched D.model disk refused.1 ⊎
+            (D.model.present refused.1 ≡ made half_size version)) }
+        ensures taken { D.model.keeps_model disk ≡ true → 0 < length (D.model.present disk).read →
+            IfErr result (λ refused. refused.0 ≢ Device → IsUntouched D.model disk refused.1) }
+        ensures runs { MatchResult result (λ store. Runs D.model disk store.disk 6 0)
+            (λ refused. Runs D.model disk refused.1 6 (failed_in refused.0)) }
     {
         let Some(known) = Version::new(version) else {
             unreachable!()

@@ -1,8 +1,8 @@
 //! Opens a store.
 
-ghost use Rattle.std.specs.Prelude.{◌≡◌, ◌≢◌, ◌⊎◌, ◌+◌, ◌≤◌, true, None, MatchResult, IfOk, IfErr};
-ghost use Rattle.coord_disk.specs.Model.Moments.{LeavesOnly};
-ghost use Rattle.coord_disk.specs.Model.Present.{IsImage, whole};
+ghost use Rattle.std.specs.Prelude.{◌≡◌, ◌≢◌, ◌⊎◌, true, None, MatchResult, IfOk, IfErr};
+ghost use Rattle.coord_disk.specs.Model.Moments.{AddsNothing, Runs};
+ghost use Rattle.coord_disk.specs.Model.Present.{whole};
 ghost use Rattle.coord_journal.specs.Contents.{content_of};
 ghost use Rattle.coord_journal.specs.Faults.{IsFormatFault, IsOpenFault as IsJournalFault};
 ghost use Rattle.coord_store.specs.Faults.{store_fault_of};
@@ -59,38 +59,28 @@ impl<D: Disk> Store<D> {
     /// `BadBatch` and `BadStep`.
     pub fn open(alloc: Global, disk: D) -> Result<Self, (StoreFault, D)>
         // Where the bytes of the device give a world, it is opened with that world, or there is no memory or the device fails.
-        ensures world { D.keeps_model disk ≡ true →
-            IfOk result (λ store. Recovered (D.present disk).read store.world) }
-        ensures only { (w : Numbered) → D.keeps_model disk ≡ true →
-            Recovered (D.present disk).read w →
+        ensures world { D.model.keeps_model disk ≡ true →
+            IfOk result (λ store. Recovered (D.model.present disk).read store.world) }
+        ensures only { (w : Numbered) → D.model.keeps_model disk ≡ true →
+            Recovered (D.model.present disk).read w →
             MatchResult result (λ store. store.world ≡ w) (λ refused. IsPassing refused.0) }
-        ensures fault { D.keeps_model disk ≡ true →
-            IfErr result (λ refused. RefusesOpen (D.present disk).read refused.0) }
+        ensures fault { D.model.keeps_model disk ≡ true →
+            IfErr result (λ refused. RefusesOpen (D.model.present disk).read refused.0) }
         ensures named { IfErr result (λ refused. IsOpenFault refused.0) }
 
         // It may be committed to, and the device reads as before.
         ensures going { IfOk result (λ store. store.torn ≡ None) }
-        ensures bytes { D.keeps_model disk ≡ true →
-            IfOk result (λ store. D.present store.disk ≡ whole (D.present disk).read) }
-        ensures unchanged { D.keeps_model disk ≡ true →
+        ensures bytes { D.model.keeps_model disk ≡ true → IfOk result (λ store.
+            D.model.present store.disk ≡ whole (D.model.present disk).read) }
+        ensures unchanged { D.model.keeps_model disk ≡ true →
             IfErr result (λ refused. refused.0 ≢ Device →
-            D.present refused.1 ≡ whole (D.present disk).read) }
+            D.model.present refused.1 ≡ whole (D.model.present disk).read) }
 
         // A crash at any moment leaves nothing that it could not have left before.
-        ensures any_moment { D.keeps_model disk ≡ true →
-            IfOk result (λ store. LeavesOnly D.clock D.left_since disk store.disk
-            (IsImage (D.present disk))) }
-        ensures any_moment_refused { D.keeps_model disk ≡ true →
-            IfErr result (λ refused. LeavesOnly D.clock D.left_since disk refused.1
-            (IsImage (D.present disk))) }
-
-        ensures model { MatchResult result (λ store. D.keeps_model store.disk ≡ D.keeps_model disk)
-            (λ refused. D.keeps_model refused.1 ≡ D.keeps_model disk) }
-        ensures failures { MatchResult result (λ store. D.failures store.disk ≡ D.failures disk)
-            (λ refused. D.failures refused.1 ≡ D.failures disk + failed_in refused.0) }
-        ensures calls { MatchResult result (λ store. D.keeps_model disk ≡ true →
-            D.clock store.disk ≤ D.clock disk + 3) (λ refused. D.keeps_model disk ≡ true →
-            D.clock refused.1 ≤ D.clock disk + 3) }
+        ensures any_moment { MatchResult result (λ store. AddsNothing D.model disk store.disk)
+            (λ refused. AddsNothing D.model disk refused.1) }
+        ensures runs { MatchResult result (λ store. Runs D.model disk store.disk 3 0)
+            (λ refused. Runs D.model disk refused.1 3 (failed_in refused.0)) }
     {
         let (journal, contents) = match coord_journal::open(alloc, disk) {
             Ok(opened) => opened,

@@ -2,7 +2,7 @@
 
 ghost use Rattle.std.specs.Prelude.{◌≡◌, ◌⊎◌, ◌↔◌, ℕ, IsTrue, OnOk, IfOk, IfErr, IfSome};
 ghost use Rattle.std.specs.List.{AllByRecursion};
-ghost use Rattle.coord_batch.specs.Batches.{BringsRightly};
+ghost use Rattle.coord_batch.specs.Batches.{CarriesRightly};
 ghost use Rattle.coord_store.specs.Recovered.{AllFresh};
 ghost use Rattle.coord_store.specs.Refused.{StopsAt};
 ghost use Rattle.coord_store.specs.declared.faults.StoreFault.TheVariants.{OutOfMemory, BadStep};
@@ -23,22 +23,22 @@ pub fn take_all(world: &mut World, steps: &[Step]) -> Result<(), AllocError>
     requires legal { Legal world.old }
     requires fresh { AllFresh world.old world.old steps.now }
     ensures world { OnOk result (world.new ≡ fold world.old steps.now) }
-    ensures brought { OnOk result (AllByRecursion (BringsRightly world.old.version) steps.now) }
+    ensures carried { OnOk result (AllByRecursion (CarriesRightly world.old.version) steps.now) }
     ensures legal { Legal world.new }
 {
     for step in steps {
-        world.ranges();
+        world.lemma_in_range();
         world.apply(step)?;
     }
     Ok(())
 }
 
 /// Does nothing: its contract is what the types of steps keep.
-fn within_ranges(steps: &[Step])
+fn lemma_in_ranges(steps: &[Step])
     ensures { AllByRecursion StepInRange steps.now }
 {
     for step in steps {
-        step.within_ranges();
+        step.lemma_in_range();
     }
 }
 
@@ -53,13 +53,13 @@ pub(crate) fn led_to(
     requires fresh { AllFresh world.now world.now steps.now }
     requires made { IfSome made (λ next. next ≡ fold world.now steps.now) }
     ensures world { IfOk result (λ next. next ≡ fold world.now steps.now) }
-    ensures brought { OnOk result (AllByRecursion (BringsRightly world.now.version) steps.now) }
+    ensures carried { OnOk result (AllByRecursion (CarriesRightly world.now.version) steps.now) }
     ensures legal { IfOk result (λ next. Legal next) }
 {
     match made {
         Some(next) => {
-            world.ranges();
-            within_ranges(steps);
+            world.lemma_in_range();
+            lemma_in_ranges(steps);
             Ok(next)
         }
         None => {

@@ -33,7 +33,7 @@ impl<D: Disk> Model for Store<D> {
 
     ghost view = { λ s. record { disk = disk_of s.journal; world = s.world; torn = s.torn } };
 
-    ghost invariant = { λ s. IsKept D.present D.keeps_model s.journal s.world s.torn };
+    ghost invariant = { λ s. IsKept D.model s.journal s.world s.torn };
 }
 
 impl<D: Disk> Store<D> {
@@ -44,7 +44,7 @@ impl<D: Disk> Store<D> {
     pub(crate) fn over(alloc: Global, journal: Journal<D>, world: World) -> Self
         requires legal { Legal world }
         requires going { journal_has_stopped journal ≡ false }
-        requires holds { D.keeps_model (disk_of journal) ≡ true → Holds D.present journal world }
+        requires holds { D.model.keeps_model (disk_of journal) ≡ true → Holds D.model journal world }
         ensures disk { result.disk ≡ disk_of journal }
         ensures world { result.world ≡ world }
         ensures going { result.torn ≡ None }
@@ -73,12 +73,11 @@ impl<D: Disk> Store<D> {
 
     /// Does nothing: its contract is what the type keeps of every store. While nothing is done to it, a
     /// crash leaves what gives its world.
-    pub fn images_give_world(&self)
+    pub fn lemma_images_give_world(&self)
         ensures legal { Legal self.now.world }
-        ensures images { D.keeps_model self.now.disk ≡ true → ImagesGive D.present self.now }
-        ensures still { D.keeps_model self.now.disk ≡ true → self.now.torn ≡ None
-            → LeavesOnly D.clock D.left_since self.now.disk self.now.disk
-            (IsOnlyWorld self.now.world) }
+        ensures images { D.model.keeps_model self.now.disk ≡ true → ImagesGive D.model self.now }
+        ensures still { D.model.keeps_model self.now.disk ≡ true → self.now.torn ≡ None →
+            LeavesOnly D.model self.now.disk self.now.disk (IsOnlyWorld self.now.world) }
     {
         let _ = &self.world;
     }
@@ -86,8 +85,8 @@ impl<D: Disk> Store<D> {
     /// Gives the disk back. Where no commit was torn, opening it gives the world again.
     pub fn into_disk(self) -> D
         ensures disk { result ≡ self.disk }
-        ensures reopens { D.keeps_model self.disk ≡ true → self.torn ≡ None →
-            Recovered (D.present result).read self.world }
+        ensures reopens { D.model.keeps_model self.disk ≡ true → self.torn ≡ None →
+            Recovered (D.model.present result).read self.world }
     {
         self.journal.into_disk()
     }

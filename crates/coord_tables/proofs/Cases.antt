@@ -1,6 +1,7 @@
 -- Proofs by cases.
-use Rattle.std.proofs.Common.{◌≡◌, ◌≢◌, ◌⊎◌, ℕ, Bool, true, false, ◌&&◌, Option, Some, None, Result, Ok, Err, OnOk, refl, sym, subst, inl, inr, is_some}
+use Rattle.std.proofs.Common.{◌≡◌, ◌≢◌, ◌⊎◌, ℕ, Bool, true, false, Option, Some, None, Result, Ok, Err, OnOk, refl, sym, subst, inl, inr, is_some}
 use Rattle.std.proofs.lemmas.Bool.Decides.{eqb_tells}
+pub use Rattle.coord_types.proofs.Sets.{both}
 
 -- on a test, with its answer
 pub by_test : (b : Bool) (P : Bool → Type 0) → (b ≡ true → P true) → (b ≡ false → P false) → P b
@@ -14,11 +15,6 @@ same_or_apart x u = elim (eqb_tells x u) [ inl h ↦ inl h.1 | inr h ↦ inr h.1
 -- what holds at u and of each other number holds of every one
 pub everywhere : (P : ℕ → Type 0) (u : ℕ) → P u → ((x : ℕ) → x ≢ u → P x) → (x : ℕ) → P x
 everywhere P u here apart x = elim (same_or_apart x u) [ inl same ↦ subst P (sym same) here | inr far ↦ apart x far ]
-
--- two tests that hold
-pub both : (a b : Bool) → (a && b) ≡ true → (a ≡ true) × (b ≡ true)
-both true b e = (refl, e)
-both false b e = cc
 
 -- what is there
 pub some_value : {X : Type 0} (o : Option X) → is_some o ≡ true → (x : X) × (o ≡ Some x)

@@ -14,7 +14,7 @@ use Rattle.coord_types.specs.Table.{from_sorted, get, has, insert, remove}
 use Rattle.coord_types.proofs.Tables as tables
 use Rattle.coord_types.proofs.Tables.{get-change, get-from_sorted, get-insert}
 use Rattle.coord_link.specs.LaneMachine.{Lane}
-use Rattle.coord_tables.specs.Links.{AreIndexed, Lanes, Links, LinksRise, Turned, ends, joined, lane_at, link_entry, links_of, parted, toward, with_lane}
+use Rattle.coord_tables.specs.Links.{AreIndexed, Lanes, Links, LinksRise, Turned, change_lane, ends, joined, lane_at, link_entry, links_of, parted, row_with, toward}
 use Rattle.coord_tables.specs.Pairs.{pair_cmp, pair_cmp_total}
 use Rattle.coord_tables.specs.Place.{IsGapFor}
 use Rattle.coord_tables.specs.Places.{HasKeyAt, IsIndexOf, IsIndexed, noted_place, pair_place}
@@ -81,30 +81,31 @@ module _ (rows : List LinkRow) (places : List ℕ) (are : AreIndexed rows places
   pub within : (a b i : ℕ) → IsNode a → IsNode b → noted_place (slice_index places (pair_place a b)) ≡ Some i → i < length rows
   within a b i is_a is_b noted = slice_get_within rows i _ (row_there a b i is_a is_b noted).1.0
 
--- ---- a lane in place of another
+-- ---- a lane changed
 
--- of a link's two lanes the one from x to y put there
-abbrev pub put_in : ℕ → ℕ → Lane → LinkRow → LinkRow
-put_in x y m r = cond (nat_lt x y) (record r { forth = m }) (record r { back = m })
+-- a row with its lane from x to y changed
+abbrev pub row_changed : ℕ → ℕ → (Lane → Lane) → LinkRow → LinkRow
+row_changed x y f r = row_with r x y (f (toward x y (lanes_in r)))
 
-module _ (t : Links) (turned : Turned t) (x y : ℕ) (m : Lane) where
+module _ (t : Links) (turned : Turned t) (x y : ℕ) (f : Lane → Lane) where
   abbrev changed : ℕ × ℕ → Lanes → Lanes
-  changed k l = record { forth = cond (eqb k.0 x && eqb k.1 y) m l.forth; back = cond (eqb k.1 x && eqb k.0 y) m l.back }
+  changed k l = record { forth = cond (eqb k.0 x && eqb k.1 y) (f l.forth) l.forth; back = cond (eqb k.1 x && eqb k.0 y) (f l.back) l.back }
 
-  pub put_is_change : (r : LinkRow) → get t (ends x y) ≡ Some (lanes_in r) → insert t (ends x y) (lanes_in (put_in x y m r)) ≡ with_lane t x y m
-  put_is_change r there = same_links _ _ (λ k. get-insert t (ends x y) (lanes_in (put_in x y m r)) k
-      ∙ by_test (eq_by_cmp pair_cmp k (ends x y)) (λ c. cond c (Some (lanes_in (put_in x y m r))) (get t k) ≡ tables.option_map (changed k) (get t k))
+  pub put_is_change : (r : LinkRow) → get t (ends x y) ≡ Some (lanes_in r) → insert t (ends x y) (lanes_in (row_changed x y f r)) ≡ change_lane t x y f
+  put_is_change r there = same_links _ _ (λ k. get-insert t (ends x y) (lanes_in (row_changed x y f r)) k
+      ∙ by_test (eq_by_cmp pair_cmp k (ends x y)) (λ c. cond c (Some (lanes_in (row_changed x y f r))) (get t k) ≡ tables.option_map (changed k) (get t k))
       (λ tied. sym (ap (λ q. tables.option_map (changed q) (get t q)) (same_pair k (ends x y) tied) ∙ ap (tables.option_map (changed (ends x y))) there ∙ ap Some here))
       (λ apart. untouched k (get t k) refl apart)
       ∙ sym (get-change pair_cmp changed same_pair t k))
     where
-      here : changed (ends x y) (lanes_in r) ≡ lanes_in (put_in x y m r)
-      here = by_test (nat_lt x y) (λ c. nat_lt x y ≡ c → get t (cond c (x, y) (y, x)) ≡ Some (lanes_in r) → changed (cond c (x, y) (y, x)) (lanes_in r) ≡ lanes_in (cond c (record r { forth = m }) (record r { back = m })))
+      here : changed (ends x y) (lanes_in r) ≡ lanes_in (row_changed x y f r)
+      here = by_test (nat_lt x y) (λ c. nat_lt x y ≡ c → get t (cond c (x, y) (y, x)) ≡ Some (lanes_in r) →
+          changed (cond c (x, y) (y, x)) (lanes_in r) ≡ lanes_in (cond c (record r { forth = f (cond c r.forth r.back) }) (record r { back = f (cond c r.forth r.back) })))
           (λ _ up _. let one : (eqb x x && eqb y y) ≡ true = grind (arith, nat_tests) in let two : (eqb y x && eqb x y) ≡ false = grind (arith, nat_tests, up) in
-          λ i. record { forth = cond (one i) m r.forth; back = cond (two i) m r.back })
+          λ i. record { forth = cond (one i) (f r.forth) r.forth; back = cond (two i) (f r.back) r.back })
           (λ _ down is. let less : y < x = turned y x (ap is_some is) in
           let one : (eqb y x && eqb x y) ≡ false = grind (arith, nat_tests, less) in let two : (eqb x x && eqb y y) ≡ true = grind (arith, nat_tests) in
-          λ i. record { forth = cond (one i) m r.forth; back = cond (two i) m r.back }) refl there
+          λ i. record { forth = cond (one i) (f r.forth) r.forth; back = cond (two i) (f r.back) r.back }) refl there
 
       untouched : (k : ℕ × ℕ) (o : Option Lanes) → get t k ≡ o → eq_by_cmp pair_cmp k (ends x y) ≡ false → o ≡ tables.option_map (changed k) o
       untouched k None is apart = refl
@@ -116,7 +117,7 @@ module _ (t : Links) (turned : Turned t) (x y : ℕ) (m : Lane) where
           let two : (eqb k.1 x && eqb k.0 y) ≡ false = by_test (eqb k.1 x && eqb k.0 y) (λ c. c ≡ false)
           (λ same. let down : nat_lt x y ≡ false = grind (arith, nat_tests, same, less) in
           absurd (let other : eq_by_cmp pair_cmp k (y, x) ≡ false = ap (λ c. eq_by_cmp pair_cmp k (cond {A = ℕ × ℕ} c (x, y) (y, x))) (sym down) ∙ apart in grind (arith, nat_tests, same, other))) (λ _. refl) in
-          λ i. Some (record { forth = cond (sym one i) m l.forth; back = cond (sym two i) m l.back })
+          λ i. Some (record { forth = cond (sym one i) (f l.forth) l.forth; back = cond (sym two i) (f l.back) l.back })
 
 -- what holds of each row holds of each where one that has it is put
 all_set : (P : LinkRow → Type 0) (rows : List LinkRow) (i : ℕ) (r : LinkRow) → P r → AllByRecursion P rows → AllByRecursion P (set rows i r)
@@ -130,7 +131,7 @@ all_at P (x ∷ rows) zero r here all = let same : x ≡ r = cc in subst P same 
 all_at P (x ∷ rows) (suc i) r here all = all_at P rows i r here all.1
 
 -- the ends stay
-put_keeps : (x y : ℕ) (m : Lane) (e : LinkRow) → ((put_in x y m e).a ≡ e.a) × ((put_in x y m e).b ≡ e.b)
+put_keeps : (x y : ℕ) (m : Lane) (e : LinkRow) → ((row_with e x y m).a ≡ e.a) × ((row_with e x y m).b ≡ e.b)
 put_keeps x y m e = either (nat_lt x y)
   where
     either : (c : Bool) → ((cond c (record e { forth = m }) (record e { back = m })).a ≡ e.a) × ((cond c (record e { forth = m }) (record e { back = m })).b ≡ e.b)
@@ -158,25 +159,25 @@ module _ (rows : List LinkRow) (places : List ℕ) (are : AreIndexed rows places
     links_put : links_of (set rows i r) ≡ insert (links_of rows) (e.a, e.b) (lanes_in r)
     links_put = ap from_sorted mapped ∙ is_put (map link_entry rows) places (indexed rows places are) (e.a, e.b) i (lanes_in r) at_ends
 
-  -- the lane from x to y is put in place of the one that is there
-  module _ (x y a b : ℕ) (is_a : IsNode a) (is_b : IsNode b) (are_ends : ◌≡◌ {A = ℕ × ℕ} (a, b) (ends x y)) (i : ℕ) (e r : LinkRow) (m : Lane)
-      (noted : noted_place (slice_index places (pair_place a b)) ≡ Some i) (is : e ≡ get_or rows i e) (made : r ≡ put_in x y m e) where
+  -- the lane from x to y is changed where it stands
+  module _ (x y a b : ℕ) (is_a : IsNode a) (is_b : IsNode b) (are_ends : ◌≡◌ {A = ℕ × ℕ} (a, b) (ends x y)) (i : ℕ) (e r : LinkRow) (f : Lane → Lane)
+      (noted : noted_place (slice_index places (pair_place a b)) ≡ Some i) (is : e ≡ get_or rows i e) (made : r ≡ row_changed x y f e) where
     here : slice_get rows i ≡ Some e
     here = row_is rows places are x y a b is_a is_b are_ends i e noted is
 
     first : r.a ≡ e.a
-    first = ap (λ z. z.a) made ∙ (put_keeps x y m e).0
+    first = ap (λ z. z.a) made ∙ (put_keeps x y (f (toward x y (lanes_in e))) e).0
 
     second : r.b ≡ e.b
-    second = ap (λ z. z.b) made ∙ (put_keeps x y m e).1
+    second = ap (λ z. z.b) made ∙ (put_keeps x y (f (toward x y (lanes_in e))) e).1
 
-    pub lane_put-indexed : AreIndexed (set rows i r) places
-    lane_put-indexed = row_put i e r here first second
+    pub lane_changed-indexed : AreIndexed (set rows i r) places
+    lane_changed-indexed = row_put i e r here first second
 
-    pub lane_put : links_of (set rows i r) ≡ with_lane (links_of rows) x y m
-    lane_put = links_put i e r here first second
+    pub lane_changed : links_of (set rows i r) ≡ change_lane (links_of rows) x y f
+    lane_changed = links_put i e r here first second
         ∙ (λ j. insert (links_of rows) (row_ends rows places are x y a b is_a is_b are_ends i e noted is j) (lanes_in (made j)))
-        ∙ put_is_change (links_of rows) (turned_of rows are.rise) x y m e (link_there rows places are x y a b is_a is_b are_ends i e noted is)
+        ∙ put_is_change (links_of rows) (turned_of rows are.rise) x y f e (link_there rows places are x y a b is_a is_b are_ends i e noted is)
 
 -- ---- a link more
 

@@ -12,7 +12,7 @@ use Rattle.coord_types.specs.Table.{Table, change, empty, entries, from_sorted, 
 use Rattle.coord_types.proofs.Tables as tables
 use Rattle.coord_types.proofs.Tables.{entries-from_sorted, get-change, get-empty, get-entries, get-from_sorted, get-insert, get-remove, len-from_sorted, same_table}
 use Rattle.coord_link.specs.LaneMachine.{Lane}
-use Rattle.coord_tables.specs.Links.{Lanes, Links, LinksRise, Turned, change_lanes, ends, joined, lane_at, lanes_in_order, link_entry, link_row, link_rows, links_of, parted, toward, with_lane, with_lanes}
+use Rattle.coord_tables.specs.Links.{Lanes, Links, LinksRise, Turned, change_lanes, ends, joined, lane_at, lanes_in_order, link_entry, link_row, link_rows, links_of, parted, toward, with_lanes}
 use Rattle.coord_tables.specs.Pairs.{pair_cmp, pair_cmp_total}
 use Rattle.coord_tables.specs.declared.links.LinkRow.{LinkRow}
 use Rattle.coord_tables.proofs.Cases.{both, by_test}
@@ -340,18 +340,6 @@ module _ (t : Links) (turned : Turned t) (x y : ℕ) (f : Lane → Lane) where
       stays : (k : ℕ × ℕ) (o : Option Lanes) → get t k ≡ o → o ≡ tables.option_map (both_changed at_lane k) o
       stays k None is = refl
       stays k (Some l) is = let two = lanes_at_key t turned k l is in λ i. Some (record { forth = other k l.forth two.0 i; back = other (k.1, k.0) l.back two.1 i })
-
-  -- a lane that is changed is put in its place
-  pub lane_put_is : (l : Lane) → lane_at t x y ≡ Some l → with_lane t x y (f l) ≡ change_lanes at_lane t
-  lane_put_is l there = same_links _ _ (λ k. get-changed (λ k m. cond (eqb k.0 x && eqb k.1 y) (f l) m) t k ∙ alike k (get t k) refl ∙ sym (get-changed at_lane t k))
-    where
-      one : (k : ℕ × ℕ) (m : Lane) → lane_at t k.0 k.1 ≡ Some m → cond (eqb k.0 x && eqb k.1 y) (f l) m ≡ at_lane k m
-      one k m at = by_test (eqb k.0 x && eqb k.1 y) (λ c. (eqb k.0 x && eqb k.1 y) ≡ c → cond c (f l) m ≡ cond c (f m) m)
-          (λ _ is. let some : Some l ≡ Some m = sym there ∙ is_lane_at k m at is in let same : l ≡ m = cc in ap f same) (λ _ _. refl) refl
-
-      alike : (k : ℕ × ℕ) (o : Option Lanes) → get t k ≡ o → tables.option_map (both_changed (λ k m. cond (eqb k.0 x && eqb k.1 y) (f l) m) k) o ≡ tables.option_map (both_changed at_lane k) o
-      alike k None is = refl
-      alike k (Some z) is = let two = lanes_at_key t turned k z is in λ i. Some (record { forth = one k z.forth two.0 i; back = one (k.1, k.0) z.back two.1 i })
 
 -- ---- each link stays turned
 

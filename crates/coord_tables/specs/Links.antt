@@ -39,9 +39,12 @@ Turned t = (a b : ℕ) → has t (a, b) ≡ true → a < b
 abbrev pub change_lanes : (ℕ × ℕ → Lane → Lane) → Links → Links
 change_lanes f t = change (λ k l. record { forth = f k l.forth; back = f (k.1, k.0) l.back }) t
 
--- this lane in place of the one from x to y
-abbrev pub with_lane : Links → ℕ → ℕ → Lane → Links
-with_lane t x y m = change_lanes (λ k l. if (k.0 == x) && (k.1 == y) then m else l) t
+abbrev pub is_lane : ℕ × ℕ → ℕ → ℕ → Bool
+is_lane k x y = (k.0 == x) && (k.1 == y)
+
+-- the lane from x to y changed
+abbrev pub change_lane : Links → ℕ → ℕ → (Lane → Lane) → Links
+change_lane t x y f = change_lanes (λ k l. if is_lane k x y then f l else l) t
 
 -- two nodes linked, with the same lane each way
 abbrev pub joined : Links → ℕ → ℕ → Lane → Links
@@ -66,6 +69,10 @@ link_row e = record { a = e.0.0; b = e.0.1; forth = e.1.forth; back = e.1.back }
 
 abbrev pub link_entry : LinkRow → (ℕ × ℕ) × Lanes
 link_entry r = ((r.a, r.b), record { forth = r.forth; back = r.back })
+
+-- a row with this lane from x to y
+abbrev pub row_with : LinkRow → ℕ → ℕ → Lane → LinkRow
+row_with r x y m = if nat_lt x y then record r { forth = m } else record r { back = m }
 
 -- the rows of links, in ascending order
 abbrev pub link_rows : Links → List LinkRow

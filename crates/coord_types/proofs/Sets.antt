@@ -153,7 +153,7 @@ or_later true b e = refl
 or_later false b e = e
 
 -- what holds of each number that is listed
-all_listed : (P : ℕ → Type 0) (xs : List ℕ) → ((q : ℕ) → list_any (λ y. nat_eq y q) xs ≡ true → P q) → AllByRecursion P xs
+pub all_listed : (P : ℕ → Type 0) (xs : List ℕ) → ((q : ℕ) → list_any (λ y. nat_eq y q) xs ≡ true → P q) → AllByRecursion P xs
 all_listed P [] each = tt
 all_listed P (x ∷ xs) each = (each x (grind (arith, nat_tests)), all_listed P xs (λ q any. each q (or_later (nat_eq x q) _ any)))
 
@@ -195,11 +195,12 @@ items-first s k e = behind_first s k (items s) refl (items-sorted s) e
 pub len-first : (s : NodeSet) (k : ℕ) → first s ≡ Some k → len s ≡ len (remove s k) + 1
 len-first s k e = grind (arith, len_of_items s, len_of_items (remove s k), ap length (items-first s k e))
 
--- a subset, member by member
-both : (a b : Bool) → (a && b) ≡ true → (a ≡ true) × (b ≡ true)
+-- two tests that hold
+pub both : (a b : Bool) → (a && b) ≡ true → (a ≡ true) × (b ≡ true)
 both true b e = (refl, e)
 both false b e = cc
 
+-- a subset, member by member
 at_listed : (p : ℕ → Bool) (xs : List ℕ) (q : ℕ) → list_all p xs ≡ true → list_any (λ y. nat_eq y q) xs ≡ true → p q ≡ true
 at_listed p [] q all any = cc
 at_listed p (x ∷ xs) q all any = by_test (nat_eq x q) refl (at_listed p xs q (both (p x) (list_all p xs) all).1)

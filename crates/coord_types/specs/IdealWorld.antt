@@ -8,4 +8,4 @@ pub record Ideal : Type 0 where
   pub version : ℕ
   pub state : ℕ → NodeState
   pub linked : ℕ → ℕ → Bool
-  pub way : ℕ → ℕ → List Msg
+  pub in_transit : ℕ → ℕ → List Msg

@@ -11,11 +11,11 @@ same_msg msg.Ack msg.Ack = true
 same_msg msg.Ready msg.Ready = true
 same_msg m n = false
 
--- the distance that a message brings
-abbrev pub brought : Msg → ℕ
-brought (msg.Abort k) = k
-brought msg.Ack = 0
-brought msg.Ready = 0
+-- the distance that a message carries
+abbrev pub carried : Msg → ℕ
+carried (msg.Abort k) = k
+carried msg.Ack = 0
+carried msg.Ready = 0
 
 abbrev pub is_nil : List Msg → Bool
 is_nil [] = true

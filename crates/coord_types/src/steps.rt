@@ -28,7 +28,7 @@ pub enum Command {
 impl Command {
     /// Says of a command's numbers what their types promise, and computes nothing: a contract sees
     /// a `NodeId` or a `Group` as a plain number, and learns its range only from a reading of it.
-    pub fn within_ranges(&self)
+    pub fn lemma_in_range(&self)
         ensures { CommandInRange self.now }
     {
         match *self {
@@ -63,12 +63,12 @@ pub enum Step {
 
 impl Step {
     /// Says of a step's numbers what their types promise, and computes nothing.
-    pub fn within_ranges(&self)
+    pub fn lemma_in_range(&self)
         ensures { StepInRange self.now }
     {
         if let Step::Order(client, _, command) = *self {
             client.number();
-            command.within_ranges();
+            command.lemma_in_range();
         }
     }
 }

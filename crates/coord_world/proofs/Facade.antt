@@ -6,7 +6,7 @@ pub use Rattle.coord_tables.proofs.LinkLanes.{lane-apart, lane-mirrored}
 pub use Rattle.coord_world.proofs.legal.EmptyWorld.{no_lane}
 pub use Rattle.coord_world.proofs.acceptance.IsFresh.{fresh_count}
 pub use Rattle.coord_world.proofs.acceptance.FreshOverItself.{itself}
-pub use Rattle.coord_tables.proofs.Cases.{by_test, same_or_apart}
+pub use Rattle.coord_tables.proofs.Cases.{both, by_test, same_or_apart, some_value}
 pub use Rattle.coord_world.proofs.acceptance.FreshOrder.{fresh_number, fresh_order}
 pub use Rattle.coord_world.proofs.acceptance.FreshVerdict.{verdict_fresh, verdict_kind}
 pub use Rattle.coord_world.proofs.release.KeptReplies.{kept_reply_law}
@@ -16,5 +16,5 @@ pub use Rattle.coord_world.proofs.release.ReleaseStays.{fresh_where_released, re
 pub use Rattle.coord_world.proofs.release.Trails.{EachFresh, fold-append, fold-take_drop, fold_counts, trail_each_fresh, trail_goes_on, trail_is_cut, trail_keeps_worlds, trail_of}
 pub use Rattle.coord_world.proofs.waves.SignalsOf.{signals_given}
 pub use Rattle.coord_world.proofs.legal.RaisedLegal.{raised_is_legal}
-pub use Rattle.coord_world.proofs.ranges.Brought.{brought_within}
+pub use Rattle.coord_world.proofs.ranges.Carried.{carried_within}
 pub use Rattle.coord_world.proofs.ranges.Distances.{same_version}

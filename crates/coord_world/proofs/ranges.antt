@@ -1,5 +1,5 @@
 -- A fresh step keeps the ranges of a world.
-pub mod Brought
+pub mod Carried
 pub mod Distances
 pub mod EveryNode
 pub mod LaneInRange

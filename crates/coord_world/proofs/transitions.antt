@@ -2,7 +2,7 @@
 pub mod CanApply
 pub mod FrontsInOrder
 pub mod FrontsOfSends
-pub mod IsNodeStepOf
+pub mod IsTransitionOf
 pub mod KeepsLinks
 pub mod LegalBoth
 pub mod NodeGoesOn

@@ -1,5 +1,5 @@
 -- What only the bodies of this crate need; nothing above cites it.
-pub mod NodeSteps
+pub mod NodeTransitions
 pub mod Fronts
 pub mod Sends
 pub mod Ready

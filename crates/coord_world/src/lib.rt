@@ -23,4 +23,4 @@ mod world;
 pub use coord_tables::LinkRow;
 pub use rows::parts::{ClientRow, NodeRow, Parts};
 pub use verdicts::Verdict;
-pub use world::{Outcome, World};
+pub use world::{StepOutcome, World};

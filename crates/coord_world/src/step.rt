@@ -3,6 +3,6 @@
 mod apply;
 mod execute;
 mod judge;
-mod node_step;
+mod node_transition;
 mod outputs;
 mod sending;

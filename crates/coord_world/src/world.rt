@@ -28,7 +28,7 @@ use std::marker::Model;
 
 /// A step's reply, and what is to be released after it, in order.
 #[derive(Drop, Debug)]
-pub struct Outcome {
+pub struct StepOutcome {
     pub reply: Reply,
     pub outputs: Vec<Output>,
 }
@@ -124,7 +124,7 @@ impl World {
     }
 
     /// Does nothing: its contract is what the type keeps of every world, legal or not.
-    pub fn ranges(&self)
+    pub fn lemma_in_range(&self)
         ensures { InRange self.now }
     {
         let _ = &self.tables;
@@ -199,7 +199,7 @@ impl World {
     }
 
     /// Takes a step that was judged fresh. Its outputs are to be released once it is settled.
-    pub fn apply(&mut self, step: &Step) -> Result<Outcome, AllocError>
+    pub fn apply(&mut self, step: &Step) -> Result<StepOutcome, AllocError>
         requires legal { Legal self.old }
         requires fresh { IsFresh self.old self.old step.now }
         ensures world { OnOk result (self.new ≡ next self.old step.now) }
@@ -209,7 +209,7 @@ impl World {
         ensures legal { Legal self.new }
         ensures err { OnErr result (self.new ≡ self.old) }
     {
-        step.within_ranges();
+        step.lemma_in_range();
         let outcome = self.tables.apply(self.alloc, step)?;
         Ok(outcome)
     }

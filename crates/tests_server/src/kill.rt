@@ -43,6 +43,10 @@ impl<R: Clock> Rule for Mortal<'_, R> {
         }
         self.is_killed.load(Ordering::SeqCst)
     }
+
+    fn tears(&self) -> Option<usize> {
+        None
+    }
 }
 
 /// Takes so many lines. The kill comes before the next one, whose signal is settled then.

@@ -63,6 +63,10 @@ impl Rule for Counted<'_> {
             && self.syncs.made.fetch_add(1, Ordering::SeqCst)
                 >= self.syncs.most.load(Ordering::SeqCst)
     }
+
+    fn tears(&self) -> Option<usize> {
+        None
+    }
 }
 
 /// Writes so many resets of node 1 by client 1, numbered from this one.

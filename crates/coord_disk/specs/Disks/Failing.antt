@@ -1,9 +1,11 @@
 -- A disk that fails calls by a rule of its own.
-use Rattle.std.specs.Prelude.{◌≡◌, ℕ, ◌+◌, ◌-◌, ◌^◌, min, length, Bool, true, false, Result, IsErr}
+use Rattle.std.specs.Prelude.{◌≡◌, ℕ, ◌+◌, ◌-◌, ◌^◌, min, length, take, Bool, true, false, List, Option, Some, None, Result, IsErr}
 use Rattle.coord_disk.specs.declared.fault.DiskFault.{DiskFault}
 use Rattle.coord_disk.specs.declared.failing.Call.{Call}
 use Rattle.coord_disk.specs.declared.failing.FailingDisk.{FailingDisk}
-use Rattle.coord_disk.specs.Model.Moments.{HasCause}
+use Rattle.coord_disk.specs.Model.Calls.{HasCause}
+use Rattle.coord_disk.specs.Model.DiskModel.{DiskModel, seen_through}
+use Rattle.coord_disk.specs.Model.Present.{written_at}
 
 abbrev pub inner_of : {D R : Type 0} → FailingDisk D R → D
 inner_of disk = disk.inner
@@ -19,15 +21,34 @@ calls_of disk = disk.calls
 abbrev pub failed_of : {D R : Type 0} → FailingDisk D R → ℕ
 failed_of disk = length disk.failed.items
 
--- A call through such a disk is counted, and the rule says whether it fails. If it is to fail, the
--- disk inside stays untouched. Else the call is passed on, and fails only where the disk inside
--- fails.
-pub record IsCounted {D R T : Type 0} (failures : D → ℕ) (says : R → Call → Bool → R → Type 0) (call : Call) (old new : FailingDisk D R) (result : Result T DiskFault) : Type 0 where
+-- how often it has failed, itself or through the disk inside
+abbrev pub failures_of : {D R : Type 0} → DiskModel D → FailingDisk D R → ℕ
+failures_of m disk = m.failures (inner_of disk) + failed_of disk
+
+-- It means what the disk inside means.
+abbrev pub failing : {D R : Type 0} → DiskModel D → DiskModel (FailingDisk D R)
+failing m = seen_through m inner_of (failures_of m)
+
+-- the disk inside stays as it is, and the failure is counted
+pub record IsUntouched {D R : Type 0} (old new : FailingDisk D R) : Type 0 where
+  pub same : inner_of new ≡ inner_of old
+  pub counted : failed_of new ≡ failed_of old + 1
+
+-- What a write leaves that is to fail. Where the rule tears it, its first bytes are written, if the
+-- disk inside does not fail; else the disk inside stays as it is.
+abbrev pub IsTorn : {D R : Type 0} → DiskModel D → Option ℕ → ℕ → List ℕ → FailingDisk D R → FailingDisk D R → Type 0
+IsTorn m None at bytes old new = IsUntouched old new
+IsTorn m (Some kept) at bytes old new =
+    m.keeps_model (inner_of old) ≡ true → m.failures (inner_of new) ≡ m.failures (inner_of old) → m.present (inner_of new) ≡ written_at at (take kept bytes) (m.present (inner_of old))
+
+-- A call through such a disk is counted, and the rule says whether it fails. If it is to fail, this
+-- is what it leaves. Else the call is passed on, and fails only where the disk inside fails.
+pub record IsCounted {D R T : Type 0} (m : DiskModel D) (says : R → Call → Bool → R → Type 0) (call : Call) (old new : FailingDisk D R) (result : Result T DiskFault) (leaves : Type 0) : Type 0 where
   pub counted : calls_of new ≡ min (calls_of old + 1) (2 ^ 64 - 1)
   pub fails : Bool
   pub said : says (rule_of old) call fails (rule_of new)
-  pub failed : fails ≡ true → IsErr result × (inner_of new ≡ inner_of old) × (failed_of new ≡ failed_of old + 1)
-  pub passed : fails ≡ false → HasCause (failures (inner_of old)) (failures (inner_of new)) result × (failed_of new ≡ failed_of old)
+  pub failed : fails ≡ true → IsErr result × leaves
+  pub passed : fails ≡ false → HasCause (m.failures (inner_of old)) (m.failures (inner_of new)) result × (failed_of new ≡ failed_of old)
 
 -- the disk inside crashes, and the rule and the counts go on
 pub record CrashesInside {D R : Type 0} (crashes : D → D → Type 0) (old new : FailingDisk D R) : Type 0 where

@@ -1,5 +1,6 @@
 -- What a disk in memory is after its writes and syncs, from what it held at first.
-use Rattle.std.specs.Prelude.{◌≡◌, ℕ, ◌≤◌, List, [], ◌∷◌, ◌++◌, length, take, Option, Some, None}
+use Rattle.std.specs.Prelude.{◌≡◌, ℕ, ◌≤◌, List, [], ◌∷◌, ◌++◌, length, take, true, Option, Some, None}
+use Rattle.coord_disk.specs.Model.DiskModel.{DiskModel}
 use Rattle.coord_disk.specs.Model.Present.{Present, IsImage, whole, written_at}
 use Rattle.coord_disk.specs.declared.history.Entry.{Entry}
 use Rattle.coord_disk.specs.declared.history.Entry.TheVariants.{Wrote, Synced}
@@ -27,6 +28,16 @@ present_after past = replayed (whole past.first) past.entries
 -- these bytes.
 abbrev pub LeftSince : Past → ℕ → List ℕ → Type 0
 LeftSince past t image = (k : ℕ) × (t ≤ k) × (k ≤ length past.entries) × IsImage (replayed (whole past.first) (take k past.entries)) image
+
+-- The model of what has such a past. How much was done is its moment.
+abbrev pub recorded : {D : Type 0} → (D → Past) → (D → ℕ) → DiskModel D
+recorded past failures = record {
+  keeps_model = λ _. true;
+  present = λ d. present_after (past d);
+  clock = λ d. length (past d).entries;
+  left_since = λ d. LeftSince (past d);
+  failures = failures;
+}
 
 -- of a disk that reads as these bytes; with no history nothing was done to it
 abbrev pub past_with : List ℕ → Option History → Past

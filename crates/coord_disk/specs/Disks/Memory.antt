@@ -1,7 +1,8 @@
 -- A disk in memory.
 use Rattle.std.specs.Prelude.{◌≡◌, ℕ, length}
 use Rattle.coord_disk.specs.Disks.Left.{IsLeft}
-use Rattle.coord_disk.specs.Disks.History.{Past, present_after, past_with}
+use Rattle.coord_disk.specs.Disks.History.{Past, present_after, past_with, recorded}
+use Rattle.coord_disk.specs.Model.DiskModel.{DiskModel}
 use Rattle.coord_disk.specs.Model.Present.{Present}
 use Rattle.coord_disk.specs.declared.choice.Choice.{Choice}
 use Rattle.coord_disk.specs.declared.memory.MemDisk.{MemDisk}
@@ -13,16 +14,16 @@ past_of disk = past_with disk.read.items disk.history
 abbrev pub present_of : MemDisk → Present
 present_of disk = present_after (past_of disk)
 
--- how much was done since then
-abbrev pub clock_of : MemDisk → ℕ
-clock_of disk = length (past_of disk).entries
-
 -- what the next crash leaves
 abbrev pub choice_of : MemDisk → Choice
 choice_of disk = disk.choice
 
 abbrev pub failures_of : MemDisk → ℕ
 failures_of disk = length disk.failed.items
+
+-- what it means: it keeps the model
+abbrev pub in_memory : DiskModel MemDisk
+in_memory = recorded past_of failures_of
 
 -- what was chosen is left
 pub record CrashesByChoice (old new : MemDisk) : Type 0 where

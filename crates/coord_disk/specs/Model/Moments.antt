@@ -1,6 +1,7 @@
--- What holds at each moment of a run of calls.
-use Rattle.std.specs.Prelude.{◌≡◌, ◌⊎◌, ℕ, ◌+◌, ◌≤◌, List, Result, OnOk, OnErr}
-use Rattle.coord_disk.specs.declared.fault.DiskFault.{DiskFault}
+-- What holds at each moment of a call, and of a run of calls.
+use Rattle.std.specs.Prelude.{◌≡◌, ◌⊎◌, ℕ, ◌+◌, ◌≤◌, List, true, Result, Ok, Err}
+use Rattle.coord_disk.specs.Model.DiskModel.{DiskModel}
+use Rattle.coord_disk.specs.Model.Present.{IsImage}
 
 -- Time goes on. What a crash might have left since moment t is what it might have left before, or
 -- what it may leave now.
@@ -11,14 +12,34 @@ pub record Elapses (before now : ℕ) (past since : ℕ → List ℕ → Type 0)
   pub nothing_else : (t : ℕ) (image : List ℕ) → t ≤ before → since t image → past t image ⊎ may_leave image
   pub keeps : (t : ℕ) (image : List ℕ) → t ≤ before → past t image → since t image
 
--- A crash at any moment from `old` on, up to now, leaves only bytes that have P.
-pub record LeavesOnly {D : Type 0} (clock : D → ℕ) (left_since : D → ℕ → List ℕ → Type 0) (old new : D) (P : List ℕ → Type 0) : Type 0 where
-  pub later : clock old ≤ clock new
-  pub each : (image : List ℕ) → left_since new (clock old) image → P image
-  -- for a run that began earlier
-  pub before : (t : ℕ) (image : List ℕ) → t ≤ clock old → left_since new t image → left_since old t image ⊎ P image
+-- one call goes by
+abbrev pub Passes : {D : Type 0} → DiskModel D → D → D → Type 0
+Passes m old new = Elapses (m.clock old) (m.clock new) (m.left_since old) (m.left_since new) (IsImage (m.present new))
 
--- The count of failures rises by one where the call fails, and else stays.
-pub record HasCause {T : Type 0} (before now : ℕ) (result : Result T DiskFault) : Type 0 where
-  pub failed : OnErr result (now ≡ before + 1)
-  pub unfailed : OnOk result (now ≡ before)
+-- A crash at any moment from `old` on, up to now, leaves only bytes that have P.
+pub record LeavesOnly {D : Type 0} (m : DiskModel D) (old new : D) (P : List ℕ → Type 0) : Type 0 where
+  pub later : m.clock old ≤ m.clock new
+  pub each : (image : List ℕ) → m.left_since new (m.clock old) image → P image
+  -- for a run that began earlier
+  pub before : (t : ℕ) (image : List ℕ) → t ≤ m.clock old → m.left_since new t image → m.left_since old t image ⊎ P image
+
+-- A crash at any moment leaves nothing that it could not have left before.
+abbrev pub AddsNothing : {D : Type 0} → DiskModel D → D → D → Type 0
+AddsNothing m old new = m.keeps_model old ≡ true → LeavesOnly m old new (IsImage (m.present old))
+
+-- A run of calls leaves a disk as it was, and a crash at any moment of it adds nothing.
+pub record IsUntouched {D : Type 0} (m : DiskModel D) (old new : D) : Type 0 where
+  pub same : m.present new ≡ m.present old
+  pub any_moment : LeavesOnly m old new (IsImage (m.present old))
+
+-- What each run of calls keeps to: a disk that keeps the model goes on to keep it, and it has failed
+-- so often in at most so many calls.
+pub record Runs {D : Type 0} (m : DiskModel D) (old new : D) (most failed : ℕ) : Type 0 where
+  pub model : m.keeps_model new ≡ m.keeps_model old
+  pub failures : m.failures new ≡ m.failures old + failed
+  pub calls : m.keeps_model old ≡ true → m.clock new ≤ m.clock old + most
+
+-- how often a disk has failed in a run that ends with its first failure
+abbrev pub failures_of : {T E : Type 0} → Result T E → ℕ
+failures_of (Ok value) = 0
+failures_of (Err fault) = 1

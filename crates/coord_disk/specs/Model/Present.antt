@@ -41,7 +41,7 @@ written_at at bytes disk = record { synced = disk.synced; read = overwritten dis
 
 -- What a write may do, whether it succeeds or fails: no byte outside its range changes. Where it
 -- begins past the end, zeros come to stand in between.
-pub record Writes (at : ℕ) (bytes : List ℕ) (old new : Present) : Type 0 where
+pub record WritesWithin (at : ℕ) (bytes : List ℕ) (old new : Present) : Type 0 where
   pub synced : new.synced ≡ old.synced
   pub written : (i : ℕ) → is_within (range_of at bytes ∷ old.written) i ≡ false → is_within new.written i ≡ false
   pub no_shorter : length old.read ≤ length new.read

@@ -1,5 +1,8 @@
--- The calls of a raw file.
-use Rattle.std.specs.Prelude.{ℕ, List}
+-- The calls of a raw file, and what those promise that a disk does not have.
+use Rattle.std.specs.Prelude.{◌≡◌, ℕ, Bool, true, List, Result, OnOk}
+use Rattle.coord_disk.specs.Model.Calls.{Calls}
+use Rattle.coord_disk.specs.Model.DiskModel.{DiskModel}
+use Rattle.coord_disk.specs.Model.Present.{Present, FitsNoMore, whole}
 
 pub data RawCall : Type 0 where
   Len : RawCall
@@ -10,3 +13,21 @@ pub data RawCall : Type 0 where
   SyncData : RawCall
   SyncAll : RawCall
   SyncFolder : RawCall
+
+-- whether the folder's entry is synced stays as it was
+abbrev pub StaysEntered : {F : Type 0} → DiskModel F → (F → Bool) → F → F → Type 0
+StaysEntered m is_entered old new = m.keeps_model old ≡ true → is_entered new ≡ is_entered old
+
+-- A crash leaves what a read gives, where the sync reaches as far as that. It never leaves more than
+-- before.
+pub record BytesSynced {T E : Type 0} (Reaches : Type 0) (result : Result T E) (old new : Present) : Type 0 where
+  pub durable : Reaches → OnOk result (new ≡ whole old.read)
+  pub crash : FitsNoMore old new
+
+abbrev pub SyncsBytes : {F T E : Type 0} → DiskModel F → Type 0 → F → F → Result T E → Type 0
+SyncsBytes m Reaches old new result = Calls m old new (BytesSynced Reaches result)
+
+-- the folder's entry is synced, and the bytes stay as they were
+pub record Enters {F T E : Type 0} (m : DiskModel F) (is_entered : F → Bool) (old new : F) (result : Result T E) : Type 0 where
+  pub acts : Calls m old new (λ before now. now ≡ before)
+  pub enters : m.keeps_model old ≡ true → OnOk result (is_entered new ≡ true)

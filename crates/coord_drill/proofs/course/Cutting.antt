@@ -2,7 +2,7 @@
 use Rattle.std.proofs.Common.{◌≡◌, ◌+◌, true, false, List, [], length, take, Some, refl, sym, ap, ◌∙◌, arith, subst, inl, inr}
 use Rattle.std.specs.Option.{option_map}
 use Rattle.std.proofs.lemmas.Bool.{false≢true}
-use Rattle.coord_disk.specs.declared.disk.Disk.{Ghosts}
+use Rattle.coord_disk.specs.Model.DiskModel.{DiskModel}
 use Rattle.coord_ledger.specs.declared.events.Event.{Event}
 use Rattle.coord_ledger.specs.Facade.{Machine, Survives, disk_held, failed_until, model_held, run}
 use Rattle.coord_ledger.proofs.runs.EachMoment.{reopens_more}
@@ -13,7 +13,7 @@ use Rattle.coord_drill.proofs.does.Moments.{is_version}
 use Rattle.coord_drill.proofs.course.Kept.{kept_of, passes}
 use Rattle.coord_drill.proofs.course.Standing.{failed_is, raises}
 
-module _ {D : Type 0} (disk : Ghosts D) (crashes : D → D → Type 0) (d : Drill D) (p : Place D) (at : Stands disk d p) where
+module _ {D : Type 0} (disk : DiskModel D) (crashes : D → D → Type 0) (d : Drill D) (p : Place D) (at : Stands disk d p) where
   -- the events that were answered
   abbrev so_far : Asked → List Answer → List Event
   so_far a given = take (length given) (line_events p.state.holds a given)

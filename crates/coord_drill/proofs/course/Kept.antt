@@ -2,7 +2,7 @@
 use Rattle.std.proofs.Common.{ℕ, ◌≤◌, true, List, [], ◌∷◌, length, Option, Some, None, refl, ap, arith, inl, inr}
 use Rattle.std.specs.List.{AllByRecursion}
 use Rattle.coord_disk.proofs.MomentLemmas.{weaker}
-use Rattle.coord_disk.specs.declared.disk.Disk.{Ghosts}
+use Rattle.coord_disk.specs.Model.DiskModel.{DiskModel}
 use Rattle.coord_store.specs.declared.faults.CommitFault.TheVariants as fault
 use Rattle.coord_world.proofs.Facade.{trail_keeps_worlds}
 use Rattle.coord_world.specs.Facade.{World}
@@ -75,10 +75,10 @@ settled_grows m (e ∷ es) (a ∷ gs) named is answered =
     let later = settled_grows (after m e a) es gs named.1 (stays_consistent m e a named.0 is answered.0) answered.1 in
     omega (arith, later, keeps.settled, ap (λ (w : World). w.count) keeps.base)
 
-module _ {D : Type 0} (disk : Ghosts D) (crashes : D → D → Type 0) where
+module _ {D : Type 0} (disk : DiskModel D) (crashes : D → D → Type 0) where
   within_more : (e : Event) (P Q : List ℕ → Type 0) (old new : D) → LeavesWithin disk crashes e P old new → ((bytes : List ℕ) → P bytes → Q bytes) → LeavesWithin disk crashes e Q old new
   within_more Crash P Q old new leaves more = reopens_more disk crashes P Q old new leaves more
-  within_more e P Q old new leaves more = weaker disk.clock disk.left_since old new P Q leaves more
+  within_more e P Q old new leaves more = weaker disk old new P Q leaves more
 
   pub passes : (m : Machine) (told : List ℕ) (es : List Event) (gs : List Answer) (old new : D) → AllByRecursion EventInRange es → IsConsistent m → Answered m es gs → Settled m told → EachMoment disk crashes true m es gs old new →
       Passes disk crashes m told es gs old new

@@ -1,7 +1,7 @@
 -- Lines, one after the other.
 use Rattle.std.proofs.Common.{◌≡◌, ℕ, ◌+◌, Bool, true, false, cond, List, [], ◌∷◌, ◌++◌, length, option_map, Option, Some, None, Result, Ok, Err, IfOk, OnOk, refl, sym, ap, ◌∙◌, subst, arith, inl, inr, append-nil, append_assoc}
 use Rattle.std.specs.Option.{option_map as map_option}
-use Rattle.coord_disk.specs.declared.disk.Disk.{Ghosts}
+use Rattle.coord_disk.specs.Model.DiskModel.{DiskModel}
 use Rattle.coord_lines.specs.Lines.{Line}
 use Rattle.coord_types.specs.declared.packets.DataPacket.{DataPacket}
 use Rattle.coord_world.specs.Facade.{World}
@@ -51,7 +51,7 @@ not_late s line is = by_request (parsed (version_of s) line) is
 
 -- ---- one line
 
-module _ {D : Type 0} (disk : Ghosts D) (crashes : D → D → Type 0) where
+module _ {D : Type 0} (disk : DiskModel D) (crashes : D → D → Type 0) where
   module _ (d : Drill D) (p : Place D) (at : Stands disk d p) (n : ℕ) where
     pub goes_skipped : (line : List ℕ) → is_skipped line ≡ true → LineGoes disk crashes p n (Some line) [] p
     goes_skipped line skipped =

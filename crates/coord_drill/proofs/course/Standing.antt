@@ -4,7 +4,7 @@ use Rattle.std.proofs.lemmas.Bool.{false≢true}
 use Rattle.std.specs.List.{AllByRecursion}
 use Rattle.std.specs.Option.{option_map}
 use Rattle.coord_disk.proofs.MomentLemmas.{weaker}
-use Rattle.coord_disk.specs.declared.disk.Disk.{Ghosts}
+use Rattle.coord_disk.specs.Model.DiskModel.{DiskModel}
 use Rattle.coord_disk.specs.Model.Moments.{LeavesOnly}
 use Rattle.coord_disk.specs.Model.Present.{IsImage}
 use Rattle.coord_store.specs.Facade.{Recovered}
@@ -28,7 +28,7 @@ use Rattle.coord_drill.proofs.course.Told.{told_settled}
 
 -- ---- a store that was just made
 
-module _ {D : Type 0} (disk : Ghosts D) (crashes : D → D → Type 0) where
+module _ {D : Type 0} (disk : DiskModel D) (crashes : D → D → Type 0) where
   prefix_of : (d : DriverState D) (here : D) (may : MayBegin disk crashes d) → disk_held d ≡ Some here → disk.keeps_model here ≡ true → (m : Machine) → started d.ledger ≡ m → CrashPrefix m true (disk.present here)
   prefix_of d here may there on m same =
       let so_far = may.so_far in
@@ -170,12 +170,12 @@ module _ {D : Type 0} (disk : Ghosts D) (crashes : D → D → Type 0) where
     raising_kept empty bytes (inr raised) = inr (kept_two empty bytes (subst (Recovered bytes) (raised_to d.driver.ledger.log empty) raised))
 
     -- each moment of the raising
-    pub raises : IsEmptyLog d.driver.ledger.log → (old lost : D) → disk_held d.driver ≡ Some old → (has_stopped d.driver.ledger.log ≡ false → disk.keeps_model old ≡ true → LeavesOnly disk.clock disk.left_since old lost (GivesRaised d.driver)) → Raises disk p lost
+    pub raises : IsEmptyLog d.driver.ledger.log → (old lost : D) → disk_held d.driver ≡ Some old → (has_stopped d.driver.ledger.log ≡ false → disk.keeps_model old ≡ true → LeavesOnly disk old lost (GivesRaised d.driver)) → Raises disk p lost
     raises empty old lost there moments =
         let same : old ≡ p.disk = cc (there, at.holds) in
         let leaves = moments (none_stopped d.driver.ledger.log empty) (ap disk.keeps_model same ∙ at.keeps) in
-        subst (λ x. LeavesOnly disk.clock disk.left_since x lost (λ bytes. IsKept p.machine p.told bytes ⊎ IsKept (adopted (no_world 2)) p.told bytes)) same
-        (weaker disk.clock disk.left_since old lost (GivesRaised d.driver) (λ bytes. IsKept p.machine p.told bytes ⊎ IsKept (adopted (no_world 2)) p.told bytes) leaves (raising_kept empty))
+        subst (λ x. LeavesOnly disk x lost (λ bytes. IsKept p.machine p.told bytes ⊎ IsKept (adopted (no_world 2)) p.told bytes)) same
+        (weaker disk old lost (GivesRaised d.driver) (λ bytes. IsKept p.machine p.told bytes ⊎ IsKept (adopted (no_world 2)) p.told bytes) leaves (raising_kept empty))
 
     -- so is the line `version 2`
     pub reached_raised : (given : List Answer) (told : List ℕ) → IsEmptyLog d.driver.ledger.log → IsAnswered (state_of d) Version2 given told (state_of new) → RaisesTo disk crashes d.driver new.driver → Reached d new p Version2 given

@@ -1,7 +1,7 @@
 -- What flights, steps and crashes print, and what becomes of the drill, by the answers to their events.
 use Rattle.std.proofs.Common.{Bool, ◌≡◌, ℕ, true, false, cond, List, [], ◌∷◌, Ok, Err, Some, refl, sym, ap, ◌∙◌}
 use Rattle.coord_types.specs.declared.steps.Kind.{Kind}
-use Rattle.coord_disk.specs.declared.disk.Disk.{Ghosts}
+use Rattle.coord_disk.specs.Model.DiskModel.{DiskModel}
 use Rattle.coord_world.specs.protocol.NumberedWorld.{World}
 use Rattle.coord_ledger.specs.declared.events.Event.TheVariants as event
 use Rattle.coord_ledger.specs.Facade.{Claim, DriverState, IsAnew, LedgerState, after_submit, ledger_over, pending, run as after_run, settled_count, settled_world, started, verdict, with_step}
@@ -67,7 +67,7 @@ unfolding asked_lines
 crash_line s count = refl
 
 -- it is seen from the world that was opened
-pub crash_after : {D : Type 0} (disk : Ghosts D) (crashes : D → D → Type 0) (v w : DriverState D) (holds begun : Bool) (count : ℕ) → IsRun disk crashes v (event.Crash ∷ []) (Opened count ∷ []) w → IsAnew w → drill_of w.ledger false begun ≡ after_asked (drill_of v.ledger holds begun) Crash (Opened count ∷ [])
+pub crash_after : {D : Type 0} (disk : DiskModel D) (crashes : D → D → Type 0) (v w : DriverState D) (holds begun : Bool) (count : ℕ) → IsRun disk crashes v (event.Crash ∷ []) (Opened count ∷ []) w → IsAnew w → drill_of w.ledger false begun ≡ after_asked (drill_of v.ledger holds begun) Crash (Opened count ∷ [])
 unfolding after_asked
 crash_after {D} disk crashes v w holds begun count run anew =
     let m = after_run (started v.ledger) (event.Crash ∷ []) (Opened count ∷ []) in

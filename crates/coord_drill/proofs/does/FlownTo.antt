@@ -3,7 +3,7 @@ use Rattle.std.proofs.Common.{◌≡◌, ◌≢◌, ℕ, Bool, true, false, cond
 use Rattle.std.specs.List.{AllByRecursion}
 use Rattle.std.specs.Option.{option_map}
 use Rattle.std.proofs.lemmas.List.{drop-drop, take-append-drop}
-use Rattle.coord_disk.specs.declared.disk.Disk.{Ghosts}
+use Rattle.coord_disk.specs.Model.DiskModel.{DiskModel}
 use Rattle.coord_types.specs.declared.refusals.Refusal.TheVariants.{OutOfMemory}
 use Rattle.coord_store.specs.declared.faults.CommitFault.TheVariants as commit
 use Rattle.coord_world.specs.Facade.{World, fold, outs}
@@ -36,13 +36,13 @@ flown_to old mid new (flown.Settled rs) same back = subst (λ g. Lands g (flown.
 flown_to old mid new (flown.Failed fault) same back = subst (λ g. Lands g (flown.Failed fault) new) same back
 
 -- the departure of a flight, and then its commit and its return
-pub flown_by : {D : Type 0} (disk : Ghosts D) (crashes : D → D → Type 0) (v out new : DriverState D) (r : Flown) (b count : ℕ) → Lands out.ledger.log r new.ledger.log → Leads disk crashes v (Begin ∷ []) (Begun b ∷ []) out → Leads disk crashes out landing_events (landed_answers r count) new →
+pub flown_by : {D : Type 0} (disk : DiskModel D) (crashes : D → D → Type 0) (v out new : DriverState D) (r : Flown) (b count : ℕ) → Lands out.ledger.log r new.ledger.log → Leads disk crashes v (Begin ∷ []) (Begun b ∷ []) out → Leads disk crashes out landing_events (landed_answers r count) new →
     GoesBy disk crashes v (flown_answers r b count) new
 flown_by disk crashes v out new flown.Nothing b count back begun landed = absurd back
 flown_by disk crashes v out new r b count back begun landed = leads_then disk crashes v out new (Begin ∷ []) landing_events (Begun b ∷ []) (landed_answers r count) begun landed
 
 -- the departure of a flight, where a part of the rest was answered
-pub flown_part : {D : Type 0} (disk : Ghosts D) (crashes : D → D → Type 0) (v out : DriverState D) (b : ℕ) (lost : D) → Leads disk crashes v (Begin ∷ []) (Begun b ∷ []) out → LeadsPart disk crashes out (λ _. landing_events) lost → LeadsPart disk crashes v flight_events lost
+pub flown_part : {D : Type 0} (disk : DiskModel D) (crashes : D → D → Type 0) (v out : DriverState D) (b : ℕ) (lost : D) → Leads disk crashes v (Begin ∷ []) (Begun b ∷ []) out → LeadsPart disk crashes out (λ _. landing_events) lost → LeadsPart disk crashes v flight_events lost
 flown_part disk crashes v out b lost begun part =
     record {
       given = Begun b ∷ part.given;
@@ -73,7 +73,7 @@ flew m (flown.Failed fault) b count = refl
 
 -- ---- the drill that goes by it
 
-module _ {D : Type 0} (disk : Ghosts D) (crashes : D → D → Type 0) (v w : DriverState D) (claims : List Claim) (all : IsHeld v.ledger claims) (count : ℕ) where
+module _ {D : Type 0} (disk : DiskModel D) (crashes : D → D → Type 0) (v w : DriverState D) (claims : List Claim) (all : IsHeld v.ledger claims) (count : ℕ) where
   abbrev log : Log
   log = v.ledger.log
 
@@ -170,7 +170,7 @@ module _ {D : Type 0} (disk : Ghosts D) (crashes : D → D → Type 0) (v w : Dr
       ap (λ g. record { log = g; holds = holds; has_begun = begun }) (is r run to ∙ sym (flew (record (machine_of (drill_of v.ledger holds begun)) { tickets = tickets }) r b count))
 
 -- a drill that sent a flight out and took it back
-pub flies : {D : Type 0} (disk : Ghosts D) (crashes : D → D → Type 0) (d new : Drill D) (r : Flown) → new.holds ≡ d.holds → new.has_begun ≡ d.has_begun → IsHeld d.driver.ledger d.tickets.items → Begins d.driver →
+pub flies : {D : Type 0} (disk : DiskModel D) (crashes : D → D → Type 0) (d new : Drill D) (r : Flown) → new.holds ≡ d.holds → new.has_begun ≡ d.has_begun → IsHeld d.driver.ledger d.tickets.items → Begins d.driver →
     FlownTo d.driver.ledger.log r new.driver.ledger.log → GoesBy disk crashes d.driver (flown_answers r (next_size d.driver.ledger.log) (settled_count new.driver.ledger.log)) new.driver →
     Flies disk crashes d (flown_lines (settled_world new.driver.ledger.log) r d.tickets.items) new
 flies disk crashes d new r holds begun all begins to by =

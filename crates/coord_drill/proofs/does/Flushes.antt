@@ -1,6 +1,6 @@
 -- A flush.
 use Rattle.std.proofs.Common.{◌≡◌, List, ℕ, [], ◌++◌, refl, ap, ◌∙◌}
-use Rattle.coord_disk.specs.declared.disk.Disk.{Ghosts}
+use Rattle.coord_disk.specs.Model.DiskModel.{DiskModel}
 use Rattle.coord_ledger.specs.machine.Log.{settled_world}
 use Rattle.coord_drill.specs.Answered.{asked_lines, flight_lines}
 use Rattle.coord_drill.specs.Drill.{DrillState, after_asked}
@@ -8,7 +8,7 @@ use Rattle.coord_drill.specs.declared.asked.Asked.TheVariants.{Flush}
 use Rattle.coord_drill.specs.Facade.{Begins, Carries, Drill, Flies, count_line, state_of}
 use Rattle.coord_drill.proofs.does.Moments.{carries}
 
-module _ {D : Type 0} (disk : Ghosts D) (crashes : D → D → Type 0) (d new : Drill D) (told : List ℕ) (flown : Flies disk crashes d told new) where
+module _ {D : Type 0} (disk : DiskModel D) (crashes : D → D → Type 0) (d new : Drill D) (told : List ℕ) (flown : Flies disk crashes d told new) where
   flushed : state_of new ≡ after_asked (state_of d) Flush flown.given
   unfolding after_asked
   flushed = flown.goes_on []

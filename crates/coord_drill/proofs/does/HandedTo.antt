@@ -1,7 +1,7 @@
 -- What a step that is handed in makes of a drill: its tickets, and what is printed.
 use Rattle.std.proofs.Common.{◌≡◌, ◌≢◌, ℕ, true, false, cond, List, Option, Some, [], ◌∷◌, ◌++◌, Result, Ok, Err, refl, sym, ap, ◌∙◌, subst, ◌≤◌, length, take}
 use Rattle.std.specs.List.{AllByRecursion}
-use Rattle.coord_disk.specs.declared.disk.Disk.{Ghosts}
+use Rattle.coord_disk.specs.Model.DiskModel.{DiskModel}
 use Rattle.std.proofs.lemmas.List.{drop-append-le, take-append-le}
 use Rattle.coord_types.specs.declared.refusals.Refusal.TheVariants.{OutOfMemory}
 use Rattle.coord_world.proofs.Facade.{fold-take_drop}
@@ -52,7 +52,7 @@ repeated_granted {D} l new x t to =
 
 -- ---- the drill then, and what is printed
 
-module _ {D : Type 0} (disk : Ghosts D) (crashes : D → D → Type 0) (d : Drill D) (w : DriverState D) (x : Step) (ready : IsReady d) where
+module _ {D : Type 0} (disk : DiskModel D) (crashes : D → D → Type 0) (d : Drill D) (w : DriverState D) (x : Step) (ready : IsReady d) where
   abbrev v : DriverState D
   v = d.driver
 

@@ -4,7 +4,7 @@ use Rattle.std.proofs.lemmas.Bool.{false≢true}
 use Rattle.std.specs.List.{AllByRecursion}
 use Rattle.std.specs.Option.{option_map}
 use Rattle.coord_disk.specs.Model.Present.{IsImage}
-use Rattle.coord_disk.specs.declared.disk.Disk.{Ghosts}
+use Rattle.coord_disk.specs.Model.DiskModel.{DiskModel, IsModel}
 use Rattle.coord_types.specs.declared.refusals.Refusal.TheVariants.{OutOfMemory}
 use Rattle.coord_ledger.specs.Facade.{Answered, DiskEffect, DiskSurvives, DriverState, EachMoment, EventInRange, HasFailed, IsConsistent, Machine, MayBegin, Represents, Simulates, Touches, after, disk_held, failed_at, failed_until, found_by_crash, is_crash, model_held, run, started, touches_disk}
 use Rattle.coord_ledger.proofs.runs.EachMoment.{answered_without_disk}
@@ -62,10 +62,10 @@ failed_both s (e ∷ es) fs [] hs answered = absurd answered
 failed_both s (e ∷ es) fs (g ∷ gs) hs answered = omega (arith, failed_both (after s e g) es fs gs hs answered.1)
 
 -- a driver represents the machine over its own log
-pub begins_by : {D : Type 0} (disk : Ghosts D) (crashes : D → D → Type 0) (d : DriverState D) → MayBegin disk crashes d → Begins d
+pub begins_by : {D : Type 0} (disk : DiskModel D) (crashes : D → D → Type 0) (d : DriverState D) → MayBegin disk crashes d → Begins d
 begins_by disk crashes d may = record { consistent = may.so_far.consistent; represents = may.so_far.represents }
 
-module _ {D : Type 0} (disk : Ghosts D) (crashes : D → D → Type 0) where
+module _ {D : Type 0} (disk : DiskModel D) (crashes : D → D → Type 0) where
   moments_both : (s : Machine) (es fs : List Event) (gs hs : List Answer) (old mid new : D) → EachMoment disk crashes true s es gs old mid → EachMoment disk crashes true (run s es gs) fs hs mid new →
       EachMoment disk crashes true s (es ++ fs) (gs ++ hs) old new
   moments_both s [] fs [] hs old mid new first more = subst (λ d. EachMoment disk crashes true s fs hs d new) first.0 more
@@ -124,12 +124,12 @@ module _ {D : Type 0} (disk : Ghosts D) (crashes : D → D → Type 0) where
         }
 
     -- one that leaves the disk as it is
-    pub leads_aside : ((x : D) (image : List ℕ) → disk.keeps_model x ≡ true → disk.left_since x (disk.clock x) image → IsImage (disk.present x) image) → is_crash e ≡ false → ((s : Machine) → found_by_crash s e a ≡ s) → failed_at e a ≡ 0 → disk_held new ≡ disk_held d →
+    pub leads_aside : IsModel disk → is_crash e ≡ false → ((s : Machine) → found_by_crash s e a ≡ s) → failed_at e a ≡ 0 → disk_held new ≡ disk_held d →
         Simulates d e a new → Leads disk crashes d (e ∷ []) (a ∷ []) new
-    leads_aside only_now other found none same simulates =
+    leads_aside laws other found none same simulates =
         leads_one (ap (option_map disk.keeps_model) same)
         (λ n has. let more : n ≡ n + failed_at e a = omega (arith, none) in subst (HasFailed disk.failures (disk_held new)) more (ap (option_map disk.failures) same ∙ has)) simulates
-        (λ s is represents. answered_without_disk disk crashes only_now s e e a (disk_held d) (disk_held new) refl other (found s) same (before s is represents))
+        (λ s is represents. answered_without_disk disk crashes laws s e e a (disk_held d) (disk_held new) refl other (found s) same (before s is represents))
 
   -- the events of the one and then of the other
   pub leads_then : (d m new : DriverState D) (es fs : List Event) (gs hs : List Answer) → Leads disk crashes d es gs m → Leads disk crashes m fs hs new → Leads disk crashes d (es ++ fs) (gs ++ hs) new

@@ -1,6 +1,6 @@
 -- What changes nothing.
 use Rattle.std.proofs.Common.{◌≡◌, ℕ, true, false, List, [], ◌++◌, refl, sym, subst, append-nil}
-use Rattle.coord_disk.specs.declared.disk.Disk.{Ghosts}
+use Rattle.coord_disk.specs.Model.DiskModel.{DiskModel}
 use Rattle.coord_check.specs.Faults.{first, faults}
 use Rattle.coord_world.specs.protocol.Outputs.{again}
 use Rattle.coord_ledger.specs.Facade.{Answered, front_world, settled_world, started}
@@ -10,7 +10,7 @@ use Rattle.coord_drill.specs.declared.asked.Asked.TheVariants as ask
 use Rattle.coord_drill.specs.Facade.{Asked, Carries, CarriesIf, Drill, Leads, Refusal, Tells, fault_line, idle_line, output_lines, refusal_line, state_of}
 use Rattle.coord_drill.proofs.does.Moments.{Survive, by_asked, is_version, leads_none}
 
-module _ {D : Type 0} (disk : Ghosts D) (crashes : D → D → Type 0) where
+module _ {D : Type 0} (disk : DiskModel D) (crashes : D → D → Type 0) where
   -- a line that is no event leaves the drill as it is
   still : (d new : Drill D) (a : Asked) (told : List ℕ) → Survive disk crashes d.driver → new.driver ≡ d.driver → is_version a ≡ false → line_events d.holds a [] ≡ [] → told ≡ asked_lines (state_of d) a [] → state_of new ≡ after_asked (state_of d) a [] → Carries disk crashes d a told new
   still d new a told survives driver other none printed same =

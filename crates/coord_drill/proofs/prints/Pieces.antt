@@ -2,7 +2,7 @@
 use Rattle.std.proofs.Common.{◌≡◌, ℕ, ◌+◌, List, [], ◌∷◌, ◌++◌, length, length-append, Option, Some, None, refl, sym, ap, ◌∙◌, subst, arith, inl, inr, append-nil, append_assoc}
 use Rattle.std.specs.Io.KnownBytes.{Appends}
 use Rattle.std.proofs.KnownBytes.{Appends-nil, Appends-trans}
-use Rattle.coord_disk.specs.declared.disk.Disk.{Ghosts}
+use Rattle.coord_disk.specs.Model.DiskModel.{DiskModel}
 use Rattle.coord_ledger.specs.Facade.{disk_held}
 use Rattle.coord_lines.specs.Lines.{IsWithin, Line, before_line_feed, behind_line_feed, extended, lines_on}
 use Rattle.coord_lines.proofs.LinesOn.{extended-nothing, lines_on-ended, lines_on-unended}
@@ -15,7 +15,7 @@ pub of_writing : (fault : Fault) → IsOfWriting fault → IsOfNoStore fault
 of_writing fault (inl memory) why same = cc
 of_writing fault (inr write) why same = cc
 
-module _ {D : Type 0} (disk : Ghosts D) (crashes : D → D → Type 0) where
+module _ {D : Type 0} (disk : DiskModel D) (crashes : D → D → Type 0) where
   -- ---- lines that were carried out, and more behind them
 
   first_cut_more : (q : Place D) (ls more : List Line) (fault : Fault) (lost : D) → IsGivenBack disk crashes q ls fault lost → IsGivenBack disk crashes q (ls ++ more) fault lost

@@ -2,7 +2,7 @@
 use Rattle.std.proofs.Common.{refl, ◌≡◌, ℕ, ◌+◌, List, [], ◌++◌, length, Option, Some, sym, ap, ◌∙◌, subst, append-nil, take, inl, inr, Bool, true, false}
 use Rattle.std.specs.Io.KnownBytes.{Appends, Consumes}
 use Rattle.std.proofs.KnownBytes.{Consumes-nil, Consumes-trans}
-use Rattle.coord_disk.specs.declared.disk.Disk.{Ghosts}
+use Rattle.coord_disk.specs.Model.DiskModel.{DiskModel}
 use Rattle.coord_lines.specs.Lines.{Line, lines_of, lines_on}
 use Rattle.coord_lines.proofs.LinesOn.{lines_on-empty}
 use Rattle.coord_store.specs.declared.faults.StoreFault.{StoreFault}
@@ -36,7 +36,7 @@ ends_as_disk false fault memory = inl memory
 
 -- ---- a whole input
 
-module _ {D : Type 0} (disk : Ghosts D) (crashes : D → D → Type 0) (given : D) (input : List ℕ) where
+module _ {D : Type 0} (disk : DiskModel D) (crashes : D → D → Type 0) (given : D) (input : List ℕ) where
   -- what was printed of all of it may be
   pub ended_prints : (text : List ℕ) (last : D) → Ended disk crashes given input text last → IsDrilled input text
   ended_prints text last ended =

@@ -26,11 +26,11 @@ impl<D: CrashDisk> Console<D> {
         requires number { self.number + length piece.now < 2 ^ 64 - 1 }
         ensures ready { IfOk result (λ console. IsReady console.drill) }
         ensures number { IfOk result (λ console. console.number ≤ self.number + length piece.now) }
-        ensures taken { IfOk result (λ console. Takes ⟦<D as Disk>⟧ D.crashes
+        ensures taken { IfOk result (λ console. Takes D.model D.crashes
             self.drill self.number self.line piece.now []
             (W.contents writer.old) (W.contents writer.new)
             console.drill console.number console.line) }
-        ensures failed { IfErr result (λ refused. BreaksOff ⟦<D as Disk>⟧ D.crashes
+        ensures failed { IfErr result (λ refused. BreaksOff D.model D.crashes
             self.drill (self.number + 1) (lines_on self.line piece.now)
             (W.contents writer.old) (W.contents writer.new) refused.0 refused.1) }
         ensures fault { IfErr result (λ refused. IsOfWork refused.0) }
@@ -49,10 +49,10 @@ impl<D: CrashDisk> Console<D> {
         requires ready { IsReady self.drill }
         requires number { self.number < 2 ^ 64 - 1 }
         ensures ready { IfOk result (λ console. IsReady console.drill) }
-        ensures carried { IfOk result (λ console. CarriesOut ⟦<D as Disk>⟧ D.crashes
+        ensures carried { IfOk result (λ console. CarriesOut D.model D.crashes
             self.drill (self.number + 1) (self.line ∷ [])
             (W.contents writer.old) (W.contents writer.new) console.drill) }
-        ensures failed { IfErr result (λ refused. BreaksOff ⟦<D as Disk>⟧ D.crashes
+        ensures failed { IfErr result (λ refused. BreaksOff D.model D.crashes
             self.drill (self.number + 1) (self.line ∷ [])
             (W.contents writer.old) (W.contents writer.new) refused.0 refused.1) }
         ensures fault { IfErr result (λ refused. IsOfWork refused.0) }
@@ -72,10 +72,10 @@ impl<D: CrashDisk> Console<D> {
         requires ready { IsReady self.drill }
         requires number { self.number < 2 ^ 64 - 1 }
         ensures ready { IfOk result (λ console. IsReady console.drill) }
-        ensures carried { IfOk result (λ console. CarriesLine ⟦<D as Disk>⟧ D.crashes
+        ensures carried { IfOk result (λ console. CarriesLine D.model D.crashes
             self.drill (self.number + 1) self.line (string_bytes console.text) console.drill) }
         ensures cut { IfErr result (λ refused.
-            CutsLine ⟦<D as Disk>⟧ D.crashes self.drill self.line refused.0 refused.1) }
+            CutsLine D.model D.crashes self.drill self.line refused.0 refused.1) }
         ensures fault { IfErr result (λ refused. IsOfDisk refused.0) }
         ensures number { IfOk result (λ console. console.number ≡ self.number + 1) }
         ensures line { IfOk result (λ console. console.line ≡ Some []) }
@@ -111,10 +111,10 @@ fn respond<D: CrashDisk>(
     requires ready { IsReady drill }
     ensures ready { IfOk result IsReady }
     ensures carried { IfOk result (λ new. Tells (string_bytes text.old) (string_bytes text.new)
-        (λ told. CarriesLine ⟦<D as Disk>⟧ D.crashes drill number (option_copied line.entry) told
+        (λ told. CarriesLine D.model D.crashes drill number (option_copied line.entry) told
         new)) }
     ensures cut { IfErr result (λ refused.
-        CutsLine ⟦<D as Disk>⟧ D.crashes drill (option_copied line.entry) refused.0
+        CutsLine D.model D.crashes drill (option_copied line.entry) refused.0
         refused.1) }
     ensures fault { IfErr result (λ refused. IsOfDisk refused.0) }
 {

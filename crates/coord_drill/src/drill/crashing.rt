@@ -18,9 +18,9 @@ impl<D: CrashDisk> Drill<D> {
         requires ready { IsReady self }
         ensures ready { IfOk result IsReady }
         ensures told { IfOk result (λ drill. Tells (string_bytes text.old) (string_bytes text.new)
-            (λ told. CarriesIf ⟦<D as Disk>⟧ D.crashes self ask.Crash told drill)) }
+            (λ told. CarriesIf D.model D.crashes self ask.Crash told drill)) }
         ensures cut { IfErr result (λ refused.
-            CutsIf ⟦<D as Disk>⟧ D.crashes ask.Crash self refused.0
+            CutsIf D.model D.crashes ask.Crash self refused.0
             refused.1) }
         ensures fault { IfErr result (λ refused. IsOfDisk refused.0) }
     {

@@ -45,9 +45,9 @@ impl<D: CrashDisk> Drill<D> {
         requires ready { IsReady self }
         ensures ready { IfOk result IsReady }
         ensures told { IfOk result (λ drill. Tells (string_bytes text.old) (string_bytes text.new)
-            (λ told. CarriesIf ⟦<D as Disk>⟧ D.crashes self ask.Flush told drill)) }
+            (λ told. CarriesIf D.model D.crashes self ask.Flush told drill)) }
         ensures cut { IfErr result (λ refused.
-            CutsIf ⟦<D as Disk>⟧ D.crashes ask.Flush self refused.0
+            CutsIf D.model D.crashes ask.Flush self refused.0
             refused.1) }
         ensures fault { IfErr result (λ refused. IsOfMemory refused.0) }
     {
@@ -65,9 +65,9 @@ impl<D: CrashDisk> Drill<D> {
         requires ready { IsReady self }
         ensures ready { IfOk result IsReady }
         ensures told { IfOk result (λ drill. Tells (string_bytes text.old) (string_bytes text.new)
-            (λ told. Flies ⟦<D as Disk>⟧ D.crashes self told drill)) }
+            (λ told. Flies D.model D.crashes self told drill)) }
         ensures cut { IfErr result (λ refused.
-            LeadsPart ⟦<D as Disk>⟧ D.crashes self.driver flight_events refused.1) }
+            LeadsPart D.model D.crashes self.driver flight_events refused.1) }
         ensures fault { IfErr result (λ refused. IsOfMemory refused.0) }
     {
         let Drill {
@@ -125,11 +125,11 @@ fn print_flown<D: CrashDisk>(
 fn send_out<D: CrashDisk>(driver: Driver<D>) -> Result<Landing<D>, (Fault, D)>
     requires home { driver.flight ≡ None }
     ensures flown { IfOk result (λ r. FlownTo driver.ledger.log r.flown r.driver.ledger.log) }
-    ensures moments { IfOk result (λ r. GoesBy ⟦<D as Disk>⟧ D.crashes driver
+    ensures moments { IfOk result (λ r. GoesBy D.model D.crashes driver
         (flown_answers r.flown (next_size driver.ledger.log) (settled_count r.driver.ledger.log))
         r.driver) }
     ensures cut { IfErr result (λ refused.
-        LeadsPart ⟦<D as Disk>⟧ D.crashes driver flight_events refused.1) }
+        LeadsPart D.model D.crashes driver flight_events refused.1) }
     ensures fault { IfErr result (λ refused. IsOfMemory refused.0) }
 {
     driver.lemma_begins();
@@ -149,10 +149,10 @@ fn send_out<D: CrashDisk>(driver: Driver<D>) -> Result<Landing<D>, (Fault, D)>
 /// Commits the flight that is out, and takes it back.
 fn land<D: CrashDisk>(driver: Driver<D>) -> Result<Landing<D>, (Fault, D)>
     ensures lands { IfOk result (λ r. Lands driver.ledger.log r.flown r.driver.ledger.log) }
-    ensures moments { IfOk result (λ r. Leads ⟦<D as Disk>⟧ D.crashes driver landing_events
+    ensures moments { IfOk result (λ r. Leads D.model D.crashes driver landing_events
         (landed_answers r.flown (settled_count r.driver.ledger.log)) r.driver) }
     ensures cut { IfErr result (λ refused.
-        LeadsPart ⟦<D as Disk>⟧ D.crashes driver (λ _. landing_events) refused.1) }
+        LeadsPart D.model D.crashes driver (λ _. landing_events) refused.1) }
     ensures fault { IfErr result (λ refused. IsOfMemory refused.0) }
 {
     let mut driver = driver;
@@ -184,7 +184,7 @@ fn take_back<D: CrashDisk>(driver: Driver<D>) -> Result<(Releases, Driver<D>), (
     ensures base { IfOk result (λ r. r.1.ledger.log.base ≡ driver.ledger.log.base) }
     ensures released { IfOk result (λ r. r.0 ≡ settling_releases driver.ledger.log
         (r.1.ledger.log.settled - driver.ledger.log.settled)) }
-    ensures moments { IfOk result (λ r. Leads ⟦<D as Disk>⟧ D.crashes driver (Finish ∷ [])
+    ensures moments { IfOk result (λ r. Leads D.model D.crashes driver (Finish ∷ [])
         (Finished (settled_count r.1.ledger.log) ∷ []) r.1) }
     ensures disk { IfErr result (λ refused. disk_held driver ≡ Some refused.1) }
     ensures fault { IfErr result (λ refused. IsOfMemory refused.0) }

@@ -19,9 +19,9 @@ impl<D: CrashDisk> Drill<D> {
         requires ready { IsReady self }
         ensures ready { IfOk result IsReady }
         ensures told { IfOk result (λ drill.
-            CarriesIf ⟦<D as Disk>⟧ D.crashes self ask.Version2 [] drill) }
+            CarriesIf D.model D.crashes self ask.Version2 [] drill) }
         ensures cut { IfErr result (λ refused.
-            CutsIf ⟦<D as Disk>⟧ D.crashes ask.Version2 self refused.0
+            CutsIf D.model D.crashes ask.Version2 self refused.0
             refused.1) }
         ensures fault { IfErr result (λ refused. IsOfDisk refused.0) }
     {
@@ -53,15 +53,15 @@ impl<D: CrashDisk> Drill<D> {
 fn raise<D: CrashDisk>(alloc: Global, driver: Driver<D>) -> Result<Driver<D>, (Fault, D)>
     requires home { driver.flight ≡ None }
     ensures home { IfOk result (λ new. new.flight ≡ None) }
-    ensures raised { IfOk result (RaisesTo ⟦<D as Disk>⟧ D.crashes driver) }
-    ensures cut { IfErr result (λ refused. RaisesPart ⟦<D as Disk>⟧ driver refused.0 refused.1) }
+    ensures raised { IfOk result (RaisesTo D.model D.crashes driver) }
+    ensures cut { IfErr result (λ refused. RaisesPart D.model driver refused.0 refused.1) }
     ensures fault { IfErr result (λ refused. IsOfDisk refused.0) }
 {
     driver.lemma_begins();
     let Ok(mut store) = driver.into_ledger().close() else {
         unreachable!()
     };
-    store.images_give_world();
+    store.lemma_images_give_world();
     match store.migrate() {
         Ok(()) => {}
         Err(fault) => return Err((fault.into(), store.into_disk())),

@@ -22,9 +22,9 @@ impl<D: CrashDisk> Drill<D> {
         requires ready { IsReady self }
         ensures ready { IfOk result IsReady }
         ensures told { IfOk result (λ drill. Tells (string_bytes text.old) (string_bytes text.new)
-            (λ told. CarriesIf ⟦<D as Disk>⟧ D.crashes self (ask.Submit step) told drill)) }
+            (λ told. CarriesIf D.model D.crashes self (ask.Submit step) told drill)) }
         ensures cut { IfErr result (λ refused.
-            CutsIf ⟦<D as Disk>⟧ D.crashes (ask.Submit step) self refused.0
+            CutsIf D.model D.crashes (ask.Submit step) self refused.0
             refused.1) }
         ensures fault { IfErr result (λ refused. IsOfMemory refused.0) }
     {
@@ -64,12 +64,12 @@ impl<D: CrashDisk> Drill<D> {
 
 /// Hands a step in to a driver.
 fn hand_in<D: CrashDisk>(driver: &mut Driver<D>, step: Step) -> Result<Handed, Refusal>
-    ensures { Hands ⟦<D as Disk>⟧ D.crashes driver.old step result driver.new }
+    ensures { Hands D.model D.crashes driver.old step result driver.new }
 {
     driver.lemma_survives();
     let handed = driver.submit(step);
     driver.lemma_survives();
-    step.within_ranges();
+    step.lemma_in_range();
     handed
 }
 

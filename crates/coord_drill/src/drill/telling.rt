@@ -27,9 +27,9 @@ impl<D: CrashDisk> Drill<D> {
         requires ready { IsReady self }
         ensures ready { IfOk result IsReady }
         ensures told { IfOk result (λ drill. Tells (string_bytes text.old) (string_bytes text.new)
-            (λ told. CarriesIf ⟦<D as Disk>⟧ D.crashes self (ask.Refuse refusal) told drill)) }
+            (λ told. CarriesIf D.model D.crashes self (ask.Refuse refusal) told drill)) }
         ensures cut { IfErr result (λ refused.
-            CutsIf ⟦<D as Disk>⟧ D.crashes (ask.Refuse refusal) self refused.0
+            CutsIf D.model D.crashes (ask.Refuse refusal) self refused.0
             refused.1) }
         ensures fault { IfErr result (λ refused. IsOfMemory refused.0) }
     {
@@ -46,9 +46,9 @@ impl<D: CrashDisk> Drill<D> {
         requires ready { IsReady self }
         ensures ready { IfOk result IsReady }
         ensures told { IfOk result (λ drill. Tells (string_bytes text.old) (string_bytes text.new)
-            (λ told. CarriesIf ⟦<D as Disk>⟧ D.crashes self ask.Nothing told drill)) }
+            (λ told. CarriesIf D.model D.crashes self ask.Nothing told drill)) }
         ensures cut { IfErr result (λ refused.
-            CutsIf ⟦<D as Disk>⟧ D.crashes ask.Nothing self refused.0
+            CutsIf D.model D.crashes ask.Nothing self refused.0
             refused.1) }
         ensures fault { IfErr result (λ refused. IsOfMemory refused.0) }
     {
@@ -65,9 +65,9 @@ impl<D: CrashDisk> Drill<D> {
         requires ready { IsReady self }
         ensures ready { IfOk result IsReady }
         ensures told { IfOk result (λ drill. Tells (string_bytes text.old) (string_bytes text.new)
-            (λ told. CarriesIf ⟦<D as Disk>⟧ D.crashes self ask.Resend told drill)) }
+            (λ told. CarriesIf D.model D.crashes self ask.Resend told drill)) }
         ensures cut { IfErr result (λ refused.
-            CutsIf ⟦<D as Disk>⟧ D.crashes ask.Resend self refused.0
+            CutsIf D.model D.crashes ask.Resend self refused.0
             refused.1) }
         ensures fault { IfErr result (λ refused. IsOfMemory refused.0) }
     {
@@ -84,9 +84,9 @@ impl<D: CrashDisk> Drill<D> {
         requires ready { IsReady self }
         ensures ready { IfOk result IsReady }
         ensures told { IfOk result (λ drill. Tells (string_bytes text.old) (string_bytes text.new)
-            (λ told. CarriesIf ⟦<D as Disk>⟧ D.crashes self ask.Check told drill)) }
+            (λ told. CarriesIf D.model D.crashes self ask.Check told drill)) }
         ensures cut { IfErr result (λ refused.
-            CutsIf ⟦<D as Disk>⟧ D.crashes ask.Check self refused.0
+            CutsIf D.model D.crashes ask.Check self refused.0
             refused.1) }
         ensures fault { IfErr result (λ refused. IsOfMemory refused.0) }
     {
@@ -103,9 +103,9 @@ impl<D: CrashDisk> Drill<D> {
         requires ready { IsReady self }
         ensures ready { IfOk result IsReady }
         ensures told { IfOk result (λ drill. Tells (string_bytes text.old) (string_bytes text.new)
-            (λ told. CarriesIf ⟦<D as Disk>⟧ D.crashes self ask.Show told drill)) }
+            (λ told. CarriesIf D.model D.crashes self ask.Show told drill)) }
         ensures cut { IfErr result (λ refused.
-            CutsIf ⟦<D as Disk>⟧ D.crashes ask.Show self refused.0
+            CutsIf D.model D.crashes ask.Show self refused.0
             refused.1) }
         ensures fault { IfErr result (λ refused. IsOfMemory refused.0) }
     {
@@ -121,7 +121,7 @@ impl<D: CrashDisk> Drill<D> {
     pub(super) fn hold(self) -> Self
         requires ready { IsReady self }
         ensures ready { IsReady result }
-        ensures told { CarriesIf ⟦<D as Disk>⟧ D.crashes self ask.Hold [] result }
+        ensures told { CarriesIf D.model D.crashes self ask.Hold [] result }
     {
         let mut drill = self;
         drill.driver.lemma_survives();

@@ -2,7 +2,7 @@
 use Rattle.std.proofs.Common.{◌≡◌, ℕ, ◌<◌, Bool, List, [], length, get_or, Option, Some, None, refl, sym, ap, ◌∙◌, subst, arith, inl, inr, slice_get, take, IsSomeAnd}
 use Rattle.std.specs.Option.{option_map}
 use Rattle.std.proofs.lemmas.Option.{slice_get_past}
-use Rattle.coord_disk.specs.declared.disk.Disk.{Ghosts}
+use Rattle.coord_disk.specs.Model.DiskModel.{DiskModel}
 use Rattle.coord_ledger.specs.Facade.{Answer, EndedEarly, EndsAt, Event, FlightOut, FlightState, Follows, Good, HasCause, IsCommitted, IsConsistent, IsCutShort, IsEventFault, IsGivenBack, IsGivenUp, IsLost, IsPromised, LedgerState, Machine, Promised, Release, Run, RunFaultKind, disk_held, flight_out, model_held, run, started}
 use Rattle.coord_ledger.specs.declared.trace.RunFaultKind.TheVariants.{OutOfMemory, Store}
 use Rattle.coord_ledger.proofs.follows.Follows.{flight_is}
@@ -13,7 +13,7 @@ committed : {D : Type 0} (f : Option (FlightState D)) (o : Option FlightOut) →
 committed None o is none = absurd none
 committed (Some f) o is good = (length f.steps, sym is ∙ ap (λ m. Some (record { size = length f.steps; mark = m })) good)
 
-module _ {D : Type 0} (model : Ghosts D) (crashes : D → D → Type 0) where
+module _ {D : Type 0} (model : DiskModel D) (crashes : D → D → Type 0) where
   -- for want of memory, with the disk as it is held
   given_up : (on : Bool) (first lost : D) (start : LedgerState D) (events : List Event) (given : List Answer) (h : Run D) (kind : RunFaultKind) (released : List Release) → (all : Holds model crashes on first start events given h) → kind ≡ OutOfMemory → released ≡ h.released.items → disk_held h.driver ≡ Some lost →
       IsGivenUp (run (started start) events given) kind released all.so_far.disk lost

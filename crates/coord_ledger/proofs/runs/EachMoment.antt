@@ -3,7 +3,7 @@ use Rattle.std.proofs.Common.{◌≡◌, ◌⊎◌, ℕ, ◌+◌, Bool, true, fa
 use Rattle.std.specs.Option.{option_map}
 use Rattle.coord_disk.specs.Model.Moments.{LeavesOnly}
 use Rattle.coord_disk.specs.Model.Present.{Present, IsImage}
-use Rattle.coord_disk.specs.declared.disk.Disk.{Ghosts}
+use Rattle.coord_disk.specs.Model.DiskModel.{DiskModel, IsModel}
 use Rattle.coord_disk.proofs.MomentLemmas.{started, weaker}
 use Rattle.coord_store.specs.Kept.{GivesEither, IsOnlyWorld}
 use Rattle.coord_store.specs.declared.faults.CommitFault.{CommitFault}
@@ -99,19 +99,19 @@ abbrev pub commit_answer : {T : Type 0} → Result T CommitFault → Answer
 commit_answer (Ok done) = Committed
 commit_answer (Err why) = Failed why
 
-module _ {D : Type 0} (model : Ghosts D) (crashes : D → D → Type 0) where
-  within_event : (e : Event) (P : List ℕ → Type 0) (old new : D) → is_crash e ≡ false → LeavesOnly model.clock model.left_since old new P → LeavesWithin model crashes e P old new
+module _ {D : Type 0} (model : DiskModel D) (crashes : D → D → Type 0) where
+  within_event : (e : Event) (P : List ℕ → Type 0) (old new : D) → is_crash e ≡ false → LeavesOnly model old new P → LeavesWithin model crashes e P old new
   within_event Crash P old new other leaves = let no : ⊥ = cc in absurd no
   within_event e P old new other leaves = leaves
 
-  module _ (only_now : (disk : D) (image : List ℕ) → model.keeps_model disk ≡ true → model.left_since disk (model.clock disk) image → IsImage (model.present disk) image) where
+  module _ (laws : IsModel model) where
     -- nothing was done to the disk
     pub untouched : (s : Machine) (touches : Bool) (e : Event) (old new : D) → is_crash e ≡ false → new ≡ old → CrashPrefix s (model.keeps_model old) (model.present old) → Touches model crashes (model.keeps_model old) s touches e old new
     untouched s touches e old new other same prefix =
         record {
           untouched = λ _. same;
           inside = λ on. subst (LeavesWithin model crashes e (Survives s) old) (sym same)
-              (within_event e (Survives s) old old other (started model.clock model.left_since old (Survives s) (λ image left. prefix on image (only_now old image on left))));
+              (within_event e (Survives s) old old other (started model laws old (Survives s) on (prefix on)));
         }
 
     pub kept_untouched : (s : Machine) (touches : Bool) (e : Event) (was now : Option D) → is_crash e ≡ false → now ≡ was → DiskSurvives model.keeps_model model.present was s → DiskEffect model crashes s touches e was now
@@ -130,7 +130,7 @@ module _ {D : Type 0} (model : Ghosts D) (crashes : D → D → Type 0) where
       its_disk = ap (disk_with d.ledger.disk) holds
 
       -- at each moment of it a crash left only what has P
-      leaves : (found : Machine) (P : List ℕ → Type 0) → (model.keeps_model f.disk ≡ true → LeavesOnly model.clock model.left_since f.disk g.disk P) → ((bytes : List ℕ) → P bytes → Survives found bytes) → DiskEffect model crashes found true Commit (disk_held d) (disk_held new)
+      leaves : (found : Machine) (P : List ℕ → Type 0) → (model.keeps_model f.disk ≡ true → LeavesOnly model f.disk g.disk P) → ((bytes : List ℕ) → P bytes → Survives found bytes) → DiskEffect model crashes found true Commit (disk_held d) (disk_held new)
       leaves found P moments each old there =
           let same : f.disk ≡ old = cc (its_disk, there) in
           record {
@@ -138,7 +138,7 @@ module _ {D : Type 0} (model : Ghosts D) (crashes : D → D → Type 0) where
             holds = now;
             touched = record {
               untouched = λ no. let never : ⊥ = cc in absurd never;
-              inside = λ on. subst (λ x. LeavesOnly model.clock model.left_since x g.disk (Survives found)) same (weaker model.clock model.left_since f.disk g.disk P (Survives found) (moments (ap model.keeps_model same ∙ on)) each);
+              inside = λ on. subst (λ x. LeavesOnly model x g.disk (Survives found)) same (weaker model f.disk g.disk P (Survives found) (moments (ap model.keeps_model same ∙ on)) each);
             };
           }
 
@@ -147,8 +147,8 @@ module _ {D : Type 0} (model : Ghosts D) (crashes : D → D → Type 0) where
       alone same = kept_untouched s false Commit (disk_held d) (disk_held new) refl (now ∙ ap (λ (x : FlightState D). Some x.disk) same ∙ sym its_disk) survives
 
       pub commit_touches : {T : Type 0} (r : Result T CommitFault) →
-          (model.keeps_model f.disk ≡ true → f.mark ≡ New → LeavesOnly model.clock model.left_since f.disk g.disk (GivesEither f.world (fold f.world f.steps))) →
-          (model.keeps_model f.disk ≡ true → f.mark ≡ New → IsErrOf r fault.OutOfMemory → LeavesOnly model.clock model.left_since f.disk g.disk (IsOnlyWorld f.world)) →
+          (model.keeps_model f.disk ≡ true → f.mark ≡ New → LeavesOnly model f.disk g.disk (GivesEither f.world (fold f.world f.steps))) →
+          (model.keeps_model f.disk ≡ true → f.mark ≡ New → IsErrOf r fault.OutOfMemory → LeavesOnly model f.disk g.disk (IsOnlyWorld f.world)) →
           (f.mark ≡ New → MatchResult r (λ _. g.mark ≡ Good) (λ why. ((why ≡ fault.Device) × (g.mark ≡ Torn)) ⊎ ((why ≡ fault.OutOfMemory) × (g.mark ≡ New)))) →
           (f.mark ≡ Good → (r ≡ Err fault.Again) × (g ≡ f)) →
           (f.mark ≡ Torn → (r ≡ Err fault.Stopped) × (g ≡ f)) →

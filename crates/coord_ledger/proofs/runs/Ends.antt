@@ -3,7 +3,7 @@ use Rattle.std.proofs.Common.{◌≡◌, ℕ, Bool, true, List, Option, Some, No
 use Rattle.std.specs.Option.{option_map}
 use Rattle.std.proofs.Math.Seq.{take-length}
 use Rattle.coord_disk.specs.Model.Present.{Present}
-use Rattle.coord_disk.specs.declared.disk.Disk.{Ghosts}
+use Rattle.coord_disk.specs.Model.DiskModel.{DiskModel}
 use Rattle.coord_store.specs.Recovered.{Recovered}
 use Rattle.coord_ledger.specs.Facade.{Answer, Completed, DriverState, EachMoment, Event, Finish, Finished, FlightOut, FlightState, Follows, Good, ImagesGive, IsConsistent, IsLeft, IsOneOf, LedgerGives, LedgerState, Machine, Mark, New, Promised, Release, Represents, Run, RunSoFar, Torn, after_finish, at_home, brought_home, disk_held, disk_with, ended, finished, flight_out, kept, kept_by, run, settled_count, started, taken_back, world_after}
 use Rattle.coord_ledger.proofs.follows.FollowsCalls.{ledger_images}
@@ -64,7 +64,7 @@ home_disk {D} l (Some f) = by_mark f.mark
     by_mark Good = refl
     by_mark Torn = refl
 
-module _ {D : Type 0} (model : Ghosts D) (crashes : D → D → Type 0) where
+module _ {D : Type 0} (model : DiskModel D) (crashes : D → D → Type 0) where
   -- a run whose ledger is left at home
   pub completed_home : (start : LedgerState D) (first : D) (events : List Event) (given : List Answer) (h : Run D) (l : LedgerState D) (released : List Release) (disk : D) → RunSoFar model crashes (model.keeps_model disk) first start events given h.driver → Follows h (run (started start) events given) →
       l ≡ brought_home h.driver.ledger h.driver.flight → released ≡ h.released.items → IfSome l.disk (λ d. model.keeps_model d ≡ true → LedgerGives model.present l d) → l.disk ≡ Some disk →

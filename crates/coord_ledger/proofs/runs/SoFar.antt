@@ -3,7 +3,7 @@ use Rattle.std.proofs.Common.{◌≡◌, ◌⊎◌, ℕ, ◌+◌, ◌-◌, ◌<�
 use Rattle.std.specs.List.{AllByRecursion}
 use Rattle.std.specs.Option.{option_map}
 use Rattle.std.proofs.lemmas.Option.{slice_get_read}
-use Rattle.coord_disk.specs.declared.disk.Disk.{Ghosts}
+use Rattle.coord_disk.specs.Model.DiskModel.{DiskModel}
 use Rattle.coord_store.proofs.Freshness.{take-push}
 use Rattle.coord_ledger.specs.Facade.{Answer, CrashPrefix, DiskEffect, DiskSurvives, DriverState, Event, EventInRange, Follows, FollowsTo, HoldsFlight, HoldsTickets, IsConsistent, IsOneOf, IsPromised, LedgerState, Machine, MayBegin, Promised, Represents, Run, RunSoFar, Touches, after, answers, at_home, disk_held, disk_with, flight_out, found_by_crash, is_crash, machine_of, model_held, run, started, touches_disk}
 use Rattle.coord_ledger.proofs.machine.Consistent.{run_goes_on, stays_consistent}
@@ -15,7 +15,7 @@ all_at P [] i x there all = let no : ⊥ = cc in absurd no
 all_at P (y ∷ ys) zero x there all = let same : y ≡ x = cc in subst P same all.0
 all_at P (y ∷ ys) (suc i) x there all = all_at P ys i x there all.1
 
-module _ {D : Type 0} (model : Ghosts D) (crashes : D → D → Type 0) where
+module _ {D : Type 0} (model : DiskModel D) (crashes : D → D → Type 0) where
   -- a run begins where no flight is out
   pub so_far_first : (first : D) (d : DriverState D) → d.flight ≡ None → HoldsFlight d.ledger d.flight → IsConsistent (machine_of d (started d.ledger)) → d.ledger.disk ≡ Some first →
       ((s : Machine) → IsConsistent s → Represents d s → DiskSurvives model.keeps_model model.present (disk_held d) s) → RunSoFar model crashes (model.keeps_model first) first d.ledger [] [] d

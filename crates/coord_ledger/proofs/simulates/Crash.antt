@@ -1,7 +1,7 @@
 -- The disk crashes, and a ledger is made anew: an event of the driver's machine.
 use Rattle.std.proofs.Common.{◌≡◌, ◌+◌, ◌-◌, ◌≤◌, true, length, refl, sym, ap, ◌∙◌, subst, arith}
 use Rattle.std.specs.Option.{option_map}
-use Rattle.coord_disk.specs.declared.disk.Disk.{Ghosts}
+use Rattle.coord_disk.specs.Model.DiskModel.{DiskModel}
 use Rattle.coord_store.proofs.OneWorld.{recovered_is_one}
 use Rattle.coord_world.specs.Facade.{World}
 use Rattle.coord_ledger.specs.Facade.{Crash, DriverState, ImagesGive, IsConsistent, IsOneOf, IsReopened, LedgerState, Opened, Simulates, adopted, answers, at_home, flight_out, kept, kept_by, machine_of, settled_world, started, world_after}
@@ -9,7 +9,7 @@ use Rattle.coord_ledger.proofs.machine.ConsistentFlights.{kept_more}
 use Rattle.coord_ledger.proofs.machine.Lists.{one_mapped}
 use Rattle.coord_ledger.proofs.machine.Logs.{count_after}
 
-pub simulates_opened : {D : Type 0} (d : DriverState D) (l : LedgerState D) (model : Ghosts D) (crashes : D → D → Type 0) (before : D) → IsConsistent (machine_of d (started d.ledger)) →
+pub simulates_opened : {D : Type 0} (d : DriverState D) (l : LedgerState D) (model : DiskModel D) (crashes : D → D → Type 0) (before : D) → IsConsistent (machine_of d (started d.ledger)) →
     ImagesGive (model.keeps_model before) (model.present before) d.ledger.log (kept_by d.ledger.log.settled (option_map flight_out d.flight) d.ledger.log.doubt) → model.keeps_model before ≡ true → IsReopened model crashes before l → Simulates d Crash (Opened (settled_world l.log).count) (at_home l)
 simulates_opened {D} d l model crashes before is images keeps opened =
     let log = d.ledger.log in

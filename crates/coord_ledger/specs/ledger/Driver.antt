@@ -2,7 +2,7 @@
 use Rattle.std.specs.Prelude.{◌≡◌, ◌⊎◌, ℕ, List, [], Bool, true, false, Option, Some, None, length}
 use Rattle.std.specs.Option.{option_map}
 use Rattle.coord_disk.specs.Model.Present.{Present, IsImage}
-use Rattle.coord_disk.specs.declared.disk.Disk.{Ghosts}
+use Rattle.coord_disk.specs.Model.DiskModel.{DiskModel}
 use Rattle.coord_store.specs.Facade.{IsOpenFault, IsPassing, Recovered, RefusesOpen}
 use Rattle.coord_store.specs.declared.faults.StoreFault.{StoreFault}
 use Rattle.coord_world.specs.protocol.NumberedWorld.{World}
@@ -43,7 +43,7 @@ pub record AnImageGives (present : Present) (world : World) : Type 0 where
   pub recovered : Recovered image world
 
 -- a ledger that was made anew after a crash of this disk, of the world that one of its images gives
-pub record IsReopened {D : Type 0} (model : Ghosts D) (crashes : D → D → Type 0) (before : D) (l : LedgerState D) : Type 0 where
+pub record IsReopened {D : Type 0} (model : DiskModel D) (crashes : D → D → Type 0) (before : D) (l : LedgerState D) : Type 0 where
   pub world : World
   pub disk : D
   pub is : l ≡ ledger_over world disk
@@ -75,19 +75,19 @@ IsEventFault model e OutOfMemory = wants_memory e ≡ true
 IsEventFault model e (Store fault) = (e ≡ Crash) × IsOpenFault fault × (model ≡ Some true → IsPassing fault)
 
 -- the driver now holds what an event has made of this disk
-pub record DiskAfter {D : Type 0} (model : Ghosts D) (crashes : D → D → Type 0) (found : Machine) (touches : Bool) (e : Event) (old : D) (now : Option D) : Type 0 where
+pub record DiskAfter {D : Type 0} (model : DiskModel D) (crashes : D → D → Type 0) (found : Machine) (touches : Bool) (e : Event) (old : D) (now : Option D) : Type 0 where
   pub new : D
   pub holds : now ≡ Some new
   pub touched : Touches model crashes (model.keeps_model old) found touches e old new
 
 -- What an event does to the disk that the driver held, where a crash inside the event finds this machine. `model` has the
 -- ghost members of the disk's type, which say what its disks may hold, and `crashes` says which disks a crash may leave.
-abbrev pub DiskEffect : {D : Type 0} → Ghosts D → (D → D → Type 0) → Machine → Bool → Event → Option D → Option D → Type 0
+abbrev pub DiskEffect : {D : Type 0} → DiskModel D → (D → D → Type 0) → Machine → Bool → Event → Option D → Option D → Type 0
 DiskEffect {D} model crashes found touches e was now =
     (old : D) → was ≡ Some old → DiskAfter model crashes found touches e old now
 
 -- An event was cut short, and this disk is given back in place of the one that was held.
-abbrev pub IsLost : {D : Type 0} → Ghosts D → (D → D → Type 0) → Machine → Event → RunFaultKind → Option D → D → Type 0
+abbrev pub IsLost : {D : Type 0} → DiskModel D → (D → D → Type 0) → Machine → Event → RunFaultKind → Option D → D → Type 0
 IsLost {D} model crashes s e kind was lost =
     (old : D) → was ≡ Some old → IsGivenBack model crashes (model.keeps_model old) s e kind old lost
 
@@ -96,7 +96,7 @@ abbrev pub DiskSurvives : {D : Type 0} → (D → Bool) → (D → Present) → 
 DiskSurvives {D} keeps_model present held s = (disk : D) → held ≡ Some disk → CrashPrefix s (keeps_model disk) (present disk)
 
 -- What a driver keeps after events with these answers, where the first event found this disk.
-pub record RunSoFar {D : Type 0} (model : Ghosts D) (crashes : D → D → Type 0) (keeps_model : Bool) (first : D) (start : LedgerState D) (events : List Event) (given : List Answer) (d : DriverState D) : Type 0 where
+pub record RunSoFar {D : Type 0} (model : DiskModel D) (crashes : D → D → Type 0) (keeps_model : Bool) (first : D) (start : LedgerState D) (events : List Event) (given : List Answer) (d : DriverState D) : Type 0 where
   pub answered : Answered (started start) events given
   pub consistent : IsConsistent (run (started start) events given)
   pub represents : Represents d (run (started start) events given)
@@ -105,7 +105,7 @@ pub record RunSoFar {D : Type 0} (model : Ghosts D) (crashes : D → D → Type 
   pub moments : EachMoment model crashes keeps_model (started start) events given first disk
 
 -- A run of events may begin at this driver: from its ledger's disk on, it is a run of no event.
-pub record MayBegin {D : Type 0} (model : Ghosts D) (crashes : D → D → Type 0) (d : DriverState D) : Type 0 where
+pub record MayBegin {D : Type 0} (model : DiskModel D) (crashes : D → D → Type 0) (d : DriverState D) : Type 0 where
   pub first : D
   pub home : d.ledger.disk ≡ Some first
   pub so_far : RunSoFar model crashes (model.keeps_model first) first d.ledger [] [] d

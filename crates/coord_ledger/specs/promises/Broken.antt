@@ -5,7 +5,7 @@
 -- given up. The disk is given back as the events before have left it; in a crash, as it is behind
 -- the taking of an image.
 use Rattle.std.specs.Prelude.{◌≡◌, ◌⊎◌, ℕ, ◌≤◌, Bool, true, false, List, [], ◌++◌, length, take, slice_get, Option, Some, None}
-use Rattle.coord_disk.specs.declared.disk.Disk.{Ghosts}
+use Rattle.coord_disk.specs.Model.DiskModel.{DiskModel}
 use Rattle.coord_store.specs.Facade.{IsOpenFault, IsPassing}
 use Rattle.coord_ledger.specs.declared.events.Answer.{Answer}
 use Rattle.coord_ledger.specs.declared.events.Event.{Event}
@@ -44,12 +44,12 @@ IsCutShort before Crash kind released = released ≡ before.released
 IsCutShort before event kind released = ⊥
 
 -- A crash has taken one of the disk's images. Where there is no memory for the ledger, the store was opened.
-pub record IsLostInCrash {D : Type 0} (model : Ghosts D) (crashes : D → D → Type 0) (before : Machine) (kind : RunFaultKind) (disk lost : D) : Type 0 where
+pub record IsLostInCrash {D : Type 0} (model : DiskModel D) (crashes : D → D → Type 0) (before : Machine) (kind : RunFaultKind) (disk lost : D) : Type 0 where
   pub reopens : Reopens model crashes (Survives before) disk lost
   pub opened : kind ≡ OutOfMemory → Survives before (model.present lost).read
 
 -- which disk is given back
-abbrev pub IsGivenBack : {D : Type 0} → Ghosts D → (D → D → Type 0) → Bool → Machine → Event → RunFaultKind → D → D → Type 0
+abbrev pub IsGivenBack : {D : Type 0} → DiskModel D → (D → D → Type 0) → Bool → Machine → Event → RunFaultKind → D → D → Type 0
 IsGivenBack model crashes keeps_model before Crash kind disk lost = keeps_model ≡ true → IsLostInCrash model crashes before kind disk lost
 IsGivenBack model crashes keeps_model before event kind disk lost = lost ≡ disk
 
@@ -66,13 +66,13 @@ abbrev pub IsCommitted : Option FlightOut → Type 0
 IsCommitted flight = (size : ℕ) × (flight ≡ Some (record { size = size; mark = Good }))
 
 -- why it ends at this event, or behind the last one
-abbrev pub EndsAt : {D : Type 0} → Ghosts D → (D → D → Type 0) → Bool → Machine → Option Event → RunFaultKind → List Release → D → D → Type 0
+abbrev pub EndsAt : {D : Type 0} → DiskModel D → (D → D → Type 0) → Bool → Machine → Option Event → RunFaultKind → List Release → D → D → Type 0
 EndsAt model crashes keeps_model before None kind released disk lost = IsGivenUp before kind released disk lost × IsCommitted before.flight
 EndsAt model crashes keeps_model before (Some event) kind released disk lost = IsCutShort before event kind released × IsGivenBack model crashes keeps_model before event kind disk lost
 
 -- A run that ended early, with the answers to the events before. At each moment of it, also inside the event that was
 -- cut short, the headline holds. It is what `run_events_keeping_disk` ensures where it answers a fault.
-pub record EndedEarly {D : Type 0} (model : Ghosts D) (crashes : D → D → Type 0) (start : Machine) (events : List Event) (at : ℕ) (given : List Answer) (released : List Release) (kind : RunFaultKind) (keeps_model : Bool) (first lost : D) : Type 0 where
+pub record EndedEarly {D : Type 0} (model : DiskModel D) (crashes : D → D → Type 0) (start : Machine) (events : List Event) (at : ℕ) (given : List Answer) (released : List Release) (kind : RunFaultKind) (keeps_model : Bool) (first lost : D) : Type 0 where
   pub within : at ≤ length events
   pub answered : Answered start (take at events) given
   pub disk : D  -- as the events before have left it

@@ -21,7 +21,7 @@
 use Rattle.std.specs.Prelude.{◌≡◌, ◌⊎◌, ℕ, ◌≤◌, ◌==◌, ◌&&◌, Bool, true, false, List, [], ◌∷◌, map, take, count_by, Some, None}
 use Rattle.std.specs.List.{AllByRecursion}
 use Rattle.coord_disk.specs.Model.Present.{Present, IsImage}
-use Rattle.coord_disk.specs.declared.disk.Disk.{Ghosts}
+use Rattle.coord_disk.specs.Model.DiskModel.{DiskModel}
 use Rattle.coord_types.specs.Table.{get}
 use Rattle.coord_types.specs.declared.steps.Reply.{Reply}
 use Rattle.coord_types.specs.declared.steps.Session.{Session}
@@ -82,13 +82,13 @@ found_by_crash s event answer = s
 
 -- What an event has made of the disk: nothing where it doesn't touch it, and at each moment since it began, a crash
 -- that then finds this machine leaves only what survives.
-pub record Touches {D : Type 0} (model : Ghosts D) (crashes : D → D → Type 0) (keeps_model : Bool) (found : Machine) (touches : Bool) (e : Event) (old new : D) : Type 0 where
+pub record Touches {D : Type 0} (model : DiskModel D) (crashes : D → D → Type 0) (keeps_model : Bool) (found : Machine) (touches : Bool) (e : Event) (old new : D) : Type 0 where
   pub untouched : touches ≡ false → new ≡ old
   pub inside : keeps_model ≡ true → LeavesWithin model crashes e (Survives found) old new
 
 -- A run, moment by moment, from its first disk to its last: whatever a crash between two events or inside one may leave
 -- survives.
-abbrev pub EachMoment : {D : Type 0} → Ghosts D → (D → D → Type 0) → Bool → Machine → List Event → List Answer → D → D → Type 0
+abbrev pub EachMoment : {D : Type 0} → DiskModel D → (D → D → Type 0) → Bool → Machine → List Event → List Answer → D → D → Type 0
 EachMoment {D} model crashes keeps_model s [] [] first last = (last ≡ first) × CrashPrefix s keeps_model (model.present last)
 EachMoment {D} model crashes keeps_model s [] (a ∷ given) first last = ⊥
 EachMoment {D} model crashes keeps_model s (e ∷ es) [] first last = ⊥
@@ -149,7 +149,7 @@ pub record IsLeft {D : Type 0} (s : Machine) (l : LedgerState D) : Type 0 where
 -- A run from a ledger at home, on a disk that it has led from one state to another: the answers are
 -- the machine's, these were released, wherever it is stopped, after an event or at any moment inside one, the headline
 -- holds, and this ledger is left. It is what `run_events` ensures where it answers a trace and a ledger.
-pub record Completed {D : Type 0} (model : Ghosts D) (crashes : D → D → Type 0) (start : Machine) (events : List Event) (given : List Answer) (released : List Release) (left : LedgerState D) (keeps_model : Bool) (first last : D) : Type 0 where
+pub record Completed {D : Type 0} (model : DiskModel D) (crashes : D → D → Type 0) (start : Machine) (events : List Event) (given : List Answer) (released : List Release) (left : LedgerState D) (keeps_model : Bool) (first last : D) : Type 0 where
   pub answered : Answered start events given
   pub released_is : released ≡ (run start events given).released
   pub prefix : CrashPrefix (run start events given) keeps_model (model.present last)

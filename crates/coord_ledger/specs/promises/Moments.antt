@@ -2,7 +2,7 @@
 use Rattle.std.specs.Prelude.{◌≡◌, ℕ, List, Bool, true, false}
 use Rattle.coord_disk.specs.Model.Moments.{LeavesOnly}
 use Rattle.coord_disk.specs.Model.Present.{IsImage, whole}
-use Rattle.coord_disk.specs.declared.disk.Disk.{Ghosts}
+use Rattle.coord_disk.specs.Model.DiskModel.{DiskModel}
 use Rattle.coord_store.specs.declared.faults.CommitFault.TheVariants as fault
 use Rattle.coord_ledger.specs.declared.events.Answer.{Answer}
 use Rattle.coord_ledger.specs.declared.events.Answer.TheVariants.{Committed, Failed}
@@ -19,15 +19,15 @@ touches_disk event answer = false
 
 -- A crash has taken one of the disk's images, and at each moment of the opening behind it a crash left only images of
 -- what was taken. These have P.
-pub record Reopens {D : Type 0} (model : Ghosts D) (crashes : D → D → Type 0) (P : List ℕ → Type 0) (old new : D) : Type 0 where
+pub record Reopens {D : Type 0} (model : DiskModel D) (crashes : D → D → Type 0) (P : List ℕ → Type 0) (old new : D) : Type 0 where
   pub taken : D
   pub crash : crashes old taken
   pub image : IsImage (model.present old) (model.present taken).read
   pub synced : model.present taken ≡ whole (model.present taken).read
-  pub opening : LeavesOnly model.clock model.left_since taken new (IsImage (model.present taken))
+  pub opening : LeavesOnly model taken new (IsImage (model.present taken))
   pub each : (bytes : List ℕ) → IsImage (model.present taken) bytes → P bytes
 
 -- at each moment since an event began a crash left only what has P
-abbrev pub LeavesWithin : {D : Type 0} → Ghosts D → (D → D → Type 0) → Event → (List ℕ → Type 0) → D → D → Type 0
+abbrev pub LeavesWithin : {D : Type 0} → DiskModel D → (D → D → Type 0) → Event → (List ℕ → Type 0) → D → D → Type 0
 LeavesWithin model crashes Crash P old new = Reopens model crashes P old new
-LeavesWithin model crashes event P old new = LeavesOnly model.clock model.left_since old new P
+LeavesWithin model crashes event P old new = LeavesOnly model old new P

@@ -14,16 +14,16 @@ use std::alloc::Global;
 
 /// Crashes a disk, and makes a ledger of what it then holds. A refusal gives the disk back.
 fn reopen<D: CrashDisk>(alloc: Global, disk: D) -> Result<Ledger<D>, (RunFaultKind, D)>
-    ensures opened { IfOk result (IsReopened ⟦<D as Disk>⟧ D.crashes
+    ensures opened { IfOk result (IsReopened D.model D.crashes
         disk) }
     ensures cause { IfErr result (λ refused.
-        IsReopenFault (D.keeps_model disk) (D.present disk) (D.present refused.1) refused.0) }
+        IsReopenFault (D.model.keeps_model disk) (D.model.present disk) (D.model.present refused.1) refused.0) }
     ensures failures { MatchResult result (λ ledger.
-        HasFailed D.failures ledger.disk (D.failures disk)) (λ refused. D.failures refused.1 ≡
-        D.failures disk + failed_in refused.0) }
-    ensures lost { IfErr result (λ refused. D.keeps_model disk ≡ true →
-        Reopens ⟦<D as Disk>⟧ D.crashes
-        (IsImage (D.present disk)) disk refused.1) }
+        HasFailed D.model.failures ledger.disk (D.model.failures disk)) (λ refused. D.model.failures refused.1 ≡
+        D.model.failures disk + failed_in refused.0) }
+    ensures lost { IfErr result (λ refused. D.model.keeps_model disk ≡ true →
+        Reopens D.model D.crashes
+        (IsImage (D.model.present disk)) disk refused.1) }
 {
     let opened = match Store::open(alloc, disk.crash()) {
         Ok(store) => store,
@@ -50,23 +50,23 @@ impl<D: CrashDisk> Driver<D> {
     /// The disk crashes and is opened again, and the flight is gone. The count of the world that was
     /// opened, and its driver; or why none was, and the disk.
     pub fn crash(self, alloc: Global) -> Result<(u64, Self), (RunFaultKind, D)>
-        ensures simulates { model_held D.keeps_model self ≡ Some true →
+        ensures simulates { model_held D.model.keeps_model self ≡ Some true →
             IfOk result (λ opened. Simulates self Crash (Opened opened.0) opened.1) }
         ensures anew { IfOk result (λ opened. IsAnew opened.1) }
         ensures count { IfOk result (λ opened. opened.0 ≡ settled_count opened.1.ledger.log) }
         ensures disk { (s : Machine) → IsConsistent s → Represents self s
             → MatchResult result (λ opened.
-            DiskEffect ⟦<D as Disk>⟧ D.crashes s true Crash
+            DiskEffect D.model D.crashes s true Crash
             (disk_held self) (disk_held opened.1)) (λ refused.
-            IsLost ⟦<D as Disk>⟧ D.crashes s Crash refused.0
+            IsLost D.model D.crashes s Crash refused.0
             (disk_held self) refused.1) }
-        ensures failures { (n : ℕ) → HasFailed D.failures (disk_held self) n
-            → MatchResult result (λ opened. HasFailed D.failures (disk_held opened.1) n)
-            (λ refused. D.failures refused.1 ≡ n + failed_in refused.0) }
-        ensures model { IfOk result (λ opened. model_held D.keeps_model opened.1 ≡
-            model_held D.keeps_model self) }
+        ensures failures { (n : ℕ) → HasFailed D.model.failures (disk_held self) n
+            → MatchResult result (λ opened. HasFailed D.model.failures (disk_held opened.1) n)
+            (λ refused. D.model.failures refused.1 ≡ n + failed_in refused.0) }
+        ensures model { IfOk result (λ opened. model_held D.model.keeps_model opened.1 ≡
+            model_held D.model.keeps_model self) }
         ensures cause { IfErr result (λ refused.
-            IsEventFault (model_held D.keeps_model self) Crash refused.0) }
+            IsEventFault (model_held D.model.keeps_model self) Crash refused.0) }
     {
         self.lemma_survives();
         self.ledger.lemma_log_is_consistent();

@@ -34,12 +34,12 @@ impl<D: CrashDisk> Driver<D> {
         ensures simulates { Simulates self.old Commit result self.new }
         ensures ledger { self.new.ledger ≡ self.old.ledger }
         ensures disk { (s : Machine) → IsConsistent s → Represents self.old s
-            → DiskEffect ⟦<D as Disk>⟧ D.crashes
+            → DiskEffect D.model D.crashes
             (found_by_crash s Commit result) (touches_disk Commit result) Commit
             (disk_held self.old) (disk_held self.new) }
-        ensures failures { (n : ℕ) → HasFailed D.failures (disk_held self.old) n →
-            HasFailed D.failures (disk_held self.new) (n + failed_at Commit result) }
-        ensures model { model_held D.keeps_model self.new ≡ model_held D.keeps_model self.old }
+        ensures failures { (n : ℕ) → HasFailed D.model.failures (disk_held self.old) n →
+            HasFailed D.model.failures (disk_held self.new) (n + failed_at Commit result) }
+        ensures model { model_held D.model.keeps_model self.new ≡ model_held D.model.keeps_model self.old }
     {
         self.lemma_survives();
         match &mut self.flight {

@@ -15,12 +15,12 @@ impl<D: CrashDisk> Run<D> {
     pub fn end(self) -> Result<(Vec<Release>, Ledger<D>), Broken<D>>
         ensures ran { (start : LedgerState D) → (first : D) → (events : List What) →
             (given : List Reaction) → (after : D)
-            → RunSoFar ⟦<D as Disk>⟧ D.crashes
-            (D.keeps_model after) first start events given self.driver
+            → RunSoFar D.model D.crashes
+            (D.model.keeps_model after) first start events given self.driver
             → Follows self (run (started start) events given)
             → IfOk result (λ r. r.1.disk ≡ Some after →
-            Completed ⟦<D as Disk>⟧ D.crashes (started start) events given r.0.items r.1
-            (D.keeps_model after) first after) }
+            Completed D.model D.crashes (started start) events given r.0.items r.1
+            (D.model.keeps_model after) first after) }
         ensures home { IfOk result (λ r. r.1.out ≡ None) }
         ensures disk { MatchResult result (λ r. r.1.disk ≡ disk_held self.driver) (λ broken.
             disk_held self.driver ≡ Some broken.disk) }

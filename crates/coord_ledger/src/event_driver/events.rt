@@ -36,31 +36,31 @@ impl<D: CrashDisk> Run<D> {
     /// a crash, the run ends, and only what was released and the disk are left.
     pub fn meet(self, alloc: Global, event: Event) -> Result<(Answer, Self), Broken<D>>
         ensures answered { (s : Machine) → IsConsistent s → Follows self s →
-            IsPromised (model_held D.keeps_model self.driver) event
+            IsPromised (model_held D.model.keeps_model self.driver) event
             → MatchResult result (λ held. FollowsTo s event held.0 held.1) (λ broken.
             IsCutShort s event broken.kind broken.released.items) }
         ensures disk { (s : Machine) → IsConsistent s → Follows self s
             → MatchResult result (λ held.
-            DiskEffect ⟦<D as Disk>⟧ D.crashes
+            DiskEffect D.model D.crashes
             (found_by_crash s event held.0) (touches_disk event held.0) event
             (disk_held self.driver) (disk_held held.1.driver))
-            (λ broken. IsLost ⟦<D as Disk>⟧ D.crashes s event
+            (λ broken. IsLost D.model D.crashes s event
             broken.kind (disk_held self.driver) broken.disk) }
-        ensures failures { (n : ℕ) → HasFailed D.failures (disk_held self.driver) n
+        ensures failures { (n : ℕ) → HasFailed D.model.failures (disk_held self.driver) n
             → MatchResult result (λ held.
-            HasFailed D.failures (disk_held held.1.driver) (n + failed_at event held.0)) (λ broken.
-            D.failures broken.disk ≡ n + failed_in broken.kind) }
+            HasFailed D.model.failures (disk_held held.1.driver) (n + failed_at event held.0)) (λ broken.
+            D.model.failures broken.disk ≡ n + failed_in broken.kind) }
         ensures named { EventInRange event }
-        ensures model { IfOk result (λ held. model_held D.keeps_model held.1.driver ≡
-            model_held D.keeps_model self.driver) }
+        ensures model { IfOk result (λ held. model_held D.model.keeps_model held.1.driver ≡
+            model_held D.model.keeps_model self.driver) }
         ensures cause { IfErr result (λ broken.
-            IsEventFault (model_held D.keeps_model self.driver) event broken.kind) }
+            IsEventFault (model_held D.model.keeps_model self.driver) event broken.kind) }
     {
         self.driver.lemma_survives();
         let mut held = self;
         let answer = match event {
             Event::Submit(step) => {
-                step.within_ranges();
+                step.lemma_in_range();
                 held.submit(step)
             }
             Event::Begin => return Ok(held.begin()),

@@ -70,13 +70,13 @@ impl<D: CrashDisk> Run<D> {
         ensures answered { (s : Machine) → IsConsistent s → Follows self.old s →
             FollowsTo s Commit result self.new }
         ensures disk { (s : Machine) → IsConsistent s → Follows self.old s
-            → DiskEffect ⟦<D as Disk>⟧ D.crashes
+            → DiskEffect D.model D.crashes
             (found_by_crash s Commit result) (touches_disk Commit result) Commit
             (disk_held self.old.driver) (disk_held self.new.driver) }
-        ensures failures { (n : ℕ) → HasFailed D.failures (disk_held self.old.driver) n →
-            HasFailed D.failures (disk_held self.new.driver) (n + failed_at Commit result) }
-        ensures model { model_held D.keeps_model self.new.driver ≡
-            model_held D.keeps_model self.old.driver }
+        ensures failures { (n : ℕ) → HasFailed D.model.failures (disk_held self.old.driver) n →
+            HasFailed D.model.failures (disk_held self.new.driver) (n + failed_at Commit result) }
+        ensures model { model_held D.model.keeps_model self.new.driver ≡
+            model_held D.model.keeps_model self.old.driver }
     {
         self.driver.commit()
     }

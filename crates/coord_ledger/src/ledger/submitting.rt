@@ -12,7 +12,7 @@ use super::Ledger;
 use crate::{Handed, Ticket};
 use coord_disk::Disk;
 use coord_types::{Kind, MAX_PENDING, Refusal, Reply, Step};
-use coord_world::{Outcome, Verdict};
+use coord_world::{StepOutcome, Verdict};
 use std::alloc::AllocError;
 
 impl<D: Disk> Ledger<D> {
@@ -40,12 +40,12 @@ impl<D: Disk> Ledger<D> {
         ensures replied { IfOk result (λ r. r ≡ reply (front_world self.old.log) step) }
         ensures err { OnErr result (self.new ≡ self.old) }
     {
-        step.within_ranges();
+        step.lemma_in_range();
         self.trail.reserve(1)?;
         self.kinds.reserve(1)?;
         self.given.reserve(1)?;
         let outcome = self.front.apply(&step)?;
-        let Outcome { reply, outputs } = outcome;
+        let StepOutcome { reply, outputs } = outcome;
         self.trail.push_reserved(step);
         self.kinds.push_reserved(kind);
         self.given.push_back_reserved(outputs);

@@ -1,16 +1,12 @@
 //! Commits.
 
-ghost use Rattle.std.specs.Prelude.{◌≡◌, ◌≢◌, ◌⊎◌, ◌↔◌, ◌+◌, ◌≤◌, true, None, Some, List, ℕ, length, IsTrue, OnOk, IfOk, IfErr, IsErrOf, IfSome};
+ghost use Rattle.std.specs.Prelude.{◌≡◌, ◌↔◌, ◌≤◌, None, length, IsTrue, IfOk, IfSome};
 ghost use Rattle.std.specs.List.{AllByRecursion};
 ghost use Rattle.coord_batch.specs.Batches.{IsNumbered};
 ghost use Rattle.coord_types.specs.declared.limits.TheConstants.{MAX_BATCH_STEPS};
-ghost use Rattle.coord_disk.specs.Model.Moments.{LeavesOnly};
-ghost use Rattle.coord_journal.specs.Text.{HasPlaceIn, IsTextIn};
 ghost use Rattle.coord_journal.specs.declared.layout.TheConstants.{MAX_BODY};
-ghost use Rattle.coord_store.specs.Faults.{failures_in};
-ghost use Rattle.coord_store.specs.Kept.{GivesEither, IsOnlyWorld, has_stopped};
-ghost use Rattle.coord_store.specs.Recovered.{AllFresh, IsBody, Takes};
-ghost use Rattle.coord_store.specs.declared.faults.CommitFault.TheVariants.{OutOfMemory, Device, Stopped};
+ghost use Rattle.coord_store.specs.Changing.{Commits};
+ghost use Rattle.coord_store.specs.Recovered.{AllFresh, Takes};
 ghost use Rattle.coord_world.specs.protocol.Legal.{Legal};
 ghost use Rattle.coord_world.specs.protocol.Next.{fold};
 
@@ -42,7 +38,7 @@ fn next_batch(
     ensures taken { IfOk result (λ next. Takes world.now next.1.items steps.now) }
     ensures short { IfOk result (λ next. length next.1.items ≤ MAX_BODY) }
 {
-    world.ranges();
+    world.lemma_in_range();
     let next = led_to(world, steps, made)?;
     match write_batch(alloc, world.version(), world.count() + 1, steps) {
         Ok(body) => Ok((next, body)),
@@ -83,45 +79,7 @@ impl<D: Disk> Store<D> {
         requires numbered { AllByRecursion IsNumbered steps.now }
         requires fresh { AllFresh self.old.world self.old.world steps.now }
 
-        // A crash at any moment of the call, also inside a checkpoint, leaves what gives the world from before it or from after it, and where it is refused for memory the one from before it.
-        ensures any_moment { D.keeps_model self.old.disk ≡ true → self.old.torn ≡ None
-            → LeavesOnly D.clock D.left_since self.old.disk self.new.disk
-            (GivesEither self.old.world (fold self.old.world steps.now)) }
-        ensures any_moment_refused { D.keeps_model self.old.disk ≡ true → self.old.torn ≡ None
-            → IfErr result (λ fault. fault ≢ Device →
-            LeavesOnly D.clock D.left_since self.old.disk self.new.disk
-            (IsOnlyWorld self.old.world)) }
-
-        // What the store is then: after Device one of both worlds may be on the disk.
-        ensures world { OnOk result (self.new.world ≡ fold self.old.world steps.now) }
-        ensures going { OnOk result (self.new.torn ≡ None) }
-        ensures torn { IsErrOf result CommitFault.Device →
-            self.new.torn ≡ Some (fold self.old.world steps.now) }
-        ensures same_world { IfErr result (λ fault. self.new.world ≡ self.old.world) }
-        ensures unchanged { IfErr result (λ fault. fault ≢ Device → self.new.torn ≡ self.old.torn) }
-        ensures untouched { IsErrOf result CommitFault.Stopped → self.new ≡ self.old }
-
-        // When it is refused.
-        ensures stopped { IsErrOf result CommitFault.Stopped ↔ (has_stopped self.old ≡ true) }
-        ensures fault { IfErr result (λ fault. (fault ≡ Stopped) ⊎
-            ((fault ≡ OutOfMemory) ⊎ (fault ≡ Device))) }
-        ensures failures { D.failures self.new.disk ≡
-            D.failures self.old.disk + failures_in result }
-        ensures calls { D.keeps_model self.old.disk ≡ true →
-            D.clock self.new.disk ≤ D.clock self.old.disk + 8 }
-
-        // Where the body of the batch fits behind what is there, no checkpoint is made.
-        ensures calls_where_it_fits { (half : ℕ) (body : List ℕ) →
-            D.keeps_model self.old.disk ≡ true → self.old.torn ≡ None →
-            IsBody self.old.world body steps.now →
-            HasPlaceIn half (length body) (D.present self.old.disk).read
-            → D.clock self.new.disk ≤ D.clock self.old.disk + 4 }
-        ensures half_where_it_fits { (half : ℕ) (body : List ℕ) →
-            D.keeps_model self.old.disk ≡ true → self.old.torn ≡ None →
-            IsBody self.old.world body steps.now →
-            HasPlaceIn half (length body) (D.present self.old.disk).read
-            → OnOk result (IsTextIn half (D.present self.new.disk).read) }
-        ensures model { D.keeps_model self.new.disk ≡ D.keeps_model self.old.disk }
+        ensures commits { Commits D.model steps.now self.old self.new result }
     {
         match self.commit_to(steps, None) {
             Ok(_before) => Ok(()),
@@ -138,46 +96,8 @@ impl<D: Disk> Store<D> {
         requires fresh { AllFresh self.old.world self.old.world steps.now }
         requires made { IfSome made (λ next. next ≡ fold self.old.world steps.now) }
 
-        // A crash at any moment of the call, also inside a checkpoint, leaves what gives the world from before it or from after it, and where it is refused for memory the one from before it.
-        ensures any_moment { D.keeps_model self.old.disk ≡ true → self.old.torn ≡ None
-            → LeavesOnly D.clock D.left_since self.old.disk self.new.disk
-            (GivesEither self.old.world (fold self.old.world steps.now)) }
-        ensures any_moment_refused { D.keeps_model self.old.disk ≡ true → self.old.torn ≡ None
-            → IfErr result (λ fault. fault ≢ Device →
-            LeavesOnly D.clock D.left_since self.old.disk self.new.disk
-            (IsOnlyWorld self.old.world)) }
-
-        // What the store is then: after Device one of both worlds may be on the disk.
-        ensures world { OnOk result (self.new.world ≡ fold self.old.world steps.now) }
+        ensures commits { Commits D.model steps.now self.old self.new result }
         ensures before { IfOk result (λ before. before ≡ self.old.world) }
-        ensures going { OnOk result (self.new.torn ≡ None) }
-        ensures torn { IsErrOf result CommitFault.Device →
-            self.new.torn ≡ Some (fold self.old.world steps.now) }
-        ensures same_world { IfErr result (λ fault. self.new.world ≡ self.old.world) }
-        ensures unchanged { IfErr result (λ fault. fault ≢ Device → self.new.torn ≡ self.old.torn) }
-        ensures untouched { IsErrOf result CommitFault.Stopped → self.new ≡ self.old }
-
-        // When it is refused.
-        ensures stopped { IsErrOf result CommitFault.Stopped ↔ (has_stopped self.old ≡ true) }
-        ensures fault { IfErr result (λ fault. (fault ≡ Stopped) ⊎
-            ((fault ≡ OutOfMemory) ⊎ (fault ≡ Device))) }
-        ensures failures { D.failures self.new.disk ≡
-            D.failures self.old.disk + failures_in result }
-        ensures calls { D.keeps_model self.old.disk ≡ true →
-            D.clock self.new.disk ≤ D.clock self.old.disk + 8 }
-
-        // Where the body of the batch fits behind what is there, no checkpoint is made.
-        ensures calls_where_it_fits { (half : ℕ) (body : List ℕ) →
-            D.keeps_model self.old.disk ≡ true → self.old.torn ≡ None →
-            IsBody self.old.world body steps.now →
-            HasPlaceIn half (length body) (D.present self.old.disk).read
-            → D.clock self.new.disk ≤ D.clock self.old.disk + 4 }
-        ensures half_where_it_fits { (half : ℕ) (body : List ℕ) →
-            D.keeps_model self.old.disk ≡ true → self.old.torn ≡ None →
-            IsBody self.old.world body steps.now →
-            HasPlaceIn half (length body) (D.present self.old.disk).read
-            → OnOk result (IsTextIn half (D.present self.new.disk).read) }
-        ensures model { D.keeps_model self.new.disk ≡ D.keeps_model self.old.disk }
     {
         if self.torn.is_some() {
             drop(made);

@@ -21,11 +21,11 @@ at_most_one : (b : Bool) → one b ≤ 1
 at_most_one b = grind arith
 
 -- one Abort and one Ack by the two ends' counts, and one Ready
-pub way_short : (w : Ideal) (u v : ℕ) → Sound w → w.linked u v ≡ true → length (w.way u v) ≤ 3
-way_short w u v sound linked = grind (arith, nat_tests, sound, linked, counted (w.way u v), at_most_one (contains (w.state u).pend v), at_most_one (contains (w.state v).pend u))
+pub way_short : (w : Ideal) (u v : ℕ) → Sound w → w.linked u v ≡ true → length (w.in_transit u v) ≤ 3
+way_short w u v sound linked = grind (arith, nat_tests, sound, linked, counted (w.in_transit u v), at_most_one (contains (w.state u).pend v), at_most_one (contains (w.state v).pend u))
 
 -- one Abort, by the count of the end that awaits
-pub way_aborts : (w : Ideal) (u v : ℕ) → Sound w → w.linked u v ≡ true → aborts (w.way u v) ≤ 1
+pub way_aborts : (w : Ideal) (u v : ℕ) → Sound w → w.linked u v ≡ true → aborts (w.in_transit u v) ≤ 1
 way_aborts w u v h1 h2 = grind (arith, nat_tests, h1, h2)
 
 aborts-behind : (q : List Msg) → aborts q ≤ aborts (behind_front q) + 1
@@ -45,6 +45,6 @@ length-queue l = grind (arith, nat_tests, length-behind l.queue)
 -- a lane of a sound world is short
 pub lane_short : (w : World) (u v : ℕ) (l : Lane) → Sound (view w) → lane_at w.links u v ≡ Some l → IsShort l
 lane_short w u v l sound there =
-    let way : length (transit l) ≤ 3 = subst (λ o. length (transit_or_none o) ≤ 3) there (way_short (view w) u v sound (ap is_some there)) in
+    let in_transit : length (transit l) ≤ 3 = subst (λ o. length (transit_or_none o) ≤ 3) there (way_short (view w) u v sound (ap is_some there)) in
     let few : aborts (transit l) ≤ 1 = subst (λ o. aborts (transit_or_none o) ≤ 1) there (way_aborts (view w) u v sound (ap is_some there)) in
-    record { on_way = way; queued = omega (arith, length-queue l); few_aborts = omega (arith, aborts-queue l) }
+    record { on_way = in_transit; queued = omega (arith, length-queue l); few_aborts = omega (arith, aborts-queue l) }

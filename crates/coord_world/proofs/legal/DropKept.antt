@@ -80,10 +80,10 @@ module _ (w : Ideal) (a b : ℕ) where
     apart = λ x y with_y. ok.apart x y (grind (arith, nat_tests));
   }
     where
-      way_stays : (x y : ℕ) → (without_link w a b).linked x y ≡ true → (without_link w a b).way x y ≡ w.way x y
+      way_stays : (x y : ℕ) → (without_link w a b).linked x y ≡ true → (without_link w a b).in_transit x y ≡ w.in_transit x y
       way_stays x y with_y = grind (arith, nat_tests)
 
-      way_back_stays : (x y : ℕ) → (without_link w a b).linked x y ≡ true → (without_link w a b).way y x ≡ w.way y x
+      way_back_stays : (x y : ℕ) → (without_link w a b).linked x y ≡ true → (without_link w a b).in_transit y x ≡ w.in_transit y x
       way_back_stays x y with_y = grind (arith, nat_tests)
 
 module _ (w : Ideal) (a b : ℕ) (with_b : w.linked a b ≡ true) (sound : Sound w) where

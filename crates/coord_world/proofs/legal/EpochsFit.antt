@@ -5,8 +5,8 @@ use Rattle.coord_types.specs.declared.steps.Step.{Step}
 use Rattle.coord_types.specs.declared.steps.Step.TheVariants.{Order}
 use Rattle.coord_world.specs.Facade.{InRange, IsFresh, Legal, World, next}
 use Rattle.coord_world.proofs.legal.SoundNode.{EpochsFit, epochs_fit}
-use Rattle.coord_world.proofs.ranges.EveryNode.{Adds, AllRows, Carries, brought_by, rows_next}
-use Rattle.coord_world.proofs.ranges.Brought.{brought_within, farthest_le}
+use Rattle.coord_world.proofs.ranges.EveryNode.{Adds, AllRows, Carries, carried_by, rows_next}
+use Rattle.coord_world.proofs.ranges.Carried.{carried_within, farthest_le}
 
 -- each change of a node keeps it
 carries_epochs : (count n : ℕ) → n ≤ count → Carries n (λ x r. EpochsFit count r × (r.distance ≤ count)) (λ x r. EpochsFit (count + 1) r)
@@ -32,4 +32,4 @@ pub epochs_next : (w settled : World) (s : Step) → InRange w → Legal w → I
 epochs_next w settled s range legal fresh =
     rows_next (λ x r. EpochsFit w.count r × (r.distance ≤ w.count)) (λ x r. EpochsFit (w.count + 1) r) w
     (λ x r is. (epochs_fit w.count r (legal.nodes x r is), omega (arith, (range.distances x r is).within, farthest_le w.version w.count)))
-    settled s (carries_epochs w.count (brought_by s) (omega (arith, brought_within w settled s range fresh, farthest_le w.version w.count))) range (new_fits (w.count + 1) s) fresh
+    settled s (carries_epochs w.count (carried_by s) (omega (arith, carried_within w settled s range fresh, farthest_le w.version w.count))) range (new_fits (w.count + 1) s) fresh

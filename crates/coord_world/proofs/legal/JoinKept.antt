@@ -48,15 +48,15 @@ module _ (w : Ideal) (a b : ℕ) (apart : a ≢ b) (free : w.linked a b ≡ fals
   -- each link is legal
   up_links : LegalLinks (linked_up w a b)
   up_links = record {
-    links = λ x y with_y. subst LegalBoth (λ i. record { here = sym (same_end x y) i; there = sym (same_end y x) i; out = (linked_up w a b).way x y; back = (linked_up w a b).way y x }) (plain x y with_y);
+    links = λ x y with_y. subst LegalBoth (λ i. record { here = sym (same_end x y) i; there = sym (same_end y x) i; out = (linked_up w a b).in_transit x y; back = (linked_up w a b).in_transit y x }) (plain x y with_y);
     mirrored = λ x y. grind (arith, nat_tests, (links_of w sound).mirrored x y);
     apart = λ x y with_y same. grind (arith, nat_tests, (links_of w sound).apart x y, same);
   }
     where
-      plain : (x y : ℕ) → (linked_up w a b).linked x y ≡ true → LegalBoth (record { here = end_of w.version (w.state x) y; there = end_of w.version (w.state y) x; out = (linked_up w a b).way x y; back = (linked_up w a b).way y x })
+      plain : (x y : ℕ) → (linked_up w a b).linked x y ≡ true → LegalBoth (record { here = end_of w.version (w.state x) y; there = end_of w.version (w.state y) x; out = (linked_up w a b).in_transit x y; back = (linked_up w a b).in_transit y x })
       plain x y with_y = both_ways (is_link a b x y) (is_link a b y x) refl refl
         where
-          both_ways : (s t : Bool) → is_link a b x y ≡ s → is_link a b y x ≡ t → LegalBoth (record { here = end_of w.version (w.state x) y; there = end_of w.version (w.state y) x; out = cond s [] (w.way x y); back = cond t [] (w.way y x) })
+          both_ways : (s t : Bool) → is_link a b x y ≡ s → is_link a b y x ≡ t → LegalBoth (record { here = end_of w.version (w.state x) y; there = end_of w.version (w.state y) x; out = cond s [] (w.in_transit x y); back = cond t [] (w.in_transit y x) })
           both_ways true true e f = new_link x y (grind (arith, nat_tests, free, back_free)) (grind (arith, nat_tests, free, back_free))
           both_ways true false e f = absurd (grind (arith, nat_tests))
           both_ways false true e f = absurd (grind (arith, nat_tests))

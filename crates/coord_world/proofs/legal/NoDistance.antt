@@ -10,10 +10,10 @@ use Rattle.coord_types.specs.declared.messages.Msg.{Msg}
 use Rattle.coord_types.specs.declared.messages.Msg.TheVariants as msg
 use Rattle.coord_types.proofs.Sets.{len_of_items}
 use Rattle.coord_link.specs.LaneMachine.{Lane, transit, is_front_taken}
-use Rattle.coord_node.specs.Rules.{carried, is_empty, kept}
+use Rattle.coord_node.specs.Rules.{carries, is_empty, kept}
 use Rattle.coord_world.specs.laws.Version1.{Version1AsksNoDistance, is_legal_but_for_distance}
 use Rattle.coord_world.specs.protocol.Links.{strays}
-use Rattle.coord_world.specs.Facade.{CarryWithin, InRange, World, awaits_rightly, farthest, has_right_distances, has_right_parent, is_distance_right, is_legal_node, is_parent_near, is_ready, is_within, lane_at, link, state, state_or_none, transit_or_none, view}
+use Rattle.coord_world.specs.Facade.{CarryWithin, InRange, World, awaits_rightly, farthest, has_right_distances, has_right_parent, is_distance_right, is_legal_node, is_parent_near, is_ready, lane_at, link, state, state_or_none, transit_or_none, view}
 use Rattle.coord_world.proofs.legal.SoundView.{at_each}
 use Rattle.coord_tables.proofs.Cases.{both, by_test}
 
@@ -23,12 +23,12 @@ some_near : (p : ℕ → Bool) (xs : List ℕ) → 1 ≤ length xs → list_all 
 some_near p [] some all = absurd (omega (arith, some))
 some_near p (x ∷ xs) some all = (x, (both (p x) (list_all p xs) all).0)
 
-awaited_near : (pend near : NodeSet) → is_empty pend ≡ false → is_within pend near ≡ true → (v : ℕ) × (set.contains near v ≡ true)
+awaited_near : (pend near : NodeSet) → is_empty pend ≡ false → set.is_subset pend near ≡ true → (v : ℕ) × (set.contains near v ≡ true)
 awaited_near pend near some within =
     let many : 1 ≤ length (set.items pend) = grind (arith, nat_tests, some, len_of_items pend) in
     some_near (λ v. set.contains near v) (set.items pend) many within
 
-has_neighbour : (m : Mode) (parent : Option ℕ) (pend near : NodeSet) → is_ready m ≡ false → awaits_rightly m pend ≡ true → has_right_parent m parent ≡ true → is_parent_near parent pend near ≡ true → is_within pend near ≡ true → (v : ℕ) × (set.contains near v ≡ true)
+has_neighbour : (m : Mode) (parent : Option ℕ) (pend near : NodeSet) → is_ready m ≡ false → awaits_rightly m pend ≡ true → has_right_parent m parent ≡ true → is_parent_near parent pend near ≡ true → set.is_subset pend near ≡ true → (v : ℕ) × (set.contains near v ≡ true)
 has_neighbour Ready parent pend near busy awaits right close within = cc
 has_neighbour Abort parent pend near busy awaits right close within = awaited_near pend near (by_test (is_empty pend) (λ b. is_empty pend ≡ b → is_empty pend ≡ false) (λ e _. cc) (λ e _. e) refl) within
 has_neighbour Converge None pend near busy awaits right close within = cc
@@ -44,7 +44,7 @@ module _ (w : World) (range : InRange w) (first : w.version ≡ 1) where
   at_none : (u : ℕ) → (state w u).distance ≡ 0
   at_none = at_each w (λ r. r.distance ≡ 0) refl (λ u r is. none r.distance (range.distances u r is).within)
 
-  carries_none : (u : ℕ) → carried w.version (state w u) ≡ 0
+  carries_none : (u : ℕ) → carries w.version (state w u) ≡ 0
   carries_none u = ap (λ v. kept v ((state w u).distance + 1)) first
 
   -- of the messages on the way

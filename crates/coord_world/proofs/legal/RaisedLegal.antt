@@ -41,7 +41,7 @@ module _ (w : World) (range : InRange w) (legal : Legal w) (first : w.version �
   }
 
   -- nobody awaits anybody, so no Abort is on the way
-  no_abort : (u v : ℕ) → is_linked w u v ≡ true → aborts ((view w).way u v) ≡ 0
+  no_abort : (u v : ℕ) → is_linked w u v ≡ true → aborts ((view w).in_transit u v) ≡ 0
   no_abort u v linked =
       let near : contains (state w u).neighbours v ≡ true = sym (sound.linked u v) ∙ linked in
       let count = (sound.links u v near).counted in

@@ -8,9 +8,9 @@ use Rattle.coord_types.specs.declared.messages.Mode.TheVariants.{Abort, Converge
 use Rattle.coord_types.specs.declared.messages.Msg.{Msg}
 use Rattle.coord_types.specs.declared.messages.Msg.TheVariants as msg
 use Rattle.coord_types.proofs.Sets.{contains-empty, contains-remove}
-use Rattle.coord_node.specs.Facade.{Transition, added, answer, carried, finish, ideal_applied, idle, is_empty, is_parent, kept, on_abort, on_ack, on_ready, request, transition, wave_back, wave_on}
+use Rattle.coord_node.specs.Facade.{Transition, added, answer, carries, finish, ideal_applied, idle, is_empty, is_parent, kept, on_abort, on_ack, on_ready, request, transition, wave_back, wave_on}
 use Rattle.coord_world.specs.protocol.Links.{link, acks, is_abort, is_ready, strays}
-use Rattle.coord_world.proofs.legal.TransitionKept.{both_before, but_of, deed_kept, not_self}
+use Rattle.coord_world.proofs.legal.TransitionKept.{both_before, but_of, transition_kept, not_self}
 use Rattle.coord_world.proofs.transitions.LegalBoth.{LegalBoth, acked, acked_last, converges_near, passed_by, released, wave_ends, wave_meets, wave_reaches}
 use Rattle.coord_world.proofs.transitions.KeepsLinks.{Aside, Keeps, aside_acked, aside_self, has_without, keeps_alone, keeps_answer, keeps_converge, keeps_finish, keeps_idle, keeps_wave_back, keeps_wave_on}
 use Rattle.coord_world.proofs.transitions.RuleCases.{abort_cases, ack_cases, acked_by, ready_cases, request_cases}
@@ -34,7 +34,7 @@ module _ (w : Ideal) (u : ℕ) (sound : Sound w) where
 
   -- a transition whose cause is the node itself
   own : (d : Transition) → d.state.neighbours ≡ r.neighbours → Keeps w.version r u d → Sound (ideal_applied w u d)
-  own d same keeps = deed_kept w u d (but_of w u sound) (λ y with_y.
+  own d same keeps = transition_kept w u d (but_of w u sound) (λ y with_y.
       let near : contains r.neighbours y ≡ true = sym (sound.linked u y) ∙ with_y in
       keeps.elsewhere (link w u y) y (not_self w u sound y near) near refl (both_before w u sound y near)) same keeps.node
 
@@ -53,15 +53,15 @@ module _ (w : Ideal) (v u : ℕ) (rest : List Msg) (near : contains (w.state u).
   before : LegalBoth (link w u v)
   before = both_before w u sound v near
 
-  -- an Abort brings what its sender's Aborts carry, so the taker keeps just that
-  kept_whole : (n : ℕ) → w.way v u ≡ msg.Abort n ∷ rest → kept w.version n ≡ n
+  -- an Abort carries what its sender's Aborts carry, so the taker keeps just that
+  kept_whole : (n : ℕ) → w.in_transit v u ≡ msg.Abort n ∷ rest → kept w.version n ≡ n
   kept_whole n front =
       let link = sound.links v u (sym (sound.mirrored u v) ∙ near) in
-      let right = subst (λ ms. strays (carried w.version (w.state v)) ms ≡ 0) front link.carried in
+      let right = subst (λ ms. strays (carries w.version (w.state v)) ms ≡ 0) front link.carried in
       grind (arith, nat_tests, right)
 
   -- an Abort that is taken
-  abort_taken : (n : ℕ) → kept w.version n ≡ n → w.way v u ≡ msg.Abort n ∷ rest → Sound (after_take w v u (on_abort w.version taker v n))
+  abort_taken : (n : ℕ) → kept w.version n ≡ n → w.in_transit v u ≡ msg.Abort n ∷ rest → Sound (after_take w v u (on_abort w.version taker v n))
   abort_taken n same front = abort_cases w.version taker v (λ d. Sound (after_take w v u d)) n
       (λ ready none. subst (λ k. Sound (after_take w v u (wave_back taker v k))) (sym same)
       (take_kept w v u (msg.Abort n) rest front near sound (wave_back taker v n) refl (keeps_wave_back w.version taker v (sound.nodes u) n ready none near)
@@ -70,11 +70,11 @@ module _ (w : Ideal) (v u : ℕ) (rest : List Msg) (near : contains (w.state u).
       (take_kept w v u (msg.Abort n) rest front near sound (wave_on w.version taker (Some v) (set.remove taker.neighbours v) n) refl
       (keeps_wave_on w.version taker v (sound.nodes u) (Some v) (set.remove taker.neighbours v) n ready some (λ y e. grind (arith, nat_tests)) (λ y. grind (arith, nat_tests, contains-remove taker.neighbours v y)) (λ _. near))
       (wave_reaches (link w u v) _ n refl ready refl (grind (arith, nat_tests, contains-remove taker.neighbours v v)) (grind (arith, nat_tests)) refl
-      (grind (arith, nat_tests, contains-remove taker.neighbours v v, append-nil (w.way u v))) front before)))
+      (grind (arith, nat_tests, contains-remove taker.neighbours v v, append-nil (w.in_transit u v))) front before)))
       (λ busy. take_kept w v u (msg.Abort n) rest front near sound (answer taker v) refl (keeps_answer w.version taker v (sound.nodes u))
       (wave_meets (link w u v) _ n busy refl refl (grind (arith, nat_tests, has_only v v)) front before))
 
-  module _ (front : w.way v u ≡ msg.Ack ∷ rest) where
+  module _ (front : w.in_transit v u ≡ msg.Ack ∷ rest) where
     -- the sender was awaited
     pub awaited : contains taker.pend v ≡ true
     awaited = let count = (sound.links u v near).counted in grind (arith, ap acks front)
@@ -117,10 +117,10 @@ module _ (w : Ideal) (v u : ℕ) (rest : List Msg) (near : contains (w.state u).
         let not_v : eqb v p ≡ false = grind (arith, nat_tests, up, outside) in
         take_kept w v u msg.Ack rest front near sound (answer (record (acked_by taker v) { mode = Converge }) p) refl (keeps_converge w.version taker (acked_by taker v) v aside p waiting none up)
         (converges_near (link w u v) _ refl refl waiting outside refl (empty_has (set.remove taker.pend v) v none) outside refl
-        (grind (arith, nat_tests, has_only p v, not_v, append-nil (w.way u v))) front before))
+        (grind (arith, nat_tests, has_only p v, not_v, append-nil (w.in_transit u v))) front before))
 
   -- a Ready that is taken
-  ready_taken : w.way v u ≡ msg.Ready ∷ rest → Sound (after_take w v u (on_ready taker v))
+  ready_taken : w.in_transit v u ≡ msg.Ready ∷ rest → Sound (after_take w v u (on_ready taker v))
   ready_taken front = ready_cases taker v (λ d. Sound (after_take w v u d))
       (λ deaf. take_kept w v u msg.Ready rest front near sound (idle taker) refl (keeps_idle w.version taker taker v (aside_self taker v (sound.nodes u)) (sound.nodes u))
       (passed_by (link w u v) _ deaf refl refl (nothing _ taker v) front before))
@@ -129,10 +129,10 @@ module _ (w : Ideal) (v u : ℕ) (rest : List Msg) (near : contains (w.state u).
       take_kept w v u msg.Ready rest front near sound (finish taker) refl
       (keeps_finish w.version taker taker v (aside_self taker v (sound.nodes u)) (ap is_ready mode) none (λ y far. one_parent taker.parent v y child far))
       (released (link w u v) _ mode child refl (empty_has taker.pend v none) refl refl
-      (grind (arith, nat_tests, has_without taker.neighbours taker.parent v, child, append-nil (w.way u v))) front before))
+      (grind (arith, nat_tests, has_without taker.neighbours taker.parent v, child, append-nil (w.in_transit u v))) front before))
 
 -- any message that is taken
-pub taken_kept : (w : Ideal) (v u : ℕ) (m : Msg) (rest : List Msg) → w.way v u ≡ m ∷ rest → contains (w.state u).neighbours v ≡ true → Sound w → Sound (after_take w v u (transition w.version m (w.state u) v))
+pub taken_kept : (w : Ideal) (v u : ℕ) (m : Msg) (rest : List Msg) → w.in_transit v u ≡ m ∷ rest → contains (w.state u).neighbours v ≡ true → Sound w → Sound (after_take w v u (transition w.version m (w.state u) v))
 taken_kept w v u (msg.Abort n) rest front near sound = abort_taken w v u rest near sound n (kept_whole w v u rest near sound n front) front
 taken_kept w v u msg.Ack rest front near sound = ack_taken w v u rest near sound front
 taken_kept w v u msg.Ready rest front near sound = ready_taken w v u rest near sound front

@@ -7,7 +7,7 @@ use Rattle.coord_types.specs.NodeSet as set
 use Rattle.coord_types.specs.Facade.{NodeSet, NodeState}
 use Rattle.coord_types.specs.declared.messages.Mode.TheVariants.{Ready, Converge}
 use Rattle.coord_node.specs.Rules.{is_empty, is_parent}
-use Rattle.coord_world.specs.Facade.{is_abort, is_legal_node, is_parent_near, is_ready, is_within}
+use Rattle.coord_world.specs.Facade.{is_abort, is_legal_node, is_parent_near, is_ready}
 use Rattle.coord_tables.proofs.Cases.{both, by_test}
 
 -- N by itself: what the rules keep of a node
@@ -54,7 +54,7 @@ epochs_fit count r is = record {
 -- the tests from the facts
 pub legal_node : (count : ℕ) (r : NodeState) → SoundNode r → EpochsFit count r → is_legal_node count r ≡ true
 legal_node count r sound fit =
-    let within : is_within r.pend r.neighbours ≡ true = is_subset_by r.pend r.neighbours sound.within in
+    let within : set.is_subset r.pend r.neighbours ≡ true = is_subset_by r.pend r.neighbours sound.within in
     let near : is_parent_near r.parent r.pend r.neighbours ≡ true = near_to r.parent r.pend r.neighbours sound.parent_outside sound.parent_near in
     grind (arith, nat_tests, within, near, sound.awaits, sound.quiet, sound.no_parent, sound.has_parent, fit.confirmed, fit.entered, fit.ready, fit.within)
   where

@@ -5,7 +5,7 @@ use Rattle.coord_types.specs.Facade.{Ideal, contains}
 use Rattle.coord_types.specs.declared.messages.Msg.{Msg}
 use Rattle.coord_node.specs.Facade.{Transition, added, headed, ideal_applied}
 use Rattle.coord_world.specs.protocol.Links.{Link, link, end_of}
-use Rattle.coord_world.proofs.legal.TransitionKept.{SoundBut, links_of, both_before, not_self, deed_kept, far_after}
+use Rattle.coord_world.proofs.legal.TransitionKept.{SoundBut, links_of, both_before, not_self, transition_kept, far_after}
 use Rattle.coord_tables.proofs.Cases.{same_or_apart}
 use Rattle.coord_world.proofs.transitions.LegalBoth.{LegalBoth}
 use Rattle.coord_world.proofs.transitions.KeepsLinks.{Keeps}
@@ -17,18 +17,18 @@ after_take w v u d = ideal_applied (headed w v u) u d
 
 module _ (w : Ideal) (v u : ℕ) where
   -- the message has left the way
-  pub way_back : (m : Msg) (rest : List Msg) → w.way v u ≡ m ∷ rest → (headed w v u).way v u ≡ rest
+  pub way_back : (m : Msg) (rest : List Msg) → w.in_transit v u ≡ m ∷ rest → (headed w v u).in_transit v u ≡ rest
   way_back m rest front = grind (arith, nat_tests)
 
   -- nothing else that comes to u changes
-  way_back_far : (y : ℕ) → y ≢ v → (headed w v u).way y u ≡ w.way y u
+  way_back_far : (y : ℕ) → y ≢ v → (headed w v u).in_transit y u ≡ w.in_transit y u
   way_back_far y far = grind (arith, nat_tests)
 
   -- nor what goes to others
-  pub way_apart : (x y : ℕ) → y ≢ u → (headed w v u).way x y ≡ w.way x y
+  pub way_apart : (x y : ℕ) → y ≢ u → (headed w v u).in_transit x y ≡ w.in_transit x y
   way_apart x y apart = grind (arith, nat_tests)
 
-module _ (w : Ideal) (v u : ℕ) (m : Msg) (rest : List Msg) (front : w.way v u ≡ m ∷ rest) (near : contains (w.state u).neighbours v ≡ true) (sound : Sound w) where
+module _ (w : Ideal) (v u : ℕ) (m : Msg) (rest : List Msg) (front : w.in_transit v u ≡ m ∷ rest) (near : contains (w.state u).neighbours v ≡ true) (sound : Sound w) where
   -- without the message the world is sound but for the links of its receiver
   headed_but : SoundBut (headed w v u) u
   headed_but =
@@ -41,7 +41,7 @@ module _ (w : Ideal) (v u : ℕ) (m : Msg) (rest : List Msg) (front : w.way v u 
   module _ (d : Transition) where
     -- the link to the sender after the transition
     abbrev pub near_after : Link
-    near_after = record { here = end_of w.version d.state v; there = end_of w.version (w.state v) u; out = w.way u v ++ added d v; back = rest }
+    near_after = record { here = end_of w.version d.state v; there = end_of w.version (w.state v) u; out = w.in_transit u v ++ added d v; back = rest }
 
     near_is : v ≢ u → far_after (headed w v u) u d v ≡ near_after
     near_is apart i = record { here = end_of w.version d.state v; there = end_of w.version (w.state v) u; out = way_apart w v u u v apart i ++ added d v; back = way_back w v u m rest front i }
@@ -52,7 +52,7 @@ module _ (w : Ideal) (v u : ℕ) (m : Msg) (rest : List Msg) (front : w.way v u 
 
     -- so the world is sound
     pub take_kept : d.state.neighbours ≡ (w.state u).neighbours → Keeps w.version (w.state u) v d → LegalBoth near_after → Sound (after_take w v u d)
-    take_kept same keeps at_sender = deed_kept (headed w v u) u d headed_but each same keeps.node
+    take_kept same keeps at_sender = transition_kept (headed w v u) u d headed_but each same keeps.node
       where
         each : (y : ℕ) → w.linked u y ≡ true → LegalBoth (far_after (headed w v u) u d y)
         each y with_y =

@@ -77,16 +77,16 @@ module _ (w : Ideal) (u : ℕ) (d : Transition) where
   row_there x apart = grind (arith, nat_tests)
 
   -- the messages are behind those on the way
-  way_out : (y : ℕ) → w.linked u y ≡ true → (ideal_applied w u d).way u y ≡ w.way u y ++ added d y
+  way_out : (y : ℕ) → w.linked u y ≡ true → (ideal_applied w u d).in_transit u y ≡ w.in_transit u y ++ added d y
   way_out y with_y = grind (arith, nat_tests)
 
   -- nothing else changes on the way
-  way_apart : (x y : ℕ) → x ≢ u → (ideal_applied w u d).way x y ≡ w.way x y
+  way_apart : (x y : ℕ) → x ≢ u → (ideal_applied w u d).in_transit x y ≡ w.in_transit x y
   way_apart x y apart = grind (arith, nat_tests)
 
   -- the link to y after the transition
   abbrev pub far_after : ℕ → Link
-  far_after y = record { here = end_of w.version d.state y; there = end_of w.version (w.state y) u; out = w.way u y ++ added d y; back = w.way y u }
+  far_after y = record { here = end_of w.version d.state y; there = end_of w.version (w.state y) u; out = w.in_transit u y ++ added d y; back = w.in_transit y u }
 
   -- that link is what the transition leaves
   far_is : (y : ℕ) → y ≢ u → w.linked u y ≡ true → link (ideal_applied w u d) u y ≡ far_after y
@@ -114,8 +114,8 @@ module _ (w : Ideal) (u : ℕ) (d : Transition) where
     links_kept = record { links = each_legal; mirrored = mirrored; apart = apart }
 
   -- a node's transition keeps a world sound, where its neighbours stay
-  pub deed_kept : SoundBut w u → ((y : ℕ) → w.linked u y ≡ true → LegalBoth (far_after y)) → d.state.neighbours ≡ (w.state u).neighbours → SoundNode d.state → Sound (ideal_applied w u d)
-  deed_kept but elsewhere neighbours node = sound_of (ideal_applied w u d) (links_kept but.mirrored but.apart but.links elsewhere) nodes_kept (λ x y. but.linked x y ∙ ap (λ s. contains s y) (sym (nears x)))
+  pub transition_kept : SoundBut w u → ((y : ℕ) → w.linked u y ≡ true → LegalBoth (far_after y)) → d.state.neighbours ≡ (w.state u).neighbours → SoundNode d.state → Sound (ideal_applied w u d)
+  transition_kept but elsewhere neighbours node = sound_of (ideal_applied w u d) (links_kept but.mirrored but.apart but.links elsewhere) nodes_kept (λ x y. but.linked x y ∙ ap (λ s. contains s y) (sym (nears x)))
     where
       nodes_kept : (x : ℕ) → SoundNode ((ideal_applied w u d).state x)
       nodes_kept = everywhere (λ x. SoundNode ((ideal_applied w u d).state x)) u (subst SoundNode (sym row_here) node) (λ x far. subst SoundNode (sym (row_there x far)) (but.nodes x))

@@ -11,12 +11,12 @@ use Rattle.coord_types.specs.declared.steps.Step.{Step}
 use Rattle.coord_types.specs.declared.steps.Step.TheVariants.{Order, Take, Clear}
 use Rattle.coord_node.specs.Facade.{Transition, added, kept, lost, request, transition, transitions}
 use Rattle.coord_tables.proofs.LinkLanes.{lane-mirrored}
-use Rattle.coord_world.specs.Facade.{CarryWithin, InRange, IsDistant, IsFresh, World, brought, farthest, next, state}
+use Rattle.coord_world.specs.Facade.{CarryWithin, InRange, IsDistant, IsFresh, World, carried, farthest, next, state}
 use Rattle.coord_world.proofs.acceptance.FreshOrder.{Passes, fresh_order}
 use Rattle.coord_world.proofs.acceptance.IsFresh.{fresh_take}
 use Rattle.coord_world.proofs.lanes.EveryLane.{AllLanes, AllSend, LaneCarries, Makes, lanes_next}
-use Rattle.coord_world.proofs.ranges.Brought.{brought_within, carried_within, farthest_grows}
-use Rattle.coord_world.proofs.ranges.EveryNode.{Adds, AllRows, Carries, brought_by, rows_next, there_is}
+use Rattle.coord_world.proofs.ranges.Carried.{carried_within, one_further_within, farthest_grows}
+use Rattle.coord_world.proofs.ranges.EveryNode.{Adds, AllRows, Carries, carried_by, rows_next, there_is}
 use Rattle.coord_world.proofs.transitions.RuleCases.{abort_cases, ack_cases, lost_cases, ready_cases, request_cases}
 use Rattle.coord_tables.proofs.Cases.{by_test}
 
@@ -43,7 +43,7 @@ new_distant version count s = tt
 pub distances_next : (w settled : World) (s : Step) → InRange w → IsFresh w settled s → AllRows (λ x r. IsDistant w.version (w.count + 1) r) (next w s).nodes
 distances_next w settled s range fresh =
     rows_next (λ x r. IsDistant w.version w.count r) (λ x r. IsDistant w.version (w.count + 1) r) w range.distances settled s
-    (carries_distances w.version w.count (brought_by s) (brought_within w settled s range fresh)) range (new_distant w.version (w.count + 1) s) fresh
+    (carries_distances w.version w.count (carried_by s) (carried_within w settled s range fresh)) range (new_distant w.version (w.count + 1) s) fresh
 
 -- ---- lanes
 
@@ -77,27 +77,27 @@ new_carries n count (Order c m (Join a b)) = λ x y. tt
 new_carries n count s = tt
 
 -- what a transition sends is its message
-sends_within : (n : ℕ) (d : Transition) → brought d.message ≤ n → (y : ℕ) → CarryWithin n (added d y)
+sends_within : (n : ℕ) (d : Transition) → carried d.message ≤ n → (y : ℕ) → CarryWithin n (added d y)
 sends_within n d near y = by_test (set.contains d.to y) (λ b. CarryWithin n (cond b (d.message ∷ []) [])) (λ _. (near, tt)) (λ _. tt)
 
--- a reset brings one step, and in version 1 none
-request_near : (version : ℕ) (r : NodeState) (n : ℕ) → kept version 1 ≤ n → brought (request version r).message ≤ n
-request_near version r n step = request_cases version r (λ d k. brought d.message ≤ n) (λ _ _. omega arith) (λ _ _. omega (arith, step)) (omega arith)
+-- a reset carries one step, and in version 1 none
+request_near : (version : ℕ) (r : NodeState) (n : ℕ) → kept version 1 ≤ n → carried (request version r).message ≤ n
+request_near version r n step = request_cases version r (λ d k. carried d.message ≤ n) (λ _ _. omega arith) (λ _ _. omega (arith, step)) (omega arith)
 
--- an Abort that is taken one more than it brought
-take_near : (version : ℕ) (r : NodeState) (v : ℕ) (m : Msg) (n : ℕ) → kept version (brought m + 1) ≤ n → brought (transition version m r v).message ≤ n
-take_near version r v (msg.Abort k) n more = abort_cases version r v (λ d. brought d.message ≤ n) k (λ _ _. omega arith) (λ _ _. grind (arith, nat_tests, more)) (λ _. omega arith)
-take_near version r v msg.Ack n more = ack_cases r v (λ d. brought d.message ≤ n) (λ _. omega arith) (λ _. omega arith) (λ _ _. omega arith) (λ _ _ _. omega arith)
-take_near version r v msg.Ready n more = ready_cases r v (λ d. brought d.message ≤ n) (λ _. omega arith) (λ _ _. omega arith)
+-- an Abort that is taken one more than it carried
+take_near : (version : ℕ) (r : NodeState) (v : ℕ) (m : Msg) (n : ℕ) → kept version (carried m + 1) ≤ n → carried (transition version m r v).message ≤ n
+take_near version r v (msg.Abort k) n more = abort_cases version r v (λ d. carried d.message ≤ n) k (λ _ _. omega arith) (λ _ _. grind (arith, nat_tests, more)) (λ _. omega arith)
+take_near version r v msg.Ack n more = ack_cases r v (λ d. carried d.message ≤ n) (λ _. omega arith) (λ _. omega arith) (λ _ _. omega arith) (λ _ _ _. omega arith)
+take_near version r v msg.Ready n more = ready_cases r v (λ d. carried d.message ≤ n) (λ _. omega arith) (λ _ _. omega arith)
 
 -- a link that vanishes sends no Abort
-lost_near : (r : NodeState) (v n : ℕ) → brought (lost r v).message ≤ n
-lost_near r v n = lost_cases r v (λ d. brought d.message ≤ n) (λ _. omega arith) (λ _ _. omega arith) (λ _ _. omega arith) (λ _ _. omega arith) (λ _ _ _. omega arith) (λ _ _ _ _. omega arith)
+lost_near : (r : NodeState) (v n : ℕ) → carried (lost r v).message ≤ n
+lost_near r v n = lost_cases r v (λ d. carried d.message ≤ n) (λ _. omega arith) (λ _ _. omega arith) (λ _ _. omega arith) (λ _ _. omega arith) (λ _ _ _. omega arith) (λ _ _ _ _. omega arith)
 
 module _ (w settled : World) (range : InRange w) where
   -- what a node that is there sends on is within the next world's ranges
   step_within : (d : ℕ) → d ≤ farthest w.version w.count → kept w.version (d + 1) ≤ farthest w.version (w.count + 1)
-  step_within d near = carried_within w.version w.count d near
+  step_within d near = one_further_within w.version w.count d near
 
   ordered_sends : (c n : ℕ) (x : Command) → Passes w x → AllSend (CarryWithin (farthest w.version (w.count + 1))) (transitions w.version (state w) (Order c n x))
   ordered_sends c n (Add u g) passes = tt
@@ -113,7 +113,7 @@ module _ (w settled : World) (range : InRange w) where
   fresh_sends (Take p) fresh =
       let take = fresh_take w settled p fresh in
       let known = range.ends p.to p.from (sym (lane-mirrored w.links p.from p.to) ∙ ap is_some take.there) in
-      (sends_within _ (transition w.version p.msg (state w p.to) p.from) (take_near w.version (state w p.to) p.from p.msg _ (step_within (brought p.msg) (brought_within w settled (Take p) range fresh))), tt)
+      (sends_within _ (transition w.version p.msg (state w p.to) p.from) (take_near w.version (state w p.to) p.from p.msg _ (step_within (carried p.msg) (carried_within w settled (Take p) range fresh))), tt)
   fresh_sends (Clear p) fresh = tt
 
 -- each lane after a fresh step

@@ -11,21 +11,21 @@ use Rattle.coord_types.specs.declared.steps.Step.{Step}
 use Rattle.coord_types.specs.declared.steps.Step.TheVariants.{Order, Take, Clear}
 use Rattle.coord_node.specs.Rules.{with_neighbour}
 use Rattle.coord_tables.proofs.LinkLanes.{lane-mirrored}
-use Rattle.coord_world.specs.Facade.{InRange, IsFresh, World, brought, next, state, state_or_none}
-use Rattle.coord_world.proofs.transitions.NodeGoesOn.{Goes, goes_deed, goes_lost, goes_request}
+use Rattle.coord_world.specs.Facade.{InRange, IsFresh, World, carried, next, state, state_or_none}
+use Rattle.coord_world.proofs.transitions.NodeGoesOn.{Goes, goes_transition, goes_lost, goes_request}
 use Rattle.coord_world.proofs.acceptance.IsFresh.{fresh_take}
 use Rattle.coord_tables.proofs.Found.{get-set, get-unset}
 use Rattle.coord_world.proofs.lists.GetAfter.{each_left, each_made}
 use Rattle.coord_world.proofs.acceptance.FreshOrder.{Passes, fresh_order}
 use Rattle.coord_world.proofs.lists.TableLen.{len-remove_le}
 
--- the distance that a step brings to a node
-abbrev pub brought_by : Step → ℕ
-brought_by (Order c n x) = 0
-brought_by (Take p) = brought p.msg
-brought_by (Clear p) = 0
+-- the distance that a step carries to a node
+abbrev pub carried_by : Step → ℕ
+carried_by (Order c n x) = 0
+carried_by (Take p) = carried p.msg
+carried_by (Clear p) = 0
 
--- where P holds of a node before a step that brings this distance, Q holds of what the step makes of the node
+-- where P holds of a node before a step that carries this distance to it, Q holds of what the step makes of the node
 pub record Carries (n : ℕ) (P Q : ℕ → NodeState → Type 0) : Type 0 where
   pub weaken : (x : ℕ) (r : NodeState) → P x r → Q x r
   pub goes : (x : ℕ) (r s : NodeState) (near : NodeSet) → P x r → set.len near ≤ set.len r.neighbours → Goes r near n s → Q x s
@@ -88,10 +88,10 @@ module _ (P Q : ℕ → NodeState → Type 0) (w : World) (before : AllRows P w.
       all_set Q w.nodes u _ (later P Q w 0 carries before) (carries.confirm u (state w u) e (here P Q w 0 carries before u confirmable.there) confirmable.entered)
 
   -- every node after a fresh step
-  pub rows_next : (settled : World) (s : Step) → Carries (brought_by s) P Q → InRange w → Adds Q s → IsFresh w settled s → AllRows Q (next w s).nodes
+  pub rows_next : (settled : World) (s : Step) → Carries (carried_by s) P Q → InRange w → Adds Q s → IsFresh w settled s → AllRows Q (next w s).nodes
   rows_next settled (Order c n x) carries range adds fresh = ordered_rows c n x carries (fresh_order w settled c n x fresh) adds
   rows_next settled (Take p) carries range adds fresh =
       let take = fresh_take w settled p fresh in
       let known = range.ends p.to p.from (sym (lane-mirrored w.links p.from p.to) ∙ ap is_some take.there) in
-      all_set Q w.nodes p.to _ (later P Q w (brought p.msg) carries before) (same_near P Q w (brought p.msg) carries before p.to known _ (goes_deed w.version (state w p.to) p.from p.msg))
+      all_set Q w.nodes p.to _ (later P Q w (carried p.msg) carries before) (same_near P Q w (carried p.msg) carries before p.to known _ (goes_transition w.version (state w p.to) p.from p.msg))
   rows_next settled (Clear p) carries range adds fresh = later P Q w 0 carries before

@@ -6,7 +6,7 @@ use Rattle.coord_types.specs.declared.steps.Step.{Step}
 use Rattle.coord_types.specs.declared.steps.Step.TheVariants.{Order}
 use Rattle.coord_types.proofs.Sets.{len-empty}
 use Rattle.coord_world.specs.Facade.{InRange, IsFresh, NodeInRange, StepInRange, World, next}
-use Rattle.coord_world.proofs.ranges.EveryNode.{Adds, AllRows, Carries, brought_by, rows_next}
+use Rattle.coord_world.proofs.ranges.EveryNode.{Adds, AllRows, Carries, carried_by, rows_next}
 use Rattle.coord_world.proofs.lists.TableLen.{len-insert_le}
 
 -- each change of a node keeps its ranges, as the count rises
@@ -68,4 +68,4 @@ new_in_range count s within = tt
 -- each node stays in its ranges through a fresh step
 pub nodes_next : (w settled : World) (s : Step) → StepInRange s → InRange w → IsFresh w settled s → AllRows (NodeInRange (w.count + 1)) (next w s).nodes
 nodes_next w settled s within range fresh =
-    rows_next (NodeInRange w.count) (NodeInRange (w.count + 1)) w range.nodes settled s (carries_ranges w.count (brought_by s)) range (new_in_range (w.count + 1) s within) fresh
+    rows_next (NodeInRange w.count) (NodeInRange (w.count + 1)) w range.nodes settled s (carries_ranges w.count (carried_by s)) range (new_in_range (w.count + 1) s within) fresh

@@ -7,7 +7,7 @@ use Rattle.coord_types.specs.declared.steps.Step.{Step}
 use Rattle.coord_types.specs.declared.steps.Step.TheVariants.{Order, Take, Clear}
 use Rattle.coord_node.specs.Facade.{Transition, headed, ideal_applied, ideal_next, is_empty, linked_up, request, set_state, transition}
 use Rattle.coord_world.specs.Facade.{IsFresh, World, state, state_or_none, view}
-use Rattle.coord_world.proofs.transitions.NodeGoesOn.{goes_deed, goes_lost, goes_request}
+use Rattle.coord_world.proofs.transitions.NodeGoesOn.{goes_transition, goes_lost, goes_request}
 use Rattle.coord_world.proofs.legal.DropKept.{dropped}
 use Rattle.coord_world.proofs.legal.SoundNext.{new_alone}
 use Rattle.coord_world.proofs.acceptance.FreshOrder.{fresh_order}
@@ -70,5 +70,5 @@ module _ (w settled : World) (sound : Sound (view w)) (one : OneGroup (view w)) 
   group_next (Order c n (Reset u)) fresh = of_groups (view w) _ (acts_groups (view w) u (request w.version (state w u)) (goes_request w.version (state w u)).group) one
   group_next (Order c n (Confirm u e)) fresh = of_groups (view w) _ (set_groups (view w) u (record (state w u) { confirmed = e }) refl) one
   group_next (Take p) fresh =
-      of_groups (headed (view w) p.from p.to) _ (acts_groups (headed (view w) p.from p.to) p.to (transition w.version p.msg (state w p.to) p.from) (goes_deed w.version (state w p.to) p.from p.msg).group) one
+      of_groups (headed (view w) p.from p.to) _ (acts_groups (headed (view w) p.from p.to) p.to (transition w.version p.msg (state w p.to) p.from) (goes_transition w.version (state w p.to) p.from p.msg).group) one
   group_next (Clear p) fresh = one

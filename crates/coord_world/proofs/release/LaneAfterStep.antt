@@ -44,10 +44,10 @@ one_more true ms ns (Some l) = ap Some (sent_twice ms ns l)
 one_more false ms ns (Some l) = refl
 
 -- transitions do nothing else to a lane
-pub deeds_send : (ds : List (ℕ × Transition)) (w : World) (x y : ℕ) → Sends (lane_at w.links x y) (lane_at (with_transitions w ds).links x y)
-deeds_send [] w x y = sends_none (lane_at w.links x y)
-deeds_send (d ∷ ds) w x y =
-    let later = deeds_send ds (with_transition w d.0 d.1) x y in (
+pub transitions_send : (ds : List (ℕ × Transition)) (w : World) (x y : ℕ) → Sends (lane_at w.links x y) (lane_at (with_transitions w ds).links x y)
+transitions_send [] w x y = sends_none (lane_at w.links x y)
+transitions_send (d ∷ ds) w x y =
+    let later = transitions_send ds (with_transition w d.0 d.1) x y in (
       cond (eqb x d.0) (added d.1 y) [] ++ later.0,
       later.1 ∙ ap (option_map (sent later.0)) (lane_done w d.0 d.1 x y) ∙ one_more (eqb x d.0) (added d.1 y) later.0 (lane_at w.links x y),
     )
@@ -77,12 +77,12 @@ lane_step w (Order c n (Add u g)) x y = stays w (Order c n (Add u g)) x y (lane_
 lane_step w (Order c n (Remove u)) x y = stays w (Order c n (Remove u)) x y (lane_at w.links x y) (lane_at w.links x y) refl (sends_none (lane_at w.links x y))
 lane_step w (Order c n (Join a b)) x y = makes w (Order c n (Join a b)) x y (is_link a b x y) (lane_at (with_command w (Join a b)).links x y) (lane_made w a b x y)
 lane_step w (Order c n (Drop a b)) x y =
-    let sends = deeds_send (transitions_ordered w.version (state w) (Drop a b)) (with_command w (Drop a b)) x y in
+    let sends = transitions_send (transitions_ordered w.version (state w) (Drop a b)) (with_command w (Drop a b)) x y in
     unlinks w (Order c n (Drop a b)) x y (is_link a b x y) _ (sends.0, sends.1 ∙ ap (option_map (sent sends.0)) (lane_left w a b x y))
-lane_step w (Order c n (Reset u)) x y = stays w (Order c n (Reset u)) x y (lane_at w.links x y) _ refl (deeds_send (transitions_ordered w.version (state w) (Reset u)) w x y)
+lane_step w (Order c n (Reset u)) x y = stays w (Order c n (Reset u)) x y (lane_at w.links x y) _ refl (transitions_send (transitions_ordered w.version (state w) (Reset u)) w x y)
 lane_step w (Order c n (Confirm u e)) x y = stays w (Order c n (Confirm u e)) x y (lane_at w.links x y) (lane_at w.links x y) refl (sends_none (lane_at w.links x y))
 lane_step w (Take p) x y =
-    let sends = deeds_send (transitions w.version (state w) (Take p)) (on_lane w p.from p.to took) x y in
+    let sends = transitions_send (transitions w.version (state w) (Take p)) (on_lane w p.from p.to took) x y in
     of_lane (is_lane (x, y) p.from p.to) (lane_at w.links x y) refl refl sends.0 (sends.1 ∙ ap (option_map (sent sends.0)) (lane_on w p.from p.to took x y))
   where
     of_lane : (b : Bool) (o : Option Lane) → is_lane (x, y) p.from p.to ≡ b → lane_at w.links x y ≡ o → (ms : List Msg) → lane_at (next w (Take p)).links x y ≡ option_map (sent ms) (option_map (λ l. cond b (took l) l) o) →
@@ -100,7 +100,7 @@ lane_step w (Clear p) x y = of_lane (is_lane (x, y) p.from p.to) (lane_at w.link
 -- the lane whose message is taken
 pub lane_taken : (w : World) (p : DataPacket) (l : Lane) → lane_at w.links p.from p.to ≡ Some l → (ms : List Msg) × (lane_at (next w (Take p)).links p.from p.to ≡ Some (sent ms (took l)))
 lane_taken w p l there =
-    let sends = deeds_send (transitions w.version (state w) (Take p)) (on_lane w p.from p.to took) p.from p.to in
+    let sends = transitions_send (transitions w.version (state w) (Take p)) (on_lane w p.from p.to took) p.from p.to in
     let here : is_lane (p.from, p.to) p.from p.to ≡ true = grind (arith, nat_tests) in (
       sends.0,
       sends.1 ∙ ap (option_map (sent sends.0)) (lane_on w p.from p.to took p.from p.to ∙ ap (option_map (λ l. cond (is_lane (p.from, p.to) p.from p.to) (took l) l)) there ∙ ap (λ b. Some (cond b (took l) l)) here),

@@ -7,11 +7,11 @@ use Rattle.coord_types.specs.declared.steps.Step.TheVariants.{Order, Take}
 use Rattle.coord_link.specs.LaneMachine.{Lane, took}
 use Rattle.coord_node.specs.Rules.{request, lost, transition}
 use Rattle.coord_tables.proofs.LinkLanes.{lane-mirrored}
-use Rattle.coord_world.specs.Facade.{InRange, World, brought, lane_at, on_lane, state, with_command, with_transition}
+use Rattle.coord_world.specs.Facade.{InRange, World, carried, lane_at, on_lane, state, with_command, with_transition}
 use Rattle.coord_world.specs.code.Fronts.{AreNumbered}
-use Rattle.coord_world.specs.code.NodeSteps.{CanApply}
+use Rattle.coord_world.specs.code.NodeTransitions.{CanApply}
 use Rattle.coord_world.specs.code.Ready.{IsReadyFor}
-use Rattle.coord_world.proofs.ranges.Brought.{brought_within, farthest_le}
+use Rattle.coord_world.proofs.ranges.Carried.{carried_within, farthest_le}
 use Rattle.coord_world.proofs.acceptance.IsFresh.{fresh_take}
 use Rattle.coord_world.proofs.acceptance.FreshOrder.{fresh_order}
 use Rattle.coord_world.proofs.lanes.PlaceForTransition.{room_take, room_reset, room_drop_first, room_drop_second}
@@ -35,10 +35,10 @@ module _ (w : World) (range : InRange w) where
   pub are_numbered : AreNumbered w.links
   are_numbered = base_room
 
--- a packet that is taken brings a distance that can rise by one
-pub near_room : (w : World) (p : DataPacket) → IsReadyFor w (Take p) → brought p.msg < 2 ^ 64 - 1
+-- a packet that is taken carries a distance that can rise by one
+pub near_room : (w : World) (p : DataPacket) → IsReadyFor w (Take p) → carried p.msg < 2 ^ 64 - 1
 near_room w p ready =
-    let near = brought_within w w (Take p) ready.ranges ready.fresh in
+    let near = carried_within w w (Take p) ready.ranges ready.fresh in
     let count = ready.ranges.count in
     omega (arith, near, count, farthest_le w.version w.count)
 

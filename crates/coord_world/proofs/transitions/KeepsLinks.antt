@@ -7,7 +7,7 @@ use Rattle.coord_types.specs.Facade.{NodeSet, NodeState, contains}
 use Rattle.coord_types.specs.declared.messages.Mode.TheVariants.{Ready, Abort, Converge}
 use Rattle.coord_types.specs.declared.messages.Msg.TheVariants as msg
 use Rattle.coord_types.proofs.Sets.{contains-empty, len-empty, contains-remove}
-use Rattle.coord_node.specs.Facade.{Transition, added, answer, carried, finish, idle, is_empty, is_parent, wave_back, wave_on, without, without_parent}
+use Rattle.coord_node.specs.Facade.{Transition, added, answer, carries, finish, idle, is_empty, is_parent, wave_back, wave_on, without, without_parent}
 use Rattle.coord_world.specs.protocol.Links.{Link, end_of, is_abort, is_ready}
 use Rattle.coord_world.proofs.transitions.LegalBoth.{LegalBoth, finishes, converges_up, converges_far, wave_goes_on}
 use Rattle.coord_world.proofs.transitions.RuleCases.{acked_by, cut_from}
@@ -82,12 +82,12 @@ quiet version r v d node ends none = record {
 
 module _ (version : ℕ) (r s : NodeState) (v : ℕ) (aside : Aside r s v) where
   -- it sends what it sent before
-  same_carried : carried version s ≡ carried version r
-  same_carried i = cond (eqb version 1) 0 (aside.distance i + 1)
+  same_carries : carries version s ≡ carries version r
+  same_carries i = cond (eqb version 1) 0 (aside.distance i + 1)
 
   -- nothing happens
   pub keeps_idle : SoundNode s → Keeps version r v (idle s)
-  keeps_idle node = quiet version r v (idle s) node (λ y far i. record { mode = sym aside.mode i; awaits = sym (aside.awaits y far) i; child = sym (aside.child y far) i; distance = sym aside.distance i; carries = sym same_carried i }) (λ y far. contains-empty y)
+  keeps_idle node = quiet version r v (idle s) node (λ y far i. record { mode = sym aside.mode i; awaits = sym (aside.awaits y far) i; child = sym (aside.child y far) i; distance = sym aside.distance i; carries = sym same_carries i }) (λ y far. contains-empty y)
 
   -- a node that awaits nobody finishes
   pub finished : is_empty s.pend ≡ true → SoundNode (finish s).state
@@ -113,7 +113,7 @@ module _ (version : ℕ) (r s : NodeState) (v : ℕ) (aside : Aside r s v) where
         let child : l.here.child ≡ eqb p y = ap (λ e. e.child) here ∙ sym (aside.child y far) ∙ ap (λ q. is_parent q y) up in
         let wait : l.here.mode ≡ Abort = ap (λ e. e.mode) here ∙ mode in
         let apart : s.distance ≡ l.here.distance = aside.distance ∙ sym (ap (λ e. e.distance) here) in
-        let sent : carried version s ≡ l.here.carries = same_carried ∙ sym (ap (λ e. e.carries) here) in
+        let sent : carries version s ≡ l.here.carries = same_carries ∙ sym (ap (λ e. e.carries) here) in
         elim (eqb_tells y p) [
           | inl same ↦ converges_up l _ apart sent wait still (child ∙ grind (arith, nat_tests)) refl (empty_has s.pend y none) (ap (λ q. is_parent q y) up ∙ grind (arith, nat_tests)) refl
               (grind (arith, nat_tests, has_only p y)) refl both

@@ -8,10 +8,10 @@ use Rattle.coord_types.specs.declared.messages.Mode.TheVariants.{Ready, Abort}
 use Rattle.coord_types.specs.declared.messages.Msg.{Msg}
 use Rattle.coord_types.specs.declared.messages.Msg.TheVariants as msg
 use Rattle.coord_node.specs.Rules.{Transition, transition, lost, request, without}
-use Rattle.coord_world.specs.protocol.Ranges.{brought}
+use Rattle.coord_world.specs.protocol.Ranges.{carried}
 use Rattle.coord_world.proofs.transitions.RuleCases.{ready_cases, request_cases}
 
--- a node with the state r goes on to the state s, to which a distance may have been brought, and has the neighbours near then
+-- a node with the state r goes on to the state s, to which a distance may have come, and has the neighbours near then
 pub record Goes (r : NodeState) (near : NodeSet) (n : ℕ) (s : NodeState) : Type 0 where
   pub distance : (most : ℕ) → r.distance ≤ most → n ≤ most → s.distance ≤ most
   pub ready : (r.mode ≡ Ready → r.distance ≡ 0) → s.mode ≡ Ready → s.distance ≡ 0
@@ -26,7 +26,7 @@ module _ (r : NodeState) (near : NodeSet) (n : ℕ) where
   stays : (mode : Mode) (parent : Option ℕ) (pend : NodeSet) → (mode ≡ Ready → r.mode ≡ Ready) → Goes r near n (record r { mode = mode; parent = parent; pend = pend; neighbours = near })
   stays mode parent pend still = record { distance = λ most d _. d; ready = λ none is. none (still is); group = refl; neighbours = refl; confirmed = refl; least = omega arith; most = omega arith }
 
-  -- a node that was Ready takes a distance, no greater than what was brought
+  -- a node that was Ready takes a distance, no greater than what the message carried
   takes : (mode : Mode) (parent : Option ℕ) (pend : NodeSet) (k : ℕ) → k ≤ n → (mode ≡ Ready → ⊥) → Goes r near n (record r { mode = mode; parent = parent; pend = pend; neighbours = near; distance = k })
   takes mode parent pend k less busy = record { distance = λ most _ d. omega (arith, less, d); ready = λ none is. absurd (busy is); group = refl; neighbours = refl; confirmed = refl; least = omega arith; most = omega arith }
 
@@ -45,10 +45,10 @@ module _ (version : ℕ) (r : NodeState) where
 
   module _ (v : ℕ) where
     -- a message that comes
-    pub goes_deed : (m : Msg) → To r.neighbours (brought m) (transition version m r v)
-    goes_deed (msg.Abort n) = grind (arith, nat_tests)
-    goes_deed msg.Ack = grind (arith, nat_tests)
-    goes_deed msg.Ready = ready_cases r v (To r.neighbours 0) (λ _. stays r r.neighbours 0 r.mode r.parent r.pend (λ e. e)) (λ _ _. enters r r.neighbours 0 r.pend)
+    pub goes_transition : (m : Msg) → To r.neighbours (carried m) (transition version m r v)
+    goes_transition (msg.Abort n) = grind (arith, nat_tests)
+    goes_transition msg.Ack = grind (arith, nat_tests)
+    goes_transition msg.Ready = ready_cases r v (To r.neighbours 0) (λ _. stays r r.neighbours 0 r.mode r.parent r.pend (λ e. e)) (λ _ _. enters r r.neighbours 0 r.pend)
 
 -- a link that vanishes
 pub goes_lost : (r : NodeState) (v : ℕ) → Goes r (remove r.neighbours v) 0 (lost r v).state

@@ -21,14 +21,14 @@ some_mapped f o = grind (arith, nat_tests)
 module _ (w : World) where
   -- a state is put
   pub view_set : (u : ℕ) (r : NodeState) → view (with_state w u r) ≡ set_state (view w) u r
-  view_set u r i = record { version = w.version; state = λ x. rows x i; linked = (view w).linked; way = (view w).way }
+  view_set u r i = record { version = w.version; state = λ x. rows x i; linked = (view w).linked; in_transit = (view w).in_transit }
     where
       rows : (x : ℕ) → state_or_none (get (table.insert w.nodes u r) x) ≡ cond (eqb x u) r (state w x)
       rows x = ap state_or_none (get-set w.nodes u r x) ∙ grind (arith, nat_tests)
 
   -- a node is removed
   pub view_unset : (u : ℕ) → view (record w { nodes = table.remove w.nodes u }) ≡ set_state (view w) u no_node
-  view_unset u i = record { version = w.version; state = λ x. rows x i; linked = (view w).linked; way = (view w).way }
+  view_unset u i = record { version = w.version; state = λ x. rows x i; linked = (view w).linked; in_transit = (view w).in_transit }
     where
       rows : (x : ℕ) → state_or_none (get (table.remove w.nodes u) x) ≡ cond (eqb x u) no_node (state w x)
       rows x = ap state_or_none (get-unset w.nodes u x) ∙ grind (arith, nat_tests)
@@ -39,13 +39,13 @@ module _ (w : World) where
     version = w.version;
     state = state w;
     linked = λ x y. (ap is_some (lane_left w a b x y) ∙ links x y) i;
-    way = λ x y. (ap transit_or_none (lane_left w a b x y) ∙ ways x y) i;
+    in_transit = λ x y. (ap transit_or_none (lane_left w a b x y) ∙ ways x y) i;
   }
     where
       links : (x y : ℕ) → is_some (cond (is_link a b x y) None (lane_at w.links x y)) ≡ (without_link (view w) a b).linked x y
       links x y = grind (arith, nat_tests)
 
-      ways : (x y : ℕ) → transit_or_none (cond (is_link a b x y) None (lane_at w.links x y)) ≡ (without_link (view w) a b).way x y
+      ways : (x y : ℕ) → transit_or_none (cond (is_link a b x y) None (lane_at w.links x y)) ≡ (without_link (view w) a b).in_transit x y
       ways x y = grind (arith, nat_tests)
 
   -- a link is made
@@ -54,7 +54,7 @@ module _ (w : World) where
     version = w.version;
     state = λ x. rows x i;
     linked = λ x y. (ap is_some (lane_made w a b x y) ∙ links x y) i;
-    way = λ x y. (ap transit_or_none (lane_made w a b x y) ∙ ways x y) i;
+    in_transit = λ x y. (ap transit_or_none (lane_made w a b x y) ∙ ways x y) i;
   }
     where
       rows : (x : ℕ) → state (with_command w (Join a b)) x ≡ (linked_up (view w) a b).state x
@@ -64,7 +64,7 @@ module _ (w : World) where
       links : (x y : ℕ) → is_some (cond (is_link a b x y) (Some (new_lane (w.count + 1))) (lane_at w.links x y)) ≡ (linked_up (view w) a b).linked x y
       links x y = grind (arith, nat_tests)
 
-      ways : (x y : ℕ) → transit_or_none (cond (is_link a b x y) (Some (new_lane (w.count + 1))) (lane_at w.links x y)) ≡ (linked_up (view w) a b).way x y
+      ways : (x y : ℕ) → transit_or_none (cond (is_link a b x y) (Some (new_lane (w.count + 1))) (lane_at w.links x y)) ≡ (linked_up (view w) a b).in_transit x y
       ways x y = grind (arith, nat_tests)
 
 -- where the numbers fit the queues
@@ -75,7 +75,7 @@ module _ (w : World) (counts : AllCount w) where
     version = w.version;
     state = λ x. rows x i;
     linked = λ x y. (ap is_some (lane_done w u d x y) ∙ some_mapped _ (lane_at w.links x y)) i;
-    way = λ x y. (ap transit_or_none (lane_done w u d x y) ∙ ways x y (lane_at w.links x y) refl) i;
+    in_transit = λ x y. (ap transit_or_none (lane_done w u d x y) ∙ ways x y (lane_at w.links x y) refl) i;
   }
     where
       rows : (x : ℕ) → state (with_transition w u d) x ≡ cond (eqb x u) d.state (state w x)
@@ -92,7 +92,7 @@ module _ (w : World) (counts : AllCount w) where
     version = w.version;
     state = state w;
     linked = λ x y. (ap is_some (lane_on w v u took x y) ∙ some_mapped _ (lane_at w.links x y)) i;
-    way = λ x y. (ap transit_or_none (lane_on w v u took x y) ∙ ways x y (lane_at w.links x y) refl) i;
+    in_transit = λ x y. (ap transit_or_none (lane_on w v u took x y) ∙ ways x y (lane_at w.links x y) refl) i;
   }
     where
       ways : (x y : ℕ) (o : Option Lane) → lane_at w.links x y ≡ o →
@@ -107,7 +107,7 @@ module _ (w : World) (counts : AllCount w) where
     version = w.version;
     state = state w;
     linked = λ x y. (ap is_some (lane_on w u v cleared x y) ∙ some_mapped _ (lane_at w.links x y)) i;
-    way = λ x y. (ap transit_or_none (lane_on w u v cleared x y) ∙ ways x y (lane_at w.links x y) refl) i;
+    in_transit = λ x y. (ap transit_or_none (lane_on w u v cleared x y) ∙ ways x y (lane_at w.links x y) refl) i;
   }
     where
       ways : (x y : ℕ) (o : Option Lane) → lane_at w.links x y ≡ o → transit_or_none (option_map (λ l. cond (is_lane (x, y) u v) (cleared l) l) o) ≡ transit_or_none o

@@ -24,7 +24,7 @@ use Rattle.coord_world.proofs.lanes.MessageCounts.{aborts-append}
 abbrev pub TakeEffect : Ideal → ℕ → ℕ → Transition → Type 0
 TakeEffect z v t d = Effect z (after_take z v t d) (λ x. count_by (is_signal_of x) (signals ((t, d) ∷ []))) [] Taken
 
-module _ (z : Ideal) (v t n : ℕ) (rest : List Msg) (front : z.way v t ≡ msg.Abort n ∷ rest) (near : contains (z.state t).neighbours v ≡ true) (sound : Sound z) where
+module _ (z : Ideal) (v t n : ℕ) (rest : List Msg) (front : z.in_transit v t ≡ msg.Abort n ∷ rest) (near : contains (z.state t).neighbours v ≡ true) (sound : Sound z) where
   -- the neighbours but the sender
   abbrev others : NodeSet
   others = set.remove (z.state t).neighbours v
@@ -45,18 +45,18 @@ module _ (z : Ideal) (v t n : ℕ) (rest : List Msg) (front : z.way v t ≡ msg.
     left = ap aborts way_back ∙ alone;
     sent = λ x near_x far.
         let more = sends x near_x far in
-        let both = aborts-append (z.way t x) (added d x) in
+        let both = aborts-append (z.in_transit t x) (added d x) in
         let out = ap aborts (sends_out x (not_self z t sound x near_x) (sound.linked t x ∙ near_x)) in
         omega arith;
     apart = λ x y p q. grind (arith, nat_tests, p, q);
   }
     where
       -- what it sends is behind what was on the way
-      sends_out : (x : ℕ) → x ≢ t → z.linked t x ≡ true → (after_take z v t d).way t x ≡ z.way t x ++ added d x
+      sends_out : (x : ℕ) → x ≢ t → z.linked t x ≡ true → (after_take z v t d).in_transit t x ≡ z.in_transit t x ++ added d x
       sends_out x far linked = grind (arith, nat_tests)
 
       -- the message has left the way
-      way_back : (after_take z v t d).way v t ≡ rest
+      way_back : (after_take z v t d).in_transit v t ≡ rest
       way_back = grind (arith, nat_tests, front)
 
       -- no second Abort was behind it

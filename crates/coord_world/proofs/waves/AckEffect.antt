@@ -18,7 +18,7 @@ use Rattle.coord_world.proofs.legal.TakeKept.{after_take}
 use Rattle.coord_world.proofs.lists.NodeSets.{has_only}
 use Rattle.coord_world.proofs.legal.Sound.{Sound}
 
-module _ (z : Ideal) (v t : ℕ) (rest : List Msg) (front : z.way v t ≡ msg.Ack ∷ rest) (near : contains (z.state t).neighbours v ≡ true) (sound : Sound z) where
+module _ (z : Ideal) (v t : ℕ) (rest : List Msg) (front : z.in_transit v t ≡ msg.Ack ∷ rest) (near : contains (z.state t).neighbours v ≡ true) (sound : Sound z) where
   -- the node that takes the message
   abbrev r : NodeState
   r = z.state t

@@ -20,24 +20,24 @@ IsQuiet d = (y : ℕ) → aborts (added d y) ≡ 0
 
 module _ (z : Ideal) (v t : ℕ) where
   -- a message that is taken is on no other way
-  headed_fewer : (a b : ℕ) → aborts ((headed z v t).way a b) ≤ aborts (z.way a b)
-  headed_fewer a b = grind (arith, nat_tests, fewer_behind (z.way a b))
+  headed_fewer : (a b : ℕ) → aborts ((headed z v t).in_transit a b) ≤ aborts (z.in_transit a b)
+  headed_fewer a b = grind (arith, nat_tests, fewer_behind (z.in_transit a b))
 
   -- it was no Abort, or its receiver wasn't Ready
-  headed_kept : (is_ready (z.state t).mode ≡ true → aborts (z.way v t) ≤ aborts (behind_front (z.way v t))) → (a b : ℕ) → is_ready (z.state b).mode ≡ true → aborts (z.way a b) ≤ aborts ((headed z v t).way a b)
+  headed_kept : (is_ready (z.state t).mode ≡ true → aborts (z.in_transit v t) ≤ aborts (behind_front (z.in_transit v t))) → (a b : ℕ) → is_ready (z.state b).mode ≡ true → aborts (z.in_transit a b) ≤ aborts ((headed z v t).in_transit a b)
   headed_kept h1 a b h2 = grind (arith, nat_tests, h1, h2)
 
 module _ (z : Ideal) (t : ℕ) (d : Transition) (quiet : IsQuiet d) where
   -- a quiet transition leaves all Aborts on the way
-  same_aborts : (a b : ℕ) → aborts ((ideal_applied z t d).way a b) ≡ aborts (z.way a b)
-  same_aborts a b = grind (arith, nat_tests, aborts-append (z.way a b) (added d b), quiet b)
+  same_aborts : (a b : ℕ) → aborts ((ideal_applied z t d).in_transit a b) ≡ aborts (z.in_transit a b)
+  same_aborts a b = grind (arith, nat_tests, aborts-append (z.in_transit a b) (added d b), quiet b)
 
   -- a quiet transition that takes nothing
-  pub calm_deed : Calm z (ideal_applied z t d)
-  calm_deed = record { fewer = λ a b. omega (arith, same_aborts a b); kept = λ a b ready. omega (arith, same_aborts a b) }
+  pub calm_transition : Calm z (ideal_applied z t d)
+  calm_transition = record { fewer = λ a b. omega (arith, same_aborts a b); kept = λ a b ready. omega (arith, same_aborts a b) }
 
 -- a quiet transition that takes a message
-pub calm_take : (z : Ideal) (v t : ℕ) (d : Transition) → IsQuiet d → (is_ready (z.state t).mode ≡ true → aborts (z.way v t) ≤ aborts (behind_front (z.way v t))) → Calm z (after_take z v t d)
+pub calm_take : (z : Ideal) (v t : ℕ) (d : Transition) → IsQuiet d → (is_ready (z.state t).mode ≡ true → aborts (z.in_transit v t) ≤ aborts (behind_front (z.in_transit v t))) → Calm z (after_take z v t d)
 calm_take z v t d quiet same = record {
   fewer = λ a b. omega (arith, same_aborts (headed z v t) t d quiet a b, headed_fewer z v t a b);
   kept = λ a b ready. omega (arith, same_aborts (headed z v t) t d quiet a b, headed_kept z v t same a b ready);

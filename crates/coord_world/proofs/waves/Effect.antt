@@ -14,8 +14,8 @@ pub record SamePlace (r q : NodeState) : Type 0 where
 
 -- no Abort joins those on the way, and none to a Ready node leaves them
 pub record Calm (z y : Ideal) : Type 0 where
-  pub fewer : (a b : ℕ) → aborts (y.way a b) ≤ aborts (z.way a b)
-  pub kept : (a b : ℕ) → is_ready (z.state b).mode ≡ true → aborts (z.way a b) ≤ aborts (y.way a b)
+  pub fewer : (a b : ℕ) → aborts (y.in_transit a b) ≤ aborts (z.in_transit a b)
+  pub kept : (a b : ℕ) → is_ready (z.state b).mode ≡ true → aborts (z.in_transit a b) ≤ aborts (y.in_transit a b)
 
 -- no node signals
 abbrev pub Silent : (ℕ → ℕ) → Type 0
@@ -38,13 +38,13 @@ pub record Passes (z y : Ideal) : Type 0 where
 pub record Reaches (z y : Ideal) (t v : ℕ) : Type 0 where
   pub was : (z.state t).mode ≡ Ready
   pub near : contains (z.state t).neighbours v ≡ true
-  pub came : 1 ≤ aborts (z.way v t)
+  pub came : 1 ≤ aborts (z.in_transit v t)
   pub busy : is_ready (y.state t).mode ≡ false
   pub parent : (y.state t).parent ≡ Some v
   pub elsewhere : Elsewhere z y t
-  pub left : aborts (y.way v t) ≡ 0
-  pub sent : (x : ℕ) → contains (z.state t).neighbours x ≡ true → x ≢ v → 1 ≤ aborts (y.way t x)
-  pub apart : (a b : ℕ) → a ≢ t → b ≢ t → y.way a b ≡ z.way a b
+  pub left : aborts (y.in_transit v t) ≡ 0
+  pub sent : (x : ℕ) → contains (z.state t).neighbours x ≡ true → x ≢ v → 1 ≤ aborts (y.in_transit t x)
+  pub apart : (a b : ℕ) → a ≢ t → b ≢ t → y.in_transit a b ≡ z.in_transit a b
 
 -- the Abort node t awaits nobody any more, and acknowledges to its parent p
 pub record Turns (z y : Ideal) (t p : ℕ) : Type 0 where
@@ -54,7 +54,7 @@ pub record Turns (z y : Ideal) (t p : ℕ) : Type 0 where
   pub same_parent : (y.state t).parent ≡ Some p
   pub elsewhere : Elsewhere z y t
   pub calm : Calm z y
-  pub none : aborts (z.way p t) ≡ 0
+  pub none : aborts (z.in_transit p t) ≡ 0
 
 -- the node t, which nobody reached, awaits nobody any more
 pub record Tops (z : Ideal) (t : ℕ) : Type 0 where
@@ -66,7 +66,7 @@ pub record Hears (z : Ideal) (t v : ℕ) : Type 0 where
   pub was : (z.state t).mode ≡ Converge
   pub near : contains (z.state t).neighbours v ≡ true
   pub parent : (z.state t).parent ≡ Some v
-  pub came : 1 ≤ readies (z.way v t)
+  pub came : 1 ≤ readies (z.in_transit v t)
 
 -- why t finishes
 abbrev pub Cause : Ideal → ℕ → Type 0
@@ -87,7 +87,7 @@ pub record Starts (z y : Ideal) (t : ℕ) : Type 0 where
   pub now : (y.state t).mode ≡ Abort
   pub parent : (y.state t).parent ≡ None
   pub elsewhere : Elsewhere z y t
-  pub sent : (x : ℕ) → contains (z.state t).neighbours x ≡ true → 1 ≤ aborts (y.way t x)
+  pub sent : (x : ℕ) → contains (z.state t).neighbours x ≡ true → 1 ≤ aborts (y.in_transit t x)
 
 -- what a step does that makes y of z: who signals, who starts, and the kind of its reply
 pub data Effect (z y : Ideal) (signals : ℕ → ℕ) (starts : List ℕ) (k : Kind) : Type 0 where

@@ -30,9 +30,9 @@ pub record Front (z : Ideal) (u : ℕ) (xs : List ℕ) : Type 0 where
   -- nobody else is in it
   pub others : (x : ℕ) → among xs x ≡ false → is_ready (z.state x).mode ≡ true
   -- a node that has acknowledged to its parent has no Abort on the way from there
-  pub held : (x p : ℕ) → (z.state x).mode ≡ Converge → (z.state x).parent ≡ Some p → aborts (z.way p x) ≡ 0
+  pub held : (x p : ℕ) → (z.state x).mode ≡ Converge → (z.state x).parent ≡ Some p → aborts (z.in_transit p x) ≡ 0
   -- a node that was reached has sent an Abort to each Ready neighbour
-  pub sent : (a b : ℕ) → contains (z.state a).neighbours b ≡ true → is_ready (z.state a).mode ≡ false → is_ready (z.state b).mode ≡ true → 1 ≤ aborts (z.way a b)
+  pub sent : (a b : ℕ) → contains (z.state a).neighbours b ≡ true → is_ready (z.state a).mode ≡ false → is_ready (z.state b).mode ≡ true → 1 ≤ aborts (z.in_transit a b)
 
 -- what is_ready says
 pub mode_is_ready : (m : Mode) → is_ready m ≡ true → m ≡ Ready

@@ -19,9 +19,9 @@ begins z y t near ready starts = record {
   no_parent = starts.parent;
   reached = (inl refl, tt);
   others = λ x h. calm x (λ same. grind (arith, nat_tests, h, same));
-  held = λ x p. everywhere (λ q. (y.state q).mode ≡ Converge → (y.state q).parent ≡ Some p → aborts (y.way p q) ≡ 0) t
+  held = λ x p. everywhere (λ q. (y.state q).mode ≡ Converge → (y.state q).parent ≡ Some p → aborts (y.in_transit p q) ≡ 0) t
       (λ mode up. absurd (let is_abort = starts.now in cc)) (λ q far mode up. absurd (let is_ready = calm q far in cc)) x;
-  sent = λ a b. everywhere (λ q. contains (y.state q).neighbours b ≡ true → is_ready (y.state q).mode ≡ false → is_ready (y.state b).mode ≡ true → 1 ≤ aborts (y.way q b)) t
+  sent = λ a b. everywhere (λ q. contains (y.state q).neighbours b ≡ true → is_ready (y.state q).mode ≡ false → is_ready (y.state b).mode ≡ true → 1 ≤ aborts (y.in_transit q b)) t
       (λ with_b busy ready_b. starts.sent b (sym (near t b) ∙ with_b)) (λ q far with_b busy ready_b. absurd (let calm_q = calm q far in cc)) a;
 }
   where
@@ -31,7 +31,7 @@ begins z y t near ready starts = record {
 module _ (z y : Ideal) (u : ℕ) (xs : List ℕ) (near : SameNear z y) (front : Front z u xs) where
   -- where nobody is reached and nobody gets Ready
   goes_on : Calm z y → ((x : ℕ) → (y.state x).parent ≡ (z.state x).parent) → ((x : ℕ) → is_ready (y.state x).mode ≡ is_ready (z.state x).mode) →
-      (y.state u).mode ≡ Abort → ((x p : ℕ) → (y.state x).mode ≡ Converge → (z.state x).parent ≡ Some p → aborts (z.way p x) ≡ 0) → Front y u xs
+      (y.state u).mode ≡ Abort → ((x p : ℕ) → (y.state x).mode ≡ Converge → (z.state x).parent ≡ Some p → aborts (z.in_transit p x) ≡ 0) → Front y u xs
   goes_on calm parent ready top none = record {
     top = top;
     no_parent = parent u ∙ front.no_parent;
@@ -63,7 +63,7 @@ module _ (z y : Ideal) (u : ℕ) (xs : List ℕ) (near : SameNear z y) (front : 
       top : (y.state u).mode ≡ Abort
       top = ap (λ (r : NodeState). r.mode) (turns.elsewhere u apart) ∙ front.top
 
-      none : (x q : ℕ) → (y.state x).mode ≡ Converge → (z.state x).parent ≡ Some q → aborts (z.way q x) ≡ 0
-      none x q = everywhere (λ n. (y.state n).mode ≡ Converge → (z.state n).parent ≡ Some q → aborts (z.way q n) ≡ 0) t
-          (λ mode up. let same : p ≡ q = cc (up, turns.parent) in subst (λ n. aborts (z.way n t) ≡ 0) same turns.none)
+      none : (x q : ℕ) → (y.state x).mode ≡ Converge → (z.state x).parent ≡ Some q → aborts (z.in_transit q x) ≡ 0
+      none x q = everywhere (λ n. (y.state n).mode ≡ Converge → (z.state n).parent ≡ Some q → aborts (z.in_transit q n) ≡ 0) t
+          (λ mode up. let same : p ≡ q = cc (up, turns.parent) in subst (λ n. aborts (z.in_transit n t) ≡ 0) same turns.none)
           (λ n far mode up. front.held n q (ap (λ (r : NodeState). r.mode) (sym (turns.elsewhere n far)) ∙ mode) up) x

@@ -38,15 +38,15 @@ module _ (z y : Ideal) (u t v : ℕ) (xs : List ℕ) (sound : Sound z) (near : S
   top_far = apart u (ap is_ready front.top)
 
   -- who has acknowledged
-  held : (x p : ℕ) → (y.state x).mode ≡ Converge → (y.state x).parent ≡ Some p → aborts (y.way p x) ≡ 0
+  held : (x p : ℕ) → (y.state x).mode ≡ Converge → (y.state x).parent ≡ Some p → aborts (y.in_transit p x) ≡ 0
   held x p h1 h2 = grind (arith, nat_tests, h1, h2)
 
   -- who has sent an Abort
-  sent : (a b : ℕ) → contains (y.state a).neighbours b ≡ true → is_ready (y.state a).mode ≡ false → is_ready (y.state b).mode ≡ true → 1 ≤ aborts (y.way a b)
+  sent : (a b : ℕ) → contains (y.state a).neighbours b ≡ true → is_ready (y.state a).mode ≡ false → is_ready (y.state b).mode ≡ true → 1 ≤ aborts (y.in_transit a b)
   sent a b with_b busy ready =
       let before = ready_before b ready in
       elim (same_or_apart a t) [
-        | inl here ↦ subst (λ q. 1 ≤ aborts (y.way q b)) (sym here)
+        | inl here ↦ subst (λ q. 1 ≤ aborts (y.in_transit q b)) (sym here)
             (reaches.sent b (sym (near t b) ∙ subst (λ q. contains (y.state q).neighbours b ≡ true) here with_b)
             (λ same. let other = subst (λ q. is_ready (z.state q).mode ≡ false) (sym same) sender_busy in let ready_b = before.1 in cc))
         | inr far ↦ subst (λ m. 1 ≤ aborts m) (sym (reaches.apart a b far before.0)) (front.sent a b (sym (near a b) ∙ with_b) (sym (ready_far a far) ∙ busy) before.1)

@@ -25,7 +25,7 @@ pub record Settles (z y : Ideal) (signals : ℕ → ℕ) : Type 0 where
   pub once : (x : ℕ) → is_empty (z.state x).neighbours ≡ false → signals x + busy (y.state x) ≡ busy (z.state x)
 
 -- who has an Abort on the way is Abort
-pub sender_aborts : (z : Ideal) → Sound z → (v t : ℕ) → contains (z.state t).neighbours v ≡ true → 1 ≤ aborts (z.way v t) → is_abort (z.state v).mode ≡ true
+pub sender_aborts : (z : Ideal) → Sound z → (v t : ℕ) → contains (z.state t).neighbours v ≡ true → 1 ≤ aborts (z.in_transit v t) → is_abort (z.state v).mode ≡ true
 sender_aborts z sound v t near came =
     let near_t = sym (sound.mirrored t v) ∙ near in
     let both = both_before z v sound t near_t in

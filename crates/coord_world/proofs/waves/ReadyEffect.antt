@@ -19,7 +19,7 @@ use Rattle.coord_world.proofs.legal.TakeKept.{after_take}
 named : (p : Option ℕ) (v : ℕ) → is_parent p v ≡ true → p ≡ Some v
 named p v h1 = grind (arith, nat_tests, h1)
 
-module _ (z : Ideal) (v t : ℕ) (rest : List Msg) (front : z.way v t ≡ msg.Ready ∷ rest) (near : contains (z.state t).neighbours v ≡ true) where
+module _ (z : Ideal) (v t : ℕ) (rest : List Msg) (front : z.in_transit v t ≡ msg.Ready ∷ rest) (near : contains (z.state t).neighbours v ≡ true) where
   -- the node that takes the message
   abbrev r : NodeState
   r = z.state t

@@ -12,7 +12,7 @@ use Rattle.coord_node.specs.Facade.{Transition, added, finish, ideal_applied, id
 use Rattle.coord_world.specs.protocol.Outputs.{signals}
 use Rattle.coord_world.specs.laws.Waves.{is_signal_of, started_by}
 use Rattle.coord_world.proofs.legal.TransitionKept.{row_here, row_there}
-use Rattle.coord_world.proofs.waves.Calm.{calm_deed, same_places}
+use Rattle.coord_world.proofs.waves.Calm.{calm_transition, same_places}
 use Rattle.coord_world.proofs.waves.Effect.{Effect}
 use Rattle.coord_world.proofs.transitions.RuleCases.{request_cases}
 use Rattle.coord_world.proofs.legal.Sound.{Sound}
@@ -32,7 +32,7 @@ module _ (z : Ideal) (c n t : ℕ) (sound : Sound z) where
   finishes_alone ready none = Effect.alone t
       (record {
         same = same_places z t (finish r) (record { mode = sym ready; parent = sym ((sound.nodes t).no_parent ready) });
-        calm = calm_deed z t (finish r) (λ y. grind arith);
+        calm = calm_transition z t (finish r) (λ y. grind arith);
       }) none (λ x. omega arith) refl refl
 
   -- a node with neighbours sends its wave
@@ -46,7 +46,7 @@ module _ (z : Ideal) (c n t : ℕ) (sound : Sound z) where
         now = ap (λ (q : NodeState). q.mode) (row_here z t d);
         parent = ap (λ (q : NodeState). q.parent) (row_here z t d);
         elsewhere = row_there z t d;
-        sent = λ x near. let linked = sound.linked t x ∙ near in grind (arith, nat_tests, aborts-append (z.way t x) (added d x));
+        sent = λ x near. let linked = sound.linked t x ∙ near in grind (arith, nat_tests, aborts-append (z.in_transit t x) (added d x));
       }) (λ x. refl) refl
 
   -- a node in a reset goes on with it
@@ -54,7 +54,7 @@ module _ (z : Ideal) (c n t : ℕ) (sound : Sound z) where
   joins = Effect.passes
       (record {
         same = same_places z t (idle r) (record { mode = refl; parent = refl });
-        calm = calm_deed z t (idle r) (λ y. grind (arith, contains-empty y));
+        calm = calm_transition z t (idle r) (λ y. grind (arith, contains-empty y));
       }) (λ x. refl) refl
 
   -- an order to reset

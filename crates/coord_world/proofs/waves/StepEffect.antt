@@ -22,7 +22,7 @@ use Rattle.coord_world.proofs.waves.ResetEffect.{reset_effect}
 use Rattle.coord_world.proofs.legal.Sound.{Sound}
 
 -- by the message
-taken : (z : Ideal) (v t : ℕ) (m : Msg) (rest : List Msg) → z.way v t ≡ m ∷ rest → contains (z.state t).neighbours v ≡ true → Sound z → TakeEffect z v t (transition z.version m (z.state t) v)
+taken : (z : Ideal) (v t : ℕ) (m : Msg) (rest : List Msg) → z.in_transit v t ≡ m ∷ rest → contains (z.state t).neighbours v ≡ true → Sound z → TakeEffect z v t (transition z.version m (z.state t) v)
 taken z v t (msg.Abort n) rest front near sound = abort_effect z v t n rest front near sound
 taken z v t msg.Ack rest front near sound = ack_effect z v t rest front near sound
 taken z v t msg.Ready rest front near sound = ready_effect z v t rest front near

@@ -1,13 +1,13 @@
 -- What a node sends: a list of messages, each with the node that it goes to.
 use Rattle.std.specs.Prelude.{◌≡◌, ℕ, ◌<◌, List, [], ◌∷◌, length, Some, if◌then◌else◌}
-use Rattle.coord_tables.specs.Links.{Links, change_lanes, lane_at}
+use Rattle.coord_link.specs.declared.lane.TheConstants.{PLACES}
+use Rattle.coord_tables.specs.Links.{Links, change_lane, lane_at}
 use Rattle.coord_types.specs.declared.messages.Msg.{Msg}
 use Rattle.coord_link.specs.LaneMachine.{Lane, sent}
-use Rattle.coord_world.specs.protocol.Next.{is_lane}
 
 -- the lanes after u sent one message to v
 abbrev pub sent_lane : ℕ → ℕ × Msg → Links → Links
-sent_lane u s links = change_lanes (λ k l. if is_lane k u s.0 then sent (s.1 ∷ []) l else l) links
+sent_lane u s links = change_lane links u s.0 (sent (s.1 ∷ []))
 
 -- and after it sent these, one after the other
 abbrev pub sent_lanes : ℕ → List (ℕ × Msg) → Links → Links
@@ -17,4 +17,4 @@ sent_lanes u (s ∷ ss) links = sent_lanes u ss (sent_lane u s links)
 -- each lane has a free place for what u sends on it
 abbrev pub CanSend : ℕ → List (ℕ × Msg) → Links → Type 0
 CanSend u [] links = Unit {0}
-CanSend u (s ∷ ss) links = ((l : Lane) → lane_at links u s.0 ≡ Some l → length l.queue < 4) × CanSend u ss (sent_lane u s links)
+CanSend u (s ∷ ss) links = ((l : Lane) → lane_at links u s.0 ≡ Some l → length l.queue < PLACES) × CanSend u ss (sent_lane u s links)

@@ -10,7 +10,7 @@ pub record IsAbove (w : World) (u v : ℕ) : Type 0 where
   pub above : is_ready (state w u).mode ≡ false
   pub below : is_ready (state w v).mode ≡ false
   pub parent : (state w v).parent ≡ Some u
-  pub unreleased : readies ((view w).way u v) ≡ 0
+  pub unreleased : readies ((view w).in_transit u v) ≡ 0
 
 -- from u down to v, each of these nodes below the one before it
 abbrev pub IsChain : World → ℕ → List ℕ → ℕ → Type 0

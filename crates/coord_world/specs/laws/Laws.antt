@@ -1,5 +1,6 @@
 -- The laws of steps, over the definitions alone.
 use Rattle.std.specs.Prelude.{◌≡◌, ℕ, ◌≤◌, Some, length}
+use Rattle.coord_link.specs.declared.lane.TheConstants.{PLACES}
 use Rattle.std.specs.List.{AllByRecursion}
 use Rattle.coord_tables.specs.declared.links.LinkRow.{LinkRow}
 use Rattle.coord_types.specs.declared.steps.Step.{Step}
@@ -32,7 +33,7 @@ ViewOfNext = (w settled : World) (s : Step) → ((u v : ℕ) (l : Lane) → lane
 -- in a legal world at most 3 messages are on the way on a lane, and a queue has at most 4, of which at most 2 are Aborts
 pub record IsShort (l : Lane) : Type 0 where
   pub on_way : length (transit l) ≤ 3
-  pub queued : length l.queue ≤ 4
+  pub queued : length l.queue ≤ PLACES
   pub few_aborts : aborts l.queue ≤ 2
 
 abbrev pub LanesAreShort : Type 0

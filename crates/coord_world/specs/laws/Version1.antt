@@ -1,7 +1,8 @@
 -- In a world of version 1 the predicates ask nothing of distances.
 use Rattle.std.specs.Prelude.{◌≡◌, ℕ, ◌&&◌, nat_le, Bool, true, Some}
+use Rattle.coord_types.specs.NodeSet as set
 use Rattle.coord_types.specs.Facade.{NodeState, get}
-use Rattle.coord_world.specs.protocol.Legal.{awaits_rightly, has_right_parent, is_legal_node, is_parent_near, is_within}
+use Rattle.coord_world.specs.protocol.Legal.{awaits_rightly, has_right_parent, is_legal_node, is_parent_near}
 use Rattle.coord_world.specs.protocol.Links.{has_right_distances, link}
 use Rattle.coord_world.specs.protocol.NumberedWorld.{World, view}
 use Rattle.coord_world.specs.protocol.Ranges.{InRange}
@@ -9,7 +10,7 @@ use Rattle.coord_world.specs.protocol.Ranges.{InRange}
 -- N without what it asks of the distance
 abbrev pub is_legal_but_for_distance : ℕ → NodeState → Bool
 is_legal_but_for_distance count r =
-    awaits_rightly r.mode r.pend && has_right_parent r.mode r.parent && is_parent_near r.parent r.pend r.neighbours && is_within r.pend r.neighbours && nat_le r.confirmed r.epoch && nat_le r.epoch count
+    awaits_rightly r.mode r.pend && has_right_parent r.mode r.parent && is_parent_near r.parent r.pend r.neighbours && set.is_subset r.pend r.neighbours && nat_le r.confirmed r.epoch && nat_le r.epoch count
 
 -- H holds between any two nodes, and N of each node of which the rest of N does
 pub record AsksNoDistance (w : World) : Type 0 where

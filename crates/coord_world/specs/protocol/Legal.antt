@@ -1,6 +1,5 @@
 -- Legal worlds: the node predicate N and the link predicates A to H hold.
 use Rattle.std.specs.Prelude.{◌≡◌, ℕ, ◌==◌, ◌&&◌, not, nat_le, nat_lt, Bool, true, false, Option, Some, None}
-use Rattle.std.specs.List.{list_all}
 use Rattle.coord_types.specs.NodeSet as set
 use Rattle.coord_types.specs.Facade.{NodeSet, NodeState, get}
 use Rattle.coord_types.specs.declared.messages.Mode.{Mode}
@@ -29,20 +28,16 @@ abbrev pub is_parent_near : Option ℕ → NodeSet → NodeSet → Bool
 is_parent_near None pend neighbours = true
 is_parent_near (Some p) pend neighbours = not (set.contains pend p) && set.contains neighbours p
 
--- all that are awaited are neighbours
-abbrev pub is_within : NodeSet → NodeSet → Bool
-is_within pend neighbours = list_all (λ v. set.contains neighbours v) (set.items pend)
-
 -- a Ready node has no distance, and any other one a lesser one than steps were taken
 abbrev pub is_distance_right : Mode → ℕ → ℕ → Bool
 is_distance_right Ready distance count = distance == 0
 is_distance_right Abort distance count = nat_lt distance count
 is_distance_right Converge distance count = nat_lt distance count
 
--- N: that, and no epoch is confirmed that was not entered, nor more entered than steps were taken
+-- N: that, all that are awaited are neighbours, and no epoch is confirmed that was not entered, nor more entered than steps were taken
 abbrev pub is_legal_node : ℕ → NodeState → Bool
 is_legal_node count r =
-    awaits_rightly r.mode r.pend && has_right_parent r.mode r.parent && is_parent_near r.parent r.pend r.neighbours && is_within r.pend r.neighbours && nat_le r.confirmed r.epoch && nat_le r.epoch count && is_distance_right r.mode r.distance count
+    awaits_rightly r.mode r.pend && has_right_parent r.mode r.parent && is_parent_near r.parent r.pend r.neighbours && set.is_subset r.pend r.neighbours && nat_le r.confirmed r.epoch && nat_le r.epoch count && is_distance_right r.mode r.distance count
 
 -- N of each node, A of each lane, and B to H of each link as each of its ends sees it
 pub record Legal (w : World) : Type 0 where

@@ -6,7 +6,7 @@ use Rattle.coord_types.specs.declared.messages.Mode.{Mode}
 use Rattle.coord_types.specs.declared.messages.Mode.TheVariants.{Ready, Abort, Converge}
 use Rattle.coord_types.specs.declared.messages.Msg.{Msg}
 use Rattle.coord_types.specs.declared.messages.Msg.TheVariants as msg
-use Rattle.coord_node.specs.Rules.{carried, is_parent}
+use Rattle.coord_node.specs.Rules.{carries, is_parent}
 
 -- one end of a link: whether it awaits the other end, whether that is its parent, its distance, and what an Abort from it carries
 pub record End : Type 0 where
@@ -24,10 +24,10 @@ pub record Link : Type 0 where
   pub back : List Msg
 
 abbrev pub end_of : ℕ → NodeState → ℕ → End
-end_of version r v = record { mode = r.mode; awaits = set.contains r.pend v; child = is_parent r.parent v; distance = r.distance; carries = carried version r }
+end_of version r v = record { mode = r.mode; awaits = set.contains r.pend v; child = is_parent r.parent v; distance = r.distance; carries = carries version r }
 
 abbrev pub link : Ideal → ℕ → ℕ → Link
-link w u v = record { here = end_of w.version (w.state u) v; there = end_of w.version (w.state v) u; out = w.way u v; back = w.way v u }
+link w u v = record { here = end_of w.version (w.state u) v; there = end_of w.version (w.state v) u; out = w.in_transit u v; back = w.in_transit v u }
 
 abbrev pub turned : Link → Link
 turned l = record { here = l.there; there = l.here; out = l.back; back = l.out }

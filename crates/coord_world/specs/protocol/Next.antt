@@ -2,7 +2,7 @@
 -- node acts, then a list of transitions, each computed from the world before the step, then the session and the count.
 -- The order of the list is the order of the signals. Both transitions of a drop are computed from the world before it,
 -- since its two ends differ.
-use Rattle.std.specs.Prelude.{ℕ, ◌+◌, ◌==◌, ◌&&◌, Bool, List, [], ◌∷◌, if◌then◌else◌}
+use Rattle.std.specs.Prelude.{ℕ, ◌+◌, ◌==◌, List, [], ◌∷◌, if◌then◌else◌}
 use Rattle.coord_types.specs.Table.{insert, remove}
 use Rattle.coord_types.specs.NodeState.{NodeState, new_node}
 use Rattle.coord_types.specs.declared.steps.Command.{Command}
@@ -11,16 +11,13 @@ use Rattle.coord_types.specs.declared.steps.Step.{Step}
 use Rattle.coord_types.specs.declared.steps.Step.TheVariants.{Order, Take, Clear}
 use Rattle.coord_types.specs.declared.steps.Reply.{Reply}
 use Rattle.coord_link.specs.LaneMachine.{Lane, new_lane, sent, took, cleared}
-use Rattle.coord_tables.specs.Links.{change_lanes, joined, parted}
+use Rattle.coord_tables.specs.Links.{change_lane, change_lanes, joined, parted}
 use Rattle.coord_node.specs.Facade.{Transition, added, kind, transitions, with_neighbour}
 use Rattle.coord_world.specs.protocol.NumberedWorld.{World, state}
 
-abbrev pub is_lane : ℕ × ℕ → ℕ → ℕ → Bool
-is_lane k u v = (k.0 == u) && (k.1 == v)
-
 -- a change of the lane from u to v alone
 abbrev pub on_lane : World → ℕ → ℕ → (Lane → Lane) → World
-on_lane w u v f = record w { links = change_lanes (λ k l. if is_lane k u v then f l else l) w.links }
+on_lane w u v f = record w { links = change_lane w.links u v f }
 
 abbrev pub with_state : World → ℕ → NodeState → World
 with_state w u r = record w { nodes = insert w.nodes u r }

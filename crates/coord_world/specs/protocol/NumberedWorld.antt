@@ -9,7 +9,7 @@ use Rattle.coord_types.specs.declared.messages.Msg.{Msg}
 use Rattle.coord_types.specs.declared.steps.Session.{Session}
 use Rattle.coord_types.specs.contracts.steps.Session as session
 use Rattle.coord_link.specs.LaneMachine.{Lane, transit}
-pub use Rattle.coord_tables.specs.Links.{Lanes, Links, lane_at, lanes_in_order, links_code}
+pub use Rattle.coord_tables.specs.Links.{Lanes, Links, is_lane, lane_at, lanes_in_order, links_code}
 pub use Rattle.coord_tables.specs.Pairs.{pair_cmp, pair_cmp_total}
 
 -- its version, how many steps were taken, the nodes, the links by their ends, and each client's last order
@@ -41,7 +41,7 @@ transit_or_none (Some l) = transit l
 
 -- the ideal world that a numbered one stands for: each lane is what is on the way on it
 abbrev pub view : World → Ideal
-view w = record { version = w.version; state = state w; linked = is_linked w; way = λ u v. transit_or_none (lane_at w.links u v) }
+view w = record { version = w.version; state = state w; linked = is_linked w; in_transit = λ u v. transit_or_none (lane_at w.links u v) }
 
 -- a world is stored as the tuple of its parts
 abbrev pub world_code : Coded World

@@ -1,14 +1,15 @@
 -- The ranges of a world, which its type keeps: what is true of every world by its form, legal or not.
 use Rattle.std.specs.Prelude.{◌≡◌, ℕ, ◌==◌, ◌≤◌, Bool, true, false, List, Some, length, if◌then◌else◌}
+use Rattle.coord_link.specs.declared.lane.TheConstants.{PLACES}
 use Rattle.std.specs.List.{AllByRecursion}
 use Rattle.coord_types.specs.NodeSet as set
 use Rattle.coord_types.specs.Facade.{IsMaskable, NodeState}
 use Rattle.coord_types.specs.Table.{get, has, len}
 pub use Rattle.coord_types.specs.StepRanges.{IsNode, CommandInRange, StepInRange}
-use Rattle.coord_types.specs.declared.limits.TheConstants.{MAX_CLIENTS, MAX_DEGREE, MAX_GROUPS, MAX_LINKS, MAX_NODES, MAX_STEPS}
+use Rattle.coord_types.specs.declared.limits.TheConstants.{MAX_CLIENTS, MAX_DEGREE, MAX_GROUPS, MAX_LINKS, MAX_NODES, MAX_STEPS, MAX_VERSIONS}
 use Rattle.coord_types.specs.declared.messages.Mode.TheVariants.{Ready}
 use Rattle.coord_types.specs.declared.messages.Msg.{Msg}
-pub use Rattle.coord_types.specs.Messages.{brought}
+pub use Rattle.coord_types.specs.Messages.{carried}
 use Rattle.coord_types.specs.declared.steps.Session.{Session}
 use Rattle.coord_types.specs.declared.steps.Command.{Command}
 use Rattle.coord_types.specs.declared.steps.Command.TheVariants.{Reset}
@@ -38,9 +39,9 @@ pub record LaneInRange (count : ℕ) (l : Lane) : Type 0 where
 abbrev pub farthest : ℕ → ℕ → ℕ
 farthest version count = if version == 1 then 0 else count
 
--- each message brings at most this distance
+-- each message carries at most this distance
 abbrev pub CarryWithin : ℕ → List Msg → Type 0
-CarryWithin n ms = AllByRecursion (λ m. brought m ≤ n) ms
+CarryWithin n ms = AllByRecursion (λ m. carried m ≤ n) ms
 
 -- a node has a distance that the version allows, 0 where it is Ready
 pub record IsDistant (version count : ℕ) (r : NodeState) : Type 0 where
@@ -70,12 +71,12 @@ pub record SessionInRange (count c : ℕ) (s : Session) : Type 0 where
 -- incarnation, between two nodes of one group
 pub record InRange (w : World) : Type 0 where
   pub first : 1 ≤ w.version
-  pub last : w.version ≤ 2
+  pub last : w.version ≤ MAX_VERSIONS
   pub count : w.count ≤ MAX_STEPS
   pub nodes : (u : ℕ) (r : NodeState) → get w.nodes u ≡ Some r → NodeInRange w.count u r
   pub distances : (u : ℕ) (r : NodeState) → get w.nodes u ≡ Some r → IsDistant w.version w.count r
   pub lanes : (u v : ℕ) (l : Lane) → lane_at w.links u v ≡ Some l → LaneInRange w.count l
-  pub short : (u v : ℕ) (l : Lane) → lane_at w.links u v ≡ Some l → length l.queue ≤ 4
+  pub short : (u v : ℕ) (l : Lane) → lane_at w.links u v ≡ Some l → length l.queue ≤ PLACES
   pub carried : (u v : ℕ) (l : Lane) → lane_at w.links u v ≡ Some l → CarryWithin (farthest w.version w.count) l.queue
   pub awaited : (u : ℕ) → IsMaskable (state w u).pend
   pub parents : (u p : ℕ) → (state w u).parent ≡ Some p → IsNode p

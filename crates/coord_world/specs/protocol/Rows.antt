@@ -1,10 +1,11 @@
 -- A world as lists of rows, and which lists are those of a world.
 use Rattle.std.specs.Prelude.{◌≡◌, ℕ, ◌+◌, ◌≤◌, ◌<◌, ◌==◌, ◌||◌, Bool, true, List, [], ◌∷◌, map, length, Option, Some, None, if◌then◌else◌}
+use Rattle.coord_link.specs.declared.lane.TheConstants.{PLACES}
 use Rattle.std.specs.Ordering.{nat_cmp}
 use Rattle.std.specs.List.{AllByRecursion}
 use Rattle.std.specs.FinMap.Entries.{is_sorted, find}
 use Rattle.coord_types.specs.Facade.{IsMaskable, NodeState, entries}
-use Rattle.coord_types.specs.declared.limits.TheConstants.{MAX_DEGREE, MAX_GROUPS, MAX_LINKS, MAX_NODES, MAX_STEPS}
+use Rattle.coord_types.specs.declared.limits.TheConstants.{MAX_DEGREE, MAX_GROUPS, MAX_LINKS, MAX_NODES, MAX_STEPS, MAX_VERSIONS}
 use Rattle.coord_types.specs.declared.steps.Session.{Session}
 use Rattle.coord_tables.specs.Links.{link_rows}
 use Rattle.coord_tables.specs.declared.links.LinkRow.{LinkRow}
@@ -81,8 +82,8 @@ pub record LinkRowFits (count : ℕ) (nodes : List NodeRow) (r : LinkRow) : Type
   pub ends : HasEnds nodes r
   pub forth : LaneInRange count r.forth
   pub back : LaneInRange count r.back
-  pub forth_short : length r.forth.queue ≤ 4
-  pub back_short : length r.back.queue ≤ 4
+  pub forth_short : length r.forth.queue ≤ PLACES
+  pub back_short : length r.back.queue ≤ PLACES
   pub one_incarnation : r.forth.inc ≡ r.back.inc
 
 abbrev pub is_end : ℕ → LinkRow → Bool
@@ -106,7 +107,7 @@ pub record LanesCarryWithin (n : ℕ) (r : LinkRow) : Type 0 where
 -- what lists of rows must be to be those of a world
 pub record RowsFit (rows : Rows) : Type 0 where
   pub first : 1 ≤ rows.version
-  pub last : rows.version ≤ 2
+  pub last : rows.version ≤ MAX_VERSIONS
   pub count : rows.count ≤ MAX_STEPS
   pub nodes_rise : is_sorted nat_cmp (by_id rows.nodes) ≡ true
   pub nodes : AllByRecursion (NodeRowFits rows.count) rows.nodes

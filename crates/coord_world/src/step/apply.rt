@@ -11,13 +11,13 @@ ghost use Rattle.coord_world.specs.code.Ready.{IsReadyFor};
 
 use crate::step::outputs;
 use crate::tables::Tables;
-use crate::world::Outcome;
+use crate::world::StepOutcome;
 use coord_types::{Client, Command, Kind, Output, Reply, Session, Step};
 use std::alloc::{AllocError, Global};
 
 impl Tables {
     /// Takes a step, and gives what it gives out. All memory is there before anything changes.
-    pub fn apply(&mut self, alloc: Global, step: &Step) -> Result<Outcome, AllocError>
+    pub fn apply(&mut self, alloc: Global, step: &Step) -> Result<StepOutcome, AllocError>
         requires { IsReadyFor self.old step.now }
         ensures world { OnOk result (self.new ≡ next self.old step.now) }
         ensures reply { IfOk result (λ outcome. outcome.reply ≡ reply self.old step.now) }
@@ -28,7 +28,7 @@ impl Tables {
         let reply = self.reply_to(step);
         let outputs = self.execute(alloc, step, reply)?;
         self.count = reply.step;
-        Ok(Outcome { reply, outputs })
+        Ok(StepOutcome { reply, outputs })
     }
 
     /// Does all of a step but counting it.

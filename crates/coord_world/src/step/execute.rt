@@ -11,13 +11,13 @@ ghost use Rattle.coord_node.specs.Steps.{transitions_ordered};
 ghost use Rattle.coord_world.specs.protocol.NumberedWorld.{state};
 ghost use Rattle.coord_world.specs.protocol.Next.{with_transitions, with_transition, on_lane, with_command};
 ghost use Rattle.coord_world.specs.protocol.Outputs.{receipt, signals};
-ghost use Rattle.coord_world.specs.protocol.Ranges.{brought};
+ghost use Rattle.coord_world.specs.protocol.Ranges.{carried};
 ghost use Rattle.coord_world.specs.code.Fronts.{AreNumbered, front_behind, fronts_ordered, fronts_sent};
-ghost use Rattle.coord_world.specs.code.NodeSteps.{CanApply};
+ghost use Rattle.coord_world.specs.code.NodeTransitions.{CanApply};
 ghost use Rattle.coord_world.specs.code.Ready.{IsReadyFor};
 
 use crate::step::outputs::{
-    front_packets, push_fronts, push_fronts_of_both, push_receipt, push_signal,
+    front_behind, push_fronts, push_fronts_of_both, push_receipt, push_signal,
 };
 use crate::tables::Tables;
 use coord_link::Lane;
@@ -60,7 +60,7 @@ impl Tables {
             (transition self.old.version packet.now.msg (state self.old packet.now.to) packet.now.from)
             (on_lane self.old packet.now.from packet.now.to took).links }
         requires numbered { AreNumbered self.old.links }
-        requires near { brought packet.now.msg < 2 ^ 64 - 1 }
+        requires near { carried packet.now.msg < 2 ^ 64 - 1 }
         ensures world { OnOk result (self.new ≡
             with_transition (on_lane self.old packet.now.from packet.now.to took) packet.now.to
             (transition self.old.version packet.now.msg (state self.old packet.now.to) packet.now.from)) }
@@ -75,13 +75,13 @@ impl Tables {
             (state self.old packet.now.to) packet.now.from)))) }
         ensures err { OnErr result (self.new ≡ self.old) }
     {
-        let node_step = self.delivered(alloc, *packet)?;
-        let mut outputs = Vec::with_capacity(alloc, node_step.deed.sends.len() + 2)?;
+        let node_transition = self.delivered(alloc, *packet)?;
+        let mut outputs = Vec::with_capacity(alloc, node_transition.effects.sends.len() + 2)?;
         push_receipt(packet, &mut outputs)?;
-        push_signal(&node_step, &mut outputs)?;
-        push_fronts(&self.links, &node_step, &mut outputs)?;
+        push_signal(&node_transition, &mut outputs)?;
+        push_fronts(&self.links, &node_transition, &mut outputs)?;
         self.take_front(packet.from, packet.to);
-        self.carry_out(node_step);
+        self.carry_out(node_transition);
         Ok(outputs)
     }
     /// A reset is asked for at a node.
@@ -95,11 +95,11 @@ impl Tables {
             fronts_sent self.old.links id (sends_of (request self.old.version (state self.old id)))) }
         ensures err { OnErr result (self.new ≡ self.old) }
     {
-        let node_step = self.requested(alloc, id)?;
-        let mut outputs = Vec::with_capacity(alloc, node_step.deed.sends.len() + 1)?;
-        push_signal(&node_step, &mut outputs)?;
-        push_fronts(&self.links, &node_step, &mut outputs)?;
-        self.carry_out(node_step);
+        let node_transition = self.requested(alloc, id)?;
+        let mut outputs = Vec::with_capacity(alloc, node_transition.effects.sends.len() + 1)?;
+        push_signal(&node_transition, &mut outputs)?;
+        push_fronts(&self.links, &node_transition, &mut outputs)?;
+        self.carry_out(node_transition);
         Ok(outputs)
     }
 
@@ -179,12 +179,7 @@ impl Tables {
             l.got < 2 ^ 64 - 1) }
         ensures { self.new ≡ on_lane self.old from to took }
     {
-        let Some(lane) = self.links.lane(from, to) else {
-            return;
-        };
-        let mut lane = *lane;
-        lane.take();
-        self.links.set_lane(from, to, lane);
+        self.links.take(from, to);
     }
 
     /// Clears the front of a lane.
@@ -206,13 +201,8 @@ impl Tables {
             }) }
         ensures err { OnErr result (self.new ≡ self.old) }
     {
-        let Some(lane) = self.links.lane(from, to) else {
-            return Ok(Vec::new(alloc));
-        };
-        let mut lane = *lane;
-        lane.clear();
-        let outputs = front_packets(alloc, from, to, &lane)?;
-        self.links.set_lane(from, to, lane);
+        let outputs = front_behind(alloc, &self.links, from, to)?;
+        self.links.clear(from, to);
         Ok(outputs)
     }
 }

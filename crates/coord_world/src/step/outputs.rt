@@ -1,13 +1,14 @@
 //! What a step gives out, computed before the step is carried out, and what is sent again.
 
-ghost use Rattle.std.specs.Prelude.{◌≡◌, ◌<◌, ◌-◌, ◌^◌, ◌∷◌, [], ◌++◌, IfOk, OnOk};
+ghost use Rattle.std.specs.Prelude.{◌≡◌, ◌<◌, ◌-◌, ◌^◌, ◌∷◌, [], ◌++◌, length, IfOk, OnOk};
 ghost use Rattle.std.specs.List.{All};
+ghost use Rattle.std.specs.Option.{ForSome};
 ghost use Rattle.coord_tables.specs.Links.{lane_at, lanes_in_order};
 ghost use Rattle.coord_world.specs.protocol.Outputs.{again_by, all_again, receipt};
-ghost use Rattle.coord_world.specs.code.Fronts.{AreNumbered, HasNumber, by_lesser, front_sent, fronts_sent, packets_of};
-ghost use Rattle.coord_world.specs.code.NodeSteps.{signal_of};
+ghost use Rattle.coord_world.specs.code.Fronts.{AreNumbered, HasNumber, by_lesser, front_behind, front_sent, fronts_sent};
+ghost use Rattle.coord_world.specs.code.NodeTransitions.{signal_of};
 
-use crate::step::node_step::NodeStep;
+use crate::step::node_transition::NodeTransition;
 use coord_link::Lane;
 use coord_tables::LinkTable;
 use coord_types::{DataPacket, Msg, NodeId, Output, ReceiptPacket};
@@ -28,11 +29,14 @@ pub fn push_receipt(packet: &DataPacket, outputs: &mut Vec<Output>) -> Result<()
 }
 
 /// Adds the signal of a node that finished.
-pub fn push_signal(node_step: &NodeStep, outputs: &mut Vec<Output>) -> Result<(), AllocError>
-    ensures { OnOk result (outputs.new.items ≡ outputs.old.items ++ signal_of node_step.now) }
+pub fn push_signal(
+    node_transition: &NodeTransition,
+    outputs: &mut Vec<Output>,
+) -> Result<(), AllocError>
+    ensures { OnOk result (outputs.new.items ≡ outputs.old.items ++ signal_of node_transition.now) }
 {
-    if node_step.deed.finished {
-        outputs.push(Output::Signalled(node_step.id, node_step.node.epoch()))?;
+    if node_transition.effects.finished {
+        outputs.push(Output::Signalled(node_transition.id, node_transition.node.epoch()))?;
     }
     Ok(())
 }
@@ -40,16 +44,16 @@ pub fn push_signal(node_step: &NodeStep, outputs: &mut Vec<Output>) -> Result<()
 /// Adds the new fronts that the messages of a node become, in ascending order of their lanes.
 pub fn push_fronts(
     links: &LinkTable,
-    node_step: &NodeStep,
+    node_transition: &NodeTransition,
     outputs: &mut Vec<Output>,
 ) -> Result<(), AllocError>
     requires { AreNumbered links.now }
     ensures { OnOk result (outputs.new.items ≡
-        outputs.old.items ++ fronts_sent links.now node_step.now.id
-        node_step.now.deed.sends.items) }
+        outputs.old.items ++ fronts_sent links.now node_transition.now.id
+        node_transition.now.effects.sends.items) }
 {
-    for send in &node_step.deed.sends {
-        push_front(links, node_step.id, send.0, send.1, outputs)?;
+    for send in &node_transition.effects.sends {
+        push_front(links, node_transition.id, send.0, send.1, outputs)?;
     }
     Ok(())
 }
@@ -57,15 +61,15 @@ pub fn push_fronts(
 /// Adds the new fronts of the two ends of a link, those of the lesser one first.
 pub fn push_fronts_of_both(
     links: &LinkTable,
-    first: &NodeStep,
-    second: &NodeStep,
+    first: &NodeTransition,
+    second: &NodeTransition,
     outputs: &mut Vec<Output>,
 ) -> Result<(), AllocError>
     requires { AreNumbered links.now }
     ensures { OnOk result (outputs.new.items ≡
         outputs.old.items ++ by_lesser first.now.id second.now.id
-        (fronts_sent links.now first.now.id first.now.deed.sends.items)
-        (fronts_sent links.now second.now.id second.now.deed.sends.items)) }
+        (fronts_sent links.now first.now.id first.now.effects.sends.items)
+        (fronts_sent links.now second.now.id second.now.effects.sends.items)) }
 {
     if first.id < second.id {
         push_fronts(links, first, outputs)?;
@@ -103,18 +107,22 @@ fn push_front(
     Ok(())
 }
 
-/// The packet of a lane's front, where it has one.
-pub fn front_packets(
+/// The packet of the message behind a lane's front, where there is one: it becomes the front.
+pub fn front_behind(
     alloc: Global,
+    links: &LinkTable,
     from: NodeId,
     to: NodeId,
-    lane: &Lane,
 ) -> Result<Vec<Output>, AllocError>
-    requires { lane.now.base < 2 ^ 64 - 1 }
+    requires there { ForSome (lane_at links.now from to) (λ l. 0 < length l.queue) }
+    requires numbered { ForSome (lane_at links.now from to) (λ l. l.base < 2 ^ 64 - 2) }
     ensures { IfOk result (λ outputs. outputs.items ≡
-        packets_of record { 0 = from; 1 = to } lane.now lane.now.queue) }
+        front_behind (lane_at links.now from to) record { 0 = from; 1 = to }) }
 {
-    let Some((number, msg)) = lane.current() else {
+    let Some(lane) = links.lane(from, to) else {
+        return Ok(Vec::new(alloc));
+    };
+    let Some((number, msg)) = lane.next() else {
         return Ok(Vec::new(alloc));
     };
     let packet = DataPacket {

@@ -5,25 +5,26 @@ ghost use Rattle.std.specs.Option.{ForSome};
 ghost use Rattle.coord_types.specs.Table as table;
 ghost use Rattle.coord_tables.specs.Links.{lane_at};
 ghost use Rattle.coord_link.specs.LaneMachine.{sent};
+ghost use Rattle.coord_link.specs.declared.lane.TheConstants.{PLACES};
 ghost use Rattle.coord_world.specs.protocol.Next.{on_lane};
 ghost use Rattle.coord_world.specs.code.Sends.{CanSend, sent_lanes};
-ghost use Rattle.coord_world.specs.code.NodeSteps.{node_stepped};
+ghost use Rattle.coord_world.specs.code.NodeTransitions.{node_changed};
 
-use crate::step::node_step::NodeStep;
+use crate::step::node_transition::NodeTransition;
 use crate::tables::Tables;
 use coord_types::{Msg, NodeId};
 
 impl Tables {
     /// Has a node be as it will be, and puts what it sends into its lanes.
-    pub fn carry_out(&mut self, node_step: NodeStep)
-        requires there { IsSome (table.get self.old.nodes node_step.id) }
-        requires room { CanSend node_step.id node_step.deed.sends.items self.old.links }
-        ensures { self.new ≡ node_stepped self.old node_step.id node_step.node
-            node_step.deed.sends.items }
+    pub fn carry_out(&mut self, node_transition: NodeTransition)
+        requires there { IsSome (table.get self.old.nodes node_transition.id) }
+        requires room { CanSend node_transition.id node_transition.effects.sends.items self.old.links }
+        ensures { self.new ≡ node_changed self.old node_transition.id node_transition.node
+            node_transition.effects.sends.items }
     {
-        let NodeStep { id, node, deed } = node_step;
+        let NodeTransition { id, node, effects } = node_transition;
         self.nodes.replace(id, node);
-        self.send_all(id, &deed.sends);
+        self.send_all(id, &effects.sends);
     }
 
     /// Puts messages into the lanes from one node to those that they go to.
@@ -39,14 +40,9 @@ impl Tables {
     /// Puts a message into the lane from one node to another.
     fn send(&mut self, from: NodeId, to: NodeId, msg: Msg)
         requires { ForSome (lane_at self.old.links from to) (λ l.
-            length l.queue < 4) }
+            length l.queue < PLACES) }
         ensures { self.new ≡ on_lane self.old from to (sent (msg ∷ [])) }
     {
-        let Some(lane) = self.links.lane(from, to) else {
-            return;
-        };
-        let mut lane = *lane;
-        lane.send(msg);
-        self.links.set_lane(from, to, lane);
+        self.links.send(from, to, msg);
     }
 }

@@ -23,7 +23,7 @@ impl World {
         ensures some { IfSome result (λ u. (is_ready (state self.now u).mode ≡ false) ×
             ((v : ℕ) → v < u → (state self.now v).mode ≡ Ready)) }
     {
-        self.ranges();
+        self.lemma_in_range();
         for number in 1..END {
             if let Some(id) = NodeId::new(number)
                 && is_busy(self, id)

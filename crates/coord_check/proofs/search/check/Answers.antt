@@ -14,17 +14,17 @@ of_nodes : (w : World) (v : Violation) → first (flat_map (node_faults w) (node
 of_nodes w v is = sym (first_here (flat_map (node_faults w) (nodes_from 1)) (flat_map (faults_from w) (nodes_from 1)) v is)
 
 pub returns-in-Some-clause-legal : goal.returns-in-Some-clause-legal
-returns-in-Some-clause-legal c = clear_or_not c.args.world.now c.ranges-2.ensures (Some c.in-Some.fault) (of_nodes c.args.world.now c.in-Some.fault (sym c.in-Some.ensures))
+returns-in-Some-clause-legal c = clear_or_not c.args.world.now c.lemma_in_range.ensures (Some c.in-Some.fault) (of_nodes c.args.world.now c.in-Some.fault (sym c.in-Some.ensures))
 
 pub returns-in-Some-clause-named : goal.returns-in-Some-clause-named
-returns-in-Some-clause-named c = first_fails c.args.world.now c.ranges-2.ensures (Some c.in-Some.fault) (of_nodes c.args.world.now c.in-Some.fault (sym c.in-Some.ensures))
+returns-in-Some-clause-named c = first_fails c.args.world.now c.lemma_in_range.ensures (Some c.in-Some.fault) (of_nodes c.args.world.now c.in-Some.fault (sym c.in-Some.ensures))
 
 pub returns-clause-legal : goal.returns-clause-legal
 returns-clause-legal c =
-    clear_or_not c.args.world.now c.ranges-2.ensures c.first_of_links.result
+    clear_or_not c.args.world.now c.lemma_in_range.ensures c.first_of_links.result
     (c.first_of_links.ensures ∙ sym (first_further (flat_map (node_faults c.args.world.now) (nodes_from 1)) (flat_map (faults_from c.args.world.now) (nodes_from 1)) (sym c.first_of_nodes.ensures ∙ c.in_default.is)))
 
 pub returns-clause-named : goal.returns-clause-named
 returns-clause-named c =
-    first_fails c.args.world.now c.ranges-2.ensures c.first_of_links.result
+    first_fails c.args.world.now c.lemma_in_range.ensures c.first_of_links.result
     (c.first_of_links.ensures ∙ sym (first_further (flat_map (node_faults c.args.world.now) (nodes_from 1)) (flat_map (faults_from c.args.world.now) (nodes_from 1)) (sym c.first_of_nodes.ensures ∙ c.in_default.is)))

@@ -7,13 +7,13 @@ use Rattle.coord_codec.proofs.world.write_world.Goals as goal
 pub returns-clause-len : goal.returns-clause-len
 returns-clause-len c = λ legal.
     let w = c.args.written.now in
-    let range = c.ranges-2.ensures in
+    let range = c.lemma_in_range.ensures in
     let most = length-world (rows_of w) (rows_of_world_fit w range) (rows_have_few_aborts w range legal) in
     rw (c.in_ok-put_world.ensures, c.in_ok-out.ensures.items) (omega (arith, most))
 
 pub returns-clause-most : goal.returns-clause-most
 returns-clause-most c = λ legal.
     let w = c.args.written.now in
-    let range = c.ranges-2.ensures in
+    let range = c.lemma_in_range.ensures in
     let most = length-world (rows_of w) (rows_of_world_fit w range) (rows_have_few_aborts w range legal) in
     rw (c.in_ok-put_world.ensures, c.in_ok-out.ensures.items) (omega (arith, most))

@@ -14,19 +14,19 @@ pub returns-in_ok-print-in-Ok-clause-legal : goal.returns-in_ok-print-in-Ok-clau
 returns-in_ok-print-in-Ok-clause-legal g c = λ _.
     let w = c.in-Ok.store.world in
     let text : c.deref.result.now ≡ legal_line w.count = search rules in
-    (c.deref.result.now, record { world = w; legal = c.images_give_world.ensures.legal; given = if_keeps _ _ _ c.in-Ok.ensures.world; counted = text }, c.in_ok-print-in-Ok.ensures.ok)
+    (c.deref.result.now, record { world = w; legal = c.lemma_images_give_world.ensures.legal; given = if_keeps _ _ _ c.in-Ok.ensures.world; counted = text }, c.in_ok-print-in-Ok.ensures.ok)
 
 pub returns-in_err-print-in-Ok-clause-cut : goal.returns-in_err-print-in-Ok-clause-cut
 returns-in_err-print-in-Ok-clause-cut g c =
     let w = c.in-Ok.store.world in
     let text : c.deref.result.now ≡ legal_line w.count = search rules in
-    let P : Fault → Type 0 = IsCutShort (IsCheckedLine (bytes_of g.D.Disk.keeps_model g.D.Disk.present c.args.disk)) (g.W.Write.contents c.args.output.now) (g.W.Write.contents c.print.new.output) in
+    let P : Fault → Type 0 = IsCutShort (IsCheckedLine (bytes_of g.D.Disk.model.keeps_model g.D.Disk.model.present c.args.disk)) (g.W.Write.contents c.args.output.now) (g.W.Write.contents c.print.new.output) in
     err_last P _ c.in_err-print-in-Ok.field-0.0 (search rules)
     (inr (
       c.in_err-print-in-Ok.ensures.fault,
       (
         c.deref.result.now,
-        inl (record { world = w; legal = c.images_give_world.ensures.legal; given = if_keeps _ _ _ c.in-Ok.ensures.world; counted = text }),
+        inl (record { world = w; legal = c.lemma_images_give_world.ensures.legal; given = if_keeps _ _ _ c.in-Ok.ensures.world; counted = text }),
         c.in_err-print-in-Ok.ensures.err,
       ),
     ))
@@ -35,7 +35,7 @@ pub returns-in_err-print-in-Violated-clause-cut : goal.returns-in_err-print-in-V
 returns-in_err-print-in-Violated-clause-cut g c =
     let violation = c.in-Violated.violation in
     let text : c.deref-in-Violated.result.now ≡ violated_line violation = search rules in
-    let P : Fault → Type 0 = IsCutShort (IsCheckedLine (bytes_of g.D.Disk.keeps_model g.D.Disk.present c.args.disk)) (g.W.Write.contents c.args.output.now) (g.W.Write.contents c.print-in-Violated.new.output) in
+    let P : Fault → Type 0 = IsCutShort (IsCheckedLine (bytes_of g.D.Disk.model.keeps_model g.D.Disk.model.present c.args.disk)) (g.W.Write.contents c.args.output.now) (g.W.Write.contents c.print-in-Violated.new.output) in
     err_last P _ c.in_err-print-in-Violated.field-0.0 (search rules)
     (inr (
       c.in_err-print-in-Violated.ensures.fault,
@@ -43,7 +43,7 @@ returns-in_err-print-in-Violated-clause-cut g c =
         c.deref-in-Violated.result.now,
         inr (record {
           violation = violation;
-          refused = if_keeps _ _ _ (λ keeps. subst (λ (fault : StoreFault). RefusesOpen (g.D.Disk.present c.args.disk).read fault) c.in-Violated.is (c.in-Err.ensures.fault keeps));
+          refused = if_keeps _ _ _ (λ keeps. subst (λ (fault : StoreFault). RefusesOpen (g.D.Disk.model.present c.args.disk).read fault) c.in-Violated.is (c.in-Err.ensures.fault keeps));
           named = text;
         }),
         c.in_err-print-in-Violated.ensures.err,

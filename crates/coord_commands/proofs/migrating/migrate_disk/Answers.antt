@@ -13,13 +13,13 @@ returns-in-Ok-clause-line g c =
     let store = c.in-Ok.store in
     let raised = c.migrate_store-line.new.store in
     let back = c.into_disk.ensures.disk in
-    let reads : raised ≡ store → g.D.Disk.keeps_model c.args.disk ≡ true → (g.D.Disk.present c.into_disk.result).read ≡ (g.D.Disk.present c.args.disk).read =
-    λ same keeps. ap (λ (d : g.row.D.Denot). (g.D.Disk.present d).read) (back ∙ ap (λ (s : Kept g.row.D.Denot). s.disk) same) ∙ ap (λ (p : Present). p.read) (c.in-Ok.ensures.bytes keeps) in
+    let reads : raised ≡ store → g.D.Disk.model.keeps_model c.args.disk ≡ true → (g.D.Disk.model.present c.into_disk.result).read ≡ (g.D.Disk.model.present c.args.disk).read =
+    λ same keeps. ap (λ (d : g.row.D.Denot). (g.D.Disk.model.present d).read) (back ∙ ap (λ (s : Kept g.row.D.Denot). s.disk) same) ∙ ap (λ (p : Present). p.read) (c.in-Ok.ensures.bytes keeps) in
     line_of string_bytes c.migrate_store-line.result _ _ store.world raised.world raised.torn c.migrate_store-line.ensures.line c.migrate_store-line.ensures.world c.migrate_store-line.ensures.going
     (λ world going. record {
       given = if_present _ _ _ c.in-Ok.ensures.world;
-      raised = if_present _ _ _ (λ keeps. subst (λ (w : World). Recovered (g.D.Disk.present c.into_disk.result).read w) world (c.into_disk.ensures.reopens (subst (λ d. g.D.Disk.keeps_model d ≡ true) back keeps) going));
-      again = λ two. if_both (g.D.Disk.keeps_model c.args.disk) (g.D.Disk.keeps_model c.into_disk.result) (g.D.Disk.present c.args.disk) (g.D.Disk.present c.into_disk.result)
+      raised = if_present _ _ _ (λ keeps. subst (λ (w : World). Recovered (g.D.Disk.model.present c.into_disk.result).read w) world (c.into_disk.ensures.reopens (subst (λ d. g.D.Disk.model.keeps_model d ≡ true) back keeps) going));
+      again = λ two. if_both (g.D.Disk.model.keeps_model c.args.disk) (g.D.Disk.model.keeps_model c.into_disk.result) (g.D.Disk.model.present c.args.disk) (g.D.Disk.model.present c.into_disk.result)
           (λ (old new : Present). new.read ≡ old.read) (λ keeps _. reads (c.migrate_store-line.ensures.again two) keeps);
     })
 
@@ -28,20 +28,20 @@ returns-in-Ok-clause-fault g c =
     let store = c.in-Ok.store in
     let raised = c.migrate_store-line.new.store in
     let back = c.into_disk.ensures.disk in
-    let reads : raised ≡ store → g.D.Disk.keeps_model c.args.disk ≡ true → (g.D.Disk.present c.into_disk.result).read ≡ (g.D.Disk.present c.args.disk).read =
-    λ same keeps. ap (λ (d : g.row.D.Denot). (g.D.Disk.present d).read) (back ∙ ap (λ (s : Kept g.row.D.Denot). s.disk) same) ∙ ap (λ (p : Present). p.read) (c.in-Ok.ensures.bytes keeps) in
+    let reads : raised ≡ store → g.D.Disk.model.keeps_model c.args.disk ≡ true → (g.D.Disk.model.present c.into_disk.result).read ≡ (g.D.Disk.model.present c.args.disk).read =
+    λ same keeps. ap (λ (d : g.row.D.Denot). (g.D.Disk.model.present d).read) (back ∙ ap (λ (s : Kept g.row.D.Denot). s.disk) same) ∙ ap (λ (p : Present). p.read) (c.in-Ok.ensures.bytes keeps) in
     let not_stopped : has_stopped store ≡ true → ⊥ = λ is. going_on store c.in-Ok.ensures.going is in
     fault_of c.migrate_store-line.result _ _ store.world c.migrate_store-line.ensures.fault c.migrate_store-line.ensures.unchanged c.migrate_store-line.ensures.torn
     (λ is. not_stopped (c.migrate_store-line.ensures.stopped is)) (if_present _ _ _ c.in-Ok.ensures.world)
-    (λ same. if_both (g.D.Disk.keeps_model c.args.disk) (g.D.Disk.keeps_model c.into_disk.result) (g.D.Disk.present c.args.disk) (g.D.Disk.present c.into_disk.result)
+    (λ same. if_both (g.D.Disk.model.keeps_model c.args.disk) (g.D.Disk.model.keeps_model c.into_disk.result) (g.D.Disk.model.present c.args.disk) (g.D.Disk.model.present c.into_disk.result)
     (λ (old new : Present). new.read ≡ old.read) (λ keeps _. reads same keeps))
-    (λ torn. if_both (g.D.Disk.keeps_model c.args.disk) (g.D.Disk.keeps_model c.into_disk.result) (g.D.Disk.present c.args.disk) (g.D.Disk.present c.into_disk.result)
+    (λ torn. if_both (g.D.Disk.model.keeps_model c.args.disk) (g.D.Disk.model.keeps_model c.into_disk.result) (g.D.Disk.model.present c.args.disk) (g.D.Disk.model.present c.into_disk.result)
     (λ (old new : Present). (image : List ℕ) → IsImage new image → IsEitherVersion old image)
     (λ keeps kept image is. inr (
       store.world,
       c.in-Ok.ensures.world keeps,
       either_of raised store.world (risen store.world) image torn.0 torn.1
-          (c.images_give_world.ensures.images (subst (λ d. g.D.Disk.keeps_model d ≡ true) back kept) image (subst (λ d. IsImage (g.D.Disk.present d) image) back is)),
+          (c.lemma_images_give_world.ensures.images (subst (λ d. g.D.Disk.model.keeps_model d ≡ true) back kept) image (subst (λ d. IsImage (g.D.Disk.model.present d) image) back is)),
     )))
 
 -- at each moment, and how often the device has failed
@@ -53,15 +53,15 @@ returns-in-Ok-clause-raises g c =
     record {
       any_moment = λ keeps.
           let opening = c.in-Ok.ensures.any_moment keeps in
-          let raising = c.migrate_store-line.ensures.any_moment (c.in-Ok.ensures.model ∙ keeps) c.in-Ok.ensures.going in
-          subst (λ d. LeavesOnly {D = g.row.D.Denot} g.D.Disk.clock g.D.Disk.left_since c.args.disk d (IsEitherVersion (g.D.Disk.present c.args.disk))) (sym back)
-          (weaker g.D.Disk.clock g.D.Disk.left_since c.args.disk raised.disk _ _ (and_then g.D.Disk.clock g.D.Disk.left_since c.args.disk store.disk raised.disk _ _ opening raising)
+          let raising = c.migrate_store-line.ensures.any_moment (c.in-Ok.ensures.runs.model ∙ keeps) c.in-Ok.ensures.going in
+          subst (λ d. LeavesOnly {D = g.row.D.Denot} g.D.Disk.model c.args.disk d (IsEitherVersion (g.D.Disk.model.present c.args.disk))) (sym back)
+          (weaker g.D.Disk.model c.args.disk raised.disk _ _ (and_then g.D.Disk.model c.args.disk store.disk raised.disk _ _ opening raising)
           (λ image either. ⊎_elim (λ was. inl was) (λ gives. inr (store.world, c.in-Ok.ensures.world keeps, gives)) either));
-      failures = ap g.D.Disk.failures back ∙ c.migrate_store-line.ensures.failures ∙ ap (λ n. n + failures_in c.migrate_store-line.result) c.in-Ok.ensures.failures;
+      failures = ap g.D.Disk.model.failures back ∙ c.migrate_store-line.ensures.failures ∙ ap (λ n. n + failures_in c.migrate_store-line.result) c.in-Ok.ensures.runs.failures;
     }
 
 pub returns-in-Err-clause-raises : goal.returns-in-Err-clause-raises
 returns-in-Err-clause-raises g c = record {
-  any_moment = λ keeps. weaker g.D.Disk.clock g.D.Disk.left_since c.args.disk c.in-Err.disk _ _ (c.in-Err.ensures.any_moment_refused keeps) (λ image was. inl was);
-  failures = c.in-Err.ensures.failures;
+  any_moment = λ keeps. weaker g.D.Disk.model c.args.disk c.in-Err.disk _ _ (c.in-Err.ensures.any_moment keeps) (λ image was. inl was);
+  failures = c.in-Err.ensures.runs.failures;
 }

@@ -10,4 +10,4 @@ returns-clause-fault g c = fault_named c.migrate_disk-line.result.0 _ _ _ _ c.in
 
 pub returns-clause-raises : goal.returns-clause-raises
 returns-clause-raises g c =
-    raised_named g.F.Disk.Disk.keeps_model g.F.Disk.Disk.present g.F.Disk.Disk.clock g.F.Disk.Disk.left_since g.F.Disk.Disk.failures c.migrate_disk-line.result.0 _ _ _ _ c.in_ok-disk.ensures.taken c.close.ensures c.migrate_disk-line.ensures.raises
+    raised_named g.F.Disk.Disk.model c.migrate_disk-line.result.0 _ _ _ _ c.in_ok-disk.ensures.taken c.close.ensures c.migrate_disk-line.ensures.raises

@@ -5,4 +5,4 @@ use Rattle.coord_commands.proofs.serving.opened.Goals as goal
 
 pub returns-in-Ok-clause-world : goal.returns-in-Ok-clause-world
 returns-in-Ok-clause-world g c =
-    if_keeps (g.D.Disk.keeps_model c.args.disk) (g.D.Disk.present c.args.disk) (λ (known : List ℕ). Recovered known c.in-Ok.store.world) (λ keeps. c.in-Ok.ensures.world keeps)
+    if_keeps (g.D.Disk.model.keeps_model c.args.disk) (g.D.Disk.model.present c.args.disk) (λ (known : List ℕ). Recovered known c.in-Ok.store.world) (λ keeps. c.in-Ok.ensures.world keeps)

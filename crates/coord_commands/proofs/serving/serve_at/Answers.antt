@@ -9,7 +9,7 @@ use Rattle.coord_commands.proofs.serving.serve_at.Goals as goal
 pub returns-in_err-closed-in-Ok-clause-fault : goal.returns-in_err-closed-in-Ok-clause-fault
 returns-in_err-closed-in-Ok-clause-fault g c =
     let before = g.F.Folder.holds c.args.folder.now c.args.file.now in
-    let gives : GivesWorld (reads before) = gives_taken g.F.Disk.Disk.keeps_model g.F.Disk.Disk.present before c.in_ok-disk.disk c.in_ok-store.store.world c.in_ok-disk.ensures.taken c.in_ok-store.ensures.world in
+    let gives : GivesWorld (reads before) = gives_taken g.F.Disk.Disk.model.keeps_model g.F.Disk.Disk.model.present before c.in_ok-disk.disk c.in_ok-store.store.world c.in_ok-disk.ensures.taken c.in_ok-store.ensures.world in
     let fault = c.in_err-closed-in-Ok.field-0.0 in
     let told : c.from_residual-in_err-closed-in-Ok.result ≡ Err (fault_of_server fault) = search rules in
     err_last (IsOfServing (reads before)) c.from_residual-in_err-closed-in-Ok.result (fault_of_server fault) told (of_serving (reads before) fault gives)
@@ -17,11 +17,11 @@ returns-in_err-closed-in-Ok-clause-fault g c =
 pub returns-in_ok-closed-in-Ok-clause-served : goal.returns-in_ok-closed-in-Ok-clause-served
 returns-in_ok-closed-in-Ok-clause-served g c =
     let closed = c.in_ok-closed-in-Ok.closed in
-    served_to_end g.F.Disk.Disk.keeps_model g.F.Disk.Disk.present (g.F.Folder.holds c.args.folder.now c.args.file.now) (g.F.Folder.holds c.close.new.self c.args.file.now) c.in_ok-disk.disk c.left.result c.in_ok-store.store.world closed
+    served_to_end g.F.Disk.Disk.model.keeps_model g.F.Disk.Disk.model.present (g.F.Folder.holds c.args.folder.now c.args.file.now) (g.F.Folder.holds c.close.new.self c.args.file.now) c.in_ok-disk.disk c.left.result c.in_ok-store.store.world closed
     c.in_ok-disk.ensures.taken c.in_ok-store.ensures.world c.in_ok-closed-in-Ok.ensures.lives c.left.ensures c.close.ensures
 
 pub returns-in-Err-clause-fault : goal.returns-in-Err-clause-fault
 returns-in-Err-clause-fault g c =
     let before = g.F.Folder.holds c.args.folder.now c.args.file.now in
-    let gives : GivesWorld (reads before) = gives_taken g.F.Disk.Disk.keeps_model g.F.Disk.Disk.present before c.in_ok-disk.disk c.in_ok-store.store.world c.in_ok-disk.ensures.taken c.in_ok-store.ensures.world in
+    let gives : GivesWorld (reads before) = gives_taken g.F.Disk.Disk.model.keeps_model g.F.Disk.Disk.model.present before c.in_ok-disk.disk c.in_ok-store.store.world c.in_ok-disk.ensures.taken c.in_ok-store.ensures.world in
     subst (IsOfServing (reads before)) (sym c.in-Err.ensures) gives

@@ -5,7 +5,7 @@ use Rattle.coord_engine.proofs.working.submit.Goals as goal
 
 pub returns-in-Ok : goal.returns-in-Ok
 returns-in-Ok g c =
-    let b = based_on g.D.Disk.keeps_model g.D.Disk.present g.L.Origin.base g.L.Origin.before in
+    let b = based_on g.D.Disk.model.keeps_model g.D.Disk.model.present g.L.Origin.base g.L.Origin.before in
     record {
       answer = Ok c.in-Ok.ticket;
       submits = subst (λ s. AtSomeMoment b (Submits {D = g.row.D.Denot} s (Ok c.in-Ok.ticket) c.args.share.now c.submit.new.mine)) c.step_of.ensures c.in-Ok.ensures;
@@ -14,7 +14,7 @@ returns-in-Ok g c =
 
 pub returns-in-Err : goal.returns-in-Err
 returns-in-Err g c =
-    let b = based_on g.D.Disk.keeps_model g.D.Disk.present g.L.Origin.base g.L.Origin.before in
+    let b = based_on g.D.Disk.model.keeps_model g.D.Disk.model.present g.L.Origin.base g.L.Origin.before in
     record {
       answer = Err c.in-Err.refusal;
       submits = subst (λ s. AtSomeMoment b (Submits {D = g.row.D.Denot} s (Err c.in-Err.refusal) c.args.share.now c.submit.new.mine)) c.step_of.ensures c.in-Err.ensures;

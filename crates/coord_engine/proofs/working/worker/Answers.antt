@@ -5,7 +5,7 @@ use Rattle.coord_engine.proofs.working.worker.Goals as goal
 
 pub loop-packet-preserved : goal.loop-packet-preserved
 loop-packet-preserved g c =
-    let b = based_on g.D.Disk.keeps_model g.D.Disk.present g.L.Origin.base g.L.Origin.before in
+    let b = based_on g.D.Disk.model.keeps_model g.D.Disk.model.present g.L.Origin.base g.L.Origin.before in
     let goes = c.in-Some.ensures.goes in (
       goes.keeps,
       (goes.on c.loop-packet.invariant.1).1,
@@ -14,4 +14,4 @@ loop-packet-preserved g c =
 
 pub returns-clause-packets : goal.returns-clause-packets
 returns-clause-packets g c =
-    works_adds (based_on g.D.Disk.keeps_model g.D.Disk.present g.L.Origin.base g.L.Origin.before) c.args.share c.loop-packet.share [] c.loop-packet.yielded c.loop-packet.waiting c.loop-packet.invariant.2
+    works_adds (based_on g.D.Disk.model.keeps_model g.D.Disk.model.present g.L.Origin.base g.L.Origin.before) c.args.share c.loop-packet.share [] c.loop-packet.yielded c.loop-packet.waiting c.loop-packet.invariant.2

@@ -1,108 +1,60 @@
-use Rattle.std.proofs.Common.{◌≡◌, ◌∙◌, ℕ, List, length, take, drop, ap, sym, subst, arith, vec_len}
+use Rattle.std.proofs.Common.{◌≡◌, ◌∙◌, List, ℕ, Result, length, take, drop, ap, sym, subst, arith, vec_len}
 use Rattle.std.proofs.lemmas.List.{take_all, take_at}
-use Rattle.coord_disk.specs.Model.Moments.{Elapses, LeavesOnly}
-use Rattle.coord_disk.specs.Model.Present.{FitsNoMore, IsImage, Present}
-use Rattle.coord_disk.proofs.MomentLemmas.{started, goes_on}
+use Rattle.coord_disk.specs.Model.Calls.{HasRead, Measured, Measures, Reads, Synced, Syncs}
+use Rattle.coord_disk.specs.Model.DiskModel.{DiskModel, IsModel}
+use Rattle.coord_disk.specs.Model.Present.{Present, FitsNoMore, IsImage}
+use Rattle.coord_disk.proofs.MomentLemmas.{Quiet, and_quiet, at_first}
 use Rattle.coord_journal.proofs.barrier.read_durable.Goals as goal
 
--- a call behind which a crash leaves no more than it could have left at first
-module _ {D : Type 0} (clock : D → ℕ) (left_since : D → ℕ → List ℕ → Type 0) (present : D → Present) (first : D) where
-  behind : (mid new : D) → LeavesOnly clock left_since first mid (IsImage (present first)) → Elapses (clock mid) (clock new) (left_since mid) (left_since new) (IsImage (present new)) → FitsNoMore (present first) (present new)
-      → LeavesOnly clock left_since first new (IsImage (present first))
-  behind mid new so_far time fits = goes_on clock left_since first mid new (IsImage (present first)) (IsImage (present new)) so_far time fits
+-- what leaves the disk as it is adds nothing
+same : (p q : Present) → q ≡ p → FitsNoMore p q
+same p q is image now = subst (λ r. IsImage r image) is now
 
-  -- one that leaves what a read gives, and what is synced
-  same : (mid new : D) → FitsNoMore (present first) (present mid) → present new ≡ present mid → FitsNoMore (present first) (present new)
-  same mid new fits is image now = fits image (subst (λ p. IsImage p image) is now)
+after_sync : {D T E : Type 0} (m : DiskModel D) → IsModel m → (disk new : D) (r : Result T E) → Syncs m disk new r → Quiet m disk new
+after_sync m laws disk new r syncs = and_quiet m {P = Synced r} disk disk new (at_first m laws disk) syncs (λ p q does. does.crash)
+
+after_len : {D E : Type 0} (m : DiskModel D) (disk mid new : D) (r : Result ℕ E) → Quiet m disk mid → Measures m mid new r → Quiet m disk new
+after_len m disk mid new r quiet measures = and_quiet m {P = Measured r} disk mid new quiet measures (λ p q does. same p q does.same)
+
+after_read : {D T E : Type 0} (m : DiskModel D) (disk mid new : D) (at : ℕ) (buffer filled : List ℕ) (r : Result T E) → Quiet m disk mid → Reads m at buffer filled mid new r → Quiet m disk new
+after_read m disk mid new at buffer filled r quiet reads = and_quiet m {P = HasRead at buffer filled r} disk mid new quiet reads (λ p q does. same p q does.same)
 
 pub returns-in_err-sync-clause-any_moment : goal.returns-in_err-sync-clause-any_moment
-returns-in_err-sync-clause-any_moment g c k =
-    let d = c.args.disk.now in
-    let go = behind g.D.Disk.clock g.D.Disk.left_since g.D.Disk.present d in
-    let start = started g.D.Disk.clock g.D.Disk.left_since d (IsImage (g.D.Disk.present d)) (λ image. g.met.D.Disk.only_now d image k) in
-    go d c.sync.new.self start (c.sync.ensures.time k) (c.sync.ensures.crash k)
-
-pub returns-in_err-sync-clause-calls : goal.returns-in_err-sync-clause-calls
-returns-in_err-sync-clause-calls g c k =
-    omega (arith, (c.sync.ensures.time k).soon)
+returns-in_err-sync-clause-any_moment g c = (after_sync g.D.Disk.model g.met.D.Disk.laws c.args.disk.now c.sync.new.self c.sync.result c.sync.ensures.call).any_moment
 
 pub returns-in_err-size-clause-any_moment : goal.returns-in_err-size-clause-any_moment
-returns-in_err-size-clause-any_moment g c k =
-    let d = c.args.disk.now in
-    let go = behind g.D.Disk.clock g.D.Disk.left_since g.D.Disk.present d in
-    let k1 = c.sync.ensures.model ∙ k in
-    let start = started g.D.Disk.clock g.D.Disk.left_since d (IsImage (g.D.Disk.present d)) (λ image. g.met.D.Disk.only_now d image k) in
-    let synced = go d c.sync.new.self start (c.sync.ensures.time k) (c.sync.ensures.crash k) in
-    let fits = same g.D.Disk.clock g.D.Disk.left_since g.D.Disk.present d c.sync.new.self c.len.new.self (c.sync.ensures.crash k) (c.len.ensures.present k1) in
-    go c.sync.new.self c.len.new.self synced (c.len.ensures.time k1) fits
-
-pub returns-in_err-size-clause-calls : goal.returns-in_err-size-clause-calls
-returns-in_err-size-clause-calls g c k =
-    let k1 = c.sync.ensures.model ∙ k in
-    omega (arith, (c.sync.ensures.time k).soon, (c.len.ensures.time k1).soon)
+returns-in_err-size-clause-any_moment g c =
+    let synced = after_sync g.D.Disk.model g.met.D.Disk.laws c.args.disk.now c.sync.new.self c.sync.result c.sync.ensures.call in
+    (after_len g.D.Disk.model c.args.disk.now c.sync.new.self c.len.new.self c.len.result synced c.len.ensures.call).any_moment
 
 pub returns-in_err-resize-clause-any_moment : goal.returns-in_err-resize-clause-any_moment
-returns-in_err-resize-clause-any_moment g c k =
-    let d = c.args.disk.now in
-    let go = behind g.D.Disk.clock g.D.Disk.left_since g.D.Disk.present d in
-    let k1 = c.sync.ensures.model ∙ k in
-    let start = started g.D.Disk.clock g.D.Disk.left_since d (IsImage (g.D.Disk.present d)) (λ image. g.met.D.Disk.only_now d image k) in
-    let synced = go d c.sync.new.self start (c.sync.ensures.time k) (c.sync.ensures.crash k) in
-    let fits = same g.D.Disk.clock g.D.Disk.left_since g.D.Disk.present d c.sync.new.self c.len.new.self (c.sync.ensures.crash k) (c.len.ensures.present k1) in
-    go c.sync.new.self c.len.new.self synced (c.len.ensures.time k1) fits
-
-pub returns-in_err-resize-clause-calls : goal.returns-in_err-resize-clause-calls
-returns-in_err-resize-clause-calls g c k =
-    let k1 = c.sync.ensures.model ∙ k in
-    omega (arith, (c.sync.ensures.time k).soon, (c.len.ensures.time k1).soon)
+returns-in_err-resize-clause-any_moment g c =
+    let synced = after_sync g.D.Disk.model g.met.D.Disk.laws c.args.disk.now c.sync.new.self c.sync.result c.sync.ensures.call in
+    (after_len g.D.Disk.model c.args.disk.now c.sync.new.self c.len.new.self c.len.result synced c.len.ensures.call).any_moment
 
 pub returns-in_err-read-clause-any_moment : goal.returns-in_err-read-clause-any_moment
-returns-in_err-read-clause-any_moment g c k =
-    let d = c.args.disk.now in
-    let go = behind g.D.Disk.clock g.D.Disk.left_since g.D.Disk.present d in
-    let k1 = c.sync.ensures.model ∙ k in
-    let k2 = c.len.ensures.model ∙ k1 in
-    let start = started g.D.Disk.clock g.D.Disk.left_since d (IsImage (g.D.Disk.present d)) (λ image. g.met.D.Disk.only_now d image k) in
-    let synced = go d c.sync.new.self start (c.sync.ensures.time k) (c.sync.ensures.crash k) in
-    let fits = same g.D.Disk.clock g.D.Disk.left_since g.D.Disk.present d c.sync.new.self c.len.new.self (c.sync.ensures.crash k) (c.len.ensures.present k1) in
-    let sized = go c.sync.new.self c.len.new.self synced (c.len.ensures.time k1) fits in
-    go c.len.new.self c.read.new.self sized (c.read.ensures.time k2) (same g.D.Disk.clock g.D.Disk.left_since g.D.Disk.present d c.len.new.self c.read.new.self fits (c.read.ensures.present k2))
-
-pub returns-in_err-read-clause-calls : goal.returns-in_err-read-clause-calls
-returns-in_err-read-clause-calls g c k =
-    let k1 = c.sync.ensures.model ∙ k in
-    let k2 = c.len.ensures.model ∙ k1 in
-    omega (arith, (c.sync.ensures.time k).soon, (c.len.ensures.time k1).soon, (c.read.ensures.time k2).soon)
+returns-in_err-read-clause-any_moment g c =
+    let synced = after_sync g.D.Disk.model g.met.D.Disk.laws c.args.disk.now c.sync.new.self c.sync.result c.sync.ensures.call in
+    let sized = after_len g.D.Disk.model c.args.disk.now c.sync.new.self c.len.new.self c.len.result synced c.len.ensures.call in
+    (after_read g.D.Disk.model c.args.disk.now c.len.new.self c.read.new.self 0 c.deref_mut.result.now c.read.new.buf c.read.result sized c.read.ensures.call).any_moment
 
 pub returns-clause-any_moment : goal.returns-clause-any_moment
-returns-clause-any_moment g c k =
-    let d = c.args.disk.now in
-    let go = behind g.D.Disk.clock g.D.Disk.left_since g.D.Disk.present d in
-    let k1 = c.sync.ensures.model ∙ k in
-    let k2 = c.len.ensures.model ∙ k1 in
-    let start = started g.D.Disk.clock g.D.Disk.left_since d (IsImage (g.D.Disk.present d)) (λ image. g.met.D.Disk.only_now d image k) in
-    let synced = go d c.sync.new.self start (c.sync.ensures.time k) (c.sync.ensures.crash k) in
-    let fits = same g.D.Disk.clock g.D.Disk.left_since g.D.Disk.present d c.sync.new.self c.len.new.self (c.sync.ensures.crash k) (c.len.ensures.present k1) in
-    let sized = go c.sync.new.self c.len.new.self synced (c.len.ensures.time k1) fits in
-    go c.len.new.self c.read.new.self sized (c.read.ensures.time k2) (same g.D.Disk.clock g.D.Disk.left_since g.D.Disk.present d c.len.new.self c.read.new.self fits (c.read.ensures.present k2))
-
-pub returns-clause-calls : goal.returns-clause-calls
-returns-clause-calls g c k =
-    let k1 = c.sync.ensures.model ∙ k in
-    let k2 = c.len.ensures.model ∙ k1 in
-    omega (arith, (c.sync.ensures.time k).soon, (c.len.ensures.time k1).soon, (c.read.ensures.time k2).soon)
+returns-clause-any_moment g c =
+    let synced = after_sync g.D.Disk.model g.met.D.Disk.laws c.args.disk.now c.sync.new.self c.sync.result c.sync.ensures.call in
+    let sized = after_len g.D.Disk.model c.args.disk.now c.sync.new.self c.len.new.self c.len.result synced c.len.ensures.call in
+    (after_read g.D.Disk.model c.args.disk.now c.len.new.self c.read.new.self 0 c.deref_mut.result.now c.read.new.buf c.read.result sized c.read.ensures.call).any_moment
 
 pub returns-clause-bytes : goal.returns-clause-bytes
 returns-clause-bytes g c k =
-    let k1 = c.sync.ensures.model ∙ k in
-    let k2 = c.len.ensures.model ∙ k1 in
-    let bytes = (g.D.Disk.present c.args.disk.now).read in
-    let settled = ap (λ p. p.read) (c.in_ok-sync.ensures.durable k) in
-    let now_read = ap (λ p. p.read) (c.len.ensures.present k1) ∙ settled in
-    let size : vec_len c.resize.new.self ≡ length bytes = c.in_ok-resize.ensures.len ∙ c.in_ok-size.ensures.value k1 ∙ ap length settled in
+    let k1 = c.sync.ensures.call.model ∙ k in
+    let k2 = c.len.ensures.call.model ∙ k1 in
+    let bytes = (g.D.Disk.model.present c.args.disk.now).read in
+    let settled = ap (λ p. p.read) (c.in_ok-sync.ensures.call.change k).durable in
+    let now_read = ap (λ p. p.read) (c.len.ensures.call.change k1).same ∙ settled in
+    let size : vec_len c.resize.new.self ≡ length bytes = c.in_ok-resize.ensures.len ∙ (c.in_ok-size.ensures.call.change k1).value ∙ ap length settled in
     let room : length c.deref_mut.result.now ≡ length bytes = c.deref_mut.ensures.len ∙ size in
     let buf : c.read.new.buf ≡ bytes =
-    c.in_ok-read.ensures.value k2
+    (c.in_ok-read.ensures.call.change k2).value
     ∙ ap (λ (l : List ℕ). take (length c.deref_mut.result.now) l) now_read
     ∙ take_all (length c.deref_mut.result.now) bytes (omega (arith, room)) in
     take_at c.read.new.buf (drop (length c.read.new.buf) c.resize.new.self.items) c.resize.new.self.len (ap length buf ∙ sym size) ∙ buf

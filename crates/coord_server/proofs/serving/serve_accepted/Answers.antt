@@ -9,8 +9,8 @@ use Rattle.coord_server.proofs.serving.serve_accepted.Goals as goal
 pub returns-clause-lives : goal.returns-clause-lives
 returns-clause-lives g c =
     IfOk-weaker c.closed_of.result _ _
-    (λ closed is. subst (HasLivedToClose g.D.Disk.keeps_model g.D.Disk.present c.args.store.world) (sym is.0)
-    (closed_lives g.D.Disk.keeps_model g.D.Disk.present (λ _ _ _. ⊤) (λ _ _. ⊤) c.args.store.world c.args.callers c.in_ok-ended.ended is.1 c.in_ok-ended.ensures.lives))
+    (λ closed is. subst (HasLivedToClose g.D.Disk.model.keeps_model g.D.Disk.model.present c.args.store.world) (sym is.0)
+    (closed_lives g.D.Disk.model.keeps_model g.D.Disk.model.present (λ _ _ _. ⊤) (λ _ _. ⊤) c.args.store.world c.args.callers c.in_ok-ended.ended is.1 c.in_ok-ended.ensures.lives))
     c.closed_of.ensures.closed
 
 pub returns-clause-images : goal.returns-clause-images
@@ -18,8 +18,8 @@ returns-clause-images g c =
     let ended = c.in_ok-ended.ended in
     IfOk-weaker c.closed_of.result _ _
     (λ closed is keeps.
-    only_world g.D.Disk.present closed.store (subst (λ k. has_stopped k.store ≡ false) (sym is.0) (not_stopped (has_stopped ended.closed.store) ended.served ended.is_broken is.1))
-    (subst (λ k. ImagesGive g.D.Disk.present k.store) (sym is.0) (c.in_ok-ended.ensures.images (subst (λ k. g.D.Disk.keeps_model k.store.disk ≡ true) is.0 keeps))))
+    only_world g.D.Disk.model.present closed.store (subst (λ k. has_stopped k.store ≡ false) (sym is.0) (not_stopped (has_stopped ended.closed.store) ended.served ended.is_broken is.1))
+    (subst (λ k. ImagesGive g.D.Disk.model k.store) (sym is.0) (c.in_ok-ended.ensures.images (subst (λ k. g.D.Disk.model.keeps_model k.store.disk ≡ true) is.0 keeps))))
     c.closed_of.ensures.closed
 
 pub returns-clause-whole : goal.returns-clause-whole

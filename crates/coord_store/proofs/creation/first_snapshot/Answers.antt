@@ -10,4 +10,4 @@ returns-in-Ok-clause-gives c =
     let bytes = c.in-Ok.snapshot.items in
     let P : World → Type 0 = λ w. Gives (without_batch c.args.version bytes) w in
     subst P c.empty-world.ensures.value
-    (snapshot_gives c.args.version bytes c.empty-world.result (sym (ap (λ (w : World). w.version) c.empty-world.ensures.value)) c.ranges-2.ensures c.empty-world.ensures.legal c.in-Ok.ensures.spelled)
+    (snapshot_gives c.args.version bytes c.empty-world.result (sym (ap (λ (w : World). w.version) c.empty-world.ensures.value)) c.lemma_in_range.ensures c.empty-world.ensures.legal c.in-Ok.ensures.spelled)

@@ -1,9 +1,9 @@
 use Rattle.std.proofs.Common.{take, sym, ap, subst, ◌∙◌, arith}
 use Rattle.std.specs.List.{AllByRecursion}
 use Rattle.std.proofs.lemmas.List.{take_all}
-use Rattle.coord_batch.specs.Batches.{BringsRightly}
+use Rattle.coord_batch.specs.Batches.{CarriesRightly}
 use Rattle.coord_world.specs.Facade.{IsFresh, World, next}
-use Rattle.coord_store.proofs.Freshness.{all-push, brings_rightly, fold-take, fold_version, fresh_over_itself, take-push}
+use Rattle.coord_store.proofs.Freshness.{all-push, carries_rightly, fold-take, fold_version, fresh_over_itself, take-push}
 use Rattle.coord_store.proofs.steps.take_all.Goals as goal
 
 pub apply-requires-clause-fresh : goal.apply-requires-clause-fresh
@@ -22,13 +22,13 @@ loop-step-preserved c =
     let P : World → Type 0 = λ x. IsFresh x x s in
     let fresh = subst P (sym c.loop-step.invariant.0) (fresh_over_itself steps w w i s c.loop-step-test.true c.step-item.is c.requires.fresh) in
     let same = ap (λ (x : World). x.version) c.loop-step.invariant.0 ∙ fold_version (take i steps) w in
-    let brought = subst (λ v. BringsRightly v s) same (brings_rightly here here s c.ranges-in-loop-step.ensures fresh) in (
+    let carried = subst (λ v. CarriesRightly v s) same (carries_rightly here here s c.lemma_in_range-in-loop-step.ensures fresh) in (
       c.in_ok-apply.ensures.world ∙ ap (λ x. next x s) c.loop-step.invariant.0 ∙ sym (fold-take steps w i s c.loop-step-test.true c.step-item.is),
       c.apply.ensures.legal,
-      subst (AllByRecursion (BringsRightly w.version)) (sym (take-push steps i s c.loop-step-test.true c.step-item.is)) (all-push (BringsRightly w.version) (take i steps) s c.loop-step.invariant.2 brought),
+      subst (AllByRecursion (CarriesRightly w.version)) (sym (take-push steps i s c.loop-step-test.true c.step-item.is)) (all-push (CarriesRightly w.version) (take i steps) s c.loop-step.invariant.2 carried),
     )
 
-pub returns-clause-brought : goal.returns-clause-brought
-returns-clause-brought c =
+pub returns-clause-carried : goal.returns-clause-carried
+returns-clause-carried c =
     let steps = c.args.steps.now in
-    subst (AllByRecursion (BringsRightly c.args.world.now.version)) (take_all c.loop-step.step-index steps (omega (arith, c.loop-step-test.false))) c.loop-step.invariant.2
+    subst (AllByRecursion (CarriesRightly c.args.world.now.version)) (take_all c.loop-step.step-index steps (omega (arith, c.loop-step-test.false))) c.loop-step.invariant.2

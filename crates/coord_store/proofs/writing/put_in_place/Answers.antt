@@ -1,26 +1,33 @@
-use Rattle.std.proofs.Common.{inl, ◌∙◌}
+use Rattle.std.proofs.Common.{◌∙◌, ap}
 use Rattle.coord_disk.proofs.MomentLemmas.{weaker}
 use Rattle.coord_journal.specs.Text.{without_batch}
-use Rattle.coord_store.proofs.Holding.{begun, replacing_either, snapshot_gives}
+use Rattle.coord_store.specs.Facade.{commit_fault_of}
+use Rattle.coord_store.proofs.Holding.{begun, only_is_either, replacing_either, snapshot_gives, stays_by}
 use Rattle.coord_store.proofs.writing.put_in_place.Goals as goal
 
-pub returns-in-Err-clause-any_moment : goal.returns-in-Err-clause-any_moment
-returns-in-Err-clause-any_moment g c w k holds =
-    weaker g.D.Disk.clock g.D.Disk.left_since _ _ _ _ (begun g.D.Disk.present g.D.Disk.keeps_model g.D.Disk.clock g.D.Disk.left_since c.args.journal.now w holds (λ image. g.met.D.Disk.only_now c.args.journal.now.disk image k)) (λ bytes gives. inl gives)
+pub returns-in-Err-clause-follows : goal.returns-in-Err-clause-follows
+returns-in-Err-clause-follows g c w holds = record { any_moment = only_is_either g.D.Disk.model _ _ _ _ (begun g.D.Disk.model g.met.D.Disk.laws c.args.journal.now w holds); done = tt }
 
-pub returns-in-Ok-replace-clause-any_moment : goal.returns-in-Ok-replace-clause-any_moment
-returns-in-Ok-replace-clause-any_moment g c w k holds =
-    let new = snapshot_gives c.number.result c.deref.result.now c.args.other.now (c.number.ensures.value ∙ c.version.ensures) c.ranges-2.ensures c.requires.legal (c.deref.ensures.value ∙ c.in-Ok.ensures.spelled) in
-    weaker g.D.Disk.clock g.D.Disk.left_since _ _ _ _ (c.replace.ensures.any_moment holds.content k holds.ready) (replacing_either holds.content (without_batch c.number.result c.deref.result.now) w c.args.other.now holds.gives new)
+pub returns-in-Err-clause-stays : goal.returns-in-Err-clause-stays
+returns-in-Err-clause-stays g c w holds = record { any_moment = λ _. begun g.D.Disk.model g.met.D.Disk.laws c.args.journal.now w holds; held = λ _. holds }
 
-pub returns-in-Ok-replace-clause-done : goal.returns-in-Ok-replace-clause-done
-returns-in-Ok-replace-clause-done g c w k holds = record {
-  content = without_batch c.number.result c.deref.result.now;
-  ready = c.in-Ok-replace.ensures.done holds.content k holds.ready;
-  gives = snapshot_gives c.number.result c.deref.result.now c.args.other.now (c.number.ensures.value ∙ c.version.ensures) c.ranges-2.ensures c.requires.legal (c.deref.ensures.value ∙ c.in-Ok.ensures.spelled);
-}
+pub returns-in-Ok-replace-clause-follows : goal.returns-in-Ok-replace-clause-follows
+returns-in-Ok-replace-clause-follows g c w holds =
+    let new = snapshot_gives c.number.result c.deref.result.now c.args.other.now (c.number.ensures.value ∙ c.version.ensures) c.lemma_in_range.ensures c.requires.legal (c.deref.ensures.value ∙ c.in-Ok.ensures.spelled) in
+    let writes = c.in-Ok-replace.ensures.writes holds.content holds.ready in
+    record {
+      any_moment = weaker g.D.Disk.model _ _ _ _ writes.any_moment (replacing_either holds.content (without_batch c.number.result c.deref.result.now) w c.args.other.now holds.gives new);
+      done = record { content = without_batch c.number.result c.deref.result.now; ready = writes.done; gives = new };
+    }
 
-pub returns-clause-any_moment : goal.returns-clause-any_moment
-returns-clause-any_moment g c w k holds =
-    let new = snapshot_gives c.number.result c.deref.result.now c.args.other.now (c.number.ensures.value ∙ c.version.ensures) c.ranges-2.ensures c.requires.legal (c.deref.ensures.value ∙ c.in-Ok.ensures.spelled) in
-    weaker g.D.Disk.clock g.D.Disk.left_since _ _ _ _ (c.replace.ensures.any_moment holds.content k holds.ready) (replacing_either holds.content (without_batch c.number.result c.deref.result.now) w c.args.other.now holds.gives new)
+pub returns-clause-follows : goal.returns-clause-follows
+returns-clause-follows g c w holds =
+    let new = snapshot_gives c.number.result c.deref.result.now c.args.other.now (c.number.ensures.value ∙ c.version.ensures) c.lemma_in_range.ensures c.requires.legal (c.deref.ensures.value ∙ c.in-Ok.ensures.spelled) in
+    record {
+      any_moment = weaker g.D.Disk.model _ _ _ _ (c.in-Err-replace.ensures.writes holds.content holds.ready).any_moment (replacing_either holds.content (without_batch c.number.result c.deref.result.now) w c.args.other.now holds.gives new);
+      done = tt;
+    }
+
+pub returns-clause-stays : goal.returns-clause-stays
+returns-clause-stays g c w holds =
+    stays_by g.D.Disk.model g.met.D.Disk.laws c.args.journal.now c.replace.new.self w c.told.result holds (λ other. c.in-Err-replace.ensures.answers.unchanged (λ e. other (c.told.ensures ∙ ap commit_fault_of e)))

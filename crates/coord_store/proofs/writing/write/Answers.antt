@@ -1,65 +1,40 @@
-use Rattle.std.proofs.Common.{◌≡◌, ◌∙◌, false, sym, subst, inl, arith}
-use Rattle.coord_disk.proofs.MomentLemmas.{weaker}
-use Rattle.coord_journal.specs.Journal.{has_stopped}
-use Rattle.coord_journal.specs.declared.journal.Journal.{Journal}
-use Rattle.coord_store.specs.Kept.{Holds}
-use Rattle.coord_store.proofs.Holding.{on_refusal, only_then_either, only_twice}
+use Rattle.std.proofs.Common.{arith, ◌∙◌}
+use Rattle.coord_store.proofs.Holding.{either_is_only, ends_within, on_refusal, only_is_either, only_then_either, only_twice}
 use Rattle.coord_store.proofs.writing.write.Goals as goal
 
--- ---- where the body fits
+-- where the body fits
+pub returns-then-fits-clause-ends : goal.returns-then-fits-clause-ends
+returns-then-fits-clause-ends g c = ends_within g.D.Disk.model 4 8 _ _ _ (omega arith) c.append.ensures.ends
 
-pub returns-then-fits-clause-held : goal.returns-then-fits-clause-held
-returns-then-fits-clause-held g c k holds =
-    let P : Journal g.row.D.Denot → Type 0 = λ j. Holds g.D.Disk.present j c.args.world.now in
-    on_refusal c.append.result (λ same. subst P (sym same) holds) c.append.ensures.unchanged
+-- behind a checkpoint
 
-pub returns-then-fits-clause-still : goal.returns-then-fits-clause-still
-returns-then-fits-clause-still g c =
-    let P : Journal g.row.D.Denot → Type 0 = λ j. has_stopped j ≡ false in
-    on_refusal c.append.result (λ same. subst P (sym same) c.requires.going) c.append.ensures.unchanged
+pub returns-in-Ok-clause-follows : goal.returns-in-Ok-clause-follows
+returns-in-Ok-clause-follows g c steps holds takes =
+    let checkpoint = c.in-Ok.ensures.follows c.args.world.now holds in
+    let appended = c.append-in-Ok.ensures.follows c.args.world.now steps checkpoint.done takes in
+    record {
+      any_moment = only_then_either g.D.Disk.model _ _ _ _ _ (either_is_only g.D.Disk.model _ _ _ checkpoint.any_moment) appended.any_moment;
+      done = appended.done;
+    }
 
-pub returns-then-fits-clause-calls : goal.returns-then-fits-clause-calls
-returns-then-fits-clause-calls g c k = omega (arith, c.append.ensures.calls k)
+pub returns-in-Ok-clause-stays : goal.returns-in-Ok-clause-stays
+returns-in-Ok-clause-stays g c holds =
+    let checkpoint = c.in-Ok.ensures.follows c.args.world.now holds in
+    let appended = c.append-in-Ok.ensures.stays c.args.world.now checkpoint.done in
+    record {
+      any_moment = on_refusal c.append-in-Ok.result (λ leaves. only_twice g.D.Disk.model _ _ _ _ (either_is_only g.D.Disk.model _ _ _ checkpoint.any_moment) leaves) appended.any_moment;
+      held = appended.held;
+    }
 
--- ---- behind a checkpoint
+-- where the checkpoint is refused
+pub returns-in-Err-clause-follows : goal.returns-in-Err-clause-follows
+returns-in-Err-clause-follows g c steps holds takes = record {
+  any_moment = only_is_either g.D.Disk.model _ _ _ _ (either_is_only g.D.Disk.model _ _ _ (c.in-Err.ensures.follows c.args.world.now holds).any_moment);
+  done = tt;
+}
 
-pub returns-in-Ok-clause-any_moment : goal.returns-in-Ok-clause-any_moment
-returns-in-Ok-clause-any_moment g c steps k holds takes =
-    only_then_either g.D.Disk.clock g.D.Disk.left_since _ _ _ _ _ (c.checkpoint.ensures.any_moment k holds) (c.append-in-Ok.ensures.any_moment c.args.world.now steps (c.checkpoint.ensures.model ∙ k) (c.in-Ok.ensures.done k holds) takes)
+pub returns-in-Err-clause-stays : goal.returns-in-Err-clause-stays
+returns-in-Err-clause-stays g c holds = c.in-Err.ensures.stays c.args.world.now holds
 
-pub returns-in-Ok-clause-any_moment_refused : goal.returns-in-Ok-clause-any_moment_refused
-returns-in-Ok-clause-any_moment_refused g c k holds =
-    on_refusal c.append-in-Ok.result (λ leaves. only_twice g.D.Disk.clock g.D.Disk.left_since _ _ _ _ (c.checkpoint.ensures.any_moment k holds) leaves)
-    (c.append-in-Ok.ensures.any_moment_refused c.args.world.now (c.checkpoint.ensures.model ∙ k) (c.in-Ok.ensures.done k holds))
-
-pub returns-in-Ok-clause-done : goal.returns-in-Ok-clause-done
-returns-in-Ok-clause-done g c steps k holds takes = c.append-in-Ok.ensures.done c.args.world.now steps (c.checkpoint.ensures.model ∙ k) (c.in-Ok.ensures.done k holds) takes
-
-pub returns-in-Ok-clause-held : goal.returns-in-Ok-clause-held
-returns-in-Ok-clause-held g c k holds =
-    let P : Journal g.row.D.Denot → Type 0 = λ j. Holds g.D.Disk.present j c.args.world.now in
-    on_refusal c.append-in-Ok.result (λ same. subst P (sym same) (c.in-Ok.ensures.done k holds)) c.append-in-Ok.ensures.unchanged
-
-pub returns-in-Ok-clause-still : goal.returns-in-Ok-clause-still
-returns-in-Ok-clause-still g c =
-    let P : Journal g.row.D.Denot → Type 0 = λ j. has_stopped j ≡ false in
-    on_refusal c.append-in-Ok.result (λ same. subst P (sym same) c.in-Ok.ensures.going) c.append-in-Ok.ensures.unchanged
-
-pub returns-in-Ok-clause-calls : goal.returns-in-Ok-clause-calls
-returns-in-Ok-clause-calls g c k = omega (arith, c.checkpoint.ensures.calls k, c.append-in-Ok.ensures.calls (c.checkpoint.ensures.model ∙ k))
-
--- ---- where the checkpoint is refused
-
-pub returns-in-Err-clause-any_moment : goal.returns-in-Err-clause-any_moment
-returns-in-Err-clause-any_moment g c steps k holds takes = weaker g.D.Disk.clock g.D.Disk.left_since _ _ _ _ (c.checkpoint.ensures.any_moment k holds) (λ bytes only. inl only)
-
-pub returns-in-Err-clause-held : goal.returns-in-Err-clause-held
-returns-in-Err-clause-held g c k holds other =
-    let P : Journal g.row.D.Denot → Type 0 = λ j. Holds g.D.Disk.present j c.args.world.now in subst P (sym (c.in-Err.ensures.unchanged other)) holds
-
-pub returns-in-Err-clause-still : goal.returns-in-Err-clause-still
-returns-in-Err-clause-still g c other =
-    let P : Journal g.row.D.Denot → Type 0 = λ j. has_stopped j ≡ false in subst P (sym (c.in-Err.ensures.unchanged other)) c.requires.going
-
-pub returns-in-Err-clause-calls : goal.returns-in-Err-clause-calls
-returns-in-Err-clause-calls g c k = omega (arith, c.checkpoint.ensures.calls k)
+pub returns-in-Err-clause-ends : goal.returns-in-Err-clause-ends
+returns-in-Err-clause-ends g c = ends_within g.D.Disk.model 4 8 _ _ _ (omega arith) c.in-Err.ensures.ends

@@ -19,7 +19,7 @@ loop-init g c =
         [],
         Consumes-nil _,
         omega arith,
-        subst (λ n. Takes g.D.Disk g.D.CrashDisk.crashes d.drill n d.line [] [] start start d.drill d.number d.line) c.requires.number (takes_none g.D.Disk g.D.CrashDisk.crashes d.drill d.number d.line [] start),
+        subst (λ n. Takes g.D.Disk.model g.D.CrashDisk.crashes d.drill n d.line [] [] start start d.drill d.number d.line) c.requires.number (takes_none g.D.Disk.model g.D.CrashDisk.crashes d.drill d.number d.line [] start),
       ),
     )
 
@@ -31,7 +31,7 @@ returns-in-Err-clause-failed g c =
     let none : IsOfNoStore c.in-Err.fault = λ why same. cc (c.in-Err.ensures.fault, same) in (
       inv.2.0,
       Consumes-kept _ _ _ inv.2.0 inv.2.1 c.in-Err.ensures.bytes,
-      takes_breaks g.D.Disk g.D.CrashDisk.crashes d.drill 0 d.line inv.2.0 _ _ s.drill s.number s.line inv.2.3 c.in-Err.fault _ none c.into_disk.ensures,
+      takes_breaks g.D.Disk.model g.D.CrashDisk.crashes d.drill 0 d.line inv.2.0 _ _ s.drill s.number s.line inv.2.3 c.in-Err.fault _ none c.into_disk.ensures,
       λ e. absurd (cc (c.in-Err.ensures.fault, e)),
     )
 
@@ -41,7 +41,7 @@ returns-then-count-eq0-clause-ended g c =
     let s = c.loop.console in
     let inv = c.loop.invariant in
     let consumed = Consumes-none _ _ _ inv.2.0 c.read_once.new.buf c.in-Ok.count inv.2.1 c.in-Ok.ensures.bytes.0 c.if-count-eq0.true in
-    IfOk-weaker c.finish.result _ _ (λ last ends. (inv.2.0, consumed, takes_ends g.D.Disk g.D.CrashDisk.crashes d.drill 0 d.line inv.2.0 _ _ s.drill s.number s.line inv.2.3 _ last ends)) c.finish.ensures.ended
+    IfOk-weaker c.finish.result _ _ (λ last ends. (inv.2.0, consumed, takes_ends g.D.Disk.model g.D.CrashDisk.crashes d.drill 0 d.line inv.2.0 _ _ s.drill s.number s.line inv.2.3 _ last ends)) c.finish.ensures.ended
 
 pub returns-then-count-eq0-clause-failed : goal.returns-then-count-eq0-clause-failed
 returns-then-count-eq0-clause-failed g c =
@@ -51,8 +51,8 @@ returns-then-count-eq0-clause-failed g c =
     let consumed = Consumes-none _ _ _ inv.2.0 c.read_once.new.buf c.in-Ok.count inv.2.1 c.in-Ok.ensures.bytes.0 c.if-count-eq0.true in
     IfErr-weaker c.finish.result _ _
     (λ refused both.
-    let breaks = takes_break g.D.Disk g.D.CrashDisk.crashes d.drill 0 d.line inv.2.0 _ _ s.drill s.number s.line inv.2.3 [] _ refused.0 refused.1 both.1 in
-    (inv.2.0, consumed, subst (λ seen. BreaksOff g.D.Disk g.D.CrashDisk.crashes d.drill 1 (lines_on d.line seen) (g.W.Write.contents c.args.writer.now) (g.W.Write.contents c.finish.new.writer) refused.0 refused.1) (append-nil inv.2.0) breaks, λ e. absurd (both.0.1 e)))
+    let breaks = takes_break g.D.Disk.model g.D.CrashDisk.crashes d.drill 0 d.line inv.2.0 _ _ s.drill s.number s.line inv.2.3 [] _ refused.0 refused.1 both.1 in
+    (inv.2.0, consumed, subst (λ seen. BreaksOff g.D.Disk.model g.D.CrashDisk.crashes d.drill 1 (lines_on d.line seen) (g.W.Write.contents c.args.writer.now) (g.W.Write.contents c.finish.new.writer) refused.0 refused.1) (append-nil inv.2.0) breaks, λ e. absurd (both.0.1 e)))
     (if_err_both _ _ c.finish.result c.finish.ensures.fault c.finish.ensures.failed)
 
 pub returns-in_err-console-clause-failed : goal.returns-in_err-console-clause-failed
@@ -66,7 +66,7 @@ returns-in_err-console-clause-failed g c =
     passed_on c.from_residual.result fault _ c.from_residual.ensures.1 (
       inv.2.0 ++ came,
       consumed,
-      takes_break g.D.Disk g.D.CrashDisk.crashes d.drill 0 d.line inv.2.0 _ _ s.drill s.number s.line inv.2.3 came _ fault.0 fault.1 c.in_err-console.ensures.failed,
+      takes_break g.D.Disk.model g.D.CrashDisk.crashes d.drill 0 d.line inv.2.0 _ _ s.drill s.number s.line inv.2.3 came _ fault.0 fault.1 c.in_err-console.ensures.failed,
       λ e. absurd (c.in_err-console.ensures.fault.1 e),
     )
 
@@ -84,7 +84,7 @@ loop-preserved g c =
         inv.2.0 ++ came,
         Consumes-trans _ _ _ inv.2.0 came inv.2.1 (search rules),
         omega (arith, inv.2.2, length-append inv.2.0 came, length-take-le c.in-Ok.count c.read_once.new.buf (search rules)),
-        takes_piece g.D.Disk g.D.CrashDisk.crashes d.drill 0 d.line inv.2.0 _ _ s.drill s.number s.line inv.2.3 came _ new.drill new.number new.line now.taken,
+        takes_piece g.D.Disk.model g.D.CrashDisk.crashes d.drill 0 d.line inv.2.0 _ _ s.drill s.number s.line inv.2.3 came _ new.drill new.number new.line now.taken,
       ),
     )
 
@@ -95,6 +95,6 @@ returns-clause-failed g c =
     let inv = c.loop.invariant in (
       inv.2.0,
       inv.2.1,
-      takes_breaks g.D.Disk g.D.CrashDisk.crashes d.drill 0 d.line inv.2.0 _ _ s.drill s.number s.line inv.2.3 TooManyReads _ (λ why same. cc) c.into_disk-2.ensures,
+      takes_breaks g.D.Disk.model g.D.CrashDisk.crashes d.drill 0 d.line inv.2.0 _ _ s.drill s.number s.line inv.2.3 TooManyReads _ (λ why same. cc) c.into_disk-2.ensures,
       λ e. search rules,
     )

@@ -9,4 +9,4 @@ invariant-loop g l =
     IsReady l.console.drill
     × (l.console.number ≤ 512 * l.counter)
     × ((seen : List ℕ) × Consumes (g.R.Read.remaining l.fn.reader) (g.R.Read.remaining l.reader) seen × (l.counter ≤ length seen)
-    × Takes g.D.Disk g.D.CrashDisk.crashes l.fn.self.drill 0 l.fn.self.line seen [] (g.W.Write.contents l.fn.writer) (g.W.Write.contents l.writer) l.console.drill l.console.number l.console.line)
+    × Takes g.D.Disk.model g.D.CrashDisk.crashes l.fn.self.drill 0 l.fn.self.line seen [] (g.W.Write.contents l.fn.writer) (g.W.Write.contents l.writer) l.console.drill l.console.number l.console.line)

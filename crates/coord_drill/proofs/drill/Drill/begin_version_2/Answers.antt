@@ -3,4 +3,4 @@ use Rattle.coord_drill.proofs.course.Standing.{carries_raised}
 use Rattle.coord_drill.proofs.drill.Drill.begin_version_2.Goals as goal
 
 pub returns-in-Ok-clause-told : goal.returns-in-Ok-clause-told
-returns-in-Ok-clause-told g c promised = carries_raised g.D.Disk g.D.CrashDisk.crashes c.args.self _ (promised.1 refl) c.in-Ok.ensures.raised refl refl
+returns-in-Ok-clause-told g c promised = carries_raised g.D.Disk.model g.D.CrashDisk.crashes c.args.self _ (promised.1 refl) c.in-Ok.ensures.raised refl refl

@@ -5,7 +5,7 @@ use Rattle.coord_drill.proofs.does.Tells.{tells_check}
 use Rattle.coord_drill.proofs.drill.Drill.check.Goals as goal
 
 pub returns-in-Ok-clause-told : goal.returns-in-Ok-clause-told
-returns-in-Ok-clause-told g c = tells_check g.D.Disk g.D.CrashDisk.crashes c.args.self (string_bytes c.args.text.now) (string_bytes c.print_fault-printed.new.text) c.lemma_survives.ensures (search rules)
+returns-in-Ok-clause-told g c = tells_check g.D.Disk.model g.D.CrashDisk.crashes c.args.self (string_bytes c.args.text.now) (string_bytes c.print_fault-printed.new.text) c.lemma_survives.ensures (search rules)
 
 pub returns-in-Err-clause-cut : goal.returns-in-Err-clause-cut
-returns-in-Err-clause-cut g c = cut_before g.D.Disk g.D.CrashDisk.crashes c.args.self ask.Check _ _ refl c.lost.ensures.fault c.lemma_survives.ensures c.lost.ensures.disk
+returns-in-Err-clause-cut g c = cut_before g.D.Disk.model g.D.CrashDisk.crashes c.args.self ask.Check _ _ refl c.lost.ensures.fault c.lemma_survives.ensures c.lost.ensures.disk

@@ -27,18 +27,18 @@ returns-in-Ok-print_opened-clause-told g c =
     let count = c.in-Ok.opened.0 in
     let line = opened_line count in
     let text : string_bytes c.print_opened.new.text ≡ string_bytes c.args.text.now ++ line = search rules in
-    let begins = begins_by g.D.Disk g.D.CrashDisk.crashes d.driver c.lemma_begins.ensures in
-    let leads : IsPromised g.D.Disk d Crash → Leads g.D.Disk g.D.CrashDisk.crashes d.driver (event.Crash ∷ []) (Opened count ∷ []) w =
-    λ promised. leads_one g.D.Disk g.D.CrashDisk.crashes d.driver w event.Crash (Opened count) tt c.lemma_survives.ensures c.lemma_survives-2.ensures c.in-Ok.ensures.model
-    (λ n has. let none : n ≡ n + 0 = omega arith in subst (HasFailed g.D.Disk.failures (disk_held w)) none (c.in-Ok.ensures.failures n has))
+    let begins = begins_by g.D.Disk.model g.D.CrashDisk.crashes d.driver c.lemma_begins.ensures in
+    let leads : IsPromised g.D.Disk.model d Crash → Leads g.D.Disk.model g.D.CrashDisk.crashes d.driver (event.Crash ∷ []) (Opened count ∷ []) w =
+    λ promised. leads_one g.D.Disk.model g.D.CrashDisk.crashes d.driver w event.Crash (Opened count) tt c.lemma_survives.ensures c.lemma_survives-2.ensures c.in-Ok.ensures.model
+    (λ n has. let none : n ≡ n + 0 = omega arith in subst (HasFailed g.D.Disk.model.failures (disk_held w)) none (c.in-Ok.ensures.failures n has))
     (c.in-Ok.ensures.simulates promised.0) c.in-Ok.ensures.disk in (
       line,
       (
         text,
         λ promised.
             let led = leads promised in
-            carries g.D.Disk g.D.CrashDisk.crashes d _ Crash (Opened count ∷ []) line refl begins led (no_refusal _ refl, tt) (crash_line (drill_of d.driver.ledger d.holds d.has_begun) count)
-            (crash_after g.D.Disk g.D.CrashDisk.crashes d.driver w d.holds d.has_begun count (run_of g.D.Disk g.D.CrashDisk.crashes d.driver w (event.Crash ∷ []) (Opened count ∷ []) begins led) c.in-Ok.ensures.anew),
+            carries g.D.Disk.model g.D.CrashDisk.crashes d _ Crash (Opened count ∷ []) line refl begins led (no_refusal _ refl, tt) (crash_line (drill_of d.driver.ledger d.holds d.has_begun) count)
+            (crash_after g.D.Disk.model g.D.CrashDisk.crashes d.driver w d.holds d.has_begun count (run_of g.D.Disk.model g.D.CrashDisk.crashes d.driver w (event.Crash ∷ []) (Opened count ∷ []) begins led) c.in-Ok.ensures.anew),
       ),
     )
 
@@ -47,9 +47,9 @@ returns-in-Err-print_opened-clause-cut g c promised =
     let d = c.args.self in
     let w = c.in-Ok.opened.1 in
     let count = c.in-Ok.opened.0 in
-    let begins = begins_by g.D.Disk g.D.CrashDisk.crashes d.driver c.lemma_begins.ensures in
-    let led : Leads g.D.Disk g.D.CrashDisk.crashes d.driver (event.Crash ∷ []) (Opened count ∷ []) w =
-    leads_one g.D.Disk g.D.CrashDisk.crashes d.driver w event.Crash (Opened count) tt c.lemma_survives.ensures c.lemma_survives-2.ensures c.in-Ok.ensures.model
-    (λ n has. let none : n ≡ n + 0 = omega arith in subst (HasFailed g.D.Disk.failures (disk_held w)) none (c.in-Ok.ensures.failures n has))
+    let begins = begins_by g.D.Disk.model g.D.CrashDisk.crashes d.driver c.lemma_begins.ensures in
+    let led : Leads g.D.Disk.model g.D.CrashDisk.crashes d.driver (event.Crash ∷ []) (Opened count ∷ []) w =
+    leads_one g.D.Disk.model g.D.CrashDisk.crashes d.driver w event.Crash (Opened count) tt c.lemma_survives.ensures c.lemma_survives-2.ensures c.in-Ok.ensures.model
+    (λ n has. let none : n ≡ n + 0 = omega arith in subst (HasFailed g.D.Disk.model.failures (disk_held w)) none (c.in-Ok.ensures.failures n has))
     (c.in-Ok.ensures.simulates promised.0) c.in-Ok.ensures.disk in
-    cuts_part g.D.Disk g.D.CrashDisk.crashes d Crash _ _ refl c.lost.ensures.fault (all_led g.D.Disk g.D.CrashDisk.crashes d.driver w (line_events d.holds Crash) (Opened count ∷ []) _ begins led c.lost.ensures.disk)
+    cuts_part g.D.Disk.model g.D.CrashDisk.crashes d Crash _ _ refl c.lost.ensures.fault (all_led g.D.Disk.model g.D.CrashDisk.crashes d.driver w (line_events d.holds Crash) (Opened count ∷ []) _ begins led c.lost.ensures.disk)

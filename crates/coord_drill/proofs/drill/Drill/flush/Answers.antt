@@ -12,13 +12,13 @@ returns-in-Ok-clause-told g c =
     let flown = c.in_ok-drill.ensures.told in
     let line = count_line (settled_world (state_of new).log).count in
     let text : string_bytes c.print_count.new.text ≡ string_bytes c.fly.new.text ++ line = search rules in
-    (flown.0 ++ line, (text ∙ ap (λ l. l ++ line) flown.1.0 ∙ append_assoc (string_bytes c.args.text.now) flown.0 line, λ promised. flushes g.D.Disk g.D.CrashDisk.crashes d new flown.0 flown.1.1 (begins_by g.D.Disk g.D.CrashDisk.crashes d.driver c.lemma_begins.ensures)))
+    (flown.0 ++ line, (text ∙ ap (λ l. l ++ line) flown.1.0 ∙ append_assoc (string_bytes c.args.text.now) flown.0 line, λ promised. flushes g.D.Disk.model g.D.CrashDisk.crashes d new flown.0 flown.1.1 (begins_by g.D.Disk.model g.D.CrashDisk.crashes d.driver c.lemma_begins.ensures)))
 
 pub returns-in-Err-clause-cut : goal.returns-in-Err-clause-cut
 returns-in-Err-clause-cut g c promised =
     let d = c.args.self in
     let flown = c.in_ok-drill.ensures.told.1.1 in
-    (c.lost.ensures.fault, all_led g.D.Disk g.D.CrashDisk.crashes d.driver c.in_ok-drill.drill.driver flight_events flown.given _ (begins_by g.D.Disk g.D.CrashDisk.crashes d.driver c.lemma_begins.ensures) flown.moments c.lost.ensures.disk)
+    (c.lost.ensures.fault, all_led g.D.Disk.model g.D.CrashDisk.crashes d.driver c.in_ok-drill.drill.driver flight_events flown.given _ (begins_by g.D.Disk.model g.D.CrashDisk.crashes d.driver c.lemma_begins.ensures) flown.moments c.lost.ensures.disk)
 
 pub returns-in_err-drill-clause-cut : goal.returns-in_err-drill-clause-cut
 returns-in_err-drill-clause-cut g c = passed_on c.from_residual.result c.in_err-drill.field-0.0 _ c.from_residual.ensures.1 (λ promised. (c.in_err-drill.ensures.fault, c.in_err-drill.ensures.cut))

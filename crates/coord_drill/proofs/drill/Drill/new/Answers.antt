@@ -11,4 +11,4 @@ returns-clause-begun g c on =
     let over = c.over-driver.ensures in
     let there : disk_held driver ≡ Some made.begun = ap disk_held over ∙ ap (λ (l : LedgerState g.row.D.Denot). l.disk) made.is in
     let empty : driver.ledger.log ≡ log_over (no_world 1) = ap (λ (v : DriverState g.row.D.Denot). v.ledger.log) over ∙ ap (λ (l : LedgerState g.row.D.Denot). l.log) made.is in
-    record { begun = made.begun; made = made.made on; unfailed = made.unfailed; stands = stands_first g.D.Disk g.D.CrashDisk.crashes _ made.begun c.lemma_begins.ensures there (made.keeps ∙ on) empty refl refl }
+    record { begun = made.begun; made = made.made on; unfailed = made.unfailed; stands = stands_first g.D.Disk.model g.D.CrashDisk.crashes _ made.begun c.lemma_begins.ensures there (made.keeps ∙ on) empty refl refl }

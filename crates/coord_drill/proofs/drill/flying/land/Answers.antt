@@ -12,8 +12,8 @@ returns-in_err-releases-clause-cut g c =
     let v = c.args.driver in
     let tried = c.commit-answer.new.self in
     let given = c.commit-answer.result in
-    let tries : Leads g.D.Disk g.D.CrashDisk.crashes v (Commit ∷ []) (given ∷ []) tried =
-    leads_one g.D.Disk g.D.CrashDisk.crashes v tried Commit given tt c.lemma_survives.ensures c.lemma_survives-2.ensures c.commit-answer.ensures.model c.commit-answer.ensures.failures c.commit-answer.ensures.simulates c.commit-answer.ensures.disk in
+    let tries : Leads g.D.Disk.model g.D.CrashDisk.crashes v (Commit ∷ []) (given ∷ []) tried =
+    leads_one g.D.Disk.model g.D.CrashDisk.crashes v tried Commit given tt c.lemma_survives.ensures c.lemma_survives-2.ensures c.commit-answer.ensures.model c.commit-answer.ensures.failures c.commit-answer.ensures.simulates c.commit-answer.ensures.disk in
     IfErr-weaker c.from_residual.result (λ refused. disk_held tried ≡ Some refused.1) _ (λ refused there. record { given = given ∷ []; mid = tried; moments = tries; left = there }) (search rules)
 
 pub returns-clause-lands : goal.returns-clause-lands
@@ -33,13 +33,13 @@ returns-clause-moments g c =
     let back = c.in_ok-releases.driver in
     let given = c.commit-answer.result in
     let count = settled_count back.ledger.log in
-    let tries : Leads g.D.Disk g.D.CrashDisk.crashes v (Commit ∷ []) (given ∷ []) tried =
-    leads_one g.D.Disk g.D.CrashDisk.crashes v tried Commit given tt c.lemma_survives.ensures c.lemma_survives-2.ensures c.commit-answer.ensures.model c.commit-answer.ensures.failures c.commit-answer.ensures.simulates c.commit-answer.ensures.disk in
-    let goes : Leads g.D.Disk g.D.CrashDisk.crashes v landing_events (given ∷ Finished count ∷ []) back =
-    leads_then g.D.Disk g.D.CrashDisk.crashes v tried back (Commit ∷ []) (Finish ∷ []) (given ∷ []) (Finished count ∷ []) tries c.in_ok-releases.ensures.moments in
+    let tries : Leads g.D.Disk.model g.D.CrashDisk.crashes v (Commit ∷ []) (given ∷ []) tried =
+    leads_one g.D.Disk.model g.D.CrashDisk.crashes v tried Commit given tt c.lemma_survives.ensures c.lemma_survives-2.ensures c.commit-answer.ensures.model c.commit-answer.ensures.failures c.commit-answer.ensures.simulates c.commit-answer.ensures.disk in
+    let goes : Leads g.D.Disk.model g.D.CrashDisk.crashes v landing_events (given ∷ Finished count ∷ []) back =
+    leads_then g.D.Disk.model g.D.CrashDisk.crashes v tried back (Commit ∷ []) (Finish ∷ []) (given ∷ []) (Finished count ∷ []) tries c.in_ok-releases.ensures.moments in
     elim c.match-answer-2.branch [
-      | in-Committed w ↦ rw w.result-is (subst (λ (a : Answer). Leads g.D.Disk g.D.CrashDisk.crashes v landing_events (a ∷ Finished count ∷ []) back) w.in-Committed.is goes)
-      | in-Failed w ↦ rw w.result-is (subst (λ (a : Answer). Leads g.D.Disk g.D.CrashDisk.crashes v landing_events (a ∷ Finished count ∷ []) back) w.in-Failed.is goes)
+      | in-Committed w ↦ rw w.result-is (subst (λ (a : Answer). Leads g.D.Disk.model g.D.CrashDisk.crashes v landing_events (a ∷ Finished count ∷ []) back) w.in-Committed.is goes)
+      | in-Failed w ↦ rw w.result-is (subst (λ (a : Answer). Leads g.D.Disk.model g.D.CrashDisk.crashes v landing_events (a ∷ Finished count ∷ []) back) w.in-Failed.is goes)
       | in_default w ↦ rw w.result-is tt
     ]
 
@@ -50,10 +50,10 @@ returns-clause-cut g c =
     let back = c.in_ok-releases.driver in
     let given = c.commit-answer.result in
     let count = settled_count back.ledger.log in
-    let tries : Leads g.D.Disk g.D.CrashDisk.crashes v (Commit ∷ []) (given ∷ []) tried =
-    leads_one g.D.Disk g.D.CrashDisk.crashes v tried Commit given tt c.lemma_survives.ensures c.lemma_survives-2.ensures c.commit-answer.ensures.model c.commit-answer.ensures.failures c.commit-answer.ensures.simulates c.commit-answer.ensures.disk in
-    let goes : Leads g.D.Disk g.D.CrashDisk.crashes v landing_events (given ∷ Finished count ∷ []) back =
-    leads_then g.D.Disk g.D.CrashDisk.crashes v tried back (Commit ∷ []) (Finish ∷ []) (given ∷ []) (Finished count ∷ []) tries c.in_ok-releases.ensures.moments in
+    let tries : Leads g.D.Disk.model g.D.CrashDisk.crashes v (Commit ∷ []) (given ∷ []) tried =
+    leads_one g.D.Disk.model g.D.CrashDisk.crashes v tried Commit given tt c.lemma_survives.ensures c.lemma_survives-2.ensures c.commit-answer.ensures.model c.commit-answer.ensures.failures c.commit-answer.ensures.simulates c.commit-answer.ensures.disk in
+    let goes : Leads g.D.Disk.model g.D.CrashDisk.crashes v landing_events (given ∷ Finished count ∷ []) back =
+    leads_then g.D.Disk.model g.D.CrashDisk.crashes v tried back (Commit ∷ []) (Finish ∷ []) (given ∷ []) (Finished count ∷ []) tries c.in_ok-releases.ensures.moments in
     elim c.match-answer-2.branch [
       | in-Committed w ↦ rw w.result-is tt
       | in-Failed w ↦ rw w.result-is tt

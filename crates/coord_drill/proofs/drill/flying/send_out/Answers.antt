@@ -21,19 +21,19 @@ pub returns-clause-moments : goal.returns-clause-moments
 returns-clause-moments g c =
     let v = c.args.driver in
     let out = c.begin-begun.result.1 in
-    let goes : Leads g.D.Disk g.D.CrashDisk.crashes v (Begin ∷ []) (c.begin-begun.result.0 ∷ []) out =
-    leads_aside g.D.Disk g.D.CrashDisk.crashes v out Begin c.begin-begun.result.0 tt c.lemma_survives.ensures c.lemma_survives-2.ensures g.met.D.Disk.only_now refl (λ s. refl) refl c.begin-begun.ensures.disk c.begin-begun.ensures.simulates in
+    let goes : Leads g.D.Disk.model g.D.CrashDisk.crashes v (Begin ∷ []) (c.begin-begun.result.0 ∷ []) out =
+    leads_aside g.D.Disk.model g.D.CrashDisk.crashes v out Begin c.begin-begun.result.0 tt c.lemma_survives.ensures c.lemma_survives-2.ensures g.met.D.Disk.laws refl (λ s. refl) refl c.begin-begun.ensures.disk c.begin-begun.ensures.simulates in
     elim c.match-begun.branch [
       | in-Begun w ↦
           let so_far = c.lemma_begins.ensures.so_far in
           let allowed = ((goes (started v.ledger) so_far.consistent so_far.represents).answered).0 in
           let size = begun_size (started v.ledger) w.in-Begun.field-0 (subst (λ a. IsOneOf a (to_begin (started v.ledger))) w.in-Begun.is allowed) in
-          let begun = subst (λ a. Leads g.D.Disk g.D.CrashDisk.crashes v (Begin ∷ []) (a ∷ []) out) w.in-Begun.is goes in
+          let begun = subst (λ a. Leads g.D.Disk.model g.D.CrashDisk.crashes v (Begin ∷ []) (a ∷ []) out) w.in-Begun.is goes in
           rw w.result-is
           (IfOk-weaker w.land.result _ _
-          (λ r landed. flown_by g.D.Disk g.D.CrashDisk.crashes v out r.driver r.flown (next_size v.ledger.log) (settled_count r.driver.ledger.log) landed.0 (subst (λ b. Leads g.D.Disk g.D.CrashDisk.crashes v (Begin ∷ []) (Begun b ∷ []) out) size begun) landed.1)
+          (λ r landed. flown_by g.D.Disk.model g.D.CrashDisk.crashes v out r.driver r.flown (next_size v.ledger.log) (settled_count r.driver.ledger.log) landed.0 (subst (λ b. Leads g.D.Disk.model g.D.CrashDisk.crashes v (Begin ∷ []) (Begun b ∷ []) out) size begun) landed.1)
           (if_ok_both _ _ w.land.result w.land.ensures.lands w.land.ensures.moments))
-      | in-Nothing w ↦ rw w.result-is (subst (λ a. Leads g.D.Disk g.D.CrashDisk.crashes v (Begin ∷ []) (a ∷ []) out) w.in-Nothing.is goes)
+      | in-Nothing w ↦ rw w.result-is (subst (λ a. Leads g.D.Disk.model g.D.CrashDisk.crashes v (Begin ∷ []) (a ∷ []) out) w.in-Nothing.is goes)
       | in_default w ↦ rw w.result-is tt
     ]
 
@@ -41,12 +41,12 @@ pub returns-clause-cut : goal.returns-clause-cut
 returns-clause-cut g c =
     let v = c.args.driver in
     let out = c.begin-begun.result.1 in
-    let goes : Leads g.D.Disk g.D.CrashDisk.crashes v (Begin ∷ []) (c.begin-begun.result.0 ∷ []) out =
-    leads_aside g.D.Disk g.D.CrashDisk.crashes v out Begin c.begin-begun.result.0 tt c.lemma_survives.ensures c.lemma_survives-2.ensures g.met.D.Disk.only_now refl (λ s. refl) refl c.begin-begun.ensures.disk c.begin-begun.ensures.simulates in
+    let goes : Leads g.D.Disk.model g.D.CrashDisk.crashes v (Begin ∷ []) (c.begin-begun.result.0 ∷ []) out =
+    leads_aside g.D.Disk.model g.D.CrashDisk.crashes v out Begin c.begin-begun.result.0 tt c.lemma_survives.ensures c.lemma_survives-2.ensures g.met.D.Disk.laws refl (λ s. refl) refl c.begin-begun.ensures.disk c.begin-begun.ensures.simulates in
     elim c.match-begun.branch [
       | in-Begun w ↦
-          let begun = subst (λ a. Leads g.D.Disk g.D.CrashDisk.crashes v (Begin ∷ []) (a ∷ []) out) w.in-Begun.is goes in
-          rw w.result-is (IfErr-weaker w.land.result _ _ (λ refused part. flown_part g.D.Disk g.D.CrashDisk.crashes v out w.in-Begun.field-0 refused.1 begun part) w.land.ensures.cut)
+          let begun = subst (λ a. Leads g.D.Disk.model g.D.CrashDisk.crashes v (Begin ∷ []) (a ∷ []) out) w.in-Begun.is goes in
+          rw w.result-is (IfErr-weaker w.land.result _ _ (λ refused part. flown_part g.D.Disk.model g.D.CrashDisk.crashes v out w.in-Begun.field-0 refused.1 begun part) w.land.ensures.cut)
       | in-Nothing w ↦ rw w.result-is tt
-      | in_default w ↦ rw w.result-is (none_led g.D.Disk g.D.CrashDisk.crashes v out flight_events _ c.lemma_survives.ensures c.begin-begun.ensures.disk w.lost.ensures.disk)
+      | in_default w ↦ rw w.result-is (none_led g.D.Disk.model g.D.CrashDisk.crashes v out flight_events _ c.lemma_survives.ensures c.begin-begun.ensures.disk w.lost.ensures.disk)
     ]

@@ -18,18 +18,18 @@ returns-in-Err-clause-cut g c =
     let world : store.world ≡ settled_world d.ledger.log = c.in-Ok.ensures.world ∙ ap (λ (l : LedgerState g.row.D.Denot). settled_world l.log) ledger in
     let going : has_stopped d.ledger.log ≡ false → store.torn ≡ None = λ on. none_torn store.torn (c.in-Ok.ensures.stopped ∙ ap (λ (l : LedgerState g.row.D.Denot). is_some l.log.doubt) ledger ∙ on) in
     let now = c.migrate.new.self in
-    let moments : has_stopped d.ledger.log ≡ false → g.D.Disk.keeps_model store.disk ≡ true → LeavesOnly g.D.Disk.clock g.D.Disk.left_since store.disk now.disk (GivesRaised d) =
-    λ on keeps. subst (λ w. LeavesOnly g.D.Disk.clock g.D.Disk.left_since store.disk now.disk (GivesEither w (risen w))) world (c.migrate.ensures.any_moment keeps (going on)) in
+    let moments : has_stopped d.ledger.log ≡ false → g.D.Disk.model.keeps_model store.disk ≡ true → LeavesOnly g.D.Disk.model store.disk now.disk (GivesRaised d) =
+    λ on keeps. subst (λ w. LeavesOnly g.D.Disk.model store.disk now.disk (GivesEither w (risen w))) world (c.migrate.ensures.changes.any_moment keeps (going on)) in
     let fault = c.in-Err.fault in
     let told = c.into.ensures in
     let lost = c.into_disk.ensures.disk in
-    let failed : g.D.Disk.failures now.disk ≡ g.D.Disk.failures store.disk + failed_in fault = c.in-Err.ensures.failures in
+    let failed : g.D.Disk.model.failures now.disk ≡ g.D.Disk.model.failures store.disk + failed_in fault = c.in-Err.ensures.runs.failures in
     record {
       old = store.disk;
       there = there;
-      moments = λ on keeps. subst (λ x. LeavesOnly g.D.Disk.clock g.D.Disk.left_since store.disk x (GivesRaised d)) (sym lost) (moments on keeps);
-      cause = λ empty. subst IsPassing (sym told) (raising_cause d.ledger.log store.world fault world empty c.in-Err.ensures.fault (λ stopped. never_stopped store.torn (going (none_stopped g.D.Disk g.D.CrashDisk.crashes d.ledger.log empty)) fault stopped c.in-Err.ensures.stopped.0));
-      failed = ap g.D.Disk.failures lost ∙ failed ∙ ap (λ n. g.D.Disk.failures store.disk + n) (sym (ap failed_by told ∙ told_failures fault));
+      moments = λ on keeps. subst (λ x. LeavesOnly g.D.Disk.model store.disk x (GivesRaised d)) (sym lost) (moments on keeps);
+      cause = λ empty. subst IsPassing (sym told) (raising_cause d.ledger.log store.world fault world empty c.in-Err.ensures.fault (λ stopped. never_stopped store.torn (going (none_stopped g.D.Disk.model g.D.CrashDisk.crashes d.ledger.log empty)) fault stopped c.in-Err.ensures.stopped.0));
+      failed = ap g.D.Disk.model.failures lost ∙ failed ∙ ap (λ n. g.D.Disk.model.failures store.disk + n) (sym (ap failed_by told ∙ told_failures fault));
     }
 
 pub returns-in-Ok-adopt-clause-raised : goal.returns-in-Ok-adopt-clause-raised
@@ -41,12 +41,12 @@ returns-in-Ok-adopt-clause-raised g c =
     let world : store.world ≡ settled_world d.ledger.log = c.in-Ok.ensures.world ∙ ap (λ (l : LedgerState g.row.D.Denot). settled_world l.log) ledger in
     let going : has_stopped d.ledger.log ≡ false → store.torn ≡ None = λ on. none_torn store.torn (c.in-Ok.ensures.stopped ∙ ap (λ (l : LedgerState g.row.D.Denot). is_some l.log.doubt) ledger ∙ on) in
     let now = c.migrate.new.self in
-    let moments : has_stopped d.ledger.log ≡ false → g.D.Disk.keeps_model store.disk ≡ true → LeavesOnly g.D.Disk.clock g.D.Disk.left_since store.disk now.disk (GivesRaised d) =
-    λ on keeps. subst (λ w. LeavesOnly g.D.Disk.clock g.D.Disk.left_since store.disk now.disk (GivesEither w (risen w))) world (c.migrate.ensures.any_moment keeps (going on)) in
+    let moments : has_stopped d.ledger.log ≡ false → g.D.Disk.model.keeps_model store.disk ≡ true → LeavesOnly g.D.Disk.model store.disk now.disk (GivesRaised d) =
+    λ on keeps. subst (λ w. LeavesOnly g.D.Disk.model store.disk now.disk (GivesEither w (risen w))) world (c.migrate.ensures.changes.any_moment keeps (going on)) in
     let over = c.over-driver.ensures in
-    let raised : now.world ≡ risen (settled_world d.ledger.log) = c.in-Ok-migrate.ensures.world ∙ ap risen world in
+    let raised : now.world ≡ risen (settled_world d.ledger.log) = c.in-Ok-migrate.ensures.changes.world ∙ ap risen world in
     let is : c.over-driver.result.ledger ≡ ledger_over (risen (settled_world d.ledger.log)) now.disk = ap (λ (v : DriverState g.row.D.Denot). v.ledger) over ∙ c.in-Ok-adopt.ensures.adopted ∙ ap (λ w. ledger_over w now.disk) raised in
-    let failed : g.D.Disk.failures now.disk ≡ g.D.Disk.failures store.disk + 0 = c.in-Ok-migrate.ensures.failures in
+    let failed : g.D.Disk.model.failures now.disk ≡ g.D.Disk.model.failures store.disk + 0 = c.in-Ok-migrate.ensures.runs.failures in
     record {
       begins = c.lemma_begins-in-Ok-adopt.ensures;
       old = store.disk;
@@ -54,7 +54,7 @@ returns-in-Ok-adopt-clause-raised g c =
       raised = now.disk;
       is = is;
       now = ap disk_held over ∙ ap (λ (l : LedgerState g.row.D.Denot). l.disk) c.in-Ok-adopt.ensures.adopted;
-      keeps = λ keeps. c.migrate.ensures.model ∙ keeps;
+      keeps = λ keeps. c.migrate.ensures.runs.model ∙ keeps;
       failed = omega (arith, failed);
       moments = moments;
     }
@@ -68,14 +68,14 @@ returns-in-Err-adopt-clause-cut g c =
     let world : store.world ≡ settled_world d.ledger.log = c.in-Ok.ensures.world ∙ ap (λ (l : LedgerState g.row.D.Denot). settled_world l.log) ledger in
     let going : has_stopped d.ledger.log ≡ false → store.torn ≡ None = λ on. none_torn store.torn (c.in-Ok.ensures.stopped ∙ ap (λ (l : LedgerState g.row.D.Denot). is_some l.log.doubt) ledger ∙ on) in
     let now = c.migrate.new.self in
-    let moments : has_stopped d.ledger.log ≡ false → g.D.Disk.keeps_model store.disk ≡ true → LeavesOnly g.D.Disk.clock g.D.Disk.left_since store.disk now.disk (GivesRaised d) =
-    λ on keeps. subst (λ w. LeavesOnly g.D.Disk.clock g.D.Disk.left_since store.disk now.disk (GivesEither w (risen w))) world (c.migrate.ensures.any_moment keeps (going on)) in
+    let moments : has_stopped d.ledger.log ≡ false → g.D.Disk.model.keeps_model store.disk ≡ true → LeavesOnly g.D.Disk.model store.disk now.disk (GivesRaised d) =
+    λ on keeps. subst (λ w. LeavesOnly g.D.Disk.model store.disk now.disk (GivesEither w (risen w))) world (c.migrate.ensures.changes.any_moment keeps (going on)) in
     let lost : c.into_disk-in-Err-adopt.result ≡ now.disk = c.into_disk-in-Err-adopt.ensures.disk ∙ ap (λ (k : Kept g.row.D.Denot). k.disk) c.in-Err-adopt.ensures.back in
-    let failed : g.D.Disk.failures now.disk ≡ g.D.Disk.failures store.disk + 0 = c.in-Ok-migrate.ensures.failures in
+    let failed : g.D.Disk.model.failures now.disk ≡ g.D.Disk.model.failures store.disk + 0 = c.in-Ok-migrate.ensures.runs.failures in
     record {
       old = store.disk;
       there = there;
-      moments = λ on keeps. subst (λ x. LeavesOnly g.D.Disk.clock g.D.Disk.left_since store.disk x (GivesRaised d)) (sym lost) (moments on keeps);
+      moments = λ on keeps. subst (λ x. LeavesOnly g.D.Disk.model store.disk x (GivesRaised d)) (sym lost) (moments on keeps);
       cause = λ empty. inl refl;
-      failed = ap g.D.Disk.failures lost ∙ failed;
+      failed = ap g.D.Disk.model.failures lost ∙ failed;
     }

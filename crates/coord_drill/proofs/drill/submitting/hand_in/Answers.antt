@@ -11,6 +11,6 @@ returns g c =
       handed = c.submit-handed.ensures.handed;
       flight = c.submit-handed.ensures.flight;
       stays = c.submit-handed.ensures.disk;
-      moments = leads_aside g.D.Disk g.D.CrashDisk.crashes c.args.driver.now c.submit-handed.new.self (Submit c.args.step) (answer_to handed) c.within_ranges.ensures c.lemma_survives.ensures c.lemma_survives-2.ensures g.met.D.Disk.only_now refl (λ s. refl) refl c.submit-handed.ensures.disk
+      moments = leads_aside g.D.Disk.model g.D.CrashDisk.crashes c.args.driver.now c.submit-handed.new.self (Submit c.args.step) (answer_to handed) c.lemma_in_range.ensures c.lemma_survives.ensures c.lemma_survives-2.ensures g.met.D.Disk.laws refl (λ s. refl) refl c.submit-handed.ensures.disk
           c.submit-handed.ensures.simulates;
     }

@@ -21,5 +21,5 @@ returns g c =
     record {
       first = first.0;
       home = first.1;
-      so_far = so_far_first g.D.Disk g.D.CrashDisk.crashes first.0 d c.requires own is first.1 c.lemma_survives.ensures;
+      so_far = so_far_first g.D.Disk.model g.D.CrashDisk.crashes first.0 d c.requires own is first.1 c.lemma_survives.ensures;
     }

@@ -16,47 +16,47 @@ both (Err e) P Q p q = (p, q)
 pub returns-in-Err-clause-cause : goal.returns-in-Err-clause-cause
 returns-in-Err-clause-cause g c = (
   c.in-Err.ensures.named,
-  λ on. record { image = (g.D.Disk.present c.crash.result).read; allowed = c.crash.ensures.image on; refused = c.in-Err.ensures.fault (c.crash.ensures.model ∙ on) },
+  λ on. record { image = (g.D.Disk.model.present c.crash.result).read; allowed = c.crash.ensures.leaves.image on; refused = c.in-Err.ensures.fault (c.crash.ensures.leaves.model ∙ on) },
 )
 
 pub returns-in-Err-clause-failures : goal.returns-in-Err-clause-failures
-returns-in-Err-clause-failures g c = c.in-Err.ensures.failures ∙ ap (λ n. n + failed_in_opening c.in-Err.fault) c.crash.ensures.failures
+returns-in-Err-clause-failures g c = c.in-Err.ensures.runs.failures ∙ ap (λ n. n + failed_in_opening c.in-Err.fault) c.crash.ensures.leaves.failures
 
 pub returns-clause-cause : goal.returns-clause-cause
 returns-clause-cause g c =
-    let read = (g.D.Disk.present c.crash.result).read in
-    let opened : g.D.Disk.keeps_model c.args.disk ≡ true → IsOpenedOnce (g.D.Disk.present c.args.disk) (g.D.Disk.present c.in-Ok.store.disk) = λ on.
-    let same : (g.D.Disk.present c.in-Ok.store.disk).read ≡ read = ap (λ (p : Present). p.read) (c.in-Ok.ensures.bytes (c.crash.ensures.model ∙ on)) in
+    let read = (g.D.Disk.model.present c.crash.result).read in
+    let opened : g.D.Disk.model.keeps_model c.args.disk ≡ true → IsOpenedOnce (g.D.Disk.model.present c.args.disk) (g.D.Disk.model.present c.in-Ok.store.disk) = λ on.
+    let same : (g.D.Disk.model.present c.in-Ok.store.disk).read ≡ read = ap (λ (p : Present). p.read) (c.in-Ok.ensures.bytes (c.crash.ensures.leaves.model ∙ on)) in
     record {
-      allowed = subst (IsImage (g.D.Disk.present c.args.disk)) (sym same) (c.crash.ensures.image on);
+      allowed = subst (IsImage (g.D.Disk.model.present c.args.disk)) (sym same) (c.crash.ensures.leaves.image on);
       world = c.in-Ok.store.world;
-      recovered = subst (λ bytes. Recovered bytes c.in-Ok.store.world) (sym same) (c.in-Ok.ensures.world (c.crash.ensures.model ∙ on));
+      recovered = subst (λ bytes. Recovered bytes c.in-Ok.store.world) (sym same) (c.in-Ok.ensures.world (c.crash.ensures.leaves.model ∙ on));
     } in
     IfErr-weaker c.adopt.result _ _ (λ refused is.
-    subst (IsReopenFault (g.D.Disk.keeps_model c.args.disk) (g.D.Disk.present c.args.disk) (g.D.Disk.present refused.1)) (sym is.0)
-    (subst (λ lost. g.D.Disk.keeps_model c.args.disk ≡ true → IsOpenedOnce (g.D.Disk.present c.args.disk) (g.D.Disk.present lost)) (sym is.1) opened))
+    subst (IsReopenFault (g.D.Disk.model.keeps_model c.args.disk) (g.D.Disk.model.present c.args.disk) (g.D.Disk.model.present refused.1)) (sym is.0)
+    (subst (λ lost. g.D.Disk.model.keeps_model c.args.disk ≡ true → IsOpenedOnce (g.D.Disk.model.present c.args.disk) (g.D.Disk.model.present lost)) (sym is.1) opened))
     (both c.adopt.result _ _ c.adopt.ensures.memory c.adopt.ensures.back)
 
 pub returns-clause-failures : goal.returns-clause-failures
 returns-clause-failures g c =
-    let same : g.D.Disk.failures c.in-Ok.store.disk ≡ g.D.Disk.failures c.args.disk = c.in-Ok.ensures.failures ∙ c.crash.ensures.failures in
+    let same : g.D.Disk.model.failures c.in-Ok.store.disk ≡ g.D.Disk.model.failures c.args.disk = c.in-Ok.ensures.runs.failures ∙ c.crash.ensures.leaves.failures in
     MatchResult-from_both c.adopt.result _ _
-    (IfOk-weaker c.adopt.result _ _ (λ ledger is. ap (λ (l : LedgerState g.row.D.Denot). option_map g.D.Disk.failures l.disk) is ∙ ap Some same) c.adopt.ensures.adopted)
+    (IfOk-weaker c.adopt.result _ _ (λ ledger is. ap (λ (l : LedgerState g.row.D.Denot). option_map g.D.Disk.model.failures l.disk) is ∙ ap Some same) c.adopt.ensures.adopted)
     (IfErr-weaker c.adopt.result _ _ (λ refused is.
-    let lost : g.D.Disk.failures refused.1 ≡ g.D.Disk.failures c.args.disk = ap g.D.Disk.failures is.1 ∙ same in
+    let lost : g.D.Disk.model.failures refused.1 ≡ g.D.Disk.model.failures c.args.disk = ap g.D.Disk.model.failures is.1 ∙ same in
     let none : failed_in refused.0 ≡ 0 = ap failed_in is.0 in
     omega (arith, lost, none))
     (both c.adopt.result _ _ c.adopt.ensures.memory c.adopt.ensures.back))
 
 pub returns-clause-lost : goal.returns-clause-lost
 returns-clause-lost g c =
-    IfErr-weaker c.adopt.result _ _ (λ refused is on. subst (λ lost. Reopens g.D.Disk g.D.CrashDisk.crashes (IsImage (g.D.Disk.present c.args.disk)) c.args.disk lost) (sym is) (record {
+    IfErr-weaker c.adopt.result _ _ (λ refused is on. subst (λ lost. Reopens g.D.Disk.model g.D.CrashDisk.crashes (IsImage (g.D.Disk.model.present c.args.disk)) c.args.disk lost) (sym is) (record {
       taken = c.crash.result;
       crash = c.crash.ensures.crashes;
-      image = c.crash.ensures.image on;
-      synced = c.crash.ensures.synced on;
-      opening = c.in-Ok.ensures.any_moment (c.crash.ensures.model ∙ on);
-      each = λ bytes here. subst (IsImage (g.D.Disk.present c.args.disk)) (sym (whole_image (g.D.Disk.present c.crash.result).read (g.D.Disk.present c.crash.result) (c.crash.ensures.synced on) bytes here)) (c.crash.ensures.image on);
+      image = c.crash.ensures.leaves.image on;
+      synced = c.crash.ensures.leaves.synced on;
+      opening = c.in-Ok.ensures.any_moment (c.crash.ensures.leaves.model ∙ on);
+      each = λ bytes here. subst (IsImage (g.D.Disk.model.present c.args.disk)) (sym (whole_image (g.D.Disk.model.present c.crash.result).read (g.D.Disk.model.present c.crash.result) (c.crash.ensures.leaves.synced on) bytes here)) (c.crash.ensures.leaves.image on);
     })) c.adopt.ensures.back
 
 pub returns-clause-opened : goal.returns-clause-opened
@@ -65,14 +65,14 @@ returns-clause-opened g c =
       world = c.in-Ok.store.world;
       disk = c.in-Ok.store.disk;
       is = is;
-      same_model = c.in-Ok.ensures.model ∙ c.crash.ensures.model;
-      from = λ on. record { image = (g.D.Disk.present c.crash.result).read; allowed = c.crash.ensures.image on; recovered = c.in-Ok.ensures.world (c.crash.ensures.model ∙ on) };
+      same_model = c.in-Ok.ensures.runs.model ∙ c.crash.ensures.leaves.model;
+      from = λ on. record { image = (g.D.Disk.model.present c.crash.result).read; allowed = c.crash.ensures.leaves.image on; recovered = c.in-Ok.ensures.world (c.crash.ensures.leaves.model ∙ on) };
       moments = λ on. record {
         taken = c.crash.result;
         crash = c.crash.ensures.crashes;
-        image = c.crash.ensures.image on;
-        synced = c.crash.ensures.synced on;
-        opening = c.in-Ok.ensures.any_moment (c.crash.ensures.model ∙ on);
-        each = λ bytes here. subst (IsImage (g.D.Disk.present c.args.disk)) (sym (whole_image (g.D.Disk.present c.crash.result).read (g.D.Disk.present c.crash.result) (c.crash.ensures.synced on) bytes here)) (c.crash.ensures.image on);
+        image = c.crash.ensures.leaves.image on;
+        synced = c.crash.ensures.leaves.synced on;
+        opening = c.in-Ok.ensures.any_moment (c.crash.ensures.leaves.model ∙ on);
+        each = λ bytes here. subst (IsImage (g.D.Disk.model.present c.args.disk)) (sym (whole_image (g.D.Disk.model.present c.crash.result).read (g.D.Disk.model.present c.crash.result) (c.crash.ensures.leaves.synced on) bytes here)) (c.crash.ensures.leaves.image on);
       };
     }) c.adopt.ensures.adopted

@@ -21,16 +21,16 @@ where_it_fits {D} keeps_model present Says first steps items world next mark kep
 
 pub returns-in-Ok-clause-calls_where_it_fits : goal.returns-in-Ok-clause-calls_where_it_fits
 returns-in-Ok-clause-calls_where_it_fits g c =
-    where_it_fits g.D.Disk.keeps_model g.D.Disk.present (λ _ d. g.D.Disk.clock c.commit_to.new.self.disk ≤ g.D.Disk.clock d + 4) _ _ _ _ _ _ _ _ c.self.view_is c.in-New.is c.self.invariant c.deref.ensures.value c.commit_to.ensures.calls_where_it_fits
+    where_it_fits g.D.Disk.model.keeps_model g.D.Disk.model.present (λ _ d. g.D.Disk.model.clock c.commit_to.new.self.disk ≤ g.D.Disk.model.clock d + 4) _ _ _ _ _ _ _ _ c.self.view_is c.in-New.is c.self.invariant c.deref.ensures.value (λ half body k none spells place. c.commit_to.ensures.commits.calls_where_it_fits half (record { keeps = k; going = none; body = body; spells = spells; place = place }))
 
 pub returns-in-Ok-clause-half_where_it_fits : goal.returns-in-Ok-clause-half_where_it_fits
 returns-in-Ok-clause-half_where_it_fits g c =
-    where_it_fits g.D.Disk.keeps_model g.D.Disk.present (λ half _. IsTextIn half (g.D.Disk.present c.commit_to.new.self.disk).read) _ _ _ _ _ _ _ _ c.self.view_is c.in-New.is c.self.invariant c.deref.ensures.value c.in-Ok.ensures.half_where_it_fits
+    where_it_fits g.D.Disk.model.keeps_model g.D.Disk.model.present (λ half _. IsTextIn half (g.D.Disk.model.present c.commit_to.new.self.disk).read) _ _ _ _ _ _ _ _ c.self.view_is c.in-New.is c.self.invariant c.deref.ensures.value (λ half body k none spells place. c.in-Ok.ensures.commits.half_where_it_fits half (record { keeps = k; going = none; body = body; spells = spells; place = place }))
 
 pub returns-in-Err-Device-clause-calls_where_it_fits : goal.returns-in-Err-Device-clause-calls_where_it_fits
 returns-in-Err-Device-clause-calls_where_it_fits g c =
-    where_it_fits g.D.Disk.keeps_model g.D.Disk.present (λ _ d. g.D.Disk.clock c.commit_to.new.self.disk ≤ g.D.Disk.clock d + 4) _ _ _ _ _ _ _ _ c.self.view_is c.in-New.is c.self.invariant c.deref.ensures.value c.commit_to.ensures.calls_where_it_fits
+    where_it_fits g.D.Disk.model.keeps_model g.D.Disk.model.present (λ _ d. g.D.Disk.model.clock c.commit_to.new.self.disk ≤ g.D.Disk.model.clock d + 4) _ _ _ _ _ _ _ _ c.self.view_is c.in-New.is c.self.invariant c.deref.ensures.value (λ half body k none spells place. c.commit_to.ensures.commits.calls_where_it_fits half (record { keeps = k; going = none; body = body; spells = spells; place = place }))
 
 pub returns-in-Err-clause-calls_where_it_fits : goal.returns-in-Err-clause-calls_where_it_fits
 returns-in-Err-clause-calls_where_it_fits g c =
-    where_it_fits g.D.Disk.keeps_model g.D.Disk.present (λ _ d. g.D.Disk.clock c.commit_to.new.self.disk ≤ g.D.Disk.clock d + 4) _ _ _ _ _ _ _ _ c.self.view_is c.in-New.is c.self.invariant c.deref.ensures.value c.commit_to.ensures.calls_where_it_fits
+    where_it_fits g.D.Disk.model.keeps_model g.D.Disk.model.present (λ _ d. g.D.Disk.model.clock c.commit_to.new.self.disk ≤ g.D.Disk.model.clock d + 4) _ _ _ _ _ _ _ _ c.self.view_is c.in-New.is c.self.invariant c.deref.ensures.value (λ half body k none spells place. c.commit_to.ensures.commits.calls_where_it_fits half (record { keeps = k; going = none; body = body; spells = spells; place = place }))

@@ -19,4 +19,4 @@ invariant_of-self-2 g c =
     let trail = c.push_reserved.ensures.items ∙ ap (λ l. l ++ c.args.step ∷ []) (c.reserve.ensures.items) in
     let kinds = c.push_reserved-2.ensures.items ∙ ap (λ l. l ++ c.args.kind ∷ []) (c.reserve-2.ensures.items) in
     let given = ap listed (c.push_back_reserved.ensures.items ∙ ap (λ l. l ++ c.in_ok-outcome.outcome.outputs ∷ []) c.reserve-3.ensures.items) ∙ listed-push c.self.inside.given.items c.in_ok-outcome.outcome.outputs ∙ ap (λ l. listed c.self.inside.given.items ++ l ∷ []) c.in_ok-outcome.ensures.outputs in
-    took_step _ _ _ _ _ _ _ _ _ _ c.args.step c.args.kind _ _ _ _ c.self.invariant (subst P (sym c.self.view_is) c.requires) c.within_ranges.ensures trail kinds given c.in_ok-outcome.ensures.world
+    took_step _ _ _ _ _ _ _ _ _ _ c.args.step c.args.kind _ _ _ _ c.self.invariant (subst P (sym c.self.view_is) c.requires) c.lemma_in_range.ensures trail kinds given c.in_ok-outcome.ensures.world

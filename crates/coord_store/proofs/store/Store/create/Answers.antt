@@ -12,8 +12,8 @@ use Rattle.coord_store.proofs.store.Store.create.Goals as goal
 
 pub over-requires-clause-holds : goal.over-requires-clause-holds
 over-requires-clause-holds g c k =
-    let k1 = sym c.in-Ok-open.ensures.model ∙ k in
-    let k0 = sym c.format.ensures.model ∙ k1 in
+    let k1 = sym c.in-Ok-open.ensures.runs.model ∙ k in
+    let k0 = sym c.format.ensures.runs.model ∙ k1 in
     let known = c.in-Some.known in
     let bytes = c.in-Ok.snapshot.items in
     let made = without_batch c.args.version c.deref.result.now in
@@ -26,8 +26,8 @@ over-requires-clause-holds g c k =
 
 pub returns-clause-fault : goal.returns-clause-fault
 returns-clause-fault g c k0 =
-    let k1 = c.format.ensures.model ∙ k0 in
-    made_refused (g.D.Disk.present c.args.disk).read (g.D.Disk.present c.format.new.disk).read c.args.half_size (without_batch c.args.version c.deref.result.now) c.in-Err-open.fault c.told-in-Err-open.result
+    let k1 = c.format.ensures.runs.model ∙ k0 in
+    made_refused (g.D.Disk.model.present c.args.disk).read (g.D.Disk.model.present c.format.new.disk).read c.args.half_size (without_batch c.args.version c.deref.result.now) c.in-Err-open.fault c.told-in-Err-open.result
     c.told-in-Err-open.ensures (c.in-Ok-format.ensures.text k0) (c.in-Err-open.ensures.fault k1)
 
 -- a disk that was not empty
@@ -37,8 +37,7 @@ not_device why fault is other device = other (is ∙ ap store_fault_of device)
 
 pub returns-in-Err-format-clause-taken : goal.returns-in-Err-format-clause-taken
 returns-in-Err-format-clause-taken g c k some other =
-    let why = not_device c.in-Err-format.fault c.told.result c.told.ensures other in
-    record { same = c.in-Err-format.ensures.unchanged k why; any_moment = c.in-Err-format.ensures.any_moment k why }
+    c.in-Err-format.ensures.unchanged k (not_device c.in-Err-format.fault c.told.result c.told.ensures other)
 
 pub returns-clause-taken : goal.returns-clause-taken
 returns-clause-taken g c k some other = let no : ⊥ = omega (arith, some, c.in-Ok-format.ensures.empty k) in absurd no

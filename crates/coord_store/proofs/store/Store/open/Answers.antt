@@ -7,15 +7,15 @@ use Rattle.coord_store.proofs.store.Store.open.Goals as goal
 
 pub returns-in-Err-clause-only : goal.returns-in-Err-clause-only
 returns-in-Err-clause-only g c w k recovered =
-    let read = (g.D.Disk.present c.args.disk).read in
+    let read = (g.D.Disk.model.present c.args.disk).read in
     recovered_is_opened read w c.told.result recovered (text_refused read c.in-Err.fault c.told.result c.told.ensures (c.in-Err.ensures.fault k))
 
 pub returns-in-Ok-read_contents-clause-only : goal.returns-in-Ok-read_contents-clause-only
 returns-in-Ok-read_contents-clause-only g c w k recovered =
-    let read = (g.D.Disk.present c.args.disk).read in
+    let read = (g.D.Disk.model.present c.args.disk).read in
     c.over.ensures.world ∙ recovered_is_one read c.in-Ok-read_contents.world w (record { content = content_of c.in-Ok.opened.1; text = c.in-Ok.ensures.text k; gives = c.in-Ok-read_contents.ensures.gives }) recovered
 
 pub returns-clause-only : goal.returns-clause-only
 returns-clause-only g c w k recovered =
-    let read = (g.D.Disk.present c.args.disk).read in
+    let read = (g.D.Disk.model.present c.args.disk).read in
     recovered_is_opened read w c.in-Err-read_contents.fault recovered (content_refused read (content_of c.in-Ok.opened.1) c.in-Err-read_contents.fault (c.in-Ok.ensures.text k) c.in-Err-read_contents.ensures.refused)

@@ -1,11 +1,15 @@
-use Rattle.std.proofs.Common.{◌≡◌, ◌≢◌, ◌≤◌, ◌+◌, true, is_some, inl, inr, rules, refl, sym, ap, ◌∙◌, subst}
-use Rattle.coord_disk.specs.Model.Moments.{LeavesOnly}
+use Rattle.std.proofs.Common.{◌≡◌, ◌≢◌, ⊎_elim, Err, is_some, rules, refl, sym, ap, ◌∙◌, subst}
+use Rattle.coord_disk.specs.Model.Moments.{Runs}
 use Rattle.coord_store.specs.Faults.{failed_in}
-use Rattle.coord_store.specs.Kept.{GivesEither, IsKept, IsOnlyWorld, Kept}
+use Rattle.coord_store.specs.Kept.{IsKept, Kept}
 use Rattle.coord_journal.specs.declared.journal.Journal.{Journal}
 use Rattle.coord_store.specs.declared.faults.CommitFault.TheVariants.{Device}
-use Rattle.coord_store.proofs.Holding.{begun, kept_on, kept_torn, none_of}
+use Rattle.coord_store.specs.declared.faults.StoreFault.TheVariants as fault
+use Rattle.coord_store.proofs.Changing.{err_is, ok_not}
+use Rattle.coord_store.proofs.Holding.{kept_on, kept_torn, none_of}
 use Rattle.coord_store.proofs.store.Store.put.Goals as goal
+
+-- ---- what the type keeps
 
 pub put_in_place-requires-clause-going : goal.put_in_place-requires-clause-going
 put_in_place-requires-clause-going g c = c.self.invariant.stopped ∙ ap (λ (k : Kept g.row.D.Denot). is_some k.torn) c.self.view_is ∙ c.requires.going
@@ -13,93 +17,71 @@ put_in_place-requires-clause-going g c = c.self.invariant.stopped ∙ ap (λ (k 
 pub invariant_of-self : goal.invariant_of-self
 invariant_of-self g c =
     let none = none_of c.self.inside.torn (is_some c.self.inside.torn) refl (ap (λ (k : Kept g.row.D.Denot). is_some k.torn) c.self.view_is ∙ c.requires.going) in
-    subst (λ x. IsKept g.D.Disk.present g.D.Disk.keeps_model c.put_in_place.new.journal x c.self.inside.torn) (sym c.replace.ensures.after)
-    (kept_on g.D.Disk.present g.D.Disk.keeps_model c.put_in_place.new.journal c.args.next c.self.inside.torn none c.requires.legal c.in-Ok.ensures.going
-    (λ k. let before = sym c.put_in_place.ensures.model ∙ k in c.in-Ok.ensures.done c.self.inside.world before (c.self.invariant.holds before none)))
-
-pub returns-in-Ok-clause-any_moment : goal.returns-in-Ok-clause-any_moment
-returns-in-Ok-clause-any_moment g c =
-    let none = none_of c.self.inside.torn (is_some c.self.inside.torn) refl (ap (λ (k : Kept g.row.D.Denot). is_some k.torn) c.self.view_is ∙ c.requires.going) in
-    let P : Kept g.row.D.Denot → Type 0 = λ o. g.D.Disk.keeps_model o.disk ≡ true → LeavesOnly g.D.Disk.clock g.D.Disk.left_since o.disk c.put_in_place.new.journal.disk (GivesEither o.world c.args.next) in
-    subst P c.self.view_is (λ k. c.put_in_place.ensures.any_moment c.self.inside.world k (c.self.invariant.holds k none))
+    subst (λ x. IsKept g.D.Disk.model c.put_in_place.new.journal x c.self.inside.torn) (sym c.replace.ensures.after)
+    (kept_on g.D.Disk.model c.put_in_place.new.journal c.args.next c.self.inside.torn none c.requires.legal c.in-Ok.ensures.ends.going
+    (λ k. (c.in-Ok.ensures.follows c.self.inside.world (c.self.invariant.holds (sym c.put_in_place.ensures.ends.runs.model ∙ k) none)).done))
 
 pub invariant_of-self-then-eq : goal.invariant_of-self-then-eq
 invariant_of-self-then-eq g c =
     let w = c.self.inside.world in
     let none = none_of c.self.inside.torn (is_some c.self.inside.torn) refl (ap (λ (k : Kept g.row.D.Denot). is_some k.torn) c.self.view_is ∙ c.requires.going) in
     let device : c.in-Err.fault ≡ Device = search rules in
-    subst (λ o. IsKept g.D.Disk.present g.D.Disk.keeps_model c.put_in_place.new.journal w o) (sym c.replace-then-eq.ensures.after)
-    (kept_torn g.D.Disk.present g.D.Disk.keeps_model c.put_in_place.new.journal w c.args.next c.self.invariant.legal (c.in-Err.ensures.device (cc))
-    (λ k image is.
-    let before = sym c.put_in_place.ensures.model ∙ k in
-    let moments = c.put_in_place.ensures.any_moment w before (c.self.invariant.holds before none) in
-    moments.each image (g.met.D.Disk.counts_now c.put_in_place.new.journal.disk (g.D.Disk.clock c.self.inside.journal.disk) image k moments.later is)))
+    subst (λ o. IsKept g.D.Disk.model c.put_in_place.new.journal w o) (sym c.replace-then-eq.ensures.after)
+    (kept_torn g.D.Disk.model g.met.D.Disk.laws c.self.inside.journal.disk c.put_in_place.new.journal w c.args.next c.self.invariant.legal (c.in-Err.ensures.ends.device (ap Err device))
+    (λ k. (c.put_in_place.ensures.follows w (c.self.invariant.holds (sym c.put_in_place.ensures.ends.runs.model ∙ k) none)).any_moment))
 
-pub returns-then-eq-clause-any_moment : goal.returns-then-eq-clause-any_moment
-returns-then-eq-clause-any_moment g c =
-    let none = none_of c.self.inside.torn (is_some c.self.inside.torn) refl (ap (λ (k : Kept g.row.D.Denot). is_some k.torn) c.self.view_is ∙ c.requires.going) in
-    let P : Kept g.row.D.Denot → Type 0 = λ o. g.D.Disk.keeps_model o.disk ≡ true → LeavesOnly g.D.Disk.clock g.D.Disk.left_since o.disk c.put_in_place.new.journal.disk (GivesEither o.world c.args.next) in
-    subst P c.self.view_is (λ k. c.put_in_place.ensures.any_moment c.self.inside.world k (c.self.invariant.holds k none))
+-- ---- what is promised: as the writing says
 
-pub returns-else-eq-clause-any_moment : goal.returns-else-eq-clause-any_moment
-returns-else-eq-clause-any_moment g c =
-    let none = none_of c.self.inside.torn (is_some c.self.inside.torn) refl (ap (λ (k : Kept g.row.D.Denot). is_some k.torn) c.self.view_is ∙ c.requires.going) in
-    let P : Kept g.row.D.Denot → Type 0 = λ o. g.D.Disk.keeps_model o.disk ≡ true → LeavesOnly g.D.Disk.clock g.D.Disk.left_since o.disk c.put_in_place.new.journal.disk (GivesEither o.world c.args.next) in
-    subst P c.self.view_is (λ k. c.put_in_place.ensures.any_moment c.self.inside.world k (c.self.invariant.holds k none))
+unlike : fault.OutOfMemory ≡ fault.Device → ⊥
+unlike e = absurd cc
 
-pub returns-else-eq-clause-any_moment_refused : goal.returns-else-eq-clause-any_moment_refused
-returns-else-eq-clause-any_moment_refused g c k _ =
-    let journal = c.self.inside.journal in
-    let w = c.self.inside.world in
+pub returns-in-Ok-clause-changes : goal.returns-in-Ok-clause-changes
+returns-in-Ok-clause-changes g c =
     let none = none_of c.self.inside.torn (is_some c.self.inside.torn) refl (ap (λ (k : Kept g.row.D.Denot). is_some k.torn) c.self.view_is ∙ c.requires.going) in
+    rw (← c.self.view_is) (record {
+      any_moment = λ k none. (c.in-Ok.ensures.follows c.self.inside.world (c.self.invariant.holds k none)).any_moment;
+      any_moment_refused = λ k none. tt;
+      world = search rules;
+      going = none;
+      torn = λ e. ok_not _ _ e;
+      same_world = tt;
+    })
+
+pub returns-then-eq-clause-changes : goal.returns-then-eq-clause-changes
+returns-then-eq-clause-changes g c = rw (← c.self.view_is) (record {
+  any_moment = λ k none. (c.in-Err.ensures.follows c.self.inside.world (c.self.invariant.holds k none)).any_moment;
+  any_moment_refused = λ k none other. absurd (other refl);
+  world = tt;
+  going = tt;
+  torn = λ _. search rules;
+  same_world = refl;
+})
+
+pub returns-else-eq-clause-changes : goal.returns-else-eq-clause-changes
+returns-else-eq-clause-changes g c =
     let other : c.in-Err.fault ≢ Device = search rules in
-    let same : c.put_in_place.new.journal.disk ≡ journal.disk = ap (λ (j : Journal g.row.D.Denot). j.disk) (c.in-Err.ensures.unchanged other) in
-    let P : Kept g.row.D.Denot → Type 0 = λ o. g.D.Disk.keeps_model o.disk ≡ true → LeavesOnly g.D.Disk.clock g.D.Disk.left_since o.disk c.put_in_place.new.journal.disk (IsOnlyWorld o.world) in
-    let all = subst P c.self.view_is (λ k. subst (λ d. LeavesOnly g.D.Disk.clock g.D.Disk.left_since journal.disk d (IsOnlyWorld w)) (sym same) (begun g.D.Disk.present g.D.Disk.keeps_model g.D.Disk.clock g.D.Disk.left_since journal w (c.self.invariant.holds k none) (λ image. g.met.D.Disk.only_now journal.disk image k))) in
-    all k
+    rw (← c.self.view_is) (record {
+      any_moment = λ k none. (c.in-Err.ensures.follows c.self.inside.world (c.self.invariant.holds k none)).any_moment;
+      any_moment_refused = λ k none _. (c.in-Err.ensures.stays c.self.inside.world (c.self.invariant.holds k none)).any_moment other;
+      world = tt;
+      going = tt;
+      torn = λ e. absurd (unlike (err_is fault.OutOfMemory fault.Device e));
+      same_world = refl;
+    })
 
--- what a crash may leave and what the device counts: as the journal's call says
+pub returns-in-Ok-clause-runs : goal.returns-in-Ok-clause-runs
+returns-in-Ok-clause-runs g c = rw (← c.self.view_is) c.in-Ok.ensures.ends.runs
 
-pub returns-in-Ok-clause-model : goal.returns-in-Ok-clause-model
-returns-in-Ok-clause-model g c = c.put_in_place.ensures.model ∙ ap (λ (s : Kept g.row.D.Denot). g.D.Disk.keeps_model s.disk) c.self.view_is
-
-pub returns-in-Ok-clause-calls : goal.returns-in-Ok-clause-calls
-returns-in-Ok-clause-calls g c =
-    subst (λ (s : Kept g.row.D.Denot). g.D.Disk.keeps_model s.disk ≡ true → g.D.Disk.clock c.put_in_place.new.journal.disk ≤ g.D.Disk.clock s.disk + 4) c.self.view_is c.put_in_place.ensures.calls
-
-pub returns-then-eq-clause-model : goal.returns-then-eq-clause-model
-returns-then-eq-clause-model g c = c.put_in_place.ensures.model ∙ ap (λ (s : Kept g.row.D.Denot). g.D.Disk.keeps_model s.disk) c.self.view_is
-
-pub returns-then-eq-clause-calls : goal.returns-then-eq-clause-calls
-returns-then-eq-clause-calls g c =
-    subst (λ (s : Kept g.row.D.Denot). g.D.Disk.keeps_model s.disk ≡ true → g.D.Disk.clock c.put_in_place.new.journal.disk ≤ g.D.Disk.clock s.disk + 4) c.self.view_is c.put_in_place.ensures.calls
-
-pub returns-then-eq-clause-same_world : goal.returns-then-eq-clause-same_world
-returns-then-eq-clause-same_world g c = ap (λ (s : Kept g.row.D.Denot). s.world) c.self.view_is
-
-pub returns-else-eq-clause-model : goal.returns-else-eq-clause-model
-returns-else-eq-clause-model g c = c.put_in_place.ensures.model ∙ ap (λ (s : Kept g.row.D.Denot). g.D.Disk.keeps_model s.disk) c.self.view_is
-
-pub returns-else-eq-clause-calls : goal.returns-else-eq-clause-calls
-returns-else-eq-clause-calls g c =
-    subst (λ (s : Kept g.row.D.Denot). g.D.Disk.keeps_model s.disk ≡ true → g.D.Disk.clock c.put_in_place.new.journal.disk ≤ g.D.Disk.clock s.disk + 4) c.self.view_is c.put_in_place.ensures.calls
-
-pub returns-else-eq-clause-same_world : goal.returns-else-eq-clause-same_world
-returns-else-eq-clause-same_world g c = ap (λ (s : Kept g.row.D.Denot). s.world) c.self.view_is
-
-pub returns-in-Ok-clause-failures : goal.returns-in-Ok-clause-failures
-returns-in-Ok-clause-failures g c = c.in-Ok.ensures.failures ∙ ap (λ (s : Kept g.row.D.Denot). g.D.Disk.failures s.disk + 0) c.self.view_is
-
-pub returns-then-eq-clause-failures : goal.returns-then-eq-clause-failures
-returns-then-eq-clause-failures g c =
+pub returns-then-eq-clause-runs : goal.returns-then-eq-clause-runs
+returns-then-eq-clause-runs g c =
     let device : c.in-Err.fault ≡ Device = search rules in
-    c.in-Err.ensures.failures ∙ ap (λ f. g.D.Disk.failures c.self.inside.journal.disk + failed_in f) device ∙ ap (λ (s : Kept g.row.D.Denot). g.D.Disk.failures s.disk + 1) c.self.view_is
+    rw (← c.self.view_is) (subst (λ f. Runs g.D.Disk.model c.self.inside.journal.disk c.put_in_place.new.journal.disk 4 (failed_in f)) device c.in-Err.ensures.ends.runs)
 
-pub returns-else-eq-clause-failures : goal.returns-else-eq-clause-failures
-returns-else-eq-clause-failures g c =
+pub returns-else-eq-clause-runs : goal.returns-else-eq-clause-runs
+returns-else-eq-clause-runs g c =
     let other : c.in-Err.fault ≢ Device = search rules in
-    let none : failed_in c.in-Err.fault ≡ 0 = elim c.in-Err.ensures.fault [ inl memory ↦ ap failed_in memory | inr device ↦ absurd (other device) ] in
-    c.in-Err.ensures.failures ∙ ap (λ n. g.D.Disk.failures c.self.inside.journal.disk + n) none ∙ ap (λ (s : Kept g.row.D.Denot). g.D.Disk.failures s.disk + 0) c.self.view_is
+    let none : failed_in c.in-Err.fault ≡ 0 = ⊎_elim (λ memory. ap failed_in memory) (λ device. absurd (other device)) c.in-Err.ensures.ends.fault in
+    rw (← c.self.view_is) (subst (λ n. Runs g.D.Disk.model c.self.inside.journal.disk c.put_in_place.new.journal.disk 4 n) none c.in-Err.ensures.ends.runs)
 
 pub returns-else-eq-clause-unchanged : goal.returns-else-eq-clause-unchanged
 returns-else-eq-clause-unchanged g c _ =

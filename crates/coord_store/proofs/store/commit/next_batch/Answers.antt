@@ -1,6 +1,6 @@
 use Rattle.std.proofs.Common.{refl, sym, subst, arith}
 use Rattle.std.specs.List.{AllByRecursion}
-use Rattle.coord_batch.specs.Batches.{BringsRightly}
+use Rattle.coord_batch.specs.Batches.{CarriesRightly}
 use Rattle.coord_store.proofs.Freshness.{all_writable, first_number}
 use Rattle.coord_store.proofs.Holding.{taken}
 use Rattle.coord_store.proofs.store.commit.next_batch.Goals as goal
@@ -11,7 +11,7 @@ write_batch-requires-clause-first c =
 
 pub write_batch-requires-clause-writable : goal.write_batch-requires-clause-writable
 write_batch-requires-clause-writable c =
-    all_writable c.version.result c.args.steps.now c.requires.numbered (subst (λ v. AllByRecursion (BringsRightly v) c.args.steps.now) (sym c.version.ensures) c.in_ok-next.ensures.brought)
+    all_writable c.version.result c.args.steps.now c.requires.numbered (subst (λ v. AllByRecursion (CarriesRightly v) c.args.steps.now) (sym c.version.ensures) c.in_ok-next.ensures.carried)
 
 pub returns-in-Ok-clause-taken : goal.returns-in-Ok-clause-taken
 returns-in-Ok-clause-taken c =

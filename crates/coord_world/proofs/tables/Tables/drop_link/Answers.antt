@@ -6,7 +6,7 @@ use Rattle.coord_link.specs.LaneMachine.{Lane}
 use Rattle.coord_node.specs.Rules.{Transition, lost}
 use Rattle.coord_world.specs.Facade.{World, lane_at, state, with_command, with_transition}
 use Rattle.coord_tables.proofs.Found.{set_stays}
-use Rattle.coord_world.proofs.transitions.IsNodeStepOf.{act_done, act_room}
+use Rattle.coord_world.proofs.transitions.IsTransitionOf.{act_done, act_room}
 use Rattle.coord_world.proofs.tables.Tables.drop_link.Goals as goal
 
 pub carry_out-requires-clause-room : goal.carry_out-requires-clause-room

@@ -9,7 +9,7 @@ invariant_of-self-2 c =
     let w = c.self.inside.tables in
     let legal = subst Legal (sym c.self.view_is) c.requires.legal in
     let fresh = subst (λ v. IsFresh v v c.args.step.now) (sym c.self.view_is) c.requires.fresh in
-    subst InRange (sym c.in_ok-outcome.ensures.world) (ranges_next w w c.args.step.now c.within_ranges.ensures c.self.invariant legal fresh)
+    subst InRange (sym c.in_ok-outcome.ensures.world) (ranges_next w w c.args.step.now c.lemma_in_range.ensures c.self.invariant legal fresh)
 
 pub returns-clause-legal : goal.returns-clause-legal
 returns-clause-legal c =

@@ -33,32 +33,32 @@ returns-in-Err-clause-answered g c s is follows promised = elim c.match-event.br
 
 pub returns-in-Ok-clause-disk : goal.returns-in-Ok-clause-disk
 returns-in-Ok-clause-disk g c s is follows = elim c.match-event.branch [
-  | in-Submit w ↦ answered_without_disk g.D.Disk g.D.CrashDisk.crashes g.met.D.Disk.only_now s c.args.event (Submit w.in-Submit.step) c.in-Ok.answer (disk_held c.args.self.driver) (disk_held c.match-event.held.driver) w.in-Submit.is refl refl (ap (λ (h : Run g.row.D.Denot). disk_held h.driver) w.held-is ∙ w.submit-answer.ensures.disk) (c.lemma_survives.ensures s is follows.represents)
+  | in-Submit w ↦ answered_without_disk g.D.Disk.model g.D.CrashDisk.crashes g.met.D.Disk.laws s c.args.event (Submit w.in-Submit.step) c.in-Ok.answer (disk_held c.args.self.driver) (disk_held c.match-event.held.driver) w.in-Submit.is refl refl (ap (λ (h : Run g.row.D.Denot). disk_held h.driver) w.held-is ∙ w.submit-answer.ensures.disk) (c.lemma_survives.ensures s is follows.represents)
   | in-Commit w ↦
-      answered_commit g.D.Disk g.D.CrashDisk.crashes s c.args.event w.commit.result c.match-event.answer c.in-Ok.answer (disk_held c.args.self.driver) (disk_held c.match-event.held.driver) (disk_held w.commit.new.self.driver) w.in-Commit.is w.answer-is c.in-Ok.is (ap (λ (h : Run g.row.D.Denot). disk_held h.driver) w.held-is) (w.commit.ensures.disk s is follows)
-  | in-Collect w ↦ answered_without_disk g.D.Disk g.D.CrashDisk.crashes g.met.D.Disk.only_now s c.args.event (Collect w.in-Collect.index) c.in-Ok.answer (disk_held c.args.self.driver) (disk_held c.match-event.held.driver) w.in-Collect.is refl refl (ap (λ (h : Run g.row.D.Denot). disk_held h.driver) w.held-is ∙ w.collect.ensures.disk) (c.lemma_survives.ensures s is follows.represents)
-  | in-Resend w ↦ answered_without_disk g.D.Disk g.D.CrashDisk.crashes g.met.D.Disk.only_now s c.args.event Resend c.in-Ok.answer (disk_held c.args.self.driver) (disk_held c.match-event.held.driver) w.in-Resend.is refl refl (ap (λ (h : Run g.row.D.Denot). disk_held h.driver) w.held-is ∙ w.resend-answer.ensures.disk) (c.lemma_survives.ensures s is follows.represents)
-  | in-Show w ↦ answered_without_disk g.D.Disk g.D.CrashDisk.crashes g.met.D.Disk.only_now s c.args.event Show c.in-Ok.answer (disk_held c.args.self.driver) (disk_held c.match-event.held.driver) w.in-Show.is refl refl (ap (λ (h : Run g.row.D.Denot). disk_held h.driver) w.held-is ∙ w.show.ensures.disk) (c.lemma_survives.ensures s is follows.represents)
+      answered_commit g.D.Disk.model g.D.CrashDisk.crashes s c.args.event w.commit.result c.match-event.answer c.in-Ok.answer (disk_held c.args.self.driver) (disk_held c.match-event.held.driver) (disk_held w.commit.new.self.driver) w.in-Commit.is w.answer-is c.in-Ok.is (ap (λ (h : Run g.row.D.Denot). disk_held h.driver) w.held-is) (w.commit.ensures.disk s is follows)
+  | in-Collect w ↦ answered_without_disk g.D.Disk.model g.D.CrashDisk.crashes g.met.D.Disk.laws s c.args.event (Collect w.in-Collect.index) c.in-Ok.answer (disk_held c.args.self.driver) (disk_held c.match-event.held.driver) w.in-Collect.is refl refl (ap (λ (h : Run g.row.D.Denot). disk_held h.driver) w.held-is ∙ w.collect.ensures.disk) (c.lemma_survives.ensures s is follows.represents)
+  | in-Resend w ↦ answered_without_disk g.D.Disk.model g.D.CrashDisk.crashes g.met.D.Disk.laws s c.args.event Resend c.in-Ok.answer (disk_held c.args.self.driver) (disk_held c.match-event.held.driver) w.in-Resend.is refl refl (ap (λ (h : Run g.row.D.Denot). disk_held h.driver) w.held-is ∙ w.resend-answer.ensures.disk) (c.lemma_survives.ensures s is follows.represents)
+  | in-Show w ↦ answered_without_disk g.D.Disk.model g.D.CrashDisk.crashes g.met.D.Disk.laws s c.args.event Show c.in-Ok.answer (disk_held c.args.self.driver) (disk_held c.match-event.held.driver) w.in-Show.is refl refl (ap (λ (h : Run g.row.D.Denot). disk_held h.driver) w.held-is ∙ w.show.ensures.disk) (c.lemma_survives.ensures s is follows.represents)
 ]
 
 pub returns-in-Begin-clause-disk : goal.returns-in-Begin-clause-disk
 returns-in-Begin-clause-disk g c s is follows =
-    answered_without_disk g.D.Disk g.D.CrashDisk.crashes g.met.D.Disk.only_now s c.args.event Begin c.begin.result.0 (disk_held c.args.self.driver) (disk_held c.begin.result.1.driver) c.in-Begin.is refl refl c.begin.ensures.disk (c.lemma_survives.ensures s is follows.represents)
+    answered_without_disk g.D.Disk.model g.D.CrashDisk.crashes g.met.D.Disk.laws s c.args.event Begin c.begin.result.0 (disk_held c.args.self.driver) (disk_held c.begin.result.1.driver) c.in-Begin.is refl refl c.begin.ensures.disk (c.lemma_survives.ensures s is follows.represents)
 
 pub returns-in-Finish-clause-disk : goal.returns-in-Finish-clause-disk
 returns-in-Finish-clause-disk g c s is follows =
     match_map c.finish.result
-    (λ held same. answered_without_disk g.D.Disk g.D.CrashDisk.crashes g.met.D.Disk.only_now s c.args.event Finish held.0 (disk_held c.args.self.driver) (disk_held held.1.driver) c.in-Finish.is refl refl same (c.lemma_survives.ensures s is follows.represents))
-    (λ broken there. lost_as_it_was g.D.Disk g.D.CrashDisk.crashes s c.args.event broken.kind (disk_held c.args.self.driver) broken.disk (ap is_crash c.in-Finish.is) there) c.finish.ensures.disk
+    (λ held same. answered_without_disk g.D.Disk.model g.D.CrashDisk.crashes g.met.D.Disk.laws s c.args.event Finish held.0 (disk_held c.args.self.driver) (disk_held held.1.driver) c.in-Finish.is refl refl same (c.lemma_survives.ensures s is follows.represents))
+    (λ broken there. lost_as_it_was g.D.Disk.model g.D.CrashDisk.crashes s c.args.event broken.kind (disk_held c.args.self.driver) broken.disk (ap is_crash c.in-Finish.is) there) c.finish.ensures.disk
 
 pub returns-in-Crash-clause-disk : goal.returns-in-Crash-clause-disk
 returns-in-Crash-clause-disk g c s is follows =
-    subst (λ x. MatchResult c.crash.result (λ held. DiskEffect {D = g.row.D.Denot} g.D.Disk g.D.CrashDisk.crashes (found_by_crash s x held.0) (touches_disk x held.0) x (disk_held c.args.self.driver) (disk_held held.1.driver)) (λ broken. IsLost {D = g.row.D.Denot} g.D.Disk g.D.CrashDisk.crashes s x broken.kind (disk_held c.args.self.driver) broken.disk)) (sym c.in-Crash.is)
+    subst (λ x. MatchResult c.crash.result (λ held. DiskEffect {D = g.row.D.Denot} g.D.Disk.model g.D.CrashDisk.crashes (found_by_crash s x held.0) (touches_disk x held.0) x (disk_held c.args.self.driver) (disk_held held.1.driver)) (λ broken. IsLost {D = g.row.D.Denot} g.D.Disk.model g.D.CrashDisk.crashes s x broken.kind (disk_held c.args.self.driver) broken.disk)) (sym c.in-Crash.is)
     (c.crash.ensures.disk s is follows)
 
 pub returns-in-Err-clause-disk : goal.returns-in-Err-clause-disk
 returns-in-Err-clause-disk g c s is follows =
-    let lost = lost_as_it_was g.D.Disk g.D.CrashDisk.crashes s c.args.event c.lose.result.kind (disk_held c.args.self.driver) c.lose.result.disk in
+    let lost = lost_as_it_was g.D.Disk.model g.D.CrashDisk.crashes s c.args.event c.lose.result.kind (disk_held c.args.self.driver) c.lose.result.disk in
     elim c.match-event.branch [
       | in-Submit w ↦ lost (ap is_crash w.in-Submit.is) (sym (ap (λ (h : Run g.row.D.Denot). disk_held h.driver) w.held-is ∙ w.submit-answer.ensures.disk) ∙ c.lose.ensures.disk)
       | in-Commit w ↦ let no : ⊥ = cc (w.answer-is, c.in-Err.is) in absurd no
@@ -71,14 +71,14 @@ returns-in-Err-clause-disk g c s is follows =
 
 pub returns-in-Ok-clause-failures : goal.returns-in-Ok-clause-failures
 returns-in-Ok-clause-failures g c n so =
-    let aside = failed_aside g.D.Disk.failures (disk_held c.args.self.driver) (disk_held c.match-event.held.driver) c.args.event in
+    let aside = failed_aside g.D.Disk.model.failures (disk_held c.args.self.driver) (disk_held c.match-event.held.driver) c.args.event in
     elim c.match-event.branch [
       | in-Submit w ↦ aside (Submit w.in-Submit.step) c.in-Ok.answer n w.in-Submit.is refl (ap (λ (h : Run g.row.D.Denot). disk_held h.driver) w.held-is ∙ w.submit-answer.ensures.disk) so
       | in-Commit w ↦
           let same : w.commit.result ≡ c.in-Ok.answer = cc (w.answer-is, c.in-Ok.is) in
-          subst (λ x. HasFailed g.D.Disk.failures (disk_held c.match-event.held.driver) (n + failed_at x c.in-Ok.answer)) (sym w.in-Commit.is)
-          (subst (λ a. HasFailed g.D.Disk.failures (disk_held c.match-event.held.driver) (n + failed_at Commit a)) same
-          (subst (λ (h : Run g.row.D.Denot). HasFailed g.D.Disk.failures (disk_held h.driver) (n + failed_at Commit w.commit.result)) (sym w.held-is) (w.commit.ensures.failures n so)))
+          subst (λ x. HasFailed g.D.Disk.model.failures (disk_held c.match-event.held.driver) (n + failed_at x c.in-Ok.answer)) (sym w.in-Commit.is)
+          (subst (λ a. HasFailed g.D.Disk.model.failures (disk_held c.match-event.held.driver) (n + failed_at Commit a)) same
+          (subst (λ (h : Run g.row.D.Denot). HasFailed g.D.Disk.model.failures (disk_held h.driver) (n + failed_at Commit w.commit.result)) (sym w.held-is) (w.commit.ensures.failures n so)))
       | in-Collect w ↦ aside (Collect w.in-Collect.index) c.in-Ok.answer n w.in-Collect.is refl (ap (λ (h : Run g.row.D.Denot). disk_held h.driver) w.held-is ∙ w.collect.ensures.disk) so
       | in-Resend w ↦ aside Resend c.in-Ok.answer n w.in-Resend.is refl (ap (λ (h : Run g.row.D.Denot). disk_held h.driver) w.held-is ∙ w.resend-answer.ensures.disk) so
       | in-Show w ↦ aside Show c.in-Ok.answer n w.in-Show.is refl (ap (λ (h : Run g.row.D.Denot). disk_held h.driver) w.held-is ∙ w.show.ensures.disk) so
@@ -86,7 +86,7 @@ returns-in-Ok-clause-failures g c n so =
 
 pub returns-in-Err-clause-failures : goal.returns-in-Err-clause-failures
 returns-in-Err-clause-failures g c n so =
-    let lost = λ (there : disk_held c.args.self.driver ≡ Some c.lose.result.disk). failed_giving_up g.D.Disk.failures (disk_held c.args.self.driver) c.lose.result.disk c.lose.result.kind n there c.lose.ensures.kind so in
+    let lost = λ (there : disk_held c.args.self.driver ≡ Some c.lose.result.disk). failed_giving_up g.D.Disk.model.failures (disk_held c.args.self.driver) c.lose.result.disk c.lose.result.kind n there c.lose.ensures.kind so in
     elim c.match-event.branch [
       | in-Submit w ↦ lost (sym (ap (λ (h : Run g.row.D.Denot). disk_held h.driver) w.held-is ∙ w.submit-answer.ensures.disk) ∙ c.lose.ensures.disk)
       | in-Commit w ↦ let no : ⊥ = cc (w.answer-is, c.in-Err.is) in absurd no
@@ -96,16 +96,16 @@ returns-in-Err-clause-failures g c n so =
     ]
 
 pub returns-in-Begin-clause-failures : goal.returns-in-Begin-clause-failures
-returns-in-Begin-clause-failures g c n so = failed_aside g.D.Disk.failures (disk_held c.args.self.driver) (disk_held c.begin.result.1.driver) c.args.event Begin c.begin.result.0 n c.in-Begin.is refl c.begin.ensures.disk so
+returns-in-Begin-clause-failures g c n so = failed_aside g.D.Disk.model.failures (disk_held c.args.self.driver) (disk_held c.begin.result.1.driver) c.args.event Begin c.begin.result.0 n c.in-Begin.is refl c.begin.ensures.disk so
 
 pub returns-in-Finish-clause-failures : goal.returns-in-Finish-clause-failures
 returns-in-Finish-clause-failures g c n so =
     match_both c.finish.result
-    (λ held same. failed_aside g.D.Disk.failures (disk_held c.args.self.driver) (disk_held held.1.driver) c.args.event Finish held.0 n c.in-Finish.is refl same so)
-    (λ broken there memory. failed_giving_up g.D.Disk.failures (disk_held c.args.self.driver) broken.disk broken.kind n there memory so) c.finish.ensures.disk c.finish.ensures.kind
+    (λ held same. failed_aside g.D.Disk.model.failures (disk_held c.args.self.driver) (disk_held held.1.driver) c.args.event Finish held.0 n c.in-Finish.is refl same so)
+    (λ broken there memory. failed_giving_up g.D.Disk.model.failures (disk_held c.args.self.driver) broken.disk broken.kind n there memory so) c.finish.ensures.disk c.finish.ensures.kind
 
 pub returns-in-Crash-clause-failures : goal.returns-in-Crash-clause-failures
 returns-in-Crash-clause-failures g c n so =
     match_map c.crash.result
-    (λ held now. failed_as g.D.Disk.failures (disk_held held.1.driver) n (n + failed_at c.args.event held.0) (let none : failed_at c.args.event held.0 ≡ 0 = ap (λ x. failed_at x held.0) c.in-Crash.is in omega (arith, none)) now)
+    (λ held now. failed_as g.D.Disk.model.failures (disk_held held.1.driver) n (n + failed_at c.args.event held.0) (let none : failed_at c.args.event held.0 ≡ 0 = ap (λ x. failed_at x held.0) c.in-Crash.is in omega (arith, none)) now)
     (λ broken now. now) (c.crash.ensures.failures n so)

@@ -1,0 +1,59 @@
+//! What a call at a node leads to.
+
+ghost use Rattle.std.specs.Prelude.{◌≡◌, IfOk, false, [], ◌∷◌, map};
+ghost use Rattle.coord_types.specs.NodeSet as set;
+
+use coord_types::{Msg, NodeId, NodeSet};
+use std::alloc::{AllocError, Global};
+
+/// What is to be sent, and whether the node finished a reset.
+#[derive(Drop, Debug)]
+pub struct Effects {
+    /// Whom a message goes to, in ascending order, and the message.
+    pub sends: Vec<(NodeId, Msg)>,
+    /// Whether the node entered its next epoch.
+    pub finished: bool,
+}
+
+impl Effects {
+    /// Nothing is sent.
+    pub(crate) fn idle(alloc: Global) -> Self
+        ensures sends { result.sends.items ≡ [] }
+        ensures finished { result.finished ≡ false }
+    {
+        Effects {
+            sends: Vec::new(alloc),
+            finished: false,
+        }
+    }
+
+    /// An Ack goes to one node.
+    pub(crate) fn answer(alloc: Global, to: NodeId) -> Result<Self, AllocError>
+        ensures sends { IfOk result (λ d. d.sends.items ≡ record { 0 = to; 1 = Msg.Ack } ∷ []) }
+        ensures finished { IfOk result (λ d. d.finished ≡ false) }
+    {
+        let sends = vec![in alloc; (to, Msg::Ack)]?;
+        Ok(Effects {
+            sends,
+            finished: false,
+        })
+    }
+}
+
+/// One message to each of these nodes, in ascending order.
+pub(crate) fn sends_to(
+    alloc: Global,
+    to: NodeSet,
+    msg: Msg,
+) -> Result<Vec<(NodeId, Msg)>, AllocError>
+    ensures { IfOk result
+        (λ sends. sends.items ≡ map (λ x. record { 0 = x; 1 = msg }) (set.items to)) }
+{
+    let mut sends = Vec::with_capacity(alloc, to.len())?;
+    let mut rest = to;
+    while let Some(id) = rest.first() {
+        sends.push((id, msg))?;
+        rest = rest.without(id);
+    }
+    Ok(sends)
+}

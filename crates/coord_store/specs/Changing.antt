@@ -1,0 +1,45 @@
+-- What a commit and a migration promise of a store.
+use Rattle.std.specs.Prelude.{◌≡◌, ◌≢◌, ◌⊎◌, ◌↔◌, ◌+◌, ◌≤◌, true, None, Some, List, ℕ, length, Result, IfErr, IsErrOf, OnOk}
+use Rattle.coord_types.specs.declared.steps.Step.{Step}
+use Rattle.coord_disk.specs.Model.DiskModel.{DiskModel}
+use Rattle.coord_disk.specs.Model.Moments.{LeavesOnly, Runs}
+use Rattle.coord_journal.specs.Text.{HasPlaceIn, IsTextIn}
+use Rattle.coord_world.specs.Facade.{World, fold}
+use Rattle.coord_store.specs.Faults.{failures_in}
+use Rattle.coord_store.specs.Kept.{GivesEither, IsOnlyWorld, Kept, has_stopped}
+use Rattle.coord_store.specs.Recovered.{IsBody}
+use Rattle.coord_store.specs.declared.faults.CommitFault.{CommitFault}
+use Rattle.coord_store.specs.declared.faults.CommitFault.TheVariants.{OutOfMemory, Device, Stopped}
+
+-- Another world is put in place of a store's. `device` is the fault that tells of a failure of the
+-- device: after it one of both worlds may be on the disk.
+pub record Changes {D T E : Type 0} (m : DiskModel D) (next : World) (device : E) (old new : Kept D) (result : Result T E) : Type 0 where
+  -- A crash at any moment of the call, also inside a checkpoint, leaves what gives the one world or the other.
+  pub any_moment : m.keeps_model old.disk ≡ true → old.torn ≡ None → LeavesOnly m old.disk new.disk (GivesEither old.world next)
+  -- Where the call is refused and the device did not fail, it leaves what gives the world from before.
+  pub any_moment_refused : m.keeps_model old.disk ≡ true → old.torn ≡ None → IfErr result (λ fault. fault ≢ device → LeavesOnly m old.disk new.disk (IsOnlyWorld old.world))
+  pub world : OnOk result (new.world ≡ next)
+  pub going : OnOk result (new.torn ≡ None)
+  pub torn : IsErrOf result device → new.torn ≡ Some next
+  pub same_world : IfErr result (λ fault. new.world ≡ old.world)
+
+-- The body of the batch fits behind what stands in this half.
+pub record FitsIn {D : Type 0} (m : DiskModel D) (half : ℕ) (steps : List Step) (store : Kept D) : Type 0 where
+  pub keeps : m.keeps_model store.disk ≡ true
+  pub going : store.torn ≡ None
+  pub body : List ℕ
+  pub spells : IsBody store.world body steps
+  pub place : HasPlaceIn half (length body) (m.present store.disk).read
+
+-- These steps are committed.
+pub record Commits {D T : Type 0} (m : DiskModel D) (steps : List Step) (old new : Kept D) (result : Result T CommitFault) : Type 0 where
+  pub changes : Changes m (fold old.world steps) Device old new result
+  pub runs : Runs m old.disk new.disk 8 (failures_in result)
+  -- Where the body of the batch fits behind what is there, no checkpoint is made.
+  pub calls_where_it_fits : (half : ℕ) → FitsIn m half steps old → m.clock new.disk ≤ m.clock old.disk + 4
+  pub half_where_it_fits : (half : ℕ) → FitsIn m half steps old → OnOk result (IsTextIn half (m.present new.disk).read)
+  -- when it is refused, and what the store is then
+  pub stopped : IsErrOf result Stopped ↔ (has_stopped old ≡ true)
+  pub fault : IfErr result (λ fault. (fault ≡ Stopped) ⊎ ((fault ≡ OutOfMemory) ⊎ (fault ≡ Device)))
+  pub unchanged : IfErr result (λ fault. fault ≢ Device → new.torn ≡ old.torn)
+  pub untouched : IsErrOf result Stopped → new ≡ old

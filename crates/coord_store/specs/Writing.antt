@@ -1,0 +1,30 @@
+-- What the parts of a commit promise of the journal that holds its world.
+use Rattle.std.specs.Prelude.{◌≡◌, ◌≢◌, ◌⊎◌, true, false, ℕ, Result, IfErr, IsErrOf, OnOk}
+use Rattle.coord_disk.specs.Model.DiskModel.{DiskModel}
+use Rattle.coord_disk.specs.Model.Moments.{LeavesOnly, Runs}
+use Rattle.coord_journal.specs.Facade.{disk_of, has_stopped}
+use Rattle.coord_journal.specs.declared.journal.Journal.{Journal}
+use Rattle.coord_world.specs.Facade.{World}
+use Rattle.coord_store.specs.Faults.{failures_in}
+use Rattle.coord_store.specs.Kept.{GivesEither, Holds, IsOnlyWorld}
+use Rattle.coord_store.specs.declared.faults.CommitFault.{CommitFault}
+use Rattle.coord_store.specs.declared.faults.CommitFault.TheVariants.{OutOfMemory, Device}
+
+-- The journal holds one world, and another one is written.
+pub record Follows {D T : Type 0} (m : DiskModel D) (w next : World) (old new : Journal D) (result : Result T CommitFault) : Type 0 where
+  pub any_moment : LeavesOnly m (disk_of old) (disk_of new) (GivesEither w next)
+  pub done : OnOk result (Holds m new next)
+
+-- Where that is refused and the device did not fail, the journal holds the world from before, and no
+-- crash leaves any other.
+pub record Stays {D T : Type 0} (m : DiskModel D) (w : World) (old new : Journal D) (result : Result T CommitFault) : Type 0 where
+  pub any_moment : IfErr result (λ fault. fault ≢ Device → LeavesOnly m (disk_of old) (disk_of new) (IsOnlyWorld w))
+  pub held : IfErr result (λ fault. fault ≢ Device → Holds m new w)
+
+-- Whatever the journal holds: how often the device is called and fails, and what the journal is then.
+pub record Ends {D T : Type 0} (m : DiskModel D) (most : ℕ) (old new : Journal D) (result : Result T CommitFault) : Type 0 where
+  pub runs : Runs m (disk_of old) (disk_of new) most (failures_in result)
+  pub fault : IfErr result (λ fault. (fault ≡ OutOfMemory) ⊎ (fault ≡ Device))
+  pub going : OnOk result (has_stopped new ≡ false)
+  pub still : IfErr result (λ fault. fault ≢ Device → has_stopped new ≡ false)
+  pub device : IsErrOf result Device → has_stopped new ≡ true
