@@ -5,7 +5,7 @@ ghost use Rattle.coord_world.specs.protocol.Legal.{Legal};
 
 use coord_check::check;
 use coord_types::{Client, Command, DataPacket, Group, Msg, NodeId, ReceiptPacket, Step, Version};
-use coord_world::{Outcome, Verdict, World};
+use coord_world::{StepOutcome, Verdict, World};
 use std::process::Abort;
 
 /// What a test asks for memory, and what ends it.
@@ -75,7 +75,7 @@ pub(crate) fn receipt(packet: DataPacket) -> ReceiptPacket {
 
 /// Takes a step that a world judges fresh, behind which the checker finds no fault. Where that finds no
 /// memory, the world has to be as it was, and takes it then.
-pub(crate) fn take(rt: &impl Host, world: &mut World, step: &Step) -> Outcome
+pub(crate) fn take(rt: &impl Host, world: &mut World, step: &Step) -> StepOutcome
     requires { Legal world.old }
     ensures { Legal world.new }
 {
@@ -92,7 +92,7 @@ pub(crate) fn take(rt: &impl Host, world: &mut World, step: &Step) -> Outcome
 }
 
 // What a step that a world judges fresh gives; None where there was no memory.
-fn tried(rt: &impl Host, world: &mut World, before: &World, step: &Step) -> Option<Outcome>
+fn tried(rt: &impl Host, world: &mut World, before: &World, step: &Step) -> Option<StepOutcome>
     requires { Legal world.old }
     ensures { Legal world.new }
 {
