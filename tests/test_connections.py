@@ -1,8 +1,10 @@
 """Clients that come in great numbers, that leave too early, or half."""
 
+import os
 import socket
 import threading
 
+from support import preloaded
 from support.case import Case
 from support.serving import Serving
 from support.stores import ring, topology
@@ -19,9 +21,34 @@ class Connections(Case):
 
     def test_two_hundred_one_after_the_other(self):
         with self.serving() as server:
+            descriptors = os.listdir(f"/proc/{server.process.pid}/fd")
             for number in range(1, 201):
                 self.assertEqual(server.order(number, "reset", node=1), {"kind": "finished", "step": number + 1})
+            # that of the last one may not be given back yet
+            self.assertLessEqual(len(os.listdir(f"/proc/{server.process.pid}/fd")), len(descriptors) + 1)
             self.assertEqual(server.await_signals(200), [(1, epoch) for epoch in range(1, 201)])
+            self.assertEqual(server.close().status, 0)
+
+    def test_an_answer_goes_out_at_once(self):
+        """The system is told so of each connection: otherwise it may wait for the client to take what was sent before."""
+        self.needs("a C compiler", preloaded.has_compiler())
+        environment = preloaded.environment(self.folder, CALLS=self.path("calls"), WAITS=1)
+        with Serving(self.made(topology([(1, 1)])), env=environment) as server:
+            for _ in range(2):
+                self.assertEqual(server.ask({"op": "resend"}), RESENT)
+            self.assertEqual(server.close().status, 0)
+        told = [line.split()[2] for line in self.read("calls").decode().splitlines() if line.startswith("at-once ")]
+        self.assertEqual(told, ["1"] * 3)
+
+    def test_answers_whose_writing_is_interrupted(self):
+        """As a stop of the process does. Also those that go out byte by byte come whole, and once."""
+        self.needs("a C compiler", preloaded.has_compiler())
+        environment = preloaded.environment(self.folder, INTERRUPTS=1, PIECE=1)
+        with Serving(self.made(ring(64)), env=environment) as server, server.connect() as connection:
+            for _ in range(3):
+                connection.send({"op": "resend"}, {"op": "show"})
+                self.assertEqual((connection.reply(), len(connection.reply()["links"])), (RESENT, 64))
+            connection.socket.close()
             self.assertEqual(server.close().status, 0)
 
     def test_two_hundred_at_once(self):

@@ -92,6 +92,14 @@ class LongRuns(Case):
             step, number = step + 7, number + 1
         self.assertEqual(drilled(text), Ended(0, wanted, ""))
 
+    def test_packets_of_a_second_link(self):
+        """Both its lanes have the number of the step that joined it."""
+        text = "add 1 1\nadd 2 1\nadd 3 1\njoin 1 2\njoin 2 3\nreset 2\n"
+        wanted = "".join(f"done {step}\n" for step in range(1, 6)) + "started 6\ndata 2 1 1 abort\ndata 2 3 1 abort\n"
+        text += "data 2 3 4 1 abort\ndata 2 3 5 1 abort\ndata 3 2 4 1 ack\ndata 3 2 5 1 ack\n"
+        wanted += "no 12 NoLink\ntaken 7\nreceipt 2 3 1\ndata 3 2 1 ack\nno 12 NoLink\ntaken 8\nreceipt 3 2 1\n"
+        self.assertEqual(drilled(text), Ended(0, wanted, ""))
+
     def test_a_last_line_without_its_end(self):
         self.assertEqual(drilled("add 1 1\nadd 2 1"), Ended(0, "done 1\ndone 2\n", ""))
 

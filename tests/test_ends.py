@@ -8,7 +8,7 @@ import signal
 from support import stores
 from support.case import Case
 from support.program import Ended, faulted, ran
-from support.serving import Serving
+from support.serving import Connection, Serving
 from support.stores import ring, topology
 
 SERVED_ALREADY = faulted(3, "Device")
@@ -34,13 +34,15 @@ class Ends(Case):
                 self.assertEqual(server.close().status, 0)
 
     def test_two_servers_on_one_file(self):
-        """The second one says Device, and the first one goes on."""
-        store = self.made(topology([(1, 1)]))
+        """The second one says Device, whatever name of the file it is given, and the first one goes on."""
+        store, others = self.made(topology([(1, 1)])), [self.path("link"), self.path("hard")]
+        os.symlink(store, others[0])
+        os.link(store, others[1])
         with Serving(store) as server:
             for number in (1, 2):
-                self.assertEqual(ran("serve", store, "127.0.0.1:0"), SERVED_ALREADY)
-                self.assertEqual(ran("migrate", store), SERVED_ALREADY)
-                self.assertEqual(ran("init", store, f"{store}.toml"), SERVED_ALREADY)
+                for name in (store, *others):
+                    for words in (["serve", name, "127.0.0.1:0"], ["migrate", name], ["init", name, f"{store}.toml"]):
+                        self.assertEqual(ran(*words, seconds=60), SERVED_ALREADY)
                 self.assertEqual(server.order(number, "reset", node=1), {"kind": "finished", "step": 1 + number})
                 # these take no lock
                 self.assertEqual(ran("check", store), Ended(0, f"legal {1 + number}\n", ""))
@@ -77,6 +79,16 @@ class Ends(Case):
                 self.assertEqual(server.address, address)
                 self.assertEqual(server.order(number, "reset", node=1), {"kind": "finished", "step": 1 + number})
                 self.assertEqual(server.close().status, 0)
+
+    def test_an_address_of_several(self):
+        """It listens at the one that is named, says so, and is at no other."""
+        with Serving(self.made(topology([(1, 1)])), address="127.0.0.2:0") as server:
+            host, port = server.address.split(":")
+            self.assertEqual(host, "127.0.0.2")
+            self.assertEqual(server.ask({"op": "resend"}), {"count": 0, "kind": "resent"})
+            with self.assertRaises(ConnectionRefusedError):
+                Connection(f"127.0.0.1:{port}")
+            self.assertEqual(server.close().status, 0)
 
     def test_a_limit_on_the_size_of_files(self):
         """The signal of the system ends it without a line, and nothing that was answered is lost."""

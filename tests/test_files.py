@@ -2,10 +2,11 @@
 
 import os
 import stat
+import subprocess
 
 from support import preloaded, stores
 from support.case import Case
-from support.program import Ended, faulted, ran
+from support.program import PROGRAM, Ended, faulted, ran
 from support.serving import Serving
 from support.stores import topology
 
@@ -36,6 +37,41 @@ class Made(Case):
                 environment = preloaded.environment(self.folder, MEANWHILE=other)
                 self.assertEqual(ran(command, self.path(command), *more, env={**os.environ, **environment}), FAILED)
                 self.assertEqual((self.read("other"), self.read(command)), (before, before))
+
+
+class ReadOnly(Case):
+    """What a user may do who may read a file, or a folder, and not write it. Root is such a user without its leave to pass
+    over the modes."""
+
+    words = ["setpriv", "--bounding-set=-dac_override,-dac_read_search"] if os.geteuid() == 0 else []
+
+    def user(self, *words):
+        done = subprocess.run([*self.words, PROGRAM, *words], stdin=subprocess.DEVNULL, capture_output=True, timeout=60)
+        return Ended(done.returncode, done.stdout.decode(), done.stderr.decode())
+
+    def test_a_store(self):
+        """It is checked and shown, and neither served nor raised."""
+        path = self.made(ONE)
+        before = self.read("store")
+        os.chmod(path, 0o400)
+        self.assertEqual(self.user("check", path), Ended(0, "legal 1\n", ""))
+        self.assertEqual(self.user("show", path), Ended(0, "view 1 1\nnode 1 1 ready 0 0 0\n", ""))
+        for words in (["serve", path, "127.0.0.1:0"], ["migrate", path], ["init", path, f"{path}.toml"]):
+            self.assertEqual(self.user(*words), FAILED)
+        self.assertEqual(self.read("store"), before)
+
+    def test_a_folder(self):
+        """A store that stands there is served. None is made there, and no other file."""
+        topology_path, folder = self.write("topology", ONE), self.path("folder")
+        os.mkdir(folder)
+        self.assertEqual(ran("init", f"{folder}/store", topology_path).status, 0)
+        os.chmod(folder, 0o500)
+        for words in (["check", f"{folder}/other"], ["init", f"{folder}/other", topology_path]):
+            self.assertEqual(self.user(*words), FAILED)
+        with Serving(f"{folder}/store", before=self.words, output=self.path("output")) as server:
+            self.assertEqual(server.order(1, "reset", node=1), {"kind": "finished", "step": 2})
+            self.assertEqual(server.close().status, 0)
+        self.assertEqual(os.listdir(folder), ["store"])
 
 
 class Called(Case):

@@ -85,6 +85,8 @@ class Init(Case):
         self.assertEqual(ran("check", self.path("store")), Ended(0, "legal 192\n", ""))
         shown = ran("show", self.path("store")).printed.splitlines()
         self.assertEqual((len(shown), shown[64]), (1 + 64 + 128, "node 64 16 ready 0 0 0"))
+        rows = sorted((*sorted(ends), step) for step, ends in enumerate(links, 65))
+        self.assertEqual(shown[65:], [f"link {a} {b} {step}" for a, b, step in rows])
 
     def test_an_empty_file_is_filled(self):
         self.write("store", "")

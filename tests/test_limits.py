@@ -10,6 +10,8 @@ from support.program import PROGRAM, faulted, ran
 from support.serving import Serving
 from support.stores import topology
 
+THREADS = 10  # that a server starts: a flusher, eight workers and a printer
+
 
 class Descriptors(Case):
     def test_none_is_left_for_a_while(self):
@@ -65,6 +67,21 @@ class Threads(Case):
         self.needs("root", os.geteuid() == 0)
         done = subprocess.run([tool("few_threads"), PROGRAM], capture_output=True, text=True, timeout=self.most - 30)
         self.assertEqual((done.returncode, done.stderr), (0, ""), done.stdout)
+
+
+    def test_one_that_is_refused(self):
+        """Any one of them, with all others there: it says so, prints nothing and leaves the store as it was."""
+        self.needs("a C compiler", preloaded.has_compiler())
+        store = self.made(topology([(1, 1)]))
+        before = self.read("store")
+        for number in range(1, THREADS + 1):
+            environment = {**os.environ, **preloaded.environment(self.folder, THREAD_FAILS=number)}
+            with self.subTest(thread=number):
+                self.assertEqual(ran("serve", store, "127.0.0.1:0", env=environment, seconds=60), faulted(4, "OutOfMemory"))
+                self.assertEqual(self.read("store"), before)
+        with Serving(store, env=preloaded.environment(self.folder, THREAD_FAILS=THREADS + 1)) as server:
+            self.assertEqual(server.order(1, "reset", node=1), {"kind": "finished", "step": 2})
+            self.assertEqual(server.close().status, 0)
 
 
 class Reads(Case):

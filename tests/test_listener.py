@@ -14,10 +14,12 @@ PASSES = ["ECONNABORTED", "EINTR", "EPROTO", "ENETDOWN", "ENOPROTOOPT", "EHOSTDO
           "ENETUNREACH", "EPERM", "EMFILE", "ENFILE", "ENOMEM", "ENOBUFS"]
 ENDS_IT = ["EBADF", "EINVAL", "ENOTSOCK", "EFAULT"]
 ALWAYS = 1_000_000_000
+TRIES, REST = 100, 0.1  # after a failure that may pass, and how many seconds apart
+LATE = 30  # seconds by which a busy machine may be late
 
 
-class Listener(Case):
-    takes = 10
+class Failing(Case):
+    takes = 15
 
     def setUp(self):
         super().setUp()
@@ -28,6 +30,8 @@ class Listener(Case):
         store = self.made(topology([(1, 1)]), f"store-{name}-{after}")
         return Serving(store, env=preloaded.environment(self.folder, **settings))
 
+
+class Listener(Failing):
     def test_what_passes(self):
         """Before each client it fails three times."""
         for name in PASSES:
@@ -56,6 +60,38 @@ class Listener(Case):
                 for _ in range(2):
                     self.assertEqual(server.ask({"op": "resend"}), {"count": 0, "kind": "resent"})
                 self.assertLess(processor_seconds(server.process.pid), 5)
+
+
+    def test_a_connection_that_can_not_be_made_ready(self):
+        """It is ended, and the next client is served."""
+        store = self.made(topology([(1, 1)]))
+        with Serving(store, env=preloaded.environment(self.folder, UNREADY=2)) as server:
+            for _ in range(2):
+                with server.connect() as connection:
+                    self.assertEqual(connection.rest(), [])
+            self.assertEqual(server.ask({"op": "resend"}), {"count": 0, "kind": "resent"})
+            self.assertEqual(server.close().status, 0)
+
+
+class LastTry(Failing):
+    """A failure that may pass is tried again 100 times in turn, and no more."""
+
+    def test_the_last_try(self):
+        with self.serving("ENFILE", TRIES) as server, server.connect() as connection:
+            begun = time.monotonic()
+            connection.socket.settimeout(TRIES * REST + LATE)
+            connection.send({"op": "resend"})
+            self.assertEqual(connection.reply(), {"count": 0, "kind": "resent"})
+            self.assertGreater(time.monotonic() - begun, TRIES * REST / 2)
+
+    def test_clients_that_leave_without_end(self):
+        """Their errors are not counted."""
+        with self.serving("ECONNABORTED", 10 * TRIES) as server:
+            self.assertEqual(server.ask({"op": "resend"}), {"count": 0, "kind": "resent"})
+
+    def test_one_failure_more(self):
+        with self.serving("EMFILE", TRIES + 1) as server:
+            self.assertEqual((server.ended(60).status, server.ended().told), (3, "resetd: Socket\n"))
 
 
 class Idle(Case):

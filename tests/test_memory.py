@@ -4,11 +4,14 @@ import os
 import re
 
 from support import preloaded, stores
-from support.case import Case
+from support.case import Case, until
 from support.program import PROGRAM, Ended, faulted, ran
 from support.refusing import Refusing
+from support.served import STARTED, answered
+from support.serving import Serving
 from support.stores import ABORT, batch, link, node, topology, world
 
+FIRST_WORKER = 3  # its number among the threads of a server, behind the printer and the flusher
 NO_MEMORY = faulted(4, "OutOfMemory")
 ALL = 10**9
 PAIR = topology([(1, 1), (2, 1)], [(1, 2)])
@@ -17,6 +20,9 @@ CHECKED = [faulted(1, "NoMagic"), Ended(0, "legal 0\n", ""), Ended(0, "legal 3\n
 # How an answer of a drill tells that its ledger lacked memory, or its disk, which is in memory and fails for nothing else.
 ENDS = [(0, ""), (4, "resetd: OutOfMemory\n"), (3, "resetd: Device\n")]
 LACKS = re.compile(r"^(no 2 OutOfMemory|commit 1 OutOfMemory|commit 2 Device)$", re.MULTILINE)
+# Behind the reset each of its three packets is taken and cleared.
+AFTER_A_WAVE = {"accepted": 10, "links": [[1, 2, 3]], "nodes": [[1, 1, "ready", 0, 1, 0], [2, 1, "ready", 0, 1, 0]],
+                "settled": 10}
 VIOLATED = world(4, [node(64, ABORT)])
 
 
@@ -105,3 +111,28 @@ class Memory(Case):
 
     def test_a_drill_that_is_shown(self):
         self.expect_first_part("crash-loses-pending")
+
+
+class Wave(Case):
+    takes = 5
+
+    def test_a_wave_whose_workers_lack_memory(self):
+        """Each allocation that the workers ask for is refused in turn. The packet is kept and taken a little later: the wave
+        comes to its end in as many steps, and nobody has anything sent again."""
+        self.needs("a C compiler", preloaded.has_compiler())
+        refusing, store = Refusing(PROGRAM, self.folder), self.made(PAIR)
+        content = self.read("store")
+        count = self.allocations_of_a_wave(store, refusing.environment(threads=FIRST_WORKER), refusing)
+        self.assertGreater(count, 5)
+        for first in range(1, count + 1):
+            self.write("store", content)
+            self.allocations_of_a_wave(store, refusing.environment(first, threads=FIRST_WORKER), refusing)
+
+    def allocations_of_a_wave(self, store, environment, refusing):
+        with Serving(store, env=environment) as server:
+            self.assertEqual(server.order(1, "reset", node=1), answered(STARTED, 4))
+            until("the end of the wave", lambda: server.show() == AFTER_A_WAVE, 60)
+            count = refusing.count()
+            self.assertEqual(server.close().status, 0)
+        self.assertEqual(ran("check", store), Ended(0, "legal 10\n", ""))
+        return count

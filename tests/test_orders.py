@@ -28,6 +28,21 @@ class Orders(Served):
             self.expect_closed(server, 1)
             self.assertEqual(server.signals(), [(1, 1)])
 
+    def test_one_link_of_several(self):
+        """It goes alone, and is another one when it is joined again."""
+        with Serving(self.made(ring(5))) as server:
+            before = server.show()["links"]
+            for number, (a, b) in enumerate(((3, 4), (5, 1)), 1):
+                self.assertEqual(server.order(2 * number - 1, "drop", a=a, b=b), answered(DONE, 10 + 2 * number - 1))
+                rest = [link for link in before if link[:2] != sorted((a, b))]
+                self.assertEqual(server.show()["links"], rest)
+                self.assertEqual(server.order(2 * number, "join", a=b, b=a), answered(DONE, 10 + 2 * number))
+                before = sorted([*rest, [*sorted((a, b)), 10 + 2 * number]])
+                self.assertEqual(server.show()["links"], before)
+            self.assertEqual(server.order(5, "reset", node=2)["kind"], STARTED)
+            server.await_quiet(1)
+            self.expect_closed(server, 5)
+
     def test_a_reset_is_started_once(self):
         with Serving(self.made(ring(4))) as server:
             first = server.order(1, "reset", node=3)
@@ -153,7 +168,7 @@ class Stores(Served):
             content = stores.store(stores.world(1_000, rows, links), version)
             with self.subTest(version=version), Serving(self.write(f"store{version}", content)) as server:
                 # each is taken, where it was not, and its receipt clears it; nobody asks for it again meanwhile
-                until("each packet", lambda: server.show()["accepted"] == 1_000 + 128 + 256)
+                until("each packet", lambda: server.show()["settled"] == 1_000 + 128 + 256)
                 self.assertEqual(server.ask({"op": "resend"}), {"count": 0, "kind": "resent"})
                 self.expect_closed(server, 0)
 

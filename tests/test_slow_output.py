@@ -11,6 +11,7 @@ from support.serving import Serving
 from support.stores import topology
 
 SIGNALS = 2_000  # far more than a page of lines
+MANY_SIGNALS = 5_000
 
 
 class Piped(Serving):
@@ -65,12 +66,12 @@ class SlowOutput(Case):
     def test_an_output_that_is_not_read(self):
         """It holds up no answer. After the close the server ends only once all is printed."""
         with Piped(self.made(topology([(1, 1)], half=stores.HALF))) as server:
-            self.reset(server, range(1, SIGNALS + 1))
+            self.reset(server, range(1, MANY_SIGNALS + 1))
             self.assertEqual(server.ask({"op": "close"}), {"kind": "closed"})
             with self.assertRaises(subprocess.TimeoutExpired):
                 server.process.wait(2)
             server.read_on()
-            wanted = f"listening {server.address}\n" + "".join(f"signal 1 {epoch}\n" for epoch in range(1, SIGNALS + 1))
+            wanted = f"listening {server.address}\n" + "".join(f"signal 1 {epoch}\n" for epoch in range(1, MANY_SIGNALS + 1))
             self.assertEqual(server.ended(), Ended(0, wanted, ""))
 
     def test_a_reader_that_leaves(self):

@@ -31,9 +31,7 @@ class Words(Case):
     def test_words_that_are_no_utf_8(self):
         for words in ([b"\xff"], [b"check", b"\xff"], [b"serve", b"store", b"127.0.0.1:\xff"]):
             with self.subTest(words=words):
-                ended = ran(*words, cwd=self.folder)
-                self.assertNotEqual((ended.status, ended.told), (0, ""))
-                self.assertEqual(ended.printed, "")
+                self.assertEqual(ran(*words, cwd=self.folder), faulted(2, "Usage"))
 
     def test_no_address(self):
         for address in NO_ADDRESSES:

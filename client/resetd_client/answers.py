@@ -122,7 +122,10 @@ def members_of(line: str, where: str = "what answers") -> dict[str, Any]:
     if not isinstance(answer, dict):
         raise Garbled(line, where)
     if "refused" in answer:
-        number, name = int(answer["refused"]), str(answer.get("name"))
+        try:
+            number, name = int(answer["refused"]), str(answer.get("name"))
+        except (ValueError, TypeError):
+            raise Garbled(line, where) from None
         if number in PASSING_REFUSALS:
             raise NotNow(name)
         raise Refused(number, name)
@@ -138,5 +141,5 @@ def reply_of(answer: dict[str, Any]) -> Reply:
     """The reply to an order."""
     try:
         return Reply(str(answer["kind"]), int(answer["step"]))
-    except (KeyError, ValueError) as missing:
+    except (KeyError, ValueError, TypeError) as missing:
         raise Garbled(json.dumps(answer)) from missing

@@ -13,12 +13,36 @@ class Held(Exception):
 
 
 def keep(path: str, text: str) -> None:
-    """Replaces a file's content by a text, as a whole; when it returns, the text is on the disk."""
-    with open(path + ".new", "w", encoding="utf-8") as file:
+    """Replaces a file's content by a text, as a whole; when it returns, the text is on the disk. Others may do so at the
+    same time: then one of the texts stands there in the end."""
+    with open(alone(path + ".new"), "w", encoding="utf-8") as file:
         file.write(text)
         file.flush()
         os.fsync(file.fileno())
-    os.replace(path + ".new", path)
+        os.replace(path + ".new", path)
+    sync_folder(path)
+
+
+def alone(path: str) -> int:
+    """A descriptor of an empty file at this path, which nobody else writes until it is closed. It may have been left there
+    by a kill."""
+    while True:
+        descriptor = os.open(path, os.O_WRONLY | os.O_CREAT | os.O_CLOEXEC | os.O_NOFOLLOW, 0o666)
+        try:
+            fcntl.flock(descriptor, fcntl.LOCK_EX)
+            if os.path.samestat(os.fstat(descriptor), os.stat(path)):
+                os.truncate(descriptor, 0)
+                return descriptor
+        except FileNotFoundError:
+            pass  # who had it has put it in place
+        except BaseException:
+            os.close(descriptor)
+            raise
+        os.close(descriptor)
+
+
+def sync_folder(path: str) -> None:
+    """Syncs the folder that a path stands in."""
     folder = os.open(os.path.dirname(os.path.abspath(path)), os.O_RDONLY)
     try:
         os.fsync(folder)

@@ -19,6 +19,12 @@ class Stopped(Exception):
     """`stop` was called."""
 
 
+def check_every(seconds: float) -> None:
+    """Raises ValueError at a time between two looks that would let no time pass, or is no number."""
+    if not seconds > 0:
+        raise ValueError(f"{seconds} seconds between two looks: it takes more than 0")
+
+
 class Following:
     """Looks, waits for a wake-up, and looks again. A subclass says how to look, and for how long to wait."""
 

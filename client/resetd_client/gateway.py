@@ -10,7 +10,7 @@ from typing import NamedTuple
 
 from . import files
 from .answers import Away
-from .following import Following
+from .following import Following, check_every
 from .member import LOOK_SECONDS
 from .orders import Orders, warn
 from .port import Port
@@ -159,6 +159,7 @@ class Gateway(Following):
     def follow(self, wakes: Wakes, every: float = LOOK_SECONDS) -> None:
         """Looks at each wake-up, by itself after so many seconds, when a member has begun, and after each time
         that the coordinator was away, until nothing more will come or `stop` is called."""
+        check_every(every)
         while self._look_patiently() is not None:
             waiting = [seat for desk in self.desks for seat in desk.waiting()]
             if self._wait(wakes, every if self._is_through else min(every, 1.0),

@@ -9,7 +9,7 @@ from contextlib import contextmanager
 from dataclasses import dataclass
 
 from .answers import Away
-from .following import Following
+from .following import Following, check_every
 from .orders import Orders, warn
 from .port import Port
 from .signals import Wake, Wakes
@@ -98,6 +98,7 @@ class Member(Following):
     def follow(self, wakes: Wakes, every: float = LOOK_SECONDS, after: Callable[[View], None] | None = None) -> None:
         """Looks at once, at each wake-up, by itself after so many seconds, and after each time that the
         coordinator was away, until nothing more will come or `stop` is called. `after` hears each view."""
+        check_every(every)
         while (view := self._look_patiently()) is not None:
             if after:
                 after(view)

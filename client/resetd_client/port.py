@@ -55,7 +55,11 @@ class Port:
 
     def resend(self) -> int:
         """Has what is on its way sent again, and answers how many packets that are."""
-        return int(self.ask({"op": "resend"})["count"])
+        answer = self.ask({"op": "resend"})
+        try:
+            return int(answer["count"])
+        except (KeyError, ValueError, TypeError) as fault:
+            raise Garbled(json.dumps(answer)) from fault
 
     def close(self) -> None:
         """Ends the server in order: what was accepted is settled first."""

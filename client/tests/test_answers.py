@@ -38,9 +38,12 @@ class Answers(Case):
         self.assertIsNone(caught.exception.refusal)
 
     def test_no_coordinator_is_garbled(self) -> None:
-        for line in ("HTTP/1.1 400 Bad Request", "[]", '{"nodes":3}'):
+        for line in ("HTTP/1.1 400 Bad Request", "[]", '{"nodes":3}', '{"refused":"no"}', '{"refused":null}'):
             self.server.faults = [line]
             self.assertRaises(Garbled, self.port.show)
+        for line in ("{}", '{"count":"some"}', '{"count":null}'):
+            self.server.faults = [line]
+            self.assertRaises(Garbled, self.port.resend)
 
     def test_addresses_are_tried_in_turn(self) -> None:
         other = self.started()

@@ -2,11 +2,13 @@
 
 from __future__ import annotations
 
+import errno
 import os
 import stat
 import subprocess
 import tempfile
 import unittest
+from unittest import mock
 
 from backups import Lost, Trial
 from case import PROGRAM, Case
@@ -50,6 +52,20 @@ class Words(Case):
             self.assertEqual(stat.S_IMODE(os.stat(self.out).st_mode), 0o640)
             self.server.by_somebody("add", node=9, group=1) if count == 5 else None
         self.assertEqual(os.listdir(self.folder), ["copy"])
+
+    def test_a_file_beside_the_copy_stays(self) -> None:
+        """Whatever its name is."""
+        with open(f"{self.out}.new", "w", encoding="utf-8") as file:
+            file.write("another file")
+        self.assertEqual(self.run_words("backup", self.store, self.out)[0], 0)
+        with open(f"{self.out}.new", encoding="utf-8") as file:
+            self.assertEqual(file.read(), "another file")
+
+    def test_a_copy_that_fails_leaves_nothing(self) -> None:
+        with mock.patch("os.fsync", side_effect=OSError(errno.ENOSPC, "No space left on device", self.out)):
+            self.assertEqual(self.run_words("backup", self.store, self.out),
+                             (1, "", f"resetctl: {self.out}: No space left on device\n"))
+        self.assertEqual(os.listdir(self.folder), [])
 
     def test_what_is_not_replaced(self) -> None:
         with open(f"{self.folder}/text", "w", encoding="utf-8") as file:

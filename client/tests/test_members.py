@@ -245,6 +245,11 @@ class Members(MemberCase):
         os.close(read)
         self.assertEqual(self.begun, [1, 2, 99])
 
+    def test_a_time_between_two_looks_passes(self) -> None:
+        member = self.member()
+        for seconds in (0.0, -1.0, float("nan")):
+            self.assertRaises(ValueError, member.follow, Clock(), seconds)
+
     def test_it_can_be_stopped(self) -> None:
         for port in (self.port, Port("127.0.0.1:1")):
             orders = self.orders(1, f"of {port.addresses}")

@@ -8,9 +8,10 @@ import os
 import socket
 import time
 from contextlib import redirect_stderr, redirect_stdout
+from unittest import mock
 
 from case import ROOT, Case, over_both
-from resetd_client.control import main
+from resetd_client.control import main, parser
 
 
 class Controls(Case):
@@ -69,6 +70,38 @@ class Controls(Case):
         status, _, told = self.run_words("reset", "1")
         self.assertEqual((status, told.count("reset 65")), (0, 2))
         self.assertEqual(self.run_words("reset", "1")[2], "")
+
+    def test_numbers_out_of_their_range(self) -> None:
+        """The words are wrong, and nothing is asked."""
+        for words in ("--seconds 0", "--seconds -1", "--seconds nan", "--seconds inf", "--seconds 1e300", "--patience -1",
+                      "--patience nan", "--client 0", "--client 17", "--client x"):
+            self.expect_wrong(*words.split(), "show")
+        for words in ("watch --every 0", "watch --every -1", "watch --for -1", "watch --for nan", "health --steps -1",
+                      "health --wave nan", "health --unconfirmed x", "count --most 0", "count --most -5", "count --most x"):
+            self.expect_wrong(*words.split())
+        self.assertEqual(self.run_words("watch", "--for", "0"), (0, "", ""))
+
+    def expect_wrong(self, *words: str) -> None:
+        seen = len(self.server.seen)
+        with self.subTest(words=words), self.assertRaises(SystemExit) as ended:
+            self.run_words(*words)
+        self.assertEqual((ended.exception.code, len(self.server.seen)), (2, seen))
+
+    def test_variables_of_the_environment(self) -> None:
+        """One that is empty is as good as absent; one that names no client is a wrong word."""
+        names = ("RESETD_ADDRESS", "RESETD_CLIENT", "RESETCTL_STATE", "STATE_DIRECTORY", "XDG_STATE_HOME")
+        with mock.patch.dict(os.environ, {"HOME": self.folder}):
+            for name in names:
+                os.environ.pop(name, None)
+            usual = vars(parser().parse_args(["show"]))
+            os.environ.update(dict.fromkeys(names, ""))
+            self.assertEqual(vars(parser().parse_args(["show"])), usual)
+            self.assertEqual((usual["client"], usual["state"]), (16, f"{self.folder}/.local/state/resetctl"))
+            for client in ("x", "99"):
+                os.environ["RESETD_CLIENT"] = client
+                self.expect_wrong("show")
+            os.environ["RESETD_CLIENT"] = "3"
+            self.assertEqual(self.run_words("count")[1], "client 3: 0\n")
 
     def test_two_people(self) -> None:
         for turn, person in enumerate(("alice", "bob", "alice", "alice", "bob", "bob", "alice")):

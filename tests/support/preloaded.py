@@ -6,8 +6,12 @@ import subprocess
 
 SOURCE = r"""
 #define _GNU_SOURCE
+#include <dlfcn.h>
 #include <errno.h>
 #include <fcntl.h>
+#include <netinet/in.h>
+#include <netinet/tcp.h>
+#include <pthread.h>
 #include <stdarg.h>
 #include <stdio.h>
 #include <stdlib.h>
@@ -93,7 +97,13 @@ static int synced(int number, int file) {
 }
 int fsync(int file) { return synced(SYS_fsync, file); }
 int fdatasync(int file) { return synced(SYS_fdatasync, file); }
+// With INTERRUPTS every other call that sends is interrupted, and has sent nothing.
 ssize_t send(int socket, const void *bytes, size_t count, int flags) {
+    static long sends;
+    if (setting("INTERRUPTS") && ++sends % 2) {
+        errno = EINTR;
+        return -1;
+    }
     note("out", socket, 0, bytes, piece(count));
     return syscall(SYS_sendto, socket, bytes, piece(count), flags, 0, 0);
 }
@@ -101,8 +111,18 @@ ssize_t write(int file, const void *bytes, size_t count) {
     note("out", file, 0, bytes, piece(count));
     return syscall(SYS_write, file, bytes, piece(count));
 }
-// With WAITS it is written down too for how many milliseconds a client is waited for.
+// With WAITS it is written down too for how many milliseconds a client is waited for, and whether what is sent goes out at
+// once. The first UNREADY connections can't be told the latter.
 int setsockopt(int socket, int level, int option, const void *value, socklen_t length) {
+    static long unready;
+    if (level == IPPROTO_TCP && option == TCP_NODELAY) {
+        if (unready < setting("UNREADY")) {
+            unready += 1;
+            errno = EINVAL;
+            return -1;
+        }
+        if (getenv("WAITS")) note("at-once", socket, *(const int *)value, "", 0);
+    }
     if (getenv("WAITS") && level == SOL_SOCKET && (option == SO_RCVTIMEO || option == SO_SNDTIMEO)) {
         const struct timeval *time = value;
         note(option == SO_RCVTIMEO ? "read-within" : "write-within", socket, time->tv_sec * 1000 + time->tv_usec / 1000, "", 0);
@@ -117,6 +137,12 @@ int open(const char *path, int flags, ...) {
     va_end(words);
     if (flags & O_CREAT && getenv("MEANWHILE")) syscall(SYS_link, getenv("MEANWHILE"), path);
     return syscall(SYS_openat, AT_FDCWD, path, flags, mode);
+}
+// Thread number THREAD_FAILS can't be had.
+int pthread_create(pthread_t *thread, const pthread_attr_t *how, void *(*run)(void *), void *given) {
+    static long threads;
+    int (*usual)(pthread_t *, const pthread_attr_t *, void *(*)(void *), void *) = dlsym(RTLD_NEXT, "pthread_create");
+    return ++threads == setting("THREAD_FAILS") ? EAGAIN : usual(thread, how, run, given);
 }
 ssize_t read(int file, void *buffer, size_t count) { return syscall(SYS_read, file, buffer, piece(count)); }
 ssize_t recv(int socket, void *buffer, size_t count, int flags) {

@@ -1,6 +1,7 @@
 """What is looked for in what a server has printed, and how its answers look."""
 
 from .case import Case
+from .program import ran
 
 DONE, STARTED, FINISHED, JOINED = "done", "started", "finished", "joined"
 
@@ -28,6 +29,8 @@ class Served(Case):
             self.assertEqual([epoch for node, epoch in signals if node == row[0]], list(range(1, row[4] + 1)))
 
     def expect_closed(self, server, signals):
-        """The server ends in order, having printed its first line and so many signals."""
+        """The server ends in order, having printed its first line and so many signals, and leaves a store that opens."""
         ended = server.close()
         self.assertEqual((ended.status, ended.told, len(ended.printed.splitlines())), (0, "", 1 + signals))
+        checked = ran("check", server.store)
+        self.assertEqual((checked.status, checked.told), (0, ""))

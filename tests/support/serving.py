@@ -57,9 +57,9 @@ def spelled(request):
 class Serving:
     """`resetd serve` over a store, whose output goes to a file. It is killed at the end, unless it has ended."""
 
-    def __init__(self, store, program=None, address="127.0.0.1:0", env=None, before=(), **how):
-        self.store, self.output = store, f"{store}.signals"
-        with open(self.output, "ab") as output, open(f"{store}.errors", "wb") as errors:
+    def __init__(self, store, program=None, address="127.0.0.1:0", env=None, before=(), output=None, **how):
+        self.store, self.output, self.errors = store, f"{output or store}.signals", f"{output or store}.errors"
+        with open(self.output, "ab") as output, open(self.errors, "wb") as errors:
             self.begin = output.tell()
             self.process = subprocess.Popen(
                 [*before, program or PROGRAM, "serve", store, address], stdin=subprocess.DEVNULL,
@@ -128,7 +128,7 @@ class Serving:
     def ended(self, seconds=PATIENCE):
         """Waits for its end: its status, what it printed, and its fault."""
         status = self.process.wait(timeout=seconds)
-        with open(f"{self.store}.errors", encoding="utf-8") as errors:
+        with open(self.errors, encoding="utf-8") as errors:
             return Ended(status, "".join(f"{line}\n" for line in self.lines()), errors.read())
 
     def kill(self):

@@ -18,7 +18,7 @@ from ..orders import CLIENTS, CountLost, CountNotFound
 from ..port import TooLong
 from ..store_file import NoStore, Restless
 from ..topology import BadTopology
-from . import changes, checks, looks, restored, stores
+from . import changes, checks, looks, ranges, restored, stores
 from .base import AWAY, COUNT, REFUSED, WRONG_WORDS, Control, complain
 
 LEFT, INTERRUPTED = 141, 130  # as a shell has them of an end by SIGPIPE and SIGINT
@@ -29,15 +29,16 @@ COMMANDS = (*looks.COMMANDS, *changes.COMMANDS, *restored.COMMANDS, *checks.COMM
 def parser() -> argparse.ArgumentParser:
     top = argparse.ArgumentParser(prog="resetctl", description=__doc__, formatter_class=argparse.RawDescriptionHelpFormatter)
     top.add_argument("--version", action="version", version=f"resetctl {__version__}")
-    top.add_argument("--address", default=os.environ.get("RESETD_ADDRESS", "127.0.0.1:4170"),
+    top.add_argument("--address", default=os.environ.get("RESETD_ADDRESS") or "127.0.0.1:4170",
                      help="HOST:PORT of the coordinator, or several with commas between (RESETD_ADDRESS, 127.0.0.1:4170)")
-    top.add_argument("--client", type=int, choices=CLIENTS, metavar="C",
-                     default=int(os.environ.get("RESETD_CLIENT", CLIENTS[-1])), help="the client that orders (RESETD_CLIENT, 16)")
-    top.add_argument("--state", default=os.environ.get("RESETCTL_STATE", default_state()), metavar="FOLDER",
+    top.add_argument("--client", type=ranges.client, metavar="C",
+                     default=os.environ.get("RESETD_CLIENT") or str(CLIENTS[-1]), help="the client that orders (RESETD_CLIENT, 16)")
+    top.add_argument("--state", default=os.environ.get("RESETCTL_STATE") or default_state(), metavar="FOLDER",
                      help="where this client's numbers are kept (RESETCTL_STATE, ~/.local/state/resetctl)")
-    top.add_argument("--patience", type=float, metavar="SECONDS",
+    top.add_argument("--patience", type=ranges.span, metavar="SECONDS",
                      help="how long the same line is sent again while no answer comes (30; of what only looks 2)")
-    top.add_argument("--seconds", type=float, metavar="SECONDS", help="how long one answer may take (20; of what only looks 2)")
+    top.add_argument("--seconds", type=ranges.some_seconds, metavar="SECONDS",
+                     help="how long one answer may take (20; of what only looks 2)")
     top.add_argument("--quiet", action="store_true", help="prints no reply of an order, of resend and of close")
     commands = top.add_subparsers(dest="command", required=True, metavar="COMMAND")
     for command in COMMANDS:
@@ -55,9 +56,9 @@ def is_within(path: str, folder: str) -> bool:
 
 def default_state() -> str:
     """Where the numbers of a person's client are kept."""
-    if "STATE_DIRECTORY" in os.environ:  # given by systemd
-        return os.environ["STATE_DIRECTORY"].split(":")[0]
-    return os.path.join(os.environ.get("XDG_STATE_HOME", os.path.expanduser("~/.local/state")), "resetctl")
+    if given := os.environ.get("STATE_DIRECTORY"):  # by systemd
+        return given.split(":")[0]
+    return os.path.join(os.environ.get("XDG_STATE_HOME") or os.path.expanduser("~/.local/state"), "resetctl")
 
 
 def main(arguments: list[str] | None = None) -> int:

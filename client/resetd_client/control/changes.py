@@ -9,6 +9,7 @@ from ..orders import MOST_TRIED
 from ..orders import Order as Line
 from ..topology import BadTopology, Network, Order, plan, read_topology
 from ..view import View
+from . import ranges
 from .base import DONE, REFUSED, Command, Control, complain, told_order, told_reply
 
 NUMBERS = {"node": "1 to 64", "group": "1 to 16", "a": "one end", "b": "the other end", "epoch": "the shown epoch"}
@@ -85,7 +86,7 @@ def numbers(*names: str) -> Callable[[argparse.ArgumentParser], None]:
 
 
 def add_count_words(parser: argparse.ArgumentParser) -> None:
-    parser.add_argument("--most", type=int, default=MOST_TRIED, help=f"how many numbers are tried ({MOST_TRIED})")
+    parser.add_argument("--most", type=ranges.count, default=MOST_TRIED, help=f"how many numbers are tried ({MOST_TRIED})")
 
 
 def add_topology_words(parser: argparse.ArgumentParser) -> None:

@@ -11,6 +11,7 @@ from ..answers import Away, NotNow, NotTaken
 from ..health import Bounds, Level, Since, check, metrics
 from ..port import patiently
 from ..signal_lag import Signals
+from . import ranges
 from .base import DONE, Command, Control
 
 
@@ -51,9 +52,9 @@ def write_metrics(control: Control) -> int:
 
 
 def add_health_words(parser: argparse.ArgumentParser) -> None:
-    parser.add_argument("--steps", type=float, default=5.0, metavar="SECONDS", help="how long steps may wait for the disk (5)")
-    parser.add_argument("--wave", type=float, default=5.0, metavar="SECONDS", help="how long a wave may stand still (5)")
-    parser.add_argument("--unconfirmed", type=float, default=60.0, metavar="SECONDS",
+    parser.add_argument("--steps", type=ranges.span, default=5.0, metavar="SECONDS", help="how long steps may wait for the disk (5)")
+    parser.add_argument("--wave", type=ranges.span, default=5.0, metavar="SECONDS", help="how long a wave may stand still (5)")
+    parser.add_argument("--unconfirmed", type=ranges.span, default=60.0, metavar="SECONDS",
                         help="how long an epoch may be unconfirmed (60)")
     parser.add_argument("--signals", metavar="FILE", help="warns where the server's file of signals lacks lines")
     parser.add_argument("--close-stopped", action="store_true",

@@ -11,6 +11,7 @@ from datetime import datetime
 
 from ..answers import Away, NotNow
 from ..view import View
+from . import ranges
 from .base import DONE, Command, Control
 
 MARKS = {"ready": "·", "abort": "A", "converge": "C"}
@@ -44,7 +45,7 @@ def table(view: View) -> str:
 def watch(control: Control) -> int:
     """Draws the mode of each node, in place, as it changes; if the output is no terminal, it writes a line with the time
     for each change."""
-    until = time.monotonic() + control.words.for_seconds if control.words.for_seconds else None
+    until = time.monotonic() + control.words.for_seconds if control.words.for_seconds is not None else None
     is_terminal = sys.stdout.isatty()
     seen: list[str] | None = None
     while until is None or time.monotonic() < until:
@@ -86,8 +87,8 @@ def add_show_words(parser: argparse.ArgumentParser) -> None:
 
 
 def add_watch_words(parser: argparse.ArgumentParser) -> None:
-    parser.add_argument("--every", type=float, default=0.2, metavar="SECONDS", help="how often it looks (0.2)")
-    parser.add_argument("--for", dest="for_seconds", type=float, metavar="SECONDS", help="ends after so long (never)")
+    parser.add_argument("--every", type=ranges.some_seconds, default=0.2, metavar="SECONDS", help="how often it looks (0.2)")
+    parser.add_argument("--for", dest="for_seconds", type=ranges.span, metavar="SECONDS", help="ends after so long (never)")
 
 
 COMMANDS = (

@@ -4,8 +4,10 @@ from __future__ import annotations
 
 import argparse
 import os
+import tempfile
 from collections.abc import Iterator
 
+from ..files import sync_folder
 from ..processes import lock_holders
 from ..store_file import HEADER, MAGIC, Store, open_store, read_half, read_store, reader_of, store_of
 from ..why import Finding, of_address, of_file
@@ -89,21 +91,22 @@ def why_not(out: str, source: os.stat_result) -> str:
 
 
 def put(path: str, data: bytes, like: os.stat_result) -> None:
-    """Puts a file in place as a whole, and on the disk, with the mode and, if this user may, the owner of another file."""
-    new = f"{path}.new"
-    with open(os.open(new, os.O_WRONLY | os.O_CREAT | os.O_TRUNC, 0o600), "wb") as file:
-        file.write(data)
-        os.fchmod(file.fileno(), like.st_mode & 0o777)
-        if os.geteuid() == 0:
-            os.fchown(file.fileno(), like.st_uid, like.st_gid)
-        file.flush()
-        os.fsync(file.fileno())
-    os.replace(new, path)
-    folder = os.open(os.path.dirname(os.path.abspath(path)), os.O_RDONLY)
+    """Puts a file in place as a whole, and on the disk, with the mode and, if this user may, the owner of another file.
+    If it can't, nothing new stands there."""
+    descriptor, new = tempfile.mkstemp(prefix=f".{os.path.basename(path)}-", dir=os.path.dirname(path))
     try:
-        os.fsync(folder)
-    finally:
-        os.close(folder)
+        with open(descriptor, "wb") as file:
+            file.write(data)
+            os.fchmod(file.fileno(), like.st_mode & 0o777)
+            if os.geteuid() == 0:
+                os.fchown(file.fileno(), like.st_uid, like.st_gid)
+            file.flush()
+            os.fsync(file.fileno())
+        os.replace(new, path)
+    except BaseException:
+        os.remove(new)
+        raise
+    sync_folder(path)
 
 
 def add_why_words(parser: argparse.ArgumentParser) -> None:
