@@ -77,8 +77,7 @@ impl Read for Endless {
     }
 }
 
-/// The bound on reads is met by no clause alone: one says that so many bytes came, and not that so
-/// many reads suffice.
+/// No clause bounds the reads: one says that so many bytes came, and not by how many reads.
 #[test]
 fn endless_input(rt: HostRuntime) {
     let mut reader = Endless {

@@ -1,17 +1,10 @@
 //! Faults that no run of the program can be made to meet.
 
 use crate::program::Streams;
-use coord_commands::{Fault, report, run_program};
+use coord_commands::run_program;
 use std::io;
 use std::io::ErrorKind;
 use std::vec::IntoIter;
-
-#[test]
-fn want_of_memory_is_told(rt: HostRuntime) {
-    let mut told = Streams::new(&rt);
-    let status = report(Err(Fault::OutOfMemory), &mut told.errors);
-    told.are(&rt, status, (4, "", "resetd: OutOfMemory\n"));
-}
 
 /// A run whose words could not be had reads and prints nothing.
 #[test]
