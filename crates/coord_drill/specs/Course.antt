@@ -13,15 +13,15 @@
 --
 -- `Goes` is so for lines one after the other, and `Course` from the store that was made on the disk that was given. Where
 -- a drill ends, its course has all the lines of its input, and the disk that is given back is where that has led
--- (`Ended`). Where it fails, the course has the lines that were carried out: what was written is a first part of what
--- these have printed, and the disk is given back as they left it, or as the line that was cut short did (`BrokeOff`).
-use Rattle.std.specs.Prelude.{◌≡◌, ◌⊎◌, ℕ, ◌+◌, ◌≤◌, List, [], ◌∷◌, ◌++◌, length, take, option_map, Option, Some, None, if◌then◌else◌}
+-- (`Ended`). Where it fails, the course has the lines that were carried out, and `Stops` says why it has no more, what
+-- was written of what these have printed, and which disk is given back (`BrokeOff`).
+use Rattle.std.specs.Prelude.{◌≡◌, ◌⊎◌, ℕ, ◌+◌, ◌≤◌, false, List, [], ◌∷◌, ◌++◌, length, take, option_map, Option, Some, None, if◌then◌else◌}
+use Rattle.std.specs.Io.KnownBytes.{Appends, Consumes}
 use Rattle.std.specs.List.{AllByRecursion}
 use Rattle.coord_disk.specs.Model.Moments.{LeavesOnly}
 use Rattle.coord_disk.specs.Model.Present.{Present, IsImage}
 use Rattle.coord_disk.specs.Model.DiskModel.{DiskModel}
 use Rattle.coord_lines.specs.Lines.{Line, lines_of}
-use Rattle.coord_lines.specs.Written.{WritesFirstPart}
 use Rattle.coord_store.specs.Facade.{Recovered}
 use Rattle.coord_disk.specs.Model.Moments.{IsUntouched}
 use Rattle.coord_store.specs.Kept.{made}
@@ -31,16 +31,19 @@ use Rattle.coord_store.specs.declared.faults.StoreFault.TheVariants.{NotEmpty}
 use Rattle.coord_world.specs.Facade.{Legal, no_world}
 use Rattle.coord_ledger.specs.declared.events.Answer.{Answer}
 use Rattle.coord_ledger.specs.declared.events.Event.{Event}
-use Rattle.coord_ledger.specs.Facade.{LeavesWithin, Machine, Reopens, adopted, after, failed_until, found_by_crash, front_world, run, world_after}
+use Rattle.coord_ledger.specs.Facade.{LeavesWithin, Machine, Reopens, adopted, after, failed_until, found_by_crash, front_world, run, touches_disk, world_after}
 use Rattle.coord_drill.specs.Asked.{asked}
 use Rattle.coord_drill.specs.Drill.{DrillState, drill_over, line_events}
 use Rattle.coord_drill.specs.Drilled.{LineResponds, asked_by, is_skipped}
-use Rattle.coord_drill.specs.Faults.{IsOfNoStore, IsOfWriting, IsPassing, failed_by, store_fault}
+use Rattle.coord_drill.specs.Faults.{IsOfMemory, IsOfWriting, MayCutShort, failed_by, opens_disk, store_fault}
 use Rattle.coord_drill.specs.Told.{told_by}
+use Rattle.coord_drill.specs.Written.{WritesShort}
 use Rattle.coord_drill.specs.declared.asked.Asked.{Asked}
 use Rattle.coord_drill.specs.declared.asked.Asked.TheVariants.{Crash, Version2}
+use Rattle.coord_drill.specs.declared.console.TheConstants.{MOST_READS}
 use Rattle.coord_drill.specs.declared.drill.TheConstants.{HALF_SIZE}
 use Rattle.coord_drill.specs.declared.fault.Fault.{Fault}
+use Rattle.coord_drill.specs.declared.fault.Fault.TheVariants.{Read, TooManyReads}
 
 pub record Place (D : Type 0) : Type 0 where
   pub state : DrillState
@@ -69,14 +72,14 @@ AllKept m told present = (image : List ℕ) → IsImage present image → IsKept
 -- ---- events
 
 -- These events with these answers lead from one disk to the other: between two of them, and at each moment of each,
--- whatever a crash may leave is kept.
+-- whatever a crash may leave is kept; and no event but a commit and a crash touches the disk.
 abbrev pub Passes : {D : Type 0} → DiskModel D → (D → D → Type 0) → Machine → List ℕ → List Event → List Answer → D → D → Type 0
 Passes {D} disk crashes m told [] [] old new = (new ≡ old) × AllKept m told (disk.present new)
 Passes {D} disk crashes m told [] (a ∷ given) old new = ⊥
 Passes {D} disk crashes m told (e ∷ es) [] old new = ⊥
 Passes {D} disk crashes m told (e ∷ es) (a ∷ given) old new =
     AllKept m told (disk.present old)
-    × ((next : D) × LeavesWithin disk crashes e (IsKept (found_by_crash m e a) told) old next × Passes disk crashes (after m e a) told es given next new)
+    × ((next : D) × (touches_disk e a ≡ false → next ≡ old) × LeavesWithin disk crashes e (IsKept (found_by_crash m e a) told) old next × Passes disk crashes (after m e a) told es given next new)
 
 -- ---- a line
 
@@ -148,25 +151,60 @@ IsLeftBy disk crashes p a m mid lost = lost ≡ mid
 
 -- It was so for this fault, and the disk has failed where a commit and the fault tell so, and nowhere else.
 pub record CutShort {D : Type 0} (disk : DiskModel D) (crashes : D → D → Type 0) (p : Place D) (a : Asked) (why : Fault) (lost : D) : Type 0 where
-  pub cause : IsPassing why
+  pub cause : MayCutShort (opens_disk a) why
   pub given : List Answer  -- so far
   pub mid : D
   pub moments : Passes disk crashes p.machine p.told (take (length given) (line_events p.state.holds a given)) given p.disk mid
   pub left : IsLeftBy disk crashes p a (run p.machine (take (length given) (line_events p.state.holds a given)) given) mid lost
   pub failed : disk.failures lost ≡ disk.failures p.disk + (failed_until (take (length given) (line_events p.state.holds a given)) given + failed_by why)
 
+-- a line that asks for this; where it asks for nothing, there was no memory for what it prints
+abbrev pub LineCutShort : {D : Type 0} → DiskModel D → (D → D → Type 0) → Place D → Option Asked → Fault → D → Type 0
+LineCutShort disk crashes p None why lost = IsOfMemory why × (lost ≡ p.disk)
+LineCutShort disk crashes p (Some a) why lost = CutShort disk crashes p a why lost
+
 -- the first of these lines was
 abbrev pub FirstCutShort : {D : Type 0} → DiskModel D → (D → D → Type 0) → Place D → List Line → Fault → D → Type 0
 FirstCutShort disk crashes p [] why lost = ⊥
-FirstCutShort disk crashes p (l ∷ ls) why lost = (a : Asked) × ((asked_in p.state l ≡ Some a) × CutShort disk crashes p a why lost)
+FirstCutShort disk crashes p (l ∷ ls) why lost = LineCutShort disk crashes p (asked_in p.state l) why lost
 
--- The disk is given back as these lines find it, and no store was refused; or the first of them was cut short, and that
--- is told, unless the writer then failed.
-abbrev pub IsGivenBack : {D : Type 0} → DiskModel D → (D → D → Type 0) → Place D → List Line → Fault → D → Type 0
-IsGivenBack disk crashes p ls fault lost =
-    ((lost ≡ p.disk) × IsOfNoStore fault) ⊎ ((why : Fault) × (FirstCutShort disk crashes p ls why lost × ((fault ≡ why) ⊎ IsOfWriting fault)))
+-- ---- why the lines behind a place were not carried out, and which disk is given back
 
--- some first lines of the input were carried out, of whose text a first part was written; this disk is given back
+-- The input could not be read, or not to its end. All that was printed is written, and only the last line is left, whose
+-- line feed did not come.
+pub record StopsReading {D : Type 0} (written now : Option (List ℕ)) (fault : Fault) (lost : D) (p : Place D) (others : List Line) (text : List ℕ) : Type 0 where
+  pub cause : (fault ≡ Read) ⊎ (fault ≡ TooManyReads)
+  pub wrote : Appends written now text
+  pub unended : length others ≡ 1
+  pub same : lost ≡ p.disk
+
+-- The first of them was cut short, and that is told. All that was printed before it is written.
+pub record StopsAtLine {D : Type 0} (disk : DiskModel D) (crashes : D → D → Type 0) (written now : Option (List ℕ)) (fault : Fault) (lost : D) (p : Place D) (others : List Line) (text : List ℕ) : Type 0 where
+  pub wrote : Appends written now text
+  pub cut : FirstCutShort disk crashes p others fault lost
+
+-- Not all that was printed could be written. By then the first of them may have been cut short, for another fault.
+pub record StopsWriting {D : Type 0} (disk : DiskModel D) (crashes : D → D → Type 0) (written now : Option (List ℕ)) (fault : Fault) (lost : D) (p : Place D) (others : List Line) (text : List ℕ) : Type 0 where
+  pub cause : IsOfWriting fault
+  pub wrote : WritesShort written now text
+  pub given_back : (lost ≡ p.disk) ⊎ ((why : Fault) × FirstCutShort disk crashes p others why lost)
+
+-- all lines were carried out and written, and the writer could not be flushed
+pub record StopsFlushing {D : Type 0} (written now : Option (List ℕ)) (fault : Fault) (lost : D) (p : Place D) (others : List Line) (text : List ℕ) : Type 0 where
+  pub cause : IsOfWriting fault
+  pub wrote : Appends written now text
+  pub ended : others ≡ []
+  pub same : lost ≡ p.disk
+
+-- a line or the writer stopped them
+abbrev pub StopsWork : {D : Type 0} → DiskModel D → (D → D → Type 0) → Option (List ℕ) → Option (List ℕ) → Fault → D → Place D → List Line → List ℕ → Type 0
+StopsWork disk crashes written now fault lost p others text = StopsAtLine disk crashes written now fault lost p others text ⊎ StopsWriting disk crashes written now fault lost p others text
+
+-- or the input did, or the end
+abbrev pub Stops : {D : Type 0} → DiskModel D → (D → D → Type 0) → Option (List ℕ) → Option (List ℕ) → Fault → D → Place D → List Line → List ℕ → Type 0
+Stops disk crashes written now fault lost p others text = StopsReading written now fault lost p others text ⊎ (StopsFlushing written now fault lost p others text ⊎ StopsWork disk crashes written now fault lost p others text)
+
+-- some first lines of the input were carried out, and for this reason no more of them
 pub record BrokeOff {D : Type 0} (disk : DiskModel D) (crashes : D → D → Type 0) (given : D) (input : List ℕ) (written now : Option (List ℕ)) (fault : Fault) (lost : D) : Type 0 where
   pub lines : List Line
   pub others : List Line
@@ -174,8 +212,7 @@ pub record BrokeOff {D : Type 0} (disk : DiskModel D) (crashes : D → D → Typ
   pub text : List ℕ
   pub place : Place D
   pub course : Course disk crashes given lines text place
-  pub wrote : WritesFirstPart written now text
-  pub given_back : IsGivenBack disk crashes place others fault lost
+  pub why : Stops disk crashes written now fault lost place others text
 
 -- no store was made on the disk that was given; one that was not empty stays as it was
 pub record NotMade {D : Type 0} (disk : DiskModel D) (given : D) (fault : Fault) (lost : D) : Type 0 where
@@ -184,3 +221,16 @@ pub record NotMade {D : Type 0} (disk : DiskModel D) (given : D) (fault : Fault)
   pub refused : RefusesCreate (disk.present given).read HALF_SIZE why
   pub untouched : why ≡ NotEmpty → IsUntouched disk given lost
   pub failed : disk.failures lost ≡ disk.failures given + failed_by fault
+
+-- ---- a whole drill, by what its reader has left and what its writer holds, before and after it
+
+-- what was read was carried out to its end and written, and this disk is given back
+abbrev pub Drills : {D : Type 0} → DiskModel D → (D → D → Type 0) → D → Option (List ℕ) → Option (List ℕ) → Option (List ℕ) → Option (List ℕ) → D → Type 0
+Drills disk crashes given unread rest written now last = (seen text : List ℕ) × Consumes unread rest seen × Ended disk crashes given seen text last × Appends written now text
+
+-- It failed: behind some lines of what was read, in too many reads of so many bytes at least; or no store was made, and
+-- then nothing was read and nothing written.
+abbrev pub Fails : {D : Type 0} → DiskModel D → (D → D → Type 0) → D → Option (List ℕ) → Option (List ℕ) → Option (List ℕ) → Option (List ℕ) → Fault → D → Type 0
+Fails disk crashes given unread rest written now fault lost =
+    ((seen : List ℕ) × Consumes unread rest seen × BrokeOff disk crashes given seen written now fault lost × (fault ≡ TooManyReads → MOST_READS ≤ length seen))
+    ⊎ (NotMade disk given fault lost × (rest ≡ unread) × (now ≡ written))

@@ -13,7 +13,7 @@ pub use Rattle.coord_drill.specs.declared.request.Request.{Request}
 pub use Rattle.coord_drill.specs.declared.drill.Drill.{Drill}
 pub use Rattle.coord_drill.specs.declared.fault.Fault.{Fault}
 pub use Rattle.coord_drill.specs.declared.drill.flying.Flown.{Flown}
-pub use Rattle.coord_drill.specs.Faults.{IsOfDisk, IsOfMemory, IsOfNoStore, IsOfWork, IsOfWriting, IsPassing, MayEnd, MayEndBy, failed_by, opens_disk, reopen_fault, store_fault}
+pub use Rattle.coord_drill.specs.Faults.{IsOfDisk, IsOfMemory, IsOfWork, IsOfWriting, IsPassing, MayCutShort, MayEnd, MayEndBy, failed_by, opens_disk, reopen_fault, store_fault}
 pub use Rattle.coord_drill.specs.Asked.{asked}
 pub use Rattle.coord_drill.specs.Drill.{DrillState, after_asked, drill_over, flight_events, landing_events, line_events, machine_of, seen_as, step_events}
 pub use Rattle.coord_drill.specs.Printed.{bad_line, count_line, fault_line, idle_line, opened_line, output_line, output_lines, pending_line, refusal_line, reply_line, settled_lines}
@@ -21,6 +21,7 @@ pub use Rattle.coord_drill.specs.Answered.{IsAnswered, Responds, asked_lines, fl
 pub use Rattle.coord_drill.specs.Drilled.{LineResponds, Prints, UnlessSkipped, WritesFirstPart, asked_by, is_skipped}
 pub use Rattle.coord_drill.specs.Told.{flight_told, told_by}
 pub use Rattle.coord_drill.specs.Holding.{AreGranted, FlownTo, IsEmptyLog, IsHeld, IsReady, IsReadyWith, Lands, Settles, Tells, behind, claims_of, collected_lines, drill_of, flown_answers, flown_lines, front_of, landed_answers, left, left_by, released_lines, state_of, waiting}
-pub use Rattle.coord_drill.specs.Course.{AllKept, BrokeOff, Course, CutShort, Ended, FirstCutShort, Goes, GoesOn, IsGivenBack, IsKept, IsLeftBy, LineGoes, Moves, NotMade, Passes, Place, Raises, asked_in, start, told_in}
+pub use Rattle.coord_drill.specs.Course.{AllKept, BrokeOff, Course, CutShort, Drills, Ended, Fails, FirstCutShort, Goes, GoesOn, IsKept, IsLeftBy, LineCutShort, LineGoes, Moves, NotMade, Passes, Place, Raises, Stops, StopsWork, asked_in, start, told_in}
 pub use Rattle.coord_drill.specs.Moments.{Begins, Carries, CarriesIf, Cuts, CutsIf, Flies, GivesRaised, GoesBy, Hands, IsBegun, IsLostInCrash, IsMade, IsPromised, IsRun, LacksMemory, Leads, LeadsBy, LeadsPart, Led, LedDisk, RaisesPart, RaisesTo, Stands}
-pub use Rattle.coord_drill.specs.Lines.{BreaksOff, CarriesLine, CarriesOut, CutsLine, EndsWith, Takes}
+pub use Rattle.coord_drill.specs.Lines.{Breaks, BreaksOff, CarriesLine, CarriesOut, CutsLine, EndsEarly, EndsWith, Takes}
+pub use Rattle.coord_drill.specs.Written.{WritesShort}

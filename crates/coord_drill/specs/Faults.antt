@@ -55,13 +55,14 @@ abbrev pub failed_by : Fault → ℕ
 failed_by (Store why) = failed_in why
 failed_by fault = 0
 
--- on a disk that keeps the model a line is cut short for want of memory, or because the disk failed
+-- want of memory, or the disk failed
 abbrev pub IsPassing : Fault → Type 0
 IsPassing fault = IsOfMemory fault ⊎ (fault ≡ Store store.Device)
 
--- no store was refused
-abbrev pub IsOfNoStore : Fault → Type 0
-IsOfNoStore fault = (why : StoreFault) → fault ≢ Store why
+-- on a disk that keeps the model a line is cut short so, and only where it raises a store, or opens one again, by the disk
+abbrev pub MayCutShort : Bool → Fault → Type 0
+MayCutShort true why = IsPassing why
+MayCutShort false why = IsOfMemory why
 
 -- of a write's answer the bytes that were taken are told; a fault is one where none were, and so may none be
 abbrev pub TellsOfWrite : {E : Type 0} → Result ℕ E → Result ℕ Fault → Type 0

@@ -10,6 +10,8 @@ pub mod Drilled
 pub mod Laws
 pub mod WorkedLines
 pub mod Holding
+pub mod Written
+pub mod InMemory
 pub mod Course
 pub mod Moments
 pub mod Lines

@@ -1,19 +1,17 @@
 //! A drill over a reader and a writer.
 
-ghost use Rattle.std.specs.Prelude.{◌≡◌, ◌⊎◌, ◌<◌, ◌≤◌, ◌+◌, ◌-◌, ◌^◌, ℕ, List, [], true, OnOk, IfErr, IfOk, IfSome, Some, length};
+ghost use Rattle.std.specs.Prelude.{◌≡◌, ◌<◌, ◌≤◌, ◌+◌, ◌-◌, ◌^◌, ℕ, List, [], true, OnOk, IfErr, IfOk, IfSome, Some, length};
 ghost use Rattle.std.specs.Io.KnownBytes.{Appends, Consumes, IsAtEnd};
 ghost use Rattle.coord_ledger.specs.Facade.{disk_held};
 ghost use Rattle.coord_lines.specs.Lines.{lines_on};
-ghost use Rattle.coord_drill.specs.Course.{BrokeOff, Ended, NotMade};
+ghost use Rattle.coord_drill.specs.Course.{Drills, Fails, NotMade};
 ghost use Rattle.coord_drill.specs.Drilled.{IsDrilled, WritesFirstPart};
 ghost use Rattle.coord_drill.specs.Faults.{IsOfDisk, IsOfWork};
 ghost use Rattle.coord_drill.specs.Holding.{IsReady};
-ghost use Rattle.coord_drill.specs.Lines.{BreaksOff, EndsWith, Takes};
+ghost use Rattle.coord_drill.specs.InMemory.{DrillsInMemory, FailsInMemory, IsBlank};
+ghost use Rattle.coord_drill.specs.Lines.{BreaksOff, EndsEarly, EndsWith, Takes};
 ghost use Rattle.coord_drill.specs.Moments.{IsBegun};
 ghost use Rattle.coord_drill.specs.declared.fault.Fault.TheVariants.{TooManyReads};
-ghost use Rattle.coord_disk.specs.Disks.Memory.{choice_of, present_of};
-ghost use Rattle.coord_disk.specs.Model.Present.{whole};
-ghost use Rattle.coord_disk.specs.declared.choice.Choice.TheVariants.{Kept};
 
 mod lines;
 
@@ -49,6 +47,12 @@ pub fn coord_drill<R: Read, W: Write>(
         × ((text : List ℕ) × IsDrilled seen text ×
         WritesFirstPart (W.contents writer.old) (W.contents writer.new) text)
         × (fault ≡ TooManyReads → MOST_READS ≤ length seen)) }
+
+    // What `coord_drill_on` says, of a disk in memory that was just made.
+    ensures ended { OnOk result (DrillsInMemory (R.remaining reader.old) (R.remaining reader.new)
+        (W.contents writer.old) (W.contents writer.new)) }
+    ensures broke { IfErr result (FailsInMemory (R.remaining reader.old) (R.remaining reader.new)
+        (W.contents writer.old) (W.contents writer.new)) }
 {
     match coord_drill_on(alloc, reader, writer, new_disk(alloc)) {
         Ok(_disk) => Ok(()),
@@ -69,27 +73,21 @@ pub fn coord_drill_on<R: Read, W: Write, D: CrashDisk>(
     writer: &mut W,
     disk: D,
 ) -> Result<D, (Fault, D)>
-    ensures ended { D.model.keeps_model disk ≡ true → IfOk result (λ last. (seen text : List ℕ)
-        × Consumes (R.remaining reader.old) (R.remaining reader.new) seen
-        × Ended D.model D.crashes disk seen text last
-        × Appends (W.contents writer.old) (W.contents writer.new) text) }
+    ensures ended { D.model.keeps_model disk ≡ true → IfOk result (Drills D.model D.crashes disk
+        (R.remaining reader.old) (R.remaining reader.new)
+        (W.contents writer.old) (W.contents writer.new)) }
     ensures end { OnOk result (IsAtEnd (R.remaining reader.new)) }
-    ensures failed { D.model.keeps_model disk ≡ true → IfErr result (λ refused. ((seen : List ℕ)
-        × Consumes (R.remaining reader.old) (R.remaining reader.new) seen
-        × BrokeOff D.model D.crashes disk seen
-        (W.contents writer.old) (W.contents writer.new) refused.0 refused.1
-        × (refused.0 ≡ TooManyReads → MOST_READS ≤ length seen))
-        ⊎ (NotMade D.model disk refused.0 refused.1
-        × (R.remaining reader.new ≡ R.remaining reader.old)
-        × (W.contents writer.new ≡ W.contents writer.old))) }
+    ensures failed { D.model.keeps_model disk ≡ true →
+        IfErr result (λ refused. Fails D.model D.crashes disk
+        (R.remaining reader.old) (R.remaining reader.new)
+        (W.contents writer.old) (W.contents writer.new) refused.0 refused.1) }
 {
     Console::new(alloc, disk)?.run(alloc, reader, writer)
 }
 
 /// A disk in memory with nothing on it, of which a crash keeps what a read gives.
 fn new_disk(alloc: Global) -> MemDisk
-    ensures empty { present_of result ≡ whole [] }
-    ensures choice { choice_of result ≡ Kept }
+    ensures { IsBlank result }
 {
     let mut disk = MemDisk::new(alloc);
     disk.choose(Choice::Kept);
@@ -142,7 +140,7 @@ impl<D: CrashDisk> Console<D> {
         ensures end { OnOk result (IsAtEnd (R.remaining reader.new)) }
         ensures failed { IfErr result (λ refused. (seen : List ℕ)
             × Consumes (R.remaining reader.old) (R.remaining reader.new) seen
-            × BreaksOff D.model D.crashes self.drill 1 (lines_on self.line seen)
+            × EndsEarly D.model D.crashes self.drill 1 (lines_on self.line seen)
             (W.contents writer.old) (W.contents writer.new) refused.0 refused.1
             × (refused.0 ≡ TooManyReads → MOST_READS ≤ length seen)) }
     {
@@ -200,7 +198,7 @@ impl<D: CrashDisk> Console<D> {
         ensures ended { IfOk result (λ last. EndsWith D.model D.crashes
             self.drill (self.number + 1) (lines_on self.line [])
             (W.contents writer.old) (W.contents writer.new) last) }
-        ensures failed { IfErr result (λ refused. BreaksOff D.model D.crashes
+        ensures failed { IfErr result (λ refused. EndsEarly D.model D.crashes
             self.drill (self.number + 1) (lines_on self.line [])
             (W.contents writer.old) (W.contents writer.new) refused.0 refused.1) }
         ensures fault { IfErr result (λ refused. IsOfWork refused.0) }

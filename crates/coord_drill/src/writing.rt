@@ -1,10 +1,10 @@
-//! Writing of which is known, where it fails, that a first part was written.
+//! Writing of which is known, where it fails, that a first part was written, and not all.
 
 ghost use Rattle.std.specs.Prelude.{◌≡◌, ◌≢◌, OnOk, OnErr, IfErr};
 ghost use Rattle.std.specs.Io.KnownBytes.{Appends};
 ghost use Rattle.std.specs.IoError.{error_kind};
-ghost use Rattle.coord_drill.specs.Drilled.{WritesFirstPart};
 ghost use Rattle.coord_drill.specs.Faults.{IsOfWriting};
+ghost use Rattle.coord_drill.specs.Written.{WritesShort};
 
 use crate::answers::write_once;
 use crate::fault::Fault;
@@ -14,9 +14,10 @@ use std::io::{Error, ErrorKind, Write};
 const MOST_WRITES: u64 = 1_048_576;
 
 /// Writes a text whole.
+#[tactic(auto, using(crate::proofs::prints::FirstParts::short_left, crate::proofs::prints::FirstParts::short_kept))]
 pub fn write_text<W: Write>(writer: &mut W, text: &[u8]) -> Result<(), Fault>
     ensures ok { OnOk result (Appends (W.contents writer.old) (W.contents writer.new) text.now) }
-    ensures err { OnErr result (WritesFirstPart (W.contents writer.old)
+    ensures err { OnErr result (WritesShort (W.contents writer.old)
         (W.contents writer.new) text.now) }
     ensures fault { IfErr result IsOfWriting }
 {
@@ -27,6 +28,9 @@ pub fn write_text<W: Write>(writer: &mut W, text: &[u8]) -> Result<(), Fault>
         }
         let count = write_once(writer, rest)?;
         rest = &rest[count..];
+    }
+    if rest.is_empty() {
+        return Ok(());
     }
     Err(Fault::Write)
 }

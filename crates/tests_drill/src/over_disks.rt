@@ -98,6 +98,7 @@ fn drilled<D: CrashDisk>(rt: &impl Host, disk: D) -> (Option<Fault>, Vec<u8>, D)
     }
 }
 
+/// All is printed, and the disk that is given back has the drill's header and each step.
 #[test]
 fn whatever_a_crash_leaves(rt: HostRuntime) {
     for which in 0..3 {
@@ -106,6 +107,11 @@ fn whatever_a_crash_leaves(rt: HostRuntime) {
         assert_eq!(rt;
             str::from_utf8(&output).unwrap_or("no text"),
             PRINTED,
+            "{which}"
+        );
+        let header = disk.bytes().get(1..17).unwrap_or(&[]);
+        assert!(rt;
+            header == b"ACRRESET\0\0\0\0\0\x01\0\0".as_slice(),
             "{which}"
         );
         assert_eq!(rt; opened(&rt, disk), Ok(STEPS), "{which}");
@@ -136,11 +142,14 @@ fn a_device_that_fails(rt: HostRuntime) {
     }
 }
 
+/// It is asked for its length, and called for nothing else.
 #[test]
 fn a_disk_that_is_not_empty(rt: HostRuntime) {
     let bytes = b"x".as_slice();
     let disk = MemDisk::from_bytes(rt.alloc(), bytes).expect(&rt, "no disk");
-    let (fault, output, disk) = drilled(&rt, disk);
+    let (fault, output, disk) = drilled(&rt, FuseDisk::new(disk, CALLS));
     assert_eq!(rt; fault, Some(Fault::Store(StoreFault::NotEmpty)));
-    assert!(rt; output.is_empty() && disk.bytes() == bytes);
+    assert_eq!(rt; disk.calls(), 1);
+    let inner = disk.into_inner();
+    assert!(rt; output.is_empty() && inner.bytes() == bytes);
 }

@@ -1,5 +1,5 @@
 -- A line that is cut short leaves the disk as the course says.
-use Rattle.std.proofs.Common.{◌≡◌, ◌+◌, true, false, List, [], length, take, Some, refl, sym, ap, ◌∙◌, arith, subst, inl, inr}
+use Rattle.std.proofs.Common.{◌≡◌, ◌+◌, Bool, true, false, List, [], length, take, Some, refl, sym, ap, ◌∙◌, arith, subst, inl, inr}
 use Rattle.std.specs.Option.{option_map}
 use Rattle.std.proofs.lemmas.Bool.{false≢true}
 use Rattle.coord_disk.specs.Model.DiskModel.{DiskModel}
@@ -8,10 +8,14 @@ use Rattle.coord_ledger.specs.Facade.{Machine, Survives, disk_held, failed_until
 use Rattle.coord_ledger.proofs.runs.EachMoment.{reopens_more}
 use Rattle.coord_drill.specs.Drill.{DrillState, line_events}
 use Rattle.coord_drill.specs.declared.asked.Asked.TheVariants.{Crash, Version2}
-use Rattle.coord_drill.specs.Facade.{Answer, Asked, CutShort, Cuts, Drill, Fault, IsEmptyLog, IsKept, IsLeftBy, IsLostInCrash, IsOfMemory, IsPassing, IsPromised, LeadsPart, Passes, Place, RaisesPart, Stands, failed_by}
+use Rattle.coord_drill.specs.Facade.{Answer, Asked, CutShort, Cuts, Drill, Fault, IsEmptyLog, IsKept, IsLeftBy, IsLostInCrash, IsOfMemory, IsPromised, LeadsPart, MayCutShort, Passes, Place, RaisesPart, Stands, failed_by, opens_disk}
 use Rattle.coord_drill.proofs.does.Moments.{is_version}
 use Rattle.coord_drill.proofs.course.Kept.{kept_of, passes}
 use Rattle.coord_drill.proofs.course.Standing.{failed_is, raises}
+
+of_memory : (opens : Bool) (why : Fault) → IsOfMemory why → MayCutShort opens why
+of_memory true why memory = inl memory
+of_memory false why memory = memory
 
 module _ {D : Type 0} (disk : DiskModel D) (crashes : D → D → Type 0) (d : Drill D) (p : Place D) (at : Stands disk d p) where
   -- the events that were answered
@@ -34,7 +38,7 @@ module _ {D : Type 0} (disk : DiskModel D) (crashes : D → D → Type 0) (d : D
       let none : failed_by why ≡ 0 = ap failed_by memory in
       let all : disk.failures lost ≡ disk.failures p.disk + (failed_until es given + failed_by why) = omega (arith, ap disk.failures same, count, none) in
       record {
-        cause = inl memory;
+        cause = of_memory (opens_disk a) why memory;
         given = given;
         mid = there.new;
         moments = subst (λ (s : DrillState). Passes disk crashes p.machine p.told (take (length given) (line_events s.holds a given)) given p.disk there.new) (sym at.state)
@@ -44,7 +48,7 @@ module _ {D : Type 0} (disk : DiskModel D) (crashes : D → D → Type 0) (d : D
       }
 
   -- behind no event
-  cut_before_events : (a : Asked) (why : Fault) (lost : D) → IsPassing why → IsLeftBy disk crashes p a p.machine p.disk lost → disk.failures lost ≡ disk.failures p.disk + failed_by why → CutShort disk crashes p a why lost
+  cut_before_events : (a : Asked) (why : Fault) (lost : D) → MayCutShort (opens_disk a) why → IsLeftBy disk crashes p a p.machine p.disk lost → disk.failures lost ≡ disk.failures p.disk + failed_by why → CutShort disk crashes p a why lost
   cut_before_events a why lost cause left failed = record { cause = cause; given = []; mid = p.disk; moments = (refl, at.kept); left = left; failed = omega (arith, failed) }
 
   -- in a crash

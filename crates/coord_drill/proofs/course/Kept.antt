@@ -92,6 +92,7 @@ module _ {D : Type 0} (disk : DiskModel D) (crashes : D → D → Type 0) where
         λ image here. kept_of m told image is all (moments.0 refl image here),
         (
           moments.1.0,
+          moments.1.1.0.untouched,
           within_more e (Survives found) (IsKept found told) old moments.1.0 (moments.1.1.0.inside refl) (λ bytes survives. kept_of found told bytes (found_is m e a is answered.0) (found_settled m e a told all) survives),
           passes (after m e a) told es gs moments.1.0 new named.1 (stays_consistent m e a named.0 is answered.0) answered.1 rest moments.1.1.1,
         ),

@@ -13,7 +13,7 @@ use Rattle.coord_drill.specs.Drilled.{asked_by, is_skipped, parsed, unless_late}
 use Rattle.coord_drill.specs.Format.{◌>>=◌}
 use Rattle.coord_drill.specs.declared.asked.Asked.TheVariants.{Version2}
 use Rattle.coord_drill.specs.declared.request.Request.TheVariants as request
-use Rattle.coord_drill.specs.Facade.{AllKept, Answer, Carries, CarriesIf, CarriesLine, CutsIf, Drill, Fault, Goes, IsEmptyLog, IsGivenBack, IsOfMemory, IsPromised, LineGoes, Moves, Place, Prints, Refusal, Request, Responds, Stands, Step, Tells, UnlessSkipped, asked_in, bad_line, front_of, state_of, told_in}
+use Rattle.coord_drill.specs.Facade.{AllKept, Answer, Carries, CarriesIf, CarriesLine, CutsIf, Drill, Fault, FirstCutShort, Goes, IsEmptyLog, IsOfMemory, IsPromised, LineCutShort, LineGoes, Moves, Place, Prints, Refusal, Request, Responds, Stands, Step, Tells, UnlessSkipped, asked_in, bad_line, front_of, state_of, told_in}
 use Rattle.coord_drill.proofs.course.Cutting.{cut_by}
 use Rattle.coord_drill.proofs.course.Standing.{reached_by}
 
@@ -110,13 +110,17 @@ module _ {D : Type 0} (disk : DiskModel D) (crashes : D → D → Type 0) where
           ),
         )
 
-    pub cut_asked : (line : List ℕ) (r : Request) (why : Fault) (lost : D) → is_skipped line ≡ false → asked_by (state_of d) line ≡ Some r → CutsIf disk crashes (asked (front_of d) r) d why lost → IsGivenBack disk crashes p (Some line ∷ []) why lost
+    pub cut_asked : (line : List ℕ) (r : Request) (why : Fault) (lost : D) → is_skipped line ≡ false → asked_by (state_of d) line ≡ Some r → CutsIf disk crashes (asked (front_of d) r) d why lost → FirstCutShort disk crashes p (Some line ∷ []) why lost
     cut_asked line r why lost kept is cuts =
         let a = asked (front_of d) r in
         let own : asked_by p.state line ≡ Some r = ap (λ (s : DrillState). asked_by s line) at.state ∙ is in
         let asks : asked_in p.state (Some line) ≡ Some a = asked_is p.state line (Some r) kept own ∙ ap (λ (s : DrillState). Some (asked (front_world s.log) r)) at.state in
         let on = promised line r is in
-        inr (why, ((a, (asks, cut_by disk crashes d p at a why lost on (cuts on))), inl refl))
+        subst (λ o. LineCutShort disk crashes p o why lost) (sym asks) (cut_by disk crashes d p at a why lost on (cuts on))
+
+    -- a bad line asks for nothing
+    pub asks_nothing : (line : List ℕ) → is_skipped line ≡ false → asked_by (state_of d) line ≡ None → asked_in p.state (Some line) ≡ None
+    asks_nothing line kept none = asked_is p.state line None kept (ap (λ (s : DrillState). asked_by s line) at.state ∙ none)
 
   -- a line that is told as bad
   pub tells_bad : (d : Drill D) (n : ℕ) (old text : List ℕ) (r : Result (Drill D) (Fault × D)) (line : Line) → IfOk r (λ x. x ≡ d) → OnOk r (text ≡ old ++ bad_line n) → ((p : Place D) → Stands disk d p → LineGoes disk crashes p n line (bad_line n) p) →
@@ -125,8 +129,8 @@ module _ {D : Type 0} (disk : DiskModel D) (crashes : D → D → Type 0) where
   tells_bad d n old text (Err e) line same told goes = tt
 
   -- it could not be told
-  pub told_lost : (d : Drill D) (p : Place D) → Stands disk d p → (line : Line) (fault : Fault) (lost : D) → IsOfMemory fault → disk_held d.driver ≡ Some lost → IsGivenBack disk crashes p (line ∷ []) fault lost
-  told_lost d p at line fault lost memory there = inl (cc (there, at.holds), λ why same. let no : ⊥ = cc in no)
+  pub told_lost : (d : Drill D) (p : Place D) → Stands disk d p → (line : Line) (fault : Fault) (lost : D) → asked_in p.state line ≡ None → IsOfMemory fault → disk_held d.driver ≡ Some lost → FirstCutShort disk crashes p (line ∷ []) fault lost
+  told_lost d p at line fault lost none memory there = subst (λ o. LineCutShort disk crashes p o fault lost) (sym none) (memory, cc (there, at.holds))
 
   -- ---- lines
 

@@ -11,10 +11,6 @@ use Rattle.coord_drill.specs.Drill.{DrillState, after_asked, flight_events, mach
 use Rattle.coord_drill.specs.declared.asked.Asked.TheVariants.{Crash, Submit}
 use Rattle.coord_drill.specs.Facade.{Accepted, Answer, Fresh, IsHeld, IsRun, Opened, Refusal, Refused, Repeat, Repeated, Reply, Step, claims_of, drill_of, opened_line, pending_line, refusal_line}
 
--- nothing is pending in a ledger that was just made
-pub new_held : {D : Type 0} (l : LedgerState D) (w : World) (disk : D) (claims : List Claim) → l ≡ ledger_over w disk → claims ≡ [] → IsHeld l claims
-new_held {D} l w disk claims is none = none ∙ ap (λ (m : LedgerState D). claims_of (settled_world m.log) (pending m.log)) (sym is)
-
 -- ---- steps
 
 module _ (s : DrillState) (x : Step) where

@@ -1,27 +1,50 @@
 -- Pieces of the input, one after the other.
-use Rattle.std.proofs.Common.{◌≡◌, ℕ, ◌+◌, List, [], ◌∷◌, ◌++◌, length, length-append, Option, Some, None, refl, sym, ap, ◌∙◌, subst, arith, inl, inr, append-nil, append_assoc}
+use Rattle.std.proofs.Common.{◌≡◌, ◌⊎◌, ℕ, ◌+◌, List, [], ◌∷◌, ◌++◌, length, length-append, Option, Some, None, refl, sym, ap, ◌∙◌, subst, arith, inl, inr, append-nil, append_assoc}
 use Rattle.std.specs.Io.KnownBytes.{Appends}
 use Rattle.std.proofs.KnownBytes.{Appends-nil, Appends-trans}
 use Rattle.coord_disk.specs.Model.DiskModel.{DiskModel}
 use Rattle.coord_ledger.specs.Facade.{disk_held}
 use Rattle.coord_lines.specs.Lines.{IsWithin, Line, before_line_feed, behind_line_feed, extended, lines_on}
 use Rattle.coord_lines.proofs.LinesOn.{extended-nothing, lines_on-ended, lines_on-unended}
-use Rattle.coord_drill.specs.Facade.{BreaksOff, CarriesLine, CarriesOut, CutsLine, Drill, EndsWith, Fault, IsGivenBack, IsOfNoStore, IsOfWriting, Place, Takes, WritesFirstPart}
+use Rattle.coord_drill.specs.Facade.{Breaks, BreaksOff, CarriesLine, CarriesOut, CutsLine, Drill, EndsEarly, EndsWith, Fault, FirstCutShort, IsOfWriting, Place, Stops, StopsWork, Takes, WritesShort}
+use Rattle.coord_drill.specs.declared.fault.Fault.TheVariants.{Read, TooManyReads}
 use Rattle.coord_drill.proofs.course.Lines.{goes_both, goes_one}
-use Rattle.coord_drill.proofs.prints.FirstParts.{first_part-after, first_part-all, first_part-longer, first_part-none}
-
--- a writer's fault is no store's
-pub of_writing : (fault : Fault) → IsOfWriting fault → IsOfNoStore fault
-of_writing fault (inl memory) why same = cc
-of_writing fault (inr write) why same = cc
+use Rattle.coord_drill.proofs.prints.FirstParts.{short_after, short_longer}
 
 module _ {D : Type 0} (disk : DiskModel D) (crashes : D → D → Type 0) where
   -- ---- lines that were carried out, and more behind them
 
-  first_cut_more : (q : Place D) (ls more : List Line) (fault : Fault) (lost : D) → IsGivenBack disk crashes q ls fault lost → IsGivenBack disk crashes q (ls ++ more) fault lost
-  first_cut_more q ls more fault lost (inl same) = inl same
-  first_cut_more q [] more fault lost (inr cut) = absurd cut.1.0
-  first_cut_more q (l ∷ ls) more fault lost (inr cut) = inr cut
+  first_cut_more : (q : Place D) (ls more : List Line) (why : Fault) (lost : D) → FirstCutShort disk crashes q ls why lost → FirstCutShort disk crashes q (ls ++ more) why lost
+  first_cut_more q [] more why lost cut = absurd cut
+  first_cut_more q (l ∷ ls) more why lost cut = cut
+
+  -- what stopped the lines behind them, with their text before its own
+  module _ (a b c : Option (List ℕ)) (first : List ℕ) (wrote : Appends a b first) (fault : Fault) (lost : D) (q : Place D) (ls : List Line) (text : List ℕ) where
+    work_later : (more : List Line) → StopsWork disk crashes b c fault lost q ls text → StopsWork disk crashes a c fault lost q (ls ++ more) (first ++ text)
+    work_later more (inl line) = inl (record { wrote = Appends-trans a b c first text wrote line.wrote; cut = first_cut_more q ls more fault lost line.cut })
+    work_later more (inr short) = inr (record { cause = short.cause; wrote = short_after a b c first text wrote short.wrote; given_back = back short.given_back })
+      where
+        back : (lost ≡ q.disk) ⊎ ((why : Fault) × FirstCutShort disk crashes q ls why lost) → (lost ≡ q.disk) ⊎ ((why : Fault) × FirstCutShort disk crashes q (ls ++ more) why lost)
+        back (inl same) = inl same
+        back (inr cut) = inr (cut.0, first_cut_more q ls more cut.0 lost cut.1)
+
+    stops_later : Stops disk crashes b c fault lost q ls text → Stops disk crashes a c fault lost q (ls ++ []) (first ++ text)
+    stops_later (inl read) = inl (record { cause = read.cause; wrote = Appends-trans a b c first text wrote read.wrote; unended = ap length (append-nil ls) ∙ read.unended; same = read.same })
+    stops_later (inr (inl flush)) = inr (inl (record { cause = flush.cause; wrote = Appends-trans a b c first text wrote flush.wrote; ended = append-nil ls ∙ flush.ended; same = flush.same }))
+    stops_later (inr (inr work)) = inr (inr (work_later [] work))
+
+  -- for another reason, which that one gives
+  pub breaks_so : (d : Drill D) (n : ℕ) (ls : List Line) (Why So : Place D → List Line → List ℕ → Type 0) → ((q : Place D) (others : List Line) (text : List ℕ) → Why q others text → So q others text) → Breaks disk crashes d n ls Why → Breaks disk crashes d n ls So
+  breaks_so d n ls Why So so breaks = record {
+    ended = breaks.ended;
+    others = breaks.others;
+    split = breaks.split;
+    text = breaks.text;
+    goes = λ p stands. let one = breaks.goes p stands in (one.0, (one.1.0, so one.0 breaks.others breaks.text one.1.1));
+  }
+
+  pub works_early : (d : Drill D) (n : ℕ) (ls : List Line) (a b : Option (List ℕ)) (fault : Fault) (lost : D) → BreaksOff disk crashes d n ls a b fault lost → EndsEarly disk crashes d n ls a b fault lost
+  works_early d n ls a b fault lost breaks = breaks_so d n ls _ _ (λ q others text work. inr (inr work)) breaks
 
   pub carries_none : (d : Drill D) (n : ℕ) (a : Option (List ℕ)) → CarriesOut disk crashes d n [] a a d
   carries_none d n a = record { text = []; wrote = Appends-nil a; goes = λ p at. (p, (at, (refl, refl, at.kept))) }
@@ -47,33 +70,28 @@ module _ {D : Type 0} (disk : DiskModel D) (crashes : D → D → Type 0) where
           (two.0, (two.1.0, goes_both disk crashes p one.0 two.0 n m ls ks first.text more.text at one.1.1 two.1.1));
     }
 
-    pub breaks_after : (fault : Fault) (lost : D) (more all : List Line) → all ≡ ls ++ (ks ++ more) → BreaksOff disk crashes mid m ks b c fault lost → BreaksOff disk crashes d n all a c fault lost
-    breaks_after fault lost more all whole breaks = record {
+    pub breaks_after : (Why So : Place D → List Line → List ℕ → Type 0) (more all : List Line) → all ≡ ls ++ (ks ++ more) → ((q : Place D) (others : List Line) (text : List ℕ) → Why q others text → So q (others ++ more) (first.text ++ text)) → Breaks disk crashes mid m ks Why →
+        Breaks disk crashes d n all So
+    breaks_after Why So more all whole so breaks = record {
       ended = ls ++ breaks.ended;
       others = breaks.others ++ more;
       split = whole ∙ ap (λ k. ls ++ (k ++ more)) breaks.split ∙ ap (λ k. ls ++ k) (append_assoc breaks.ended breaks.others more) ∙ sym (append_assoc ls breaks.ended (breaks.others ++ more));
       text = first.text ++ breaks.text;
-      wrote = first_part-after a b c first.text breaks.text first.wrote breaks.wrote;
       goes = λ p stands.
           let one = first.goes p stands in
-          let two = breaks.goes one.0 one.1.0 in (
-            two.0,
-            (
-              goes_both disk crashes p one.0 two.0 n m ls breaks.ended first.text breaks.text at one.1.1 two.1.0,
-              first_cut_more two.0 breaks.others more fault lost two.1.1,
-            ),
-          );
+          let two = breaks.goes one.0 one.1.0 in
+          (two.0, (goes_both disk crashes p one.0 two.0 n m ls breaks.ended first.text breaks.text at one.1.1 two.1.0, so two.0 breaks.others breaks.text two.1.1));
     }
 
   -- the disk is given back behind them
-  pub breaks_behind : (d new : Drill D) (n : ℕ) (ls others all : List Line) (a b : Option (List ℕ)) (fault : Fault) (lost : D) → all ≡ ls ++ others → CarriesOut disk crashes d n ls a b new → IsOfNoStore fault → disk_held new.driver ≡ Some lost → BreaksOff disk crashes d n all a b fault lost
-  breaks_behind d new n ls others all a b fault lost split out none there = record {
+  pub breaks_behind : (d new : Drill D) (n : ℕ) (ls others all : List Line) (a b : Option (List ℕ)) (lost : D) (Why : Place D → List Line → List ℕ → Type 0) → all ≡ ls ++ others → CarriesOut disk crashes d n ls a b new → disk_held new.driver ≡ Some lost →
+      ((q : Place D) (text : List ℕ) → lost ≡ q.disk → Appends a b text → Why q others text) → Breaks disk crashes d n all Why
+  breaks_behind d new n ls others all a b lost Why split out there why = record {
     ended = ls;
     others = others;
     split = split;
     text = out.text;
-    wrote = first_part-all a b out.text out.wrote;
-    goes = λ p stands. let one = out.goes p stands in (one.0, (one.1.1, inl (cc (there, one.1.0.holds), none)));
+    goes = λ p stands. let one = out.goes p stands in (one.0, (one.1.1, why one.0 out.text (cc (there, one.1.0.holds)) out.wrote));
   }
 
   -- ---- a line
@@ -86,16 +104,15 @@ module _ {D : Type 0} (disk : DiskModel D) (crashes : D → D → Type 0) where
   }
 
   -- its text was not written whole
-  pub line_unwritten : (d new : Drill D) (n : ℕ) (line : Line) (told : List ℕ) (a b : Option (List ℕ)) (fault : Fault) (lost : D) → CarriesLine disk crashes d n line told new → WritesFirstPart a b told → IsOfNoStore fault → disk_held new.driver ≡ Some lost → BreaksOff disk crashes d n (line ∷ []) a b fault lost
-  line_unwritten d new n line told a b fault lost carries wrote none there = record {
+  pub line_unwritten : (d new : Drill D) (n : ℕ) (line : Line) (told : List ℕ) (a b : Option (List ℕ)) (fault : Fault) (lost : D) → CarriesLine disk crashes d n line told new → WritesShort a b told → IsOfWriting fault → disk_held new.driver ≡ Some lost → BreaksOff disk crashes d n (line ∷ []) a b fault lost
+  line_unwritten d new n line told a b fault lost carries short writing there = record {
     ended = line ∷ [];
     others = [];
     split = refl;
     text = told;
-    wrote = wrote;
     goes = λ p stands.
         let one = carries p stands in
-        (one.0, (goes_one disk crashes p one.0 n line told one.1.1 one.1.0.kept, inl (cc (there, one.1.0.holds), none)));
+        (one.0, (goes_one disk crashes p one.0 n line told one.1.1 one.1.0.kept, inr (record { cause = writing; wrote = short; given_back = inl (cc (there, one.1.0.holds)) })));
   }
 
   -- it was cut short
@@ -105,8 +122,7 @@ module _ {D : Type 0} (disk : DiskModel D) (crashes : D → D → Type 0) where
     others = line ∷ [];
     split = refl;
     text = [];
-    wrote = first_part-none a [];
-    goes = λ p stands. (p, ((refl, refl, stands.kept), cuts p stands));
+    goes = λ p stands. (p, ((refl, refl, stands.kept), inl (record { wrote = Appends-nil a; cut = cuts p stands })));
   }
 
   -- ---- the last line
@@ -114,8 +130,8 @@ module _ {D : Type 0} (disk : DiskModel D) (crashes : D → D → Type 0) where
   last_line : (line : Line) → IsWithin line → lines_on line [] ≡ line ∷ []
   last_line line within = ap (λ l. l ∷ []) (extended-nothing line within)
 
-  pub last_breaks : (d : Drill D) (n : ℕ) (line : Line) (a b : Option (List ℕ)) (fault : Fault) (lost : D) → IsWithin line → BreaksOff disk crashes d n (line ∷ []) a b fault lost → BreaksOff disk crashes d n (lines_on line []) a b fault lost
-  last_breaks d n line a b fault lost within breaks = subst (λ ls. BreaksOff disk crashes d n ls a b fault lost) (sym (last_line line within)) breaks
+  pub last_breaks : (d : Drill D) (n : ℕ) (line : Line) (Why : Place D → List Line → List ℕ → Type 0) → IsWithin line → Breaks disk crashes d n (line ∷ []) Why → Breaks disk crashes d n (lines_on line []) Why
+  last_breaks d n line Why within breaks = subst (λ ls. Breaks disk crashes d n ls Why) (sym (last_line line within)) breaks
 
   pub last_ends : (d new : Drill D) (n : ℕ) (line : Line) (a b : Option (List ℕ)) (last : D) → IsWithin line → CarriesOut disk crashes d n (line ∷ []) a b new → disk_held new.driver ≡ Some last → EndsWith disk crashes d n (lines_on line []) a b last
   last_ends d new n line a b last within out there = subst (λ ls. EndsWith disk crashes d n ls a b last) (sym (last_line line within)) (record {
@@ -156,7 +172,7 @@ module _ {D : Type 0} (disk : DiskModel D) (crashes : D → D → Type 0) where
       takes_cut c fault lost breaks =
           let more = lines_on (Some []) (behind ++ []) in
           let all = ap (lines_on line) (sym (append-nil piece)) ∙ taken.lines [] ∙ ap (λ l. taken.ended ++ l) (at_feed []) in
-          breaks_after d now (number + 1) (reached + 1) taken.ended (longer ∷ []) a b c next_number taken.out fault lost more (lines_on line piece) all breaks
+          breaks_after d now (number + 1) (reached + 1) taken.ended (longer ∷ []) a b c next_number taken.out _ _ more (lines_on line piece) all (λ q others text work. work_later a b c taken.out.text taken.out.wrote fault lost q others text more work) breaks
 
     -- with none the line goes on
     pub takes_rest : (longer : Line) → None ≡ behind_line_feed rest → longer ≡ extended so_far (before_line_feed rest) → Takes disk crashes d number line piece [] a b now reached longer
@@ -168,9 +184,11 @@ module _ {D : Type 0} (disk : DiskModel D) (crashes : D → D → Type 0) where
     }
 
   module _ (d : Drill D) (number : ℕ) (line : Line) (piece : List ℕ) (a b : Option (List ℕ)) (now : Drill D) (reached : ℕ) (so_far : Line) (taken : Takes disk crashes d number line piece [] a b now reached so_far) where
-    -- nothing more comes
-    pub takes_breaks : (fault : Fault) (lost : D) → IsOfNoStore fault → disk_held now.driver ≡ Some lost → BreaksOff disk crashes d (number + 1) (lines_on line piece) a b fault lost
-    takes_breaks fault lost none there = breaks_behind d now (number + 1) taken.ended (lines_on so_far []) (lines_on line piece) a b fault lost (whole d number line piece [] a b now reached so_far taken) taken.out none there
+    -- nothing more can be read
+    pub takes_breaks : (fault : Fault) (lost : D) → (fault ≡ Read) ⊎ (fault ≡ TooManyReads) → disk_held now.driver ≡ Some lost → EndsEarly disk crashes d (number + 1) (lines_on line piece) a b fault lost
+    takes_breaks fault lost reading there =
+        breaks_behind d now (number + 1) taken.ended (lines_on so_far []) (lines_on line piece) a b lost _ (whole d number line piece [] a b now reached so_far taken) taken.out there
+        (λ q text same wrote. inl (record { cause = reading; wrote = wrote; unended = refl; same = same }))
 
     pub takes_ends : (c : Option (List ℕ)) (last : D) → EndsWith disk crashes now (reached + 1) (lines_on so_far []) b c last → EndsWith disk crashes d (number + 1) (lines_on line piece) a c last
     takes_ends c last ends =
@@ -189,10 +207,11 @@ module _ {D : Type 0} (disk : DiskModel D) (crashes : D → D → Type 0) where
       out = carries_after d now (number + 1) (reached + 1) taken.ended next.ended a b c (next_number d number line piece [] a b now reached so_far taken) taken.out new next.out;
     }
 
-    pub takes_break : (came : List ℕ) (c : Option (List ℕ)) (fault : Fault) (lost : D) → BreaksOff disk crashes now (reached + 1) (lines_on so_far came) b c fault lost → BreaksOff disk crashes d (number + 1) (lines_on line (piece ++ came)) a c fault lost
+    pub takes_break : (came : List ℕ) (c : Option (List ℕ)) (fault : Fault) (lost : D) → EndsEarly disk crashes now (reached + 1) (lines_on so_far came) b c fault lost → EndsEarly disk crashes d (number + 1) (lines_on line (piece ++ came)) a c fault lost
     takes_break came c fault lost breaks =
         let all = ap (lines_on line) (sym (append-nil (piece ++ came))) ∙ both came [] ∙ ap (λ r. taken.ended ++ lines_on so_far r) (append-nil came) ∙ ap (λ l. taken.ended ++ l) (sym (append-nil (lines_on so_far came))) in
-        breaks_after d now (number + 1) (reached + 1) taken.ended (lines_on so_far came) a b c (next_number d number line piece [] a b now reached so_far taken) taken.out fault lost [] (lines_on line (piece ++ came)) all breaks
+        breaks_after d now (number + 1) (reached + 1) taken.ended (lines_on so_far came) a b c (next_number d number line piece [] a b now reached so_far taken) taken.out _ _ [] (lines_on line (piece ++ came)) all
+        (λ q others text stops. stops_later a b c taken.out.text taken.out.wrote fault lost q others text stops) breaks
 
   -- ---- a piece whose text was put into an empty list first
 
@@ -205,37 +224,26 @@ module _ {D : Type 0} (disk : DiskModel D) (crashes : D → D → Type 0) where
       out = record { text = taken.out.text; wrote = subst (Appends a b) taken.out.wrote wrote; goes = taken.out.goes };
     }
 
-    pub takes_unwritten : (now : Drill D) (reached : ℕ) (so_far : Line) (fault : Fault) (lost : D) → Takes disk crashes d number line piece [] (Some []) (Some items) now reached so_far → WritesFirstPart a b items → IsOfNoStore fault → disk_held now.driver ≡ Some lost → BreaksOff disk crashes d (number + 1) (lines_on line piece) a b fault lost
-    takes_unwritten now reached so_far fault lost taken part none there =
-        record {
-          ended = taken.ended;
-          others = lines_on so_far [];
-          split = whole d number line piece [] (Some []) (Some items) now reached so_far taken;
-          text = taken.out.text;
-          wrote = subst (WritesFirstPart a b) taken.out.wrote part;
-          goes = λ p stands. let one = taken.out.goes p stands in (one.0, (one.1.1, inl (cc (there, one.1.0.holds), none)));
-        }
+    pub takes_unwritten : (now : Drill D) (reached : ℕ) (so_far : Line) (fault : Fault) (lost : D) → Takes disk crashes d number line piece [] (Some []) (Some items) now reached so_far → WritesShort a b items → IsOfWriting fault → disk_held now.driver ≡ Some lost →
+        BreaksOff disk crashes d (number + 1) (lines_on line piece) a b fault lost
+    takes_unwritten now reached so_far fault lost taken short writing there =
+        breaks_behind d now (number + 1) taken.ended (lines_on so_far []) (lines_on line piece) (Some []) (Some items) lost _ (whole d number line piece [] (Some []) (Some items) now reached so_far taken) taken.out there
+        (λ q text same wrote. inr (record { cause = writing; wrote = subst (WritesShort a b) wrote short; given_back = inl same }))
 
-    -- where a line failed before, a first part of it was written too
-    cut_written : (fault : Fault) (lost : D) (breaks : BreaksOff disk crashes d (number + 1) (lines_on line piece) (Some []) (Some items) fault lost) → WritesFirstPart a b items → WritesFirstPart a b breaks.text
-    cut_written fault lost breaks part =
-        let put = breaks.wrote in
-        subst (WritesFirstPart a b) (sym put.2.1) (first_part-longer a b put.0 put.2.0 (subst (WritesFirstPart a b) put.1 part))
-
-    pub breaks_written : (fault : Fault) (lost : D) → BreaksOff disk crashes d (number + 1) (lines_on line piece) (Some []) (Some items) fault lost → WritesFirstPart a b items → BreaksOff disk crashes d (number + 1) (lines_on line piece) a b fault lost
-    breaks_written fault lost breaks part = record { ended = breaks.ended; others = breaks.others; split = breaks.split; text = breaks.text; wrote = cut_written fault lost breaks part; goes = breaks.goes }
-
-    -- and then the writer's fault is told
-    pub breaks_unwritten : (fault later : Fault) (lost : D) → IsOfWriting later → BreaksOff disk crashes d (number + 1) (lines_on line piece) (Some []) (Some items) fault lost → WritesFirstPart a b items → BreaksOff disk crashes d (number + 1) (lines_on line piece) a b later lost
-    breaks_unwritten fault later lost writing breaks part = record {
-      ended = breaks.ended;
-      others = breaks.others;
-      split = breaks.split;
-      text = breaks.text;
-      wrote = cut_written fault lost breaks part;
-      goes = λ p stands. let one = breaks.goes p stands in (one.0, (one.1.0, told_later one.0 breaks.others one.1.1));
-    }
+    -- where a line failed before, that was written too
+    pub breaks_written : (fault : Fault) (lost : D) → BreaksOff disk crashes d (number + 1) (lines_on line piece) (Some []) (Some items) fault lost → Appends a b items → BreaksOff disk crashes d (number + 1) (lines_on line piece) a b fault lost
+    breaks_written fault lost breaks all = breaks_so d (number + 1) (lines_on line piece) _ _ put breaks
       where
-        told_later : (q : Place D) (ls : List Line) → IsGivenBack disk crashes q ls fault lost → IsGivenBack disk crashes q ls later lost
-        told_later q ls (inl same) = inl (same.0, of_writing later writing)
-        told_later q ls (inr cut) = inr (cut.0, (cut.1.0, inr writing))
+        put : (q : Place D) (others : List Line) (text : List ℕ) → StopsWork disk crashes (Some []) (Some items) fault lost q others text → StopsWork disk crashes a b fault lost q others text
+        put q others text (inl line) = inl (record { wrote = subst (Appends a b) line.wrote all; cut = line.cut })
+        put q others text (inr short) = inr (record { cause = short.cause; wrote = (short.wrote.0, subst (Appends a b) short.wrote.1 all, short.wrote.2); given_back = short.given_back })
+
+    -- or not all of it, and then the writer's fault is told
+    pub breaks_unwritten : (fault later : Fault) (lost : D) → IsOfWriting later → BreaksOff disk crashes d (number + 1) (lines_on line piece) (Some []) (Some items) fault lost → WritesShort a b items → BreaksOff disk crashes d (number + 1) (lines_on line piece) a b later lost
+    breaks_unwritten fault later lost writing breaks part = breaks_so d (number + 1) (lines_on line piece) _ _ put breaks
+      where
+        put : (q : Place D) (others : List Line) (text : List ℕ) → StopsWork disk crashes (Some []) (Some items) fault lost q others text → StopsWork disk crashes a b later lost q others text
+        put q others text (inl line) = inr (record { cause = writing; wrote = subst (WritesShort a b) line.wrote part; given_back = inr (fault, line.cut) })
+        put q others text (inr short) =
+            let whole = subst (λ t. WritesShort a b (t ++ short.wrote.2.0)) short.wrote.1 (short_longer a b items short.wrote.2.0 part) in
+            inr (record { cause = writing; wrote = subst (WritesShort a b) (sym short.wrote.2.1) whole; given_back = short.given_back })

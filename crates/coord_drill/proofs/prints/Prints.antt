@@ -7,32 +7,19 @@ use Rattle.coord_lines.specs.Lines.{Line, lines_of, lines_on}
 use Rattle.coord_lines.proofs.LinesOn.{lines_on-empty}
 use Rattle.coord_store.specs.declared.faults.StoreFault.{StoreFault}
 use Rattle.coord_store.specs.declared.faults.StoreFault.TheVariants.{OutOfMemory}
-use Rattle.coord_drill.specs.Facade.{BreaksOff, BrokeOff, Drill, Ended, EndsWith, Fault, Goes, IsBegun, IsOfDisk, IsOfMemory, IsOfWork, MayEndBy, Prints, WritesFirstPart, drill_over, start, store_fault}
+use Rattle.coord_drill.specs.Facade.{BrokeOff, Drill, Ended, EndsEarly, EndsWith, Fault, Goes, IsBegun, IsOfDisk, IsOfMemory, IsOfWork, MayEndBy, Place, Prints, Stops, WritesFirstPart, drill_over, start, store_fault}
 use Rattle.coord_drill.specs.declared.fault.Fault.TheVariants.{TooManyReads}
 use Rattle.coord_drill.specs.Drilled.{IsDrilled}
 use Rattle.coord_world.specs.Facade.{no_world}
 use Rattle.coord_drill.proofs.course.Lines.{goes_prints}
 use Rattle.coord_drill.proofs.does.LineResponds.{prints_somehow}
-use Rattle.coord_drill.proofs.prints.FirstParts.{first_part-longer, first_part-none}
+use Rattle.coord_drill.proofs.prints.FirstParts.{first_part-all, first_part-longer, first_part-none, short_first}
 
 -- a read that gave no byte
 pub Consumes-none : (a b c : Option (List ℕ)) (seen bytes : List ℕ) (count : ℕ) → Consumes a b seen → Consumes b c (take count bytes) → count ≡ 0 → Consumes a c seen
 Consumes-none a b c seen bytes count first second e =
     let none : take count bytes ≡ [] = rw e refl in
     subst (Consumes a c) (ap (λ l. seen ++ l) none ∙ append-nil seen) (Consumes-trans a b c seen (take count bytes) first second)
-
--- work on the disk is work, and so is writing
-pub disk_is_work : (fault : Fault) → IsOfDisk fault → IsOfWork fault
-disk_is_work fault (inl memory) = ((λ same. cc), (λ same. cc))
-disk_is_work fault (inr of) = ((λ same. let is = of.1 in cc), (λ same. let is = of.1 in cc))
-
-pub memory_is_disk : (fault : Fault) → IsOfMemory fault → IsOfDisk fault
-memory_is_disk fault memory = inl memory
-
--- what is asked ends as work on the disk does, at most
-pub ends_as_disk : (opens : Bool) (fault : Fault) → MayEndBy opens fault → IsOfDisk fault
-ends_as_disk true fault of = of
-ends_as_disk false fault memory = inl memory
 
 -- ---- a whole input
 
@@ -44,12 +31,19 @@ module _ {D : Type 0} (disk : DiskModel D) (crashes : D → D → Type 0) (given
       let prints = goes_prints disk crashes _ ended.place 1 (1 + length lines) lines [] text [] refl ended.course.goes refl in
       subst (λ t. Prints (drill_over (no_world 1)) 1 lines t) (append-nil text) (subst (λ ls. Prints (drill_over (no_world 1)) 1 ls (text ++ [])) (append-nil lines) prints)
 
+  -- a first part was written, whatever stopped it
+  stops_written : (a b : Option (List ℕ)) (fault : Fault) (lost : D) (q : Place D) (others : List Line) (text : List ℕ) → Stops disk crashes a b fault lost q others text → WritesFirstPart a b text
+  stops_written a b fault lost q others text (inl read) = first_part-all a b text read.wrote
+  stops_written a b fault lost q others text (inr (inl flush)) = first_part-all a b text flush.wrote
+  stops_written a b fault lost q others text (inr (inr (inl line))) = first_part-all a b text line.wrote
+  stops_written a b fault lost q others text (inr (inr (inr short))) = short_first a b text short.wrote
+
   -- and a first part of what may be printed, where it broke off
   pub broke_prints : (a b : Option (List ℕ)) (fault : Fault) (lost : D) → BrokeOff disk crashes given input a b fault lost → (text : List ℕ) × IsDrilled input text × WritesFirstPart a b text
   broke_prints a b fault lost broke =
       let more = prints_somehow broke.place.state (1 + length broke.lines) broke.others in
       let prints = goes_prints disk crashes _ broke.place 1 (1 + length broke.lines) broke.lines broke.others broke.text more.0 refl broke.course.goes more.1 in
-      (broke.text ++ more.0, subst (λ ls. Prints (drill_over (no_world 1)) 1 ls (broke.text ++ more.0)) (sym broke.split) prints, first_part-longer a b broke.text more.0 broke.wrote)
+      (broke.text ++ more.0, subst (λ ls. Prints (drill_over (no_world 1)) 1 ls (broke.text ++ more.0)) (sym broke.split) prints, first_part-longer a b broke.text more.0 (stops_written a b fault lost broke.place broke.others broke.text broke.why))
 
   -- from what the code's functions say of it
   module _ (d : Drill D) (begun : IsBegun disk given d) (line : Line) (empty : line ≡ Some []) (a b : Option (List ℕ)) where
@@ -68,7 +62,7 @@ module _ {D : Type 0} (disk : DiskModel D) (crashes : D → D → Type 0) (given
           ends.wrote,
         )
 
-    pub broke_of : (fault : Fault) (lost : D) → BreaksOff disk crashes d 1 (lines_on line input) a b fault lost → BrokeOff disk crashes given input a b fault lost
+    pub broke_of : (fault : Fault) (lost : D) → EndsEarly disk crashes d 1 (lines_on line input) a b fault lost → BrokeOff disk crashes given input a b fault lost
     broke_of fault lost breaks =
         let one = breaks.goes (start begun.begun) begun.stands in
         record {
@@ -78,8 +72,7 @@ module _ {D : Type 0} (disk : DiskModel D) (crashes : D → D → Type 0) (given
           text = breaks.text;
           place = one.0;
           course = record { begun = begun.begun; made = begun.made; unfailed = begun.unfailed; goes = one.1.0 };
-          wrote = breaks.wrote;
-          given_back = one.1.1;
+          why = one.1.1;
         }
 
 -- a refused store is not told as too many reads

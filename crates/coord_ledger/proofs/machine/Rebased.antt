@@ -48,12 +48,6 @@ rebased_more log n b le =
     let more : log.settled - n + b ≡ log.settled + b - n = omega (arith, le) in
     λ i. record { base = world_after log n; trail = drop n log.trail; settled = more i; doubt = log.doubt }
 
--- a flight that is back
-pub rebased_back : (log : Log) (n b : ℕ) (mark : Mark) → n ≤ log.settled → log_back (rebased log n) b mark ≡ rebased (log_back log b mark) n
-rebased_back log n b New le = refl
-rebased_back log n b Good le = rebased_more log n b le
-rebased_back log n b Torn le = refl
-
 module _ (s : Machine) (n : ℕ) (is : IsConsistent s) (le : n ≤ s.log.settled) where
   accepted : accepted_count (rebased s.log n) ≡ accepted_count s.log
   accepted = rebased_accepted s.log n le is.log

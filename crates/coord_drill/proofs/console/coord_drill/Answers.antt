@@ -17,3 +17,9 @@ returns-in-Err-clause-failed g c =
       | inl broke ↦ (broke.0, broke.1, broke_prints _ _ _ broke.0 _ _ _ _ broke.2, broke.3)
       | inr none ↦ ([], nothing_seen _ _ none.1, nothing_written _ _ none.2, λ e. absurd (never_reads none.0.why (sym none.0.fault_is ∙ e)))
     ]
+
+pub returns-in-Ok-clause-ended : goal.returns-in-Ok-clause-ended
+returns-in-Ok-clause-ended g c = (c.new_disk.result, _, c.new_disk.ensures, c.in-Ok.ensures.ended refl)
+
+pub returns-in-Err-clause-broke : goal.returns-in-Err-clause-broke
+returns-in-Err-clause-broke g c = (c.new_disk.result, _, c.new_disk.ensures, c.in-Err.ensures.failed refl)

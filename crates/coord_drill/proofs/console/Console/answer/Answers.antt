@@ -1,6 +1,5 @@
 use Rattle.std.proofs.lemmas.Result.{IfErr-weaker, IfOk-weaker}
-use Rattle.coord_drill.proofs.prints.FirstParts.{first_part-all}
-use Rattle.coord_drill.proofs.prints.Pieces.{breaks_unwritten, breaks_written, of_writing, takes_unwritten, takes_written}
+use Rattle.coord_drill.proofs.prints.Pieces.{breaks_unwritten, breaks_written, takes_unwritten, takes_written}
 use Rattle.coord_drill.proofs.console.Console.answer.Goals as goal
 
 pub returns-in-Ok-clause-taken : goal.returns-in-Ok-clause-taken
@@ -12,14 +11,14 @@ returns-in-Ok-clause-taken g c =
 pub returns-in-Ok-clause-failed : goal.returns-in-Ok-clause-failed
 returns-in-Ok-clause-failed g c =
     let d = c.args.self in
-    IfErr-weaker c.take-taken.result _ _ (λ refused breaks. breaks_written g.D.Disk.model g.D.CrashDisk.crashes d.drill d.number d.line c.args.piece.now c.take-taken.new.writer.items _ _ refused.0 refused.1 breaks (first_part-all _ _ _ (rw c.deref.ensures.value at c.in-Ok.ensures.ok)))
+    IfErr-weaker c.take-taken.result _ _ (λ refused breaks. breaks_written g.D.Disk.model g.D.CrashDisk.crashes d.drill d.number d.line c.args.piece.now c.take-taken.new.writer.items _ _ refused.0 refused.1 breaks (rw c.deref.ensures.value at c.in-Ok.ensures.ok))
     (rw c.new-text.ensures.items at c.take-taken.ensures.failed)
 
 pub returns-in-Ok-taken-clause-failed : goal.returns-in-Ok-taken-clause-failed
 returns-in-Ok-taken-clause-failed g c =
     let d = c.args.self in
     let console = c.in-Ok-taken.console in
-    takes_unwritten g.D.Disk.model g.D.CrashDisk.crashes d.drill d.number d.line c.args.piece.now c.take-taken.new.writer.items _ _ console.drill console.number console.line c.in-Err.fault _ (rw c.new-text.ensures.items at c.in-Ok-taken.ensures.taken) (rw c.deref.ensures.value at c.in-Err.ensures.err) (of_writing c.in-Err.fault c.in-Err.ensures.fault) c.into_disk.ensures
+    takes_unwritten g.D.Disk.model g.D.CrashDisk.crashes d.drill d.number d.line c.args.piece.now c.take-taken.new.writer.items _ _ console.drill console.number console.line c.in-Err.fault _ (rw c.new-text.ensures.items at c.in-Ok-taken.ensures.taken) (rw c.deref.ensures.value at c.in-Err.ensures.err) c.in-Err.ensures.fault c.into_disk.ensures
 
 pub returns-clause-failed : goal.returns-clause-failed
 returns-clause-failed g c =

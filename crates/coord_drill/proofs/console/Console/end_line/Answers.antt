@@ -1,6 +1,6 @@
 use Rattle.std.proofs.Common.{◌+◌, rules, string_bytes}
 use Rattle.coord_drill.proofs.does.Moments.{passed_on}
-use Rattle.coord_drill.proofs.prints.Pieces.{carries_line, line_cut, line_unwritten, of_writing}
+use Rattle.coord_drill.proofs.prints.Pieces.{carries_line, line_cut, line_unwritten}
 use Rattle.coord_drill.proofs.console.Console.end_line.Goals as goal
 
 pub returns-in_err-console-clause-failed : goal.returns-in_err-console-clause-failed
@@ -19,4 +19,4 @@ pub returns-in-Err-clause-failed : goal.returns-in-Err-clause-failed
 returns-in-Err-clause-failed g c =
     let d = c.args.self in
     let console = c.in_ok-console.console in
-    line_unwritten g.D.Disk.model g.D.CrashDisk.crashes d.drill console.drill (d.number + 1) d.line (string_bytes console.text) _ _ c.in-Err.fault _ c.in_ok-console.ensures.carried (search rules) (of_writing c.in-Err.fault c.in-Err.ensures.fault) c.into_disk.ensures
+    line_unwritten g.D.Disk.model g.D.CrashDisk.crashes d.drill console.drill (d.number + 1) d.line (string_bytes console.text) _ _ c.in-Err.fault _ c.in_ok-console.ensures.carried (search rules) c.in-Err.ensures.fault c.into_disk.ensures

@@ -1,11 +1,11 @@
-use Rattle.std.proofs.Common.{◌++◌, ◌+◌, [], take, arith, rules, subst, append-nil, length-append, length-take-le}
+use Rattle.std.proofs.Common.{◌++◌, ◌+◌, [], take, refl, inl, inr, arith, rules, subst, append-nil, length-append, length-take-le}
 use Rattle.std.proofs.KnownBytes.{Consumes-nil, Consumes-trans, Consumes-kept}
 use Rattle.std.proofs.lemmas.Result.{IfErr-weaker, IfOk-weaker}
 use Rattle.coord_lines.specs.Lines.{lines_on}
-use Rattle.coord_drill.specs.Facade.{BreaksOff, IsOfNoStore, Takes}
+use Rattle.coord_drill.specs.Facade.{EndsEarly, Takes}
 use Rattle.coord_drill.specs.declared.fault.Fault.TheVariants.{TooManyReads}
 use Rattle.coord_drill.proofs.does.Moments.{if_err_both, passed_on}
-use Rattle.coord_drill.proofs.prints.Pieces.{takes_break, takes_breaks, takes_ends, takes_none, takes_piece}
+use Rattle.coord_drill.proofs.prints.Pieces.{takes_break, takes_breaks, takes_ends, takes_none, takes_piece, works_early}
 use Rattle.coord_drill.proofs.prints.Prints.{Consumes-none}
 use Rattle.coord_drill.proofs.console.Console.run.Goals as goal
 
@@ -27,11 +27,10 @@ pub returns-in-Err-clause-failed : goal.returns-in-Err-clause-failed
 returns-in-Err-clause-failed g c =
     let d = c.args.self in
     let s = c.loop.console in
-    let inv = c.loop.invariant in
-    let none : IsOfNoStore c.in-Err.fault = λ why same. cc (c.in-Err.ensures.fault, same) in (
+    let inv = c.loop.invariant in (
       inv.2.0,
       Consumes-kept _ _ _ inv.2.0 inv.2.1 c.in-Err.ensures.bytes,
-      takes_breaks g.D.Disk.model g.D.CrashDisk.crashes d.drill 0 d.line inv.2.0 _ _ s.drill s.number s.line inv.2.3 c.in-Err.fault _ none c.into_disk.ensures,
+      takes_breaks g.D.Disk.model g.D.CrashDisk.crashes d.drill 0 d.line inv.2.0 _ _ s.drill s.number s.line inv.2.3 c.in-Err.fault _ (inl c.in-Err.ensures.fault) c.into_disk.ensures,
       λ e. absurd (cc (c.in-Err.ensures.fault, e)),
     )
 
@@ -52,7 +51,7 @@ returns-then-count-eq0-clause-failed g c =
     IfErr-weaker c.finish.result _ _
     (λ refused both.
     let breaks = takes_break g.D.Disk.model g.D.CrashDisk.crashes d.drill 0 d.line inv.2.0 _ _ s.drill s.number s.line inv.2.3 [] _ refused.0 refused.1 both.1 in
-    (inv.2.0, consumed, subst (λ seen. BreaksOff g.D.Disk.model g.D.CrashDisk.crashes d.drill 1 (lines_on d.line seen) (g.W.Write.contents c.args.writer.now) (g.W.Write.contents c.finish.new.writer) refused.0 refused.1) (append-nil inv.2.0) breaks, λ e. absurd (both.0.1 e)))
+    (inv.2.0, consumed, subst (λ seen. EndsEarly g.D.Disk.model g.D.CrashDisk.crashes d.drill 1 (lines_on d.line seen) (g.W.Write.contents c.args.writer.now) (g.W.Write.contents c.finish.new.writer) refused.0 refused.1) (append-nil inv.2.0) breaks, λ e. absurd (both.0.1 e)))
     (if_err_both _ _ c.finish.result c.finish.ensures.fault c.finish.ensures.failed)
 
 pub returns-in_err-console-clause-failed : goal.returns-in_err-console-clause-failed
@@ -66,7 +65,7 @@ returns-in_err-console-clause-failed g c =
     passed_on c.from_residual.result fault _ c.from_residual.ensures.1 (
       inv.2.0 ++ came,
       consumed,
-      takes_break g.D.Disk.model g.D.CrashDisk.crashes d.drill 0 d.line inv.2.0 _ _ s.drill s.number s.line inv.2.3 came _ fault.0 fault.1 c.in_err-console.ensures.failed,
+      takes_break g.D.Disk.model g.D.CrashDisk.crashes d.drill 0 d.line inv.2.0 _ _ s.drill s.number s.line inv.2.3 came _ fault.0 fault.1 (works_early g.D.Disk.model g.D.CrashDisk.crashes s.drill (s.number + 1) (lines_on s.line came) _ _ fault.0 fault.1 c.in_err-console.ensures.failed),
       λ e. absurd (c.in_err-console.ensures.fault.1 e),
     )
 
@@ -95,6 +94,6 @@ returns-clause-failed g c =
     let inv = c.loop.invariant in (
       inv.2.0,
       inv.2.1,
-      takes_breaks g.D.Disk.model g.D.CrashDisk.crashes d.drill 0 d.line inv.2.0 _ _ s.drill s.number s.line inv.2.3 TooManyReads _ (λ why same. cc) c.into_disk-2.ensures,
+      takes_breaks g.D.Disk.model g.D.CrashDisk.crashes d.drill 0 d.line inv.2.0 _ _ s.drill s.number s.line inv.2.3 TooManyReads _ (inr refl) c.into_disk-2.ensures,
       λ e. search rules,
     )

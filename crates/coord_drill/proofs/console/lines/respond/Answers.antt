@@ -1,12 +1,12 @@
-use Rattle.std.proofs.Common.{◌≡◌, [], None, Some, true, false, sym, ◌∙◌, subst, IfErr, IfOk, rules, string_bytes}
+use Rattle.std.proofs.Common.{◌≡◌, [], None, Some, true, false, sym, ap, ◌∙◌, subst, IfErr, IfOk, rules, string_bytes}
 use Rattle.std.proofs.lemmas.Result.{IfErr-weaker, IfOk-weaker}
 use Rattle.std.specs.Option.{option_copied}
 use Rattle.coord_lines.specs.Lines.{Line}
 use Rattle.coord_drill.specs.Drilled.{asked_by, is_skipped}
-use Rattle.coord_drill.specs.Facade.{CarriesLine, CutsLine, Tells, state_of}
+use Rattle.coord_drill.specs.Facade.{CarriesLine, CutsLine, Tells, asked_in, state_of}
 use Rattle.coord_drill.proofs.does.Moments.{if_err_both}
 use Rattle.coord_drill.proofs.does.Tells.{tells_nothing}
-use Rattle.coord_drill.proofs.course.Lines.{cut_asked, goes_asked, goes_bad, goes_over, goes_skipped, tells_bad, told_lost}
+use Rattle.coord_drill.proofs.course.Lines.{asks_nothing, cut_asked, goes_asked, goes_bad, goes_over, goes_skipped, tells_bad, told_lost}
 use Rattle.coord_drill.proofs.console.lines.respond.Goals as goal
 
 pub returns-in_default-clause-carried : goal.returns-in_default-clause-carried
@@ -58,8 +58,15 @@ returns-in-None-clause-carried g c =
 -- the disk is given back as it was
 pub returns-in_default-clause-cut : goal.returns-in_default-clause-cut
 returns-in_default-clause-cut g c =
-    IfErr-weaker c.tell_bad.result _ _ (λ refused both p at. told_lost g.D.Disk.model g.D.CrashDisk.crashes c.args.drill p at (option_copied c.args.line) refused.0 refused.1 both.0 both.1) (if_err_both _ _ c.tell_bad.result c.tell_bad.ensures.fault c.tell_bad.ensures.lost)
+    let over : option_copied c.args.line ≡ None = search rules in
+    IfErr-weaker c.tell_bad.result _ _ (λ refused both p at. told_lost g.D.Disk.model g.D.CrashDisk.crashes c.args.drill p at (option_copied c.args.line) refused.0 refused.1 (ap (asked_in p.state) over) both.0 both.1) (if_err_both _ _ c.tell_bad.result c.tell_bad.ensures.fault c.tell_bad.ensures.lost)
 
 pub returns-in-None-clause-cut : goal.returns-in-None-clause-cut
 returns-in-None-clause-cut g c =
-    IfErr-weaker c.tell_bad-in-None.result _ _ (λ refused both p at. told_lost g.D.Disk.model g.D.CrashDisk.crashes c.args.drill p at (option_copied c.args.line) refused.0 refused.1 both.0 both.1) (if_err_both _ _ c.tell_bad-in-None.result c.tell_bad-in-None.ensures.fault c.tell_bad-in-None.ensures.lost)
+    let d = c.args.drill in
+    let line = c.in-Some.line.now in
+    let here : option_copied c.args.line ≡ Some line = search rules in
+    let kept : is_skipped line ≡ false = search rules in
+    let asks : asked_by (state_of d) line ≡ None = sym c.read.ensures ∙ c.in-None.is in
+    IfErr-weaker c.tell_bad-in-None.result _ _
+    (λ refused both p at. told_lost g.D.Disk.model g.D.CrashDisk.crashes d p at (option_copied c.args.line) refused.0 refused.1 (ap (asked_in p.state) here ∙ asks_nothing g.D.Disk.model g.D.CrashDisk.crashes d p at c.args.number line kept asks) both.0 both.1) (if_err_both _ _ c.tell_bad-in-None.result c.tell_bad-in-None.ensures.fault c.tell_bad-in-None.ensures.lost)
