@@ -8,6 +8,7 @@ use Rattle.coord_types.specs.declared.steps.Step.{Step}
 use Rattle.coord_ledger.specs.declared.ticket.Note.{Note}
 use Rattle.coord_store.specs.Kept.{GivesKept, ImagesGive, Kept, has_stopped}
 use Rattle.coord_store.specs.Recovered.{Recovered}
+use Rattle.coord_disk.specs.Model.DiskModel.{DiskModel}
 use Rattle.coord_disk.specs.Model.Present.{IsImage, Present}
 use Rattle.coord_world.specs.protocol.NumberedWorld.{World}
 use Rattle.coord_admin.specs.Connections.{Talk}
@@ -155,8 +156,8 @@ closed_lives keeps_model present met failed began v ended none is =
     )
 
 -- a store that has not stopped: each image of its disk gives its world
-pub only_world : {D : Type 0} (present : D → Present) (store : Kept D) → has_stopped store ≡ false → ImagesGive present store → (image : List ℕ) → IsImage (present store.disk) image → Recovered image store.world
-only_world present store going all image is = by (all image is)
+pub only_world : {D : Type 0} (model : DiskModel D) (store : Kept D) → has_stopped store ≡ false → ImagesGive model store → (image : List ℕ) → IsImage (model.present store.disk) image → Recovered image store.world
+only_world model store going all image is = by (all image is)
   where
     by : GivesKept store image → Recovered image store.world
     by (inl gives) = gives

@@ -20,7 +20,7 @@
 //! caller has made it already. The main theorem stands on these: at each moment of a commit, also
 //! inside its checkpoint, whatever a crash may leave gives the world from before it or from after
 //! it, and once it has answered Ok the one from after it. The type `Store` keeps that of its
-//! images, so that the layers above speak of its world alone (`Store::images_give_world`).
+//! images, so that the layers above speak of its world alone (`Store::lemma_images_give_world`).
 #![tactic(auto)]
 
 mod creation;

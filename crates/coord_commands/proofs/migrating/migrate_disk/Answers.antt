@@ -1,4 +1,4 @@
-use Rattle.std.proofs.Common.{◌≡◌, ◌⊎◌, ⊎_elim, ◌+◌, ◌∙◌, List, ℕ, true, inl, inr, ap, sym, subst, string_bytes}
+use Rattle.std.proofs.Common.{◌≡◌, ◌⊎◌, ⊎_elim, ◌+◌, ◌∙◌, List, ℕ, true, inl, inr, ap, sym, subst, arith, string_bytes}
 use Rattle.coord_disk.proofs.MomentLemmas.{and_then, weaker}
 use Rattle.coord_disk.specs.Model.Moments.{LeavesOnly}
 use Rattle.coord_disk.specs.Model.Present.{IsImage, Present}
@@ -57,7 +57,10 @@ returns-in-Ok-clause-raises g c =
           subst (λ d. LeavesOnly {D = g.row.D.Denot} g.D.Disk.model c.args.disk d (IsEitherVersion (g.D.Disk.model.present c.args.disk))) (sym back)
           (weaker g.D.Disk.model c.args.disk raised.disk _ _ (and_then g.D.Disk.model c.args.disk store.disk raised.disk _ _ opening raising)
           (λ image either. ⊎_elim (λ was. inl was) (λ gives. inr (store.world, c.in-Ok.ensures.world keeps, gives)) either));
-      failures = ap g.D.Disk.model.failures back ∙ c.migrate_store-line.ensures.failures ∙ ap (λ n. n + failures_in c.migrate_store-line.result) c.in-Ok.ensures.runs.failures;
+      failures =
+          let opening : g.D.Disk.model.failures store.disk ≡ g.D.Disk.model.failures c.args.disk + 0 = c.in-Ok.ensures.runs.failures in
+          let counted : g.D.Disk.model.failures c.into_disk.result ≡ g.D.Disk.model.failures store.disk + failures_in c.migrate_store-line.result = ap g.D.Disk.model.failures back ∙ c.migrate_store-line.ensures.failures in
+          omega (arith, opening, counted);
     }
 
 pub returns-in-Err-clause-raises : goal.returns-in-Err-clause-raises

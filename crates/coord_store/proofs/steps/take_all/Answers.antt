@@ -22,7 +22,7 @@ loop-step-preserved c =
     let P : World → Type 0 = λ x. IsFresh x x s in
     let fresh = subst P (sym c.loop-step.invariant.0) (fresh_over_itself steps w w i s c.loop-step-test.true c.step-item.is c.requires.fresh) in
     let same = ap (λ (x : World). x.version) c.loop-step.invariant.0 ∙ fold_version (take i steps) w in
-    let carried = subst (λ v. CarriesRightly v s) same (carries_rightly here here s c.lemma_in_range-in-loop-step.ensures fresh) in (
+    let carried = subst (λ v. CarriesRightly v s) same (carries_rightly here here s c.lemma_in_range.ensures fresh) in (
       c.in_ok-apply.ensures.world ∙ ap (λ x. next x s) c.loop-step.invariant.0 ∙ sym (fold-take steps w i s c.loop-step-test.true c.step-item.is),
       c.apply.ensures.legal,
       subst (AllByRecursion (CarriesRightly w.version)) (sym (take-push steps i s c.loop-step-test.true c.step-item.is)) (all-push (CarriesRightly w.version) (take i steps) s c.loop-step.invariant.2 carried),

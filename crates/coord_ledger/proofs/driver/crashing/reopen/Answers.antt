@@ -39,7 +39,8 @@ returns-clause-cause g c =
 
 pub returns-clause-failures : goal.returns-clause-failures
 returns-clause-failures g c =
-    let same : g.D.Disk.model.failures c.in-Ok.store.disk ≡ g.D.Disk.model.failures c.args.disk = c.in-Ok.ensures.runs.failures ∙ c.crash.ensures.leaves.failures in
+    let opening : g.D.Disk.model.failures c.in-Ok.store.disk ≡ g.D.Disk.model.failures c.crash.result + 0 = c.in-Ok.ensures.runs.failures in
+    let same : g.D.Disk.model.failures c.in-Ok.store.disk ≡ g.D.Disk.model.failures c.args.disk = omega (arith, opening, c.crash.ensures.leaves.failures) in
     MatchResult-from_both c.adopt.result _ _
     (IfOk-weaker c.adopt.result _ _ (λ ledger is. ap (λ (l : LedgerState g.row.D.Denot). option_map g.D.Disk.model.failures l.disk) is ∙ ap Some same) c.adopt.ensures.adopted)
     (IfErr-weaker c.adopt.result _ _ (λ refused is.
