@@ -9,6 +9,7 @@ use toml::value::Array;
 use toml::{Table, Value};
 
 /// The value at a key.
+#[tactic(auto, using(toml::proofs::Views::table_get))]
 pub fn value_at<'a>(table: &'a Table, key: &str) -> Option<&'a Value>
     ensures { option_map (λ value. view value.now) result ≡
         get_member key.now (table_view table.now) }

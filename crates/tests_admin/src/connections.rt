@@ -16,8 +16,16 @@ const CLOSED: &str = "{\"kind\":\"closed\"}\n";
 
 const SHOW: &[u8] = b"{\"op\":\"show\"}\n";
 
-/// A listener at a port of its own, and a client.
-fn connected<
+/// What these tests ask of the host.
+trait Network: Net<Stream = TcpStream, Listener = TcpListener>
+    + Threads
+    + Wait
+    + Clock
+    + Abort
+    + Sync
+    + AllocGlobal {}
+
+impl<
     R: Net<Stream = TcpStream, Listener = TcpListener>
         + Threads
         + Wait
@@ -25,7 +33,10 @@ fn connected<
         + Abort
         + Sync
         + AllocGlobal,
->(rt: &R) -> (TcpListener, SocketAddr, TcpStream) {
+> Network for R {}
+
+/// A listener at a port of its own, and a client.
+fn connected<R: Network>(rt: &R) -> (TcpListener, SocketAddr, TcpStream) {
     let listener = TcpListener::bind(rt, "127.0.0.1:0").expect(rt, "no listener");
     let address = listener.local_addr().expect(rt, "no address");
     let client = TcpStream::connect(rt, address).expect(rt, "no connection");
@@ -33,15 +44,7 @@ fn connected<
 }
 
 /// A client whose stream a server has taken.
-fn accepted<
-    R: Net<Stream = TcpStream, Listener = TcpListener>
-        + Threads
-        + Wait
-        + Clock
-        + Abort
-        + Sync
-        + AllocGlobal,
->(rt: &R, patience: Patience) -> (TcpStream, TimedStream<'_, TcpStream, R>) {
+fn accepted<R: Network>(rt: &R, patience: Patience) -> (TcpStream, TimedStream<'_, TcpStream, R>) {
     let (listener, _, client) = connected(rt);
     let (stream, _) = listener.accept().expect(rt, "nobody");
     (
@@ -51,44 +54,20 @@ fn accepted<
 }
 
 /// A client that has sent its close.
-fn closes<
-    R: Net<Stream = TcpStream, Listener = TcpListener>
-        + Threads
-        + Wait
-        + Clock
-        + Abort
-        + Sync
-        + AllocGlobal,
->(rt: &R, address: SocketAddr) -> TcpStream {
+fn closes<R: Network>(rt: &R, address: SocketAddr) -> TcpStream {
     let mut stream = TcpStream::connect(rt, address).expect(rt, "no connection");
     stream.write_all(CLOSE).expect(rt, "no close");
     stream
 }
 
 /// Whether this is all that a client is told.
-fn is_told<
-    R: Net<Stream = TcpStream, Listener = TcpListener>
-        + Threads
-        + Wait
-        + Clock
-        + Abort
-        + Sync
-        + AllocGlobal,
->(rt: &R, mut stream: TcpStream, replies: &str) {
+fn is_told<R: Network>(rt: &R, mut stream: TcpStream, replies: &str) {
     let told = io::read_to_string(rt.alloc(), &mut stream).expect(rt, "no replies");
     assert_eq!(rt; told.as_str(), replies);
 }
 
 /// Serves clients until one of them closes the desk. How long that took.
-fn serves<
-    R: Net<Stream = TcpStream, Listener = TcpListener>
-        + Threads
-        + Wait
-        + Clock
-        + Abort
-        + Sync
-        + AllocGlobal,
->(rt: &R, listener: &TcpListener, patience: Patience) -> Duration {
+fn serves<R: Network>(rt: &R, listener: &TcpListener, patience: Patience) -> Duration {
     let start = Instant::now(rt).expect(rt, "no time");
     let mut callers = Accepted::new(rt, listener, patience);
     let mut desk = CountDesk::new(rt.alloc(), 0);
@@ -99,15 +78,7 @@ fn serves<
 }
 
 /// A client that sends byte by byte gets its replies, and then one that closes the desk its own.
-fn serves_slowly<
-    R: Net<Stream = TcpStream, Listener = TcpListener>
-        + Threads
-        + Wait
-        + Clock
-        + Abort
-        + Sync
-        + AllocGlobal,
->(rt: &R) {
+fn serves_slowly<R: Network>(rt: &R) {
     let lines = worked_lines(rt);
     let (listener, address, slow) = connected(rt);
     let mut sender = slow.try_clone().expect(rt, "no sender");
@@ -163,15 +134,7 @@ fn held_once(holder: Holder, stream: &mut TcpStream, buffer: &mut [u8]) -> io::R
 }
 
 /// Holds a connection until it is cut off, ten milliseconds after ten, so often at most. How often it did.
-fn held<
-    R: Net<Stream = TcpStream, Listener = TcpListener>
-        + Threads
-        + Wait
-        + Clock
-        + Abort
-        + Sync
-        + AllocGlobal,
->(rt: &R, holder: Holder, stream: &mut TcpStream, most: u64) -> u64 {
+fn held<R: Network>(rt: &R, holder: Holder, stream: &mut TcpStream, most: u64) -> u64 {
     let mut buffer = [0; 512];
     let patience = Some(Duration::from_millis(3_000));
     stream.set_read_timeout(patience).expect(rt, "no time");
@@ -187,15 +150,7 @@ fn held<
 
 /// A client that holds its connection is cut off where what it does has a short time, so that the next
 /// one is served soon.
-fn cuts_off<
-    R: Net<Stream = TcpStream, Listener = TcpListener>
-        + Threads
-        + Wait
-        + Clock
-        + Abort
-        + Sync
-        + AllocGlobal,
->(rt: &R, holder: Holder) {
+fn cuts_off<R: Network>(rt: &R, holder: Holder) {
     let short = Duration::from_millis(100);
     let mut patience = Patience::usual();
     match holder {
@@ -233,15 +188,7 @@ fn a_connection_that_lasts(rt: HostRuntime) {
 /// How often a client asks, ten milliseconds apart, where it may be silent for two thirds of that time.
 const ASKED: u64 = 150;
 
-fn answers_on<
-    R: Net<Stream = TcpStream, Listener = TcpListener>
-        + Threads
-        + Wait
-        + Clock
-        + Abort
-        + Sync
-        + AllocGlobal,
->(rt: &R) {
+fn answers_on<R: Network>(rt: &R) {
     let mut patience = Patience::usual();
     patience.silence = Duration::from_millis(1_000);
     let (listener, address, mut asking) = connected(rt);
@@ -267,15 +214,7 @@ fn a_client_that_asks_on(rt: HostRuntime) {
 }
 
 /// A reply is given up soon that its client takes no byte of, where it has a short time in all.
-fn gives_up<
-    R: Net<Stream = TcpStream, Listener = TcpListener>
-        + Threads
-        + Wait
-        + Clock
-        + Abort
-        + Sync
-        + AllocGlobal,
->(rt: &R) {
+fn gives_up<R: Network>(rt: &R) {
     let text = vec![in rt.alloc(); b' '; 1_048_576].expect(rt, "no memory");
     let mut patience = Patience::usual();
     patience.reply = Duration::from_millis(100);
@@ -295,15 +234,7 @@ fn replies_that_are_not_read(rt: HostRuntime) {
 }
 
 /// A line that begins behind another one has a time of its own, though nothing was replied.
-fn begins_anew<
-    R: Net<Stream = TcpStream, Listener = TcpListener>
-        + Threads
-        + Wait
-        + Clock
-        + Abort
-        + Sync
-        + AllocGlobal,
->(rt: &R) {
+fn begins_anew<R: Network>(rt: &R) {
     let mut patience = Patience::usual();
     patience.line = Duration::from_millis(100);
     let (mut client, mut line) = accepted(rt, patience);
@@ -321,15 +252,7 @@ fn a_line_behind_another(rt: HostRuntime) {
 }
 
 /// A stream says that more is there just where it is, and waits again behind that.
-fn says_what_is_there<
-    R: Net<Stream = TcpStream, Listener = TcpListener>
-        + Threads
-        + Wait
-        + Clock
-        + Abort
-        + Sync
-        + AllocGlobal,
->(rt: &R) {
+fn says_what_is_there<R: Network>(rt: &R) {
     let mut patience = Patience::usual();
     patience.silence = Duration::from_millis(50);
     let (mut client, mut line) = accepted(rt, patience);
@@ -356,15 +279,7 @@ fn what_is_there_already(rt: HostRuntime) {
 
 /// A client that sends a close and a thousand lines behind it, and reads only then, reads the answer
 /// alone.
-fn answers_a_close<
-    R: Net<Stream = TcpStream, Listener = TcpListener>
-        + Threads
-        + Wait
-        + Clock
-        + Abort
-        + Sync
-        + AllocGlobal,
->(rt: &R) {
+fn answers_a_close<R: Network>(rt: &R) {
     let (listener, address, client) = connected(rt);
     drop(client);
     let lines = SHOW.repeat(rt.alloc(), 1_000).expect(rt, "no memory");

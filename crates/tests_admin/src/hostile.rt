@@ -127,17 +127,3 @@ fn replies_byte_by_byte(rt: HostRuntime) {
         b"{\"count\":0,\"kind\":\"resent\"}\n".as_slice()
     );
 }
-
-#[test]
-fn printed_faults(rt: HostRuntime) {
-    let faults = [
-        (ServeFault::OutOfMemory, "1 OutOfMemory"),
-        (ServeFault::Read, "2 Read"),
-        (ServeFault::Write, "3 Write"),
-        (ServeFault::Turns, "4 Turns"),
-    ];
-    for (fault, wanted) in faults {
-        let text = format!(in rt.alloc(); "{} {fault}", fault.number());
-        assert_eq!(rt; text.expect(&rt, "not printed").as_str(), wanted);
-    }
-}

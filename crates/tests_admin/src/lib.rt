@@ -5,8 +5,6 @@
 #[cfg(test)]
 mod connections;
 #[cfg(test)]
-mod desks;
-#[cfg(test)]
 mod hostile;
 #[cfg(test)]
 mod lines;

@@ -1,6 +1,5 @@
 //! Lines and their replies.
 
-use crate::desks::OneLink;
 use coord_admin::{CountDesk, Desk, Ended, Halves, ServeFault, serve};
 use std::io::{Read, Write};
 use std::process::Abort;
@@ -106,29 +105,14 @@ fn close(rt: HostRuntime) {
     );
 }
 
-/// Of a desk past its last step, and of one that shows nodes and a link.
 #[test]
-fn other_desks(rt: HostRuntime) {
+fn a_desk_past_its_last_step(rt: HostRuntime) {
     let order = b"{\"op\":\"remove\",\"client\":1,\"number\":1,\"node\":1}\n".as_slice();
     let replies = "{\"name\":\"Exhausted\",\"refused\":3}\n";
     serves(
         &rt,
         CountDesk::new(rt.alloc(), u64::MAX),
         order,
-        replies,
-        Ok(Ended::Input),
-    );
-    let lines =
-        b"{\"op\":\"show\"}\n{\"op\":\"resend\"}\n{\"op\":\"reset\",\"client\":1,\"number\":1,\"node\":1}\n".as_slice();
-    let replies =
-        "{\"accepted\":3,\"links\":[[1,2,3]],\"nodes\":[[1,1,\"ready\",0,0,0],[2,1,\"converge\",1,5,4]],\"settled\":3}
-{\"name\":\"Stopped\",\"refused\":1}
-{\"fault\":\"OutOfMemory\"}
-";
-    serves(
-        &rt,
-        OneLink::new(rt.alloc()),
-        lines,
         replies,
         Ok(Ended::Input),
     );

@@ -1,6 +1,6 @@
 //! Tests of coord_disk.
 
-use coord_disk::{Choice, CrashDisk, Disk, DiskFault, GateDisk, MemDisk};
+use coord_disk::{Choice, CrashDisk, Disk, GateDisk, MemDisk};
 use std::process::Abort;
 use std::sync::Arc;
 use std::sync::atomic::{AtomicBool, Ordering};
@@ -80,10 +80,4 @@ fn a_sync_waits_at_a_gate(rt: HostRuntime) {
             usize::from(is_open)
         );
     }
-}
-
-#[test]
-fn a_fault_says_so(rt: HostRuntime) {
-    let text = format!(in rt.alloc(); "{DiskFault}").expect(&rt, "not printed");
-    assert_eq!(rt; text.as_str(), "the device failed");
 }

@@ -58,29 +58,42 @@ fn append<D: Disk>(rt: &impl Host, journal: &mut Journal<D>) -> Result<(), Journ
     journal.append(&body)
 }
 
+// A device that was just formatted, by three calls: its length, a write and a sync.
+fn made(rt: &impl Host) -> MemDisk {
+    let mut disk = FuseDisk::new(MemDisk::new(rt.alloc()), u64::MAX);
+    format(rt.alloc(), &mut disk, 32_768, 1, &[0; 11]).expect(rt, "not made");
+    assert_eq!(rt; disk.calls(), 3);
+    disk.into_inner()
+}
+
+// What is read of a device: a snapshot of eleven zeros, and so many batches, each with that body.
+fn holds(rt: &impl Host, contents: &Contents, batches: usize) {
+    assert_eq!(rt; (contents.version, contents.batches.len()), (1, batches));
+    assert_eq!(rt; contents.snapshot.as_slice(), [0; 11].as_slice());
+    for batch in &contents.batches {
+        assert_eq!(rt; batch.as_slice(), body().as_slice());
+    }
+}
+
+// The same device with a batch behind the others.
+fn added(rt: &impl Host, disk: MemDisk) -> MemDisk {
+    let (mut journal, contents) = opened(rt, disk);
+    holds(rt, &contents, 0);
+    assert_eq!(rt; journal.room(), 32_746);
+    append(rt, &mut journal).expect(rt, "not added");
+    assert_eq!(rt; journal.room(), 32_718);
+    journal.into_disk()
+}
+
 #[test]
 fn a_journal_is_made_and_added_to(rt: HostRuntime) {
     laws::one_content();
-    // its length, a write and a sync
-    let mut disk = FuseDisk::new(MemDisk::new(rt.alloc()), u64::MAX);
-    format(rt.alloc(), &mut disk, 32_768, 1, &[0; 11]).expect(&rt, "not made");
-    assert_eq!(rt; disk.calls(), 3);
-    let disk = disk.into_inner();
+    let disk = made(&rt);
     assert_eq!(rt; disk.bytes(), created().as_slice());
-    let (mut journal, contents) = opened(&rt, disk);
-    assert_eq!(rt;
-        (contents.version, contents.snapshot.as_slice()),
-        (1, [0; 11].as_slice())
-    );
-    assert_eq!(rt; (contents.batches.len(), journal.room()), (0, 32_746));
-    append(&rt, &mut journal).expect(&rt, "not added");
-    assert_eq!(rt; journal.room(), 32_718);
-    let disk = journal.into_disk();
+    let disk = added(&rt, disk);
     assert_eq!(rt; disk.bytes(), committed().as_slice());
     let (_journal, contents) = opened(&rt, disk);
-    assert_eq!(rt; contents.batches.len(), 1);
-    let first = contents.batches.first().expect(&rt, "no batch");
-    assert_eq!(rt; first.as_slice(), body().as_slice());
+    holds(&rt, &contents, 1);
 }
 
 #[test]
@@ -100,34 +113,46 @@ fn a_device_that_cannot_be_formatted_is_left(rt: HostRuntime) {
     assert_eq!(rt; format(rt.alloc(), &mut disk, 16_777_216, 1, &[]), Ok(()));
 }
 
-// A replace leaves all that was written but the selector, and writes the second half behind zeros.
+// What a replace leaves: all that was written but the selector, and the second half behind zeros.
+fn are_moved(rt: &impl Host, bytes: &[u8]) {
+    assert_eq!(rt; (bytes.len(), bytes.first().copied()), (32_802, Some(1)));
+    assert!(rt; bytes[1..62] == committed()[1..]);
+    assert!(rt; bytes[62..32_785].iter().all(|it| *it == 0));
+    assert!(rt; bytes[32_785..] == created()[17..]);
+}
+
+// The device once it is replaced by this version, and a batch is added.
+fn moved(rt: &impl Host, disk: MemDisk, version: u8, batches: usize) -> MemDisk {
+    let (mut journal, contents) = opened(rt, disk);
+    assert_eq!(rt; contents.version, version.saturating_sub(1));
+    assert_eq!(rt; contents.batches.len(), batches);
+    journal
+        .replace(version, &[version; 3])
+        .expect(rt, "not moved");
+    assert_eq!(rt; journal.room(), 32_754);
+    append(rt, &mut journal).expect(rt, "not added");
+    journal.into_disk()
+}
+
+// The same with a second batch, behind an opening.
+fn moved_on(rt: &impl Host, disk: MemDisk, version: u8) -> MemDisk {
+    let (mut journal, contents) = opened(rt, disk);
+    assert_eq!(rt; contents.snapshot.as_slice(), [version; 3].as_slice());
+    append(rt, &mut journal).expect(rt, "not added");
+    assert_eq!(rt; journal.room(), 32_698);
+    journal.into_disk()
+}
+
+// Back and forth, with a body at once and one behind an opening.
 #[test]
 fn a_journal_moves_into_its_other_half(rt: HostRuntime) {
     let (mut journal, _contents) = opened_on(&rt, &committed());
     journal.replace(1, &[0; 11]).expect(&rt, "not moved");
-    let disk = journal.into_disk();
-    let bytes = disk.bytes();
-    assert_eq!(rt; (bytes.len(), bytes.first().copied()), (32_802, Some(1)));
-    assert!(rt; bytes[1..62] == committed()[1..] && bytes[62..32_785].iter().all(|it| *it == 0));
-    assert!(rt; bytes[32_785..] == created()[17..]);
-    // back and forth, with a body at once and one behind an opening
-    let mut disk = disk;
+    let mut disk = journal.into_disk();
+    are_moved(&rt, disk.bytes());
     for (version, batches) in [(2, 0), (3, 2), (4, 2)] {
-        let (mut journal, contents) = opened(&rt, disk);
-        assert_eq!(rt;
-            (contents.version, contents.batches.len()),
-            (version - 1, batches)
-        );
-        journal
-            .replace(version, &[version; 3])
-            .expect(&rt, "not moved");
-        assert_eq!(rt; journal.room(), 32_754);
-        append(&rt, &mut journal).expect(&rt, "not added");
-        let (mut journal, contents) = opened(&rt, journal.into_disk());
-        assert_eq!(rt; contents.snapshot.as_slice(), [version; 3].as_slice());
-        append(&rt, &mut journal).expect(&rt, "not added");
-        assert_eq!(rt; journal.room(), 32_698);
-        disk = journal.into_disk();
+        disk = moved(&rt, disk, version, batches);
+        disk = moved_on(&rt, disk, version);
     }
 }
 
@@ -233,23 +258,5 @@ fn a_torn_write_leaves_it_done_or_not(rt: HostRuntime) {
                 leaves(&rt, disk.into_inner(), act, reached, which);
             }
         }
-    }
-}
-
-#[test]
-fn a_fault_has_its_number_and_name(rt: HostRuntime) {
-    let faults = [
-        (JournalFault::OutOfMemory, "1 OutOfMemory"),
-        (JournalFault::Device, "2 Device"),
-        (JournalFault::NotEmpty, "3 NotEmpty"),
-        (JournalFault::HalfSize, "4 HalfSize"),
-        (JournalFault::NoMagic, "5 NoMagic"),
-        (JournalFault::BadRecord, "6 BadRecord"),
-        (JournalFault::JournalFull, "7 JournalFull"),
-        (JournalFault::Stopped, "8 Stopped"),
-    ];
-    for (fault, wanted) in faults {
-        let text = format!(in rt.alloc(); "{} {fault}", fault.number());
-        assert_eq!(rt; text.expect(&rt, "not printed").as_str(), wanted);
     }
 }

@@ -1,4 +1,4 @@
-//! Tests of the lowest layer: types, lanes, nodes, disks and journals. Each is of something that no
+//! Tests of the lowest layer: types, disks and journals. Each is of something that no
 //! contract says. What fails here fails its test.
 #![tactic(auto)]
 
@@ -8,9 +8,5 @@ mod disk;
 mod files;
 #[cfg(test)]
 mod journal;
-#[cfg(test)]
-mod link;
-#[cfg(test)]
-mod node;
 #[cfg(test)]
 mod types;

@@ -1,6 +1,6 @@
-//! Tests of coord_types: the ends of the ranges, the printed texts, and sets of nodes.
+//! Tests of coord_types: the ends of the ranges, and sets of nodes.
 
-use coord_types::{Client, Group, Kind, Mode, Msg, NodeId, NodeSet, Refusal};
+use coord_types::{Client, Group, NodeId, NodeSet};
 
 #[test]
 fn numbers_and_sets(rt: HostRuntime) {
@@ -16,22 +16,4 @@ fn numbers_and_sets(rt: HostRuntime) {
         set = set.without(first);
     }
     assert_eq!(rt; set, NodeSet::new());
-}
-
-#[test]
-fn texts_are_printed(rt: HostRuntime) {
-    let text = format!(in rt.alloc();
-        "{} {} {}, {} {} {}, {}, {}, {}",
-        Mode::Converge,
-        Msg::Ack,
-        Kind::Joined,
-        Mode::Ready,
-        Msg::Ready,
-        Kind::Started,
-        Refusal::PendingFull,
-        Refusal::Behind { settled: 7 },
-        Refusal::Stranger
-    );
-    let wanted = "converge ack joined, ready ready started, 20 PendingFull, 21 Behind, 22 Stranger";
-    assert_eq!(rt; text.expect(&rt, "not printed").as_str(), wanted);
 }

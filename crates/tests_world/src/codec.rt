@@ -76,18 +76,3 @@ fn spells_world(rt: &impl Host, version: u8, bytes: &[u8]) {
         bytes.len()
     );
 }
-
-#[test]
-fn a_fault_has_its_number_and_name(rt: HostRuntime) {
-    let kinds = [
-        (FaultKind::OutOfMemory, "1 OutOfMemory at 66"),
-        (FaultKind::Short, "2 Short at 66"),
-        (FaultKind::BadByte, "3 BadByte at 66"),
-        (FaultKind::Extra, "4 Extra at 66"),
-        (FaultKind::BadVersion, "5 BadVersion at 66"),
-    ];
-    for (kind, wanted) in kinds {
-        let text = format!(in rt.alloc(); "{} {}", kind.number(), CodecFault { kind, at: 66 });
-        assert_eq!(rt; text.expect(&rt, "not printed").as_str(), wanted);
-    }
-}

@@ -5,7 +5,7 @@ ghost use Rattle.coord_world.specs.protocol.Legal.{Legal};
 
 use coord_check::check;
 use coord_types::{Client, Command, DataPacket, Group, Msg, NodeId, ReceiptPacket, Step, Version};
-use coord_world::{Outcome, Verdict, World};
+use coord_world::{StepOutcome, Verdict, World};
 use std::process::Abort;
 
 /// What a test asks for memory, and what ends it.
@@ -75,26 +75,31 @@ pub(crate) fn receipt(packet: DataPacket) -> ReceiptPacket {
 
 /// Takes a step that a world judges fresh, behind which the checker finds no fault. Where that finds no
 /// memory, the world has to be as it was, and takes it then.
-pub(crate) fn take(rt: &impl Host, world: &mut World, step: &Step) -> Outcome
+pub(crate) fn take(rt: &impl Host, world: &mut World, step: &Step) -> StepOutcome
     requires { Legal world.old }
     ensures { Legal world.new }
 {
     let before = world.copy().expect(rt, "not copied");
-    let Ok(Verdict::Fresh(_)) = world.judge(&before, step) else {
-        panic!(rt; "not fresh: {step:?}")
-    };
-    let outcome = match world.apply(step) {
-        Ok(outcome) => outcome,
-        Err(_) => {
+    let outcome = match tried(rt, world, &before, step) {
+        Some(outcome) => outcome,
+        None => {
             assert!(rt; *world == before, "changed");
-            let Ok(Verdict::Fresh(_)) = world.judge(&before, step) else {
-                panic!(rt; "not fresh then: {step:?}")
-            };
-            world.apply(step).expect(rt, "not taken")
+            tried(rt, world, &before, step).expect(rt, "not taken")
         }
     };
     assert!(rt; check(world).is_none(), "a fault behind {step:?}");
     outcome
+}
+
+// What a step that a world judges fresh gives; None where there was no memory.
+fn tried(rt: &impl Host, world: &mut World, before: &World, step: &Step) -> Option<StepOutcome>
+    requires { Legal world.old }
+    ensures { Legal world.new }
+{
+    let Ok(Verdict::Fresh(_)) = world.judge(before, step) else {
+        panic!(rt; "not fresh: {step:?}")
+    };
+    world.apply(step).ok()
 }
 
 /// Nodes 1 and 2 are added and linked, and a reset is asked for at the first.

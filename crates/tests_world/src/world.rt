@@ -6,32 +6,41 @@ ghost use Rattle.coord_world.specs.protocol.Legal.{Legal};
 use crate::steps::{
     Host, abort, ack, add, asked, client, first_version, id, join, order, packet, receipt, take,
 };
-use coord_check::{Letter, Violation};
 use coord_types::{Command, Kind, Mode, Msg, Output, Reply, Session, Step, Version};
 use coord_world::World;
+
+// A step gives these outputs.
+fn gives(rt: &impl Host, world: &mut World, step: Step, wanted: &[Output])
+    requires { Legal world.old }
+    ensures { Legal world.new }
+{
+    let taken = take(rt, world, &step);
+    assert_eq!(rt; taken.outputs.as_slice(), wanted, "{step:?}");
+}
+
+// These outputs are sent again.
+fn resends(rt: &impl Host, world: &World, wanted: &[Output])
+    requires { Legal world.now }
+{
+    let resent = world.resend().expect(rt, "not sent again");
+    assert_eq!(rt; resent.as_slice(), wanted);
+}
 
 #[test]
 fn a_reset_goes_out_and_comes_back(rt: HostRuntime) {
     let mut world = asked(&rt, first_version());
-    let taken = take(&rt, &mut world, &Step::Take(abort()));
-    let wanted = [Output::Receipted(receipt(abort())), Output::Sent(ack())];
-    assert_eq!(rt; taken.outputs.as_slice(), wanted.as_slice());
-    let resent = world.resend().expect(&rt, "not sent again");
-    let wanted = [
-        Output::Sent(abort()),
-        Output::Receipted(receipt(abort())),
-        Output::Sent(ack()),
-    ];
-    assert_eq!(rt; resent.as_slice(), wanted.as_slice());
-    let taken = take(&rt, &mut world, &Step::Take(ack()));
-    let wanted = [
+    let answer = [Output::Receipted(receipt(abort())), Output::Sent(ack())];
+    gives(&rt, &mut world, Step::Take(abort()), &answer);
+    let [receipted, acknowledged] = answer;
+    let all = [Output::Sent(abort()), receipted, acknowledged];
+    resends(&rt, &world, &all);
+    let signal = [
         Output::Receipted(receipt(ack())),
         Output::Signalled(id(1), 1),
     ];
-    assert_eq!(rt; taken.outputs.as_slice(), wanted.as_slice());
-    let cleared = take(&rt, &mut world, &Step::Clear(receipt(abort())));
-    let wanted = [Output::Sent(packet(true, 2, Msg::Ready))];
-    assert_eq!(rt; cleared.outputs.as_slice(), wanted.as_slice());
+    gives(&rt, &mut world, Step::Take(ack()), &signal);
+    let ready = [Output::Sent(packet(true, 2, Msg::Ready))];
+    gives(&rt, &mut world, Step::Clear(receipt(abort())), &ready);
 }
 
 // In version 2 an Abort carries how far it has come.
@@ -84,15 +93,28 @@ fn comes_back(rt: &impl Host, world: &World) -> World
 }
 
 #[test]
-fn a_world_is_copied_and_comes_back(rt: HostRuntime) {
+fn a_world_comes_back(rt: HostRuntime) {
     let world = asked(&rt, first_version());
     is_asked(&rt, &world);
-    is_asked(&rt, &comes_back(&rt, &world));
-    // a copy is the same world, until it takes a step
-    let mut other = asked(&rt, first_version());
-    assert!(rt; other == world && other.copy().expect(&rt, "not copied") == world);
-    take(&rt, &mut other, &Step::Take(abort()));
-    assert!(rt; other != world);
+    let back = comes_back(&rt, &world);
+    is_asked(&rt, &back);
+}
+
+// A copy is the same world, until it takes a step.
+fn is_copied(rt: &impl Host, world: &World)
+    requires { Legal world.now }
+{
+    let mut copy = world.copy().expect(rt, "not copied");
+    assert!(rt; copy == *world);
+    take(rt, &mut copy, &Step::Take(abort()));
+    assert!(rt; copy != *world);
+}
+
+#[test]
+fn a_world_is_copied(rt: HostRuntime) {
+    let world = asked(&rt, first_version());
+    is_copied(&rt, &world);
+    is_asked(&rt, &world);
 }
 
 // The number of client 1's last order; 0 where it has none.
@@ -115,33 +137,28 @@ fn the_links_of_node_64_come_back(rt: HostRuntime) {
     comes_back(&rt, &world);
 }
 
-// A world of version 1 in which every node is Ready becomes one of version 2 with as many links, and
-// the same last order. A node that is in a reset is told as busy.
+// A world of version 1 whose nodes 63 and 64 are Ready becomes one of version 2 with as many links, and
+// the same last order.
+fn raises(rt: &impl Host, world: &World)
+    requires { Legal world.now }
+{
+    assert!(rt; world.first_busy().is_none() && world.version().number() == 1);
+    let raised = world.raised().expect(rt, "not raised");
+    assert_eq!(rt; (raised.version().number(), raised.count()), (2, 3));
+    assert_eq!(rt; raised.links().len(), 1);
+    assert_eq!(rt; raised.last(client()), world.last(client()));
+}
+
+// A node that is in a reset is told as busy.
 #[test]
 fn a_quiet_world_is_raised(rt: HostRuntime) {
     let mut world = World::empty(rt.alloc(), first_version());
     take(&rt, &mut world, &add(1, id(63)));
     take(&rt, &mut world, &add(2, id(64)));
     take(&rt, &mut world, &join(3, id(63), id(64)));
-    assert!(rt; world.first_busy().is_none() && world.version().number() == 1);
-    let raised = world.raised().expect(&rt, "not raised");
-    assert_eq!(rt;
-        (
-            raised.version().number(),
-            raised.count(),
-            raised.links().len()
-        ),
-        (2, 3, 1)
-    );
-    assert_eq!(rt; raised.last(client()), world.last(client()));
+    raises(&rt, &world);
     take(&rt, &mut world, &order(4, Command::Reset(id(64))));
     assert_eq!(rt; world.first_busy(), Some(id(64)));
-    assert_eq!(rt; asked(&rt, first_version()).first_busy(), Some(id(1)));
-}
-
-#[test]
-fn violations_are_printed_in_a_line(rt: HostRuntime) {
-    let (a, b, letter) = (id(64), id(64), Letter::N);
-    let text = format!(in rt.alloc(); "{}", Violation { a, b, letter }).expect(&rt, "not printed");
-    assert_eq!(rt; (text.as_str(), Letter::G.name()), ("64 64 N", "G"));
+    let other = asked(&rt, first_version());
+    assert_eq!(rt; other.first_busy(), Some(id(1)));
 }

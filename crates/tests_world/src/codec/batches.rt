@@ -1,7 +1,7 @@
 ghost use Rattle.std.specs.Prelude.{◌≡◌, ◌≤◌, ℕ, length};
 ghost use Rattle.std.specs.List.{AllByRecursion};
 ghost use Rattle.coord_batch.specs.Batches.{IsWritable};
-ghost use Rattle.coord_types.specs.Facade.{brought};
+ghost use Rattle.coord_types.specs.Facade.{carried};
 ghost use Rattle.coord_types.specs.declared.limits.TheConstants.{MAX_BATCH_STEPS, MAX_STEPS};
 
 use super::*;
@@ -57,7 +57,7 @@ fn order(version: Version, client: u8, number: u64, command: Command) -> Step
 }
 
 fn data(version: Version, goes_out: bool, number: u64, msg: Msg) -> Step
-    requires { version ≡ 1 → brought msg ≡ 0 }
+    requires { version ≡ 1 → carried msg ≡ 0 }
     ensures { IsWritable version result }
 {
     Step::Take(packet(goes_out, number, msg))
