@@ -6,12 +6,11 @@ import re
 from support import preloaded, stores
 from support.case import Case, until
 from support.program import PROGRAM, Ended, faulted, ran
-from support.refusing import Refusing
+from support.refusing import WORKERS, Refusing
 from support.served import STARTED, answered
 from support.serving import Serving
 from support.stores import ABORT, batch, link, node, topology, world
 
-FIRST_WORKER = 3  # its number among the threads of a server, behind the printer and the flusher
 NO_MEMORY = faulted(4, "OutOfMemory")
 ALL = 10**9
 PAIR = topology([(1, 1), (2, 1)], [(1, 2)])
@@ -122,11 +121,11 @@ class Wave(Case):
         self.needs("a C compiler", preloaded.has_compiler())
         refusing, store = Refusing(PROGRAM, self.folder), self.made(PAIR)
         content = self.read("store")
-        count = self.allocations_of_a_wave(store, refusing.environment(threads=FIRST_WORKER), refusing)
+        count = self.allocations_of_a_wave(store, refusing.environment(threads=WORKERS), refusing)
         self.assertGreater(count, 5)
         for first in range(1, count + 1):
             self.write("store", content)
-            self.allocations_of_a_wave(store, refusing.environment(first, threads=FIRST_WORKER), refusing)
+            self.allocations_of_a_wave(store, refusing.environment(first, threads=WORKERS), refusing)
 
     def allocations_of_a_wave(self, store, environment, refusing):
         with Serving(store, env=environment) as server:

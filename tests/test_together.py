@@ -8,7 +8,7 @@ import sys
 
 from support import preloaded
 from support.program import PROGRAM, ROOT, ran
-from support.refusing import Refusing
+from support.refusing import ALL_THREADS, FIRST_THREAD, Refusing
 from support.served import DONE, FINISHED, Served, answered, refused
 from support.serving import Serving
 from support.stores import ring, topology
@@ -108,10 +108,10 @@ class Refused(Served):
 
     takes = 30
 
-    def orders(self, store, refusing, first=0):
+    def orders(self, store, refusing, threads, first=0):
         """Three orders in one packet, behind which nothing comes: their replies, and how many allocations were asked for
         before them and with them."""
-        with Serving(store, env=refusing.environment(first)) as server, server.connect() as connection:
+        with Serving(store, env=refusing.environment(first, threads=threads)) as server, server.connect() as connection:
             before = refusing.count()
             connection.socket.settimeout(60)
             # a connection without memory may be over already
@@ -137,15 +137,22 @@ class Refused(Served):
             return []
 
     def test_each_allocation_in_turn(self):
+        self.expect_answers(ALL_THREADS)
+
+    def test_each_allocation_of_the_thread_that_answers(self):
+        """They come in the same order each time, so that none is left out."""
+        self.expect_answers(FIRST_THREAD)
+
+    def expect_answers(self, threads):
         """Each order has a reply in its place, or tells that memory lacked; or nothing was begun."""
         self.needs("a C compiler", preloaded.has_compiler())
         refusing, store = Refusing(PROGRAM, self.folder), self.made(topology([(1, 1)]))
         content, lacked = self.read("store"), 0
-        replies, before, behind = self.orders(store, refusing)
+        replies, before, behind = self.orders(store, refusing, threads)
         self.assertEqual(replies, [answered(FINISHED, 2), answered(FINISHED, 3), answered(FINISHED, 4)])
         for first in range(before + 1, behind + 1):
             self.write("store", content)
-            replies, _, _ = self.orders(store, refusing, first)
+            replies, _, _ = self.orders(store, refusing, threads, first)
             with self.subTest(first=first - before, of=behind - before):
                 self.assertIn(len(replies), (0, 3), replies)
                 steps = [reply["step"] for reply in replies if "step" in reply]

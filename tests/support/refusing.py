@@ -2,8 +2,9 @@
 
 All that the program allocates goes through two functions of its runtime, `rattle_alloc` and `rattle_realloc`, which call
 those of the C library. A library that is loaded with the program leads these two calls to its own, which count, and refuse
-the allocations from one number on, as many as are named. It may count those of some threads alone, which have the numbers
-1, 2 and so on in the order in which they were started. The places of the two functions are read from the program's file.
+the allocations from one number on, as many as are named. It may count those of some threads alone, whose numbers are 0 of
+the first one, and 1, 2 and so on in the order in which they were started. The places of the two functions are read from the
+program's file.
 """
 
 import os
@@ -13,6 +14,8 @@ import sys
 
 from .program import ran
 
+ALL_THREADS = range(1_000)
+FIRST_THREAD, WORKERS = range(1), range(3, 11)  # of a server; its printer is 1, and its flusher 2
 SOURCE = r"""
 #define _GNU_SOURCE
 #include <dlfcn.h>
@@ -24,7 +27,7 @@ SOURCE = r"""
 #include <sys/mman.h>
 #include <unistd.h>
 static void *(*real_malloc)(size_t), *(*real_realloc)(void *, size_t);
-static long *calls, first, many, counted_from, threads;
+static long *calls, first, many, counted_from, counted_to, threads;
 static __thread long own;  // the number of this thread; 0 is the first one's
 static long setting(const char *name) { return getenv(name) ? atol(getenv(name)) : 0; }
 struct started { void *(*run)(void *), *given; long number; };
@@ -41,7 +44,7 @@ int pthread_create(pthread_t *thread, const pthread_attr_t *how, void *(*run)(vo
     return usual(thread, how, numbered, it);
 }
 static int refuses(void) {
-    if (own < counted_from) return 0;
+    if (own < counted_from || own >= counted_to) return 0;
     long call = __atomic_add_fetch(calls, 1, __ATOMIC_SEQ_CST);
     return first <= call && call < first + many;
 }
@@ -71,7 +74,8 @@ __attribute__((constructor)) static void begin(void) {
     if (calls == MAP_FAILED) _exit(99);
     first = setting("REFUSE_FIRST");
     many = setting("REFUSE_MANY");
-    counted_from = setting("REFUSE_THREADS");
+    counted_from = setting("COUNTED_FROM");
+    counted_to = setting("COUNTED_TO");
     real_malloc = dlsym(RTLD_DEFAULT, "malloc");
     real_realloc = dlsym(RTLD_DEFAULT, "realloc");
     dl_iterate_phdr(first_object, &base);
@@ -108,10 +112,11 @@ class Refusing:
             file.write(SOURCE)
         subprocess.run(["cc", "-O1", "-shared", "-fPIC", "-o", f"{folder}/refusing.so", f"{folder}/refusing.c"], check=True)
 
-    def environment(self, first=0, many=1, threads=0):
+    def environment(self, first=0, many=1, threads=ALL_THREADS):
         """What a program's environment is to have, so that so many allocations are refused from this number on, of those of
-        the threads from one number on."""
-        settings = {"REFUSE_FIRST": first, "REFUSE_MANY": many, "REFUSE_THREADS": threads, "ALLOC_AT": self.alloc, "REALLOC_AT": self.realloc,
+        these threads."""
+        settings = {"REFUSE_FIRST": first, "REFUSE_MANY": many, "COUNTED_FROM": threads[0], "COUNTED_TO": threads[-1] + 1,
+                    "ALLOC_AT": self.alloc, "REALLOC_AT": self.realloc,
                     "ALLOCATIONS": f"{self.folder}/allocations", "LD_PRELOAD": f"{self.folder}/refusing.so"}
         with open(f"{self.folder}/allocations", "wb") as file:
             file.write(bytes(8))
