@@ -5,6 +5,7 @@ import json
 import socket
 import subprocess
 import sys
+import time
 
 from support import preloaded
 from support.program import PROGRAM, ROOT, ran
@@ -161,3 +162,27 @@ class Refused(Served):
                     self.assertTrue("step" in reply or reply in NOT_CARRIED_OUT, replies)
             lacked += {"fault": "OutOfMemory"} in replies
         self.assertGreater(lacked, 10)
+
+    def seconds(self, store, refusing, first):
+        """Three orders, where 300 allocations are refused from this one on: in how many seconds all of them were carried out,
+        or 0 if they were not."""
+        with Serving(store, env=refusing.environment(first, 300)) as server, server.connect() as connection:
+            began = time.monotonic()
+            with contextlib.suppress(OSError):
+                connection.send(*({"op": "reset", "client": 1, "number": number, "node": 1} for number in range(1, 4)))
+                connection.socket.shutdown(socket.SHUT_WR)
+            replies = self.replies(connection)
+            return time.monotonic() - began if [reply.get("step") for reply in replies] == [2, 3, 4] else 0
+
+    def test_a_flusher_that_finds_no_memory_rests(self):
+        """From one allocation on it is the flusher that is refused. It tries again 300 times, and rests for a millisecond
+        before each, so that it does not take the processor from those who have the memory."""
+        self.needs("a C compiler", preloaded.has_compiler())
+        refusing, store = Refusing(PROGRAM, self.folder), self.made(topology([(1, 1)]))
+        content = self.read("store")
+        _, before, behind = self.orders(store, refusing)
+        for first in range(before + 1, behind + 1):
+            self.write("store", content)
+            if self.seconds(store, refusing, first) > 0.25:
+                return
+        self.fail("the orders were always carried out sooner than 300 rests take")

@@ -1,9 +1,8 @@
 -- Packets that wait, tried one after the other.
-use Rattle.std.proofs.Common.{◌≡◌, ◌+◌, true, false, Bool, List, [], ◌∷◌, Option, Some, None, Result, Ok, Err, drop, length, refl, sym, ap, arith, subst, inl, inr, slice_get, OnErr, OnOk}
+use Rattle.std.proofs.Common.{◌≡◌, ◌+◌, true, false, Bool, List, [], ◌∷◌, Option, Some, None, drop, length, refl, sym, ap, arith, subst, inl, inr, slice_get}
 use Rattle.coord_types.specs.declared.packets.Packet.{Packet}
 use Rattle.coord_ledger.specs.declared.ticket.Note.{Note}
-use Rattle.coord_engine.specs.Facade.{Basis, Keeps, Tries, TriesAll}
-use Rattle.coord_engine.specs.Waiting.{with_packet}
+use Rattle.coord_engine.specs.Facade.{Basis, Tries, TriesAll}
 
 abbrev some_is : {A : Type 0} (d : A) → Option A → A
 some_is d None = d
@@ -24,8 +23,3 @@ module _ {D : Type 0} (b : Basis D) (notes next : List Note) where
       → TriesAll b next (drop 1 waiting) later left → TriesAll b notes waiting later left
   tries_on [] p waits later left is tried goes rest = cc
   tries_on (q ∷ waiting) p waits later left is tried goes rest = (next, waits, subst (λ x. Tries b notes x waits next) (sym (ap (some_is p) is)) tried, inr (goes, rest))
-
--- a packet was put behind the others, or nothing has changed
-pub keeps : (r : Result (Unit {0}) Packet) (waiting left : List Packet) (p : Packet) → OnOk r (left ≡ with_packet waiting p) → OnErr r (left ≡ waiting) → Keeps true waiting p left
-keeps (Ok done) waiting left p put unchanged = inl put
-keeps (Err back) waiting left p put unchanged = inr unchanged

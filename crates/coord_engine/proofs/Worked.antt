@@ -3,15 +3,17 @@ use Rattle.std.proofs.Common.{◌≡◌, ◌⊎◌, Bool, true, false, List, [],
 use Rattle.coord_types.specs.declared.packets.Packet.{Packet}
 use Rattle.coord_ledger.specs.declared.ticket.Note.{Note}
 use Rattle.coord_engine.specs.Facade.{AddsPackets, Basis, Takes, Tries, TriesAll, Works, step_of}
+use Rattle.coord_engine.specs.declared.hand.Hand.{Hand}
 use Rattle.coord_engine.proofs.PacketNotes.{adds_more, adds_none, adds_packet}
 
 module _ {D : Type 0} (b : Basis D) where
   -- one more was taken, and then those that wait were tried
-  pub works_last : (notes next taken later : List Note) (waiting came rest kept left : List Packet) (p : Packet) → Works b notes waiting came next rest → Takes b next rest p taken kept → TriesAll b taken kept later left → Works b notes waiting (came ++ p ∷ []) later left
-  works_last notes next taken later waiting [] rest kept left p so takes tries =
-      (taken, kept, later, left, subst (λ w. Takes b notes w p taken kept) so.1 (subst (λ n. Takes b n rest p taken kept) so.0 takes), tries, (refl, refl))
-  works_last notes next taken later waiting (q ∷ came) rest kept left p so takes tries =
-      (so.0, so.1, so.2, so.3, so.4, so.5, works_last so.2 next taken later so.3 came rest kept left p so.6 takes tries)
+  pub works_last : (notes next taken later : List Note) (hand rest kept : Hand) (came left : List Packet) (p : Packet) → Works b notes hand came next rest → Takes b next rest p taken kept → TriesAll b taken kept.waiting later left
+      → Works b notes hand (came ++ p ∷ []) later (record kept { waiting = left })
+  works_last notes next taken later hand rest kept [] left p so takes tries =
+      (taken, kept, later, left, subst (λ h. Takes b notes h p taken kept) so.1 (subst (λ n. Takes b n rest p taken kept) so.0 takes), tries, (refl, refl))
+  works_last notes next taken later hand rest kept (q ∷ came) left p so takes tries =
+      (so.0, so.1, so.2, so.3, so.4, so.5, works_last so.2 next taken later (record so.1 { waiting = so.3 }) rest kept came left p so.6 takes tries)
 
   tried_one : (notes later : List Note) (p : Packet) (waits : Bool) → Tries b notes p waits later → AddsPackets notes later
   tried_one notes later p waits is = adds_packet b p (step_of p) refl is.answer notes later is.submits
@@ -25,7 +27,7 @@ module _ {D : Type 0} (b : Basis D) where
   tried_adds notes later [] left is = adds_none notes later is.0
   tried_adds notes later (p ∷ ps) left is = adds_more notes is.0 later (tried_one notes is.0 p is.1 is.2) (after_one is.0 later p ps left is.1 is.3 (λ more. tried_adds is.0 later ps left more))
 
-  pub works_adds : (notes later : List Note) (waiting came left : List Packet) → Works b notes waiting came later left → AddsPackets notes later
-  works_adds notes later waiting [] left is = adds_none notes later is.0
-  works_adds notes later waiting (p ∷ came) left is =
-      adds_more notes is.0 later (tried_one notes is.0 p is.4.waits is.4.tries) (adds_more is.0 is.2 later (tried_adds is.0 is.2 is.1 is.3 is.5) (works_adds is.2 later is.3 came left is.6))
+  pub works_adds : (notes later : List Note) (hand left : Hand) (came : List Packet) → Works b notes hand came later left → AddsPackets notes later
+  works_adds notes later hand left [] is = adds_none notes later is.0
+  works_adds notes later hand left (p ∷ came) is =
+      adds_more notes is.0 later (tried_one notes is.0 p is.4.waits is.4.tries) (adds_more is.0 is.2 later (tried_adds is.0 is.2 is.1.waiting is.3 is.5) (works_adds is.2 later (record is.1 { waiting = is.3 }) left came is.6))

@@ -2,6 +2,7 @@
 use Rattle.std.specs.Prelude.{◌≡◌, ◌⊎◌, ◌<◌, ◌≤◌, true, false, List, [], ◌∷◌, ◌++◌, is_some, Result, Ok, Err, if◌then◌else◌}
 use Rattle.coord_types.specs.declared.refusals.Refusal.{Refusal}
 use Rattle.coord_types.specs.declared.refusals.Refusal.TheVariants.{OutOfMemory, Stopped, Stranger}
+use Rattle.coord_types.specs.declared.steps.Reply.{Reply}
 use Rattle.coord_types.specs.declared.steps.Step.{Step}
 use Rattle.coord_world.specs.declared.verdicts.Verdict.{Verdict}
 use Rattle.coord_world.specs.declared.verdicts.Verdict.TheVariants.{Fresh, Repeat}
@@ -44,3 +45,8 @@ abbrev pub CollectsAs : {D : Type 0} → LedgerState D → Claim → Collected �
 CollectsAs l claim (Settled reply) = (reply ≡ reply_of claim) × IsCollectable l.log claim
 CollectsAs l claim (Refused refusal back) = (back ≡ claim) × RefusesTicket l claim refusal
 CollectsAs l claim (Waiting back) = (back ≡ claim) × (settled_count l.log < claim.step) × (is_some l.log.doubt ≡ false)
+
+-- what is told to a ticket that has not to wait: its reply, or that there will be none
+abbrev pub IsTold : {D : Type 0} → LedgerState D → Claim → Result Reply (Refusal × Claim) → Type 0
+IsTold l claim (Ok reply) = CollectsAs l claim (Settled reply)
+IsTold l claim (Err refused) = CollectsAs l claim (Refused refused.0 refused.1)

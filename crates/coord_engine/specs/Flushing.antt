@@ -10,12 +10,19 @@ use Rattle.coord_engine.specs.Port.{AreAsked, deliveries_of}
 use Rattle.coord_engine.specs.State.{Basis}
 use Rattle.coord_engine.specs.Threads.{AtSomeMoment}
 use Rattle.coord_engine.specs.declared.flushing.TheConstants.{CALLERS_PART, PATIENCE, REST}
+use Rattle.coord_engine.specs.declared.guarded.pacing.TheConstants.{MOST_AWAITED}
 
--- how many milliseconds a flight waits for packets, which part of the last flight's time for callers, and how many milliseconds a flusher rests that found no memory (docs/DECISIONS.md)
+-- how many milliseconds a flight waits for packets, which part of the last flight's time for callers and for how many steps at most, and how many milliseconds a flusher rests that found no memory (docs/DECISIONS.md)
 pub record TimesAreUsual : Type 0 where
   pub packets : PATIENCE ≡ 5
   pub callers : CALLERS_PART ≡ 16
+  pub awaited : MOST_AWAITED ≡ 32
   pub rest : REST ≡ 1
+
+-- whether a flush found no memory: then a rest is due before the next one
+abbrev pub finds_no_memory : Result (Option (List Release)) CommitFault → Bool
+finds_no_memory (Err OutOfMemory) = true
+finds_no_memory answer = false
 
 -- the meaning of an engine, and of the port that it hands to
 module _ {D P : Type 0} (b : Basis D) (failures : D → ℕ) (carried : P → ℕ → Packet → Bool → P → Type 0) (signalled : P → ℕ → ℕ → Bool → P → Type 0) where

@@ -11,10 +11,9 @@ use Rattle.coord_ledger.specs.declared.release.Release.{Release}
 use Rattle.coord_ledger.specs.declared.ticket.Note.{Note}
 use Rattle.coord_ledger.specs.Facade.{Claim, FlightState, LedgerState, accepted_count, keeps_store, next_flight, pending, releases_of, resent, settled_count, settled_world}
 use Rattle.coord_view.specs.Shown.{Shown, shown}
-use Rattle.coord_engine.specs.Calls.{AnswersStep, CollectsAs, engine_verdict}
+use Rattle.coord_engine.specs.Calls.{AnswersStep, IsTold, engine_verdict}
 use Rattle.coord_engine.specs.Closing.{MayClose}
 use Rattle.coord_engine.specs.State.{Basis, CanHold, GuardedState}
-use Rattle.coord_engine.specs.declared.collected.Collected.TheVariants.{Refused, Settled}
 
 -- so it is in some state that the value under the lock can have
 pub record AtSomeMoment {D : Type 0} (b : Basis D) (P : GuardedState D → Type 0) : Type 0 where
@@ -42,10 +41,9 @@ abbrev pub AnswersShow : {D : Type 0} → Basis D → Result Shown Refusal → �
 AnswersShow {D} b (Ok view) seen later = AtSomeMoment b (Shows {D = D} view seen later)
 AnswersShow {D} b (Err refusal) seen later = AtSomeMoment b (RefusesShow {D = D} refusal seen) × (later ≡ seen)
 
--- what is answered to a ticket that was waited for: its reply; or that there will be none, and the ticket comes back
+-- what is answered to a ticket that was waited for
 abbrev pub AnswersTicket : {D : Type 0} → Basis D → Claim → Result Reply (Refusal × Claim) → Type 0
-AnswersTicket {D} b claim (Ok reply) = AtSomeMoment {D = D} b (λ g. CollectsAs g.ledger claim (Settled reply))
-AnswersTicket {D} b claim (Err refused) = (refused.1 ≡ claim) × AtSomeMoment {D = D} b (λ g. CollectsAs g.ledger claim (Refused refused.0 claim))
+AnswersTicket {D} b claim answer = AtSomeMoment {D = D} b (λ g. IsTold g.ledger claim answer)
 
 -- this flight went out
 abbrev pub Leaves : {D : Type 0} → FlightState D → GuardedState D → Type 0

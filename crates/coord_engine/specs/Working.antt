@@ -1,5 +1,5 @@
 -- How a worker works: what came, what was tried, what waits, and what it notes in its share.
-use Rattle.std.specs.Prelude.{◌≡◌, ◌⊎◌, Bool, true, false, List, [], ◌∷◌, ◌++◌, All, Result, Ok, Err}
+use Rattle.std.specs.Prelude.{◌≡◌, ◌⊎◌, ℕ, ◌+◌, ◌-◌, ◌^◌, min, Bool, true, false, List, [], ◌∷◌, ◌++◌, All, Result, Ok, Err}
 use Rattle.coord_types.specs.declared.packets.Packet.{Packet}
 use Rattle.coord_types.specs.declared.refusals.Refusal.{Refusal}
 use Rattle.coord_types.specs.declared.refusals.Refusal.TheVariants.{OutOfMemory, PendingFull}
@@ -9,6 +9,7 @@ use Rattle.coord_engine.specs.Port.{step_of}
 use Rattle.coord_engine.specs.State.{Basis}
 use Rattle.coord_engine.specs.Threads.{AtSomeMoment, Submits}
 use Rattle.coord_engine.specs.Waiting.{with_packet}
+use Rattle.coord_engine.specs.declared.hand.Hand.{Hand}
 
 -- the note of a packet's step
 abbrev pub IsOfPacket : Note → Type 0
@@ -31,10 +32,18 @@ abbrev pub waits_after : Result Claim Refusal → Bool
 waits_after (Ok claim) = false
 waits_after (Err refusal) = has_to_wait refusal
 
--- those that wait once a packet was submitted: one that has to wait does so, or it is lost for want of memory to wait in; any other is done with
-abbrev pub Keeps : Bool → List Packet → Packet → List Packet → Type 0
-Keeps true waiting p left = (left ≡ with_packet waiting p) ⊎ (left ≡ waiting)
-Keeps false waiting p left = left ≡ waiting
+-- one more, up to the greatest u64
+abbrev pub one_more : ℕ → ℕ
+one_more n = min (n + 1) (2 ^ 64 - 1)
+
+-- one more packet was put down
+abbrev pub with_put_down : Hand → Hand
+with_put_down hand = record hand { put_down = one_more hand.put_down }
+
+-- What a worker has once a packet was submitted: one that has to wait does so, or it is lost for want of memory to wait in, and counted; any other is done with.
+abbrev pub Keeps : Bool → Hand → Packet → Hand → Type 0
+Keeps true hand p kept = (kept ≡ record hand { waiting = with_packet hand.waiting p }) ⊎ (kept ≡ record hand { lost = one_more hand.lost })
+Keeps false hand p kept = kept ≡ hand
 
 module _ {D : Type 0} (b : Basis D) where
   -- a packet's step was submitted, and whether the packet has to wait
@@ -50,15 +59,17 @@ module _ {D : Type 0} (b : Basis D) where
       (next : List Note) × (waits : Bool) × Tries notes p waits next
       × (((waits ≡ true) × (later ≡ next) × (left ≡ p ∷ ps)) ⊎ ((waits ≡ false) × TriesAll next ps later left))
 
-  -- a packet that came was submitted, and kept where it has to wait
-  pub record Takes (notes : List Note) (waiting : List Packet) (p : Packet) (later : List Note) (left : List Packet) : Type 0 where
+  -- a packet that came was submitted, kept where it has to wait, and put down
+  pub record Takes (notes : List Note) (hand : Hand) (p : Packet) (later : List Note) (left : Hand) : Type 0 where
     pub waits : Bool
     pub tries : Tries notes p waits later
-    pub keeps : Keeps waits waiting p left
+    pub kept : Hand
+    pub keeps : Keeps waits hand p kept
+    pub puts_down : left ≡ with_put_down kept
 
   -- these packets came, in order: each was taken, and then those that wait were tried before the next one came
-  abbrev pub Works : List Note → List Packet → List Packet → List Note → List Packet → Type 0
-  Works notes waiting [] later left = (later ≡ notes) × (left ≡ waiting)
-  Works notes waiting (p ∷ came) later left =
-      (taken : List Note) × (kept : List Packet) × (next : List Note) × (rest : List Packet)
-      × Takes notes waiting p taken kept × TriesAll taken kept next rest × Works next rest came later left
+  abbrev pub Works : List Note → Hand → List Packet → List Note → Hand → Type 0
+  Works notes hand [] later left = (later ≡ notes) × (left ≡ hand)
+  Works notes hand (p ∷ came) later left =
+      (taken : List Note) × (kept : Hand) × (next : List Note) × (rest : List Packet)
+      × Takes notes hand p taken kept × TriesAll taken kept.waiting next rest × Works next (record kept { waiting = rest }) came later left

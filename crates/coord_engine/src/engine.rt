@@ -1,8 +1,10 @@
 //! The engine: the value under a lock, and a condition on which callers wait.
 
-ghost use Rattle.std.specs.Prelude.{◌≡◌, ◌<◌, [], false, true, length, Err, None, Ok, Some, IfErr, IfNone, IfOk, IfSome, MatchResult, OnErr};
+ghost use Rattle.std.specs.Prelude.{◌≡◌, ◌<◌, [], length, Err, None, Ok, Some, IfErr, IfNone, IfOk, IfSome, MatchResult};
+ghost use Rattle.std.specs.Sync.Mutex.{mutex_guard_value};
 ghost use Rattle.coord_ledger.specs.declared.mark.Mark.TheVariants.{New};
 ghost use Rattle.coord_ledger.specs.ledger.Calls.{releases_in};
+ghost use Rattle.coord_engine.specs.Calls.{IsTold};
 ghost use Rattle.coord_engine.specs.Closing.{IsSince, RefusesClosing};
 ghost use Rattle.coord_engine.specs.Flights.{AnswersBegin, AnswersFlush, ComesBack, Commits};
 ghost use Rattle.coord_engine.specs.State.{based_on, most_shares};
@@ -16,7 +18,7 @@ use coord_types::{Refusal, Reply, Step};
 use coord_view::View;
 use std::alloc::{AllocError, Global};
 use std::sync::ledger::Blank;
-use std::sync::{Condvar, Mutex, Wait};
+use std::sync::{Condvar, Mutex, MutexGuard, Wait};
 use std::thread;
 
 /// Commits a flight.
@@ -132,13 +134,29 @@ impl<D: Disk, L: Origin> Engine<D, L> {
     pub fn collect<R: Wait>(&self, rt: &R, ticket: Ticket) -> Result<Reply, (Refusal, Ticket)>
         ensures { AnswersTicket (based_on D.model.keeps_model D.model.present L.base L.before) ticket result }
     {
+        let (guarded, told) = self.lock_to_tell(rt, ticket);
+        guarded.keeps();
+        told
+    }
+
+    /// Waits until there is something to tell to a ticket, and takes the lock then. What is told is
+    /// so of the very ledger that is locked: a reply is given while its step is settled there.
+    fn lock_to_tell<'g, R: Wait>(
+        &'g self,
+        rt: &R,
+        ticket: Ticket,
+    ) -> (
+        MutexGuard<'g, Guarded<D, L>>,
+        Result<Reply, (Refusal, Ticket)>,
+    )
+        ensures { IsTold (mutex_guard_value result.0).ledger ticket result.1 }
+    {
         let mut waiting = ticket;
         let mut guarded = self.guarded.lock(rt);
         for _ in rt.forever() {
-            guarded.keeps();
             match guarded.collect(waiting) {
-                Collected::Settled(reply) => return Ok(reply),
-                Collected::Refused(refusal, back) => return Err((refusal, back)),
+                Collected::Settled(reply) => return (guarded, Ok(reply)),
+                Collected::Refused(refusal, back) => return (guarded, Err((refusal, back))),
                 Collected::Waiting(back) => waiting = back,
             }
             guarded = self.changed.wait(rt, guarded);

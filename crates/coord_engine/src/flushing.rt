@@ -3,14 +3,14 @@
 ghost use Rattle.std.specs.Prelude.{◌≡◌, Bool, false, true, length};
 ghost use Rattle.std.specs.Sync.Mutex.{mutex_guard_value};
 ghost use Rattle.coord_engine.specs.Flights.{AnswersFlush};
-ghost use Rattle.coord_engine.specs.Flushing.{HasFlushed};
+ghost use Rattle.coord_engine.specs.Flushing.{HasFlushed, finds_no_memory};
 ghost use Rattle.coord_engine.specs.Pacing.{is_idle, is_over};
 ghost use Rattle.coord_engine.specs.Port.{IsAsked, AreAsked, deliveries_of};
 ghost use Rattle.coord_engine.specs.State.{based_on};
 ghost use Rattle.coord_engine.specs.Threads.{AtSomeMoment};
 
 use crate::port::{Delivery, Port};
-use crate::{Engine, Guarded, Origin};
+use crate::{Engine, Guarded, Origin, PutDown};
 use coord_disk::Disk;
 use coord_ledger::Releases;
 use coord_store::CommitFault;
@@ -54,14 +54,15 @@ impl<D: Disk, L: Origin> Engine<D, L> {
     }
 
     /// A packet that was in hand was submitted, dropped, kept or lost.
-    pub(crate) fn put_down<R: Wait>(&self, rt: &R) {
+    pub(crate) fn put_down<R: Wait>(&self, rt: &R) -> PutDown {
         let mut guarded = self.guarded.lock(rt);
-        guarded.lower_in_hand();
+        let put_down = guarded.lower_in_hand();
         let wakes = guarded.wakes_flusher();
         drop(guarded);
         if wakes {
             self.work.notify_all();
         }
+        put_down
     }
 
     /// Takes the lock once something can be flushed, or nothing will be any more.
@@ -152,17 +153,49 @@ pub fn hand_over<D: Disk, L: Origin, P: Port, R: Wait>(
     count
 }
 
-/// Flushes, and notes how long the next flight waits for callers that this one answers.
+/// What a flusher knows of its last flush: how long the next flight waits for callers that it
+/// answered, and whether it found no memory, so that a rest is due.
+#[derive(Drop)]
+struct Pace {
+    patience: Duration,
+    rest_is_due: bool,
+}
+
+impl Pace {
+    /// Before the first flush.
+    fn at_first() -> Self
+        ensures { result.rest_is_due ≡ false }
+    {
+        Pace {
+            patience: Duration::ZERO,
+            rest_is_due: false,
+        }
+    }
+
+    /// Rests. Nothing else clears what is due.
+    fn rest<R: Clock>(&mut self, rt: &R)
+        ensures { self.new.rest_is_due ≡ false }
+    {
+        thread::sleep(rt, Duration::from_millis(REST));
+        self.rest_is_due = false;
+    }
+}
+
+/// Flushes, unless a rest is due, and notes how the flusher goes on.
 fn flush<D: Disk, L: Origin, R: Wait + Clock>(
     rt: &R,
     engine: &Engine<D, L>,
-    patience: &mut Duration,
+    pace: &mut Pace,
 ) -> Result<Option<Releases>, CommitFault>
-    ensures { AnswersFlush (based_on D.model.keeps_model D.model.present L.base L.before) D.model.failures result }
+    requires { pace.old.rest_is_due ≡ false }
+    ensures flushed { AnswersFlush (based_on D.model.keeps_model D.model.present L.base L.before) D.model.failures
+        result }
+    ensures rest { pace.new.rest_is_due ≡ finds_no_memory result }
 {
     let start = Instant::now(rt);
     let flushed = engine.flush_once(rt);
-    *patience = patience_since(rt, start);
+    pace.patience = patience_since(rt, start);
+    pace.rest_is_due = matches!(flushed, Err(CommitFault::OutOfMemory));
     flushed
 }
 
@@ -181,17 +214,17 @@ pub fn flusher<D: Disk, L: Origin, P: Port, R: Wait + Clock>(
     ensures { HasFlushed (based_on D.model.keeps_model D.model.present L.base L.before) D.model.failures
         P.carried P.signalled port.old port.new }
 {
-    let mut patience = Duration::ZERO;
+    let mut pace = Pace::at_first();
     for _ in rt.forever() {
-        if !engine.waits_for_flight(rt, patience) {
+        if !engine.waits_for_flight(rt, pace.patience) {
             return;
         }
-        match flush(rt, engine, &mut patience) {
+        match flush(rt, engine, &mut pace) {
             Ok(None) => {}
             Ok(Some(releases)) => {
                 hand_over(rt, engine, port, releases);
             }
-            Err(CommitFault::OutOfMemory) => thread::sleep(rt, Duration::from_millis(REST)),
+            Err(CommitFault::OutOfMemory) => pace.rest(rt),
             Err(_) => return,
         }
     }

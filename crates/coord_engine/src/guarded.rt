@@ -16,6 +16,7 @@ mod submitting;
 use crate::{Origin, Share};
 use coord_disk::Disk;
 use coord_ledger::Ledger;
+pub use pacing::PutDown;
 use std::alloc::Global;
 use std::marker::Model;
 use std::sync::ledger::{Blank, Book, Share as Part};

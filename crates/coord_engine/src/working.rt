@@ -1,13 +1,13 @@
 //! Packets that came, submitted as steps.
 
-ghost use Rattle.std.specs.Prelude.{◌≡◌, [], List, true};
+ghost use Rattle.std.specs.Prelude.{◌≡◌, List};
 ghost use Rattle.std.specs.Iterator.{Drains, IsFinite};
 ghost use Rattle.coord_types.specs.declared.packets.Packet.{Packet as Asked};
 ghost use Rattle.coord_engine.specs.State.{based_on};
-ghost use Rattle.coord_engine.specs.Working.{AddsPackets, Keeps, Takes, Tries, TriesAll, Works, has_to_wait};
+ghost use Rattle.coord_engine.specs.Working.{AddsPackets, Takes, Tries, TriesAll, Works, has_to_wait};
 
 use crate::port::step_of;
-use crate::{Engine, Origin, PacketShare, Share, Waiting};
+use crate::{Engine, Hand, Origin, PacketShare, Share, Waiting};
 use coord_disk::Disk;
 use coord_types::{Packet, Refusal};
 use crossbeam_channel::Receiver;
@@ -61,53 +61,46 @@ fn try_waiting<D: Disk, L: Origin, R: Wait>(
     }
 }
 
-/// Keeps a packet that has to wait. Without memory for that it is lost, and sent again later.
-fn keep(packet: &Packet, waiting: &mut Waiting)
-    ensures { Keeps true waiting.old packet.now waiting.new }
-{
-    let _ = waiting.put(*packet);
-}
-
 /// Submits a packet that came, keeps it where it has to wait, and puts it down.
 fn take<D: Disk, L: Origin, R: Wait>(
     rt: &R,
     engine: &Engine<D, L>,
     packet: &Packet,
     share: &mut Share<L>,
-    waiting: &mut Waiting,
+    hand: &mut Hand,
 )
-    ensures { Takes (based_on D.model.keeps_model D.model.present L.base L.before) share.old waiting.old
-        packet.now share.new waiting.new }
+    ensures { Takes (based_on D.model.keeps_model D.model.present L.base L.before) share.old hand.old
+        packet.now share.new hand.new }
 {
-    if submit(rt, engine, *packet, share) {
-        keep(packet, waiting);
-    }
-    engine.put_down(rt);
+    let has_to_wait = submit(rt, engine, *packet, share);
+    hand.keep(packet, has_to_wait);
+    hand.count(engine.put_down(rt));
 }
 
 /// Submits the packets that come, in order, and ends behind the last one. Their replies are
 /// forgotten.
 ///
 /// Where no more steps may be pending, or no memory is found, it keeps the packet, and tries those
-/// kept again before it takes the next one. After any other refusal, and where there is no memory to
-/// keep it, it drops the packet: what was needed is sent again.
+/// kept again before it takes the next one. After any other refusal it drops the packet, and where
+/// there is no memory to keep it, it loses it: what was needed is sent again. In any case it puts the
+/// packet down.
 pub fn worker<D: Disk, L: Origin, I: Iterator<Item = Packet>, R: Wait>(
     rt: &R,
-    alloc: Global,
     engine: &Engine<D, L>,
     packets: I,
     share: Share<L>,
+    hand: &mut Hand,
 ) -> Share<L>
     requires { I.can_next packets × IsFinite (I.remaining packets) }
-    ensures worked { (came : List Asked) × (left : List Asked) × Drains I.next_gives packets came ×
-        Works (based_on D.model.keeps_model D.model.present L.base L.before) share [] came result left }
+    ensures worked { (came : List Asked) × Drains I.next_gives packets came ×
+        Works (based_on D.model.keeps_model D.model.present L.base L.before) share hand.old came result
+        hand.new }
     ensures packets { AddsPackets share result }
 {
     let mut share = share;
-    let mut waiting = Waiting::new(alloc);
     for packet in packets {
-        take(rt, engine, &packet, &mut share, &mut waiting);
-        try_waiting(rt, engine, &mut share, &mut waiting);
+        take(rt, engine, &packet, &mut share, hand);
+        try_waiting(rt, engine, &mut share, &mut hand.waiting);
     }
     share
 }
@@ -123,7 +116,8 @@ pub fn packet_worker<D: Disk, L: Origin, R: Wait>(
 ) -> PacketShare<L>
     ensures { AddsPackets share result }
 {
+    let mut hand = Hand::new(alloc);
     PacketShare {
-        share: worker(rt, alloc, engine, packets.iter(rt), share.into_share()),
+        share: worker(rt, engine, packets.iter(rt), share.into_share(), &mut hand),
     }
 }

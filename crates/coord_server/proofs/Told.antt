@@ -1,6 +1,5 @@
 -- What a reply, and what is left of a disk, tell of the steps of a life.
-use Rattle.std.proofs.Common.{◌≡◌, ◌⊎◌, ℕ, ◌+◌, ◌-◌, ◌≤◌, true, false, List, [], ◌∷◌, ◌++◌, Option, Some, None, Result, Ok, Err, length, take, is_some, refl, sym, ap, ◌∙◌, subst, inl, inr, arith, IfSome}
-use Rattle.coord_disk.specs.Model.Present.{IsImage, Present}
+use Rattle.std.proofs.Common.{◌≡◌, ◌⊎◌, ℕ, ◌+◌, ◌-◌, ◌≤◌, true, List, [], ◌∷◌, ◌++◌, Option, Some, None, Result, Ok, Err, length, take, is_some, refl, sym, ap, ◌∙◌, subst, inl, inr, arith, IfSome}
 use Rattle.coord_types.specs.declared.refusals.Refusal.{Refusal}
 use Rattle.coord_types.specs.declared.steps.Reply.{Reply}
 use Rattle.coord_types.specs.declared.steps.Step.{Step}
@@ -10,11 +9,9 @@ use Rattle.coord_world.specs.Facade.{World, fold}
 use Rattle.coord_world.specs.declared.verdicts.Verdict.{Verdict}
 use Rattle.coord_world.specs.declared.verdicts.Verdict.TheVariants.{Fresh, Repeat}
 use Rattle.coord_ledger.specs.declared.ticket.Note.{Note}
-use Rattle.coord_ledger.specs.Facade.{Claim, IsCollectable, LedgerGives, LedgerState, Log, GivesSettled as LogGives, reply_of, settled_world}
+use Rattle.coord_ledger.specs.Facade.{Claim, IsCollectable, LedgerGives, Log, GivesSettled as LogGives, reply_of, settled_world}
 use Rattle.coord_engine.specs.declared.closed.Closed.{Closed}
-use Rattle.coord_engine.specs.Facade.{AnswersStep, AtSomeMoment, Basis, GuardedState, LedgerAndNotes, engine_verdict, note_of}
-use Rattle.coord_server.specs.EngineDesk.{Orders}
-use Rattle.coord_server.specs.Ending.{IsOneHistory}
+use Rattle.coord_engine.specs.Facade.{AnswersStep, AtSomeMoment, Basis, LedgerAndNotes, engine_verdict, note_of}
 use Rattle.coord_server.specs.Told.{GivesSettled, LivesLeaveSteps, NamesItsStep, RepliesNameSteps}
 
 -- ---- replies

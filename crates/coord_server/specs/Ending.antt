@@ -4,7 +4,6 @@ use Rattle.coord_ledger.specs.declared.ticket.Note.{Note}
 use Rattle.coord_engine.specs.Facade.{AtSomeMoment, Basis, Closes, IsNamed, IsOfPacket}
 use Rattle.coord_engine.specs.declared.closed.Closed.{Closed}
 use Rattle.coord_admin.specs.Connections.{Talk, ServedOpen, ServedToClose}
-use Rattle.coord_admin.specs.declared.answer.Answer.{Answer}
 use Rattle.coord_server.specs.EngineDesk.{DeskState, DeskAnswers}
 use Rattle.coord_server.specs.declared.fault.ServerFault.{ServerFault}
 use Rattle.coord_server.specs.declared.fault.ServerFault.TheVariants as fault
@@ -81,6 +80,12 @@ IsOfStart fault.OutOfMemory = Unit {0}
 IsOfStart fault.Socket = Unit {0}
 IsOfStart fault.Write = Unit {0}
 IsOfStart other = ⊥
+
+-- what is told where nothing is left to give back: no memory or no thread could be had to begin a life, or an engine was not taken apart
+abbrev pub LeavesNothing : ServerFault → Type 0
+LeavesNothing fault.OutOfMemory = Unit {0}
+LeavesNothing (fault.NotClosed why) = Unit {0}
+LeavesNothing other = ⊥
 
 -- what a server that has ended tells: a store that has stopped first, then what ended the serving, then an output that failed
 abbrev pub fault_at_end : Bool → Option ServerFault → Bool → Option ServerFault

@@ -1,16 +1,18 @@
 -- The lives of a server, one after the other: each is one history of its own over the store that the one before left.
 use Rattle.std.specs.List.{range_with_len}
-use Rattle.std.specs.Prelude.{◌≡◌, ℕ, zero, suc, ◌+◌, ◌-◌, ◌≤◌, List, [], ◌∷◌, ◌++◌, Bool, false, Option, Some, flat_map, length, map, take}
+use Rattle.std.specs.Prelude.{◌≡◌, ◌⊎◌, ⊤, ℕ, zero, suc, ◌+◌, ◌-◌, ◌≤◌, List, [], ◌∷◌, ◌++◌, Bool, false, Option, Some, flat_map, length, map, take}
 use Rattle.coord_disk.specs.Model.Present.{Present}
 use Rattle.coord_types.specs.declared.steps.Step.{Step}
 use Rattle.coord_store.specs.Kept.{Kept, has_stopped}
 use Rattle.coord_world.specs.laws.Trails.{IsTrail}
 use Rattle.coord_world.specs.Facade.{StepOutcome, World, fold, outs}
 use Rattle.coord_admin.specs.Connections.{Talk}
+use Rattle.coord_admin.specs.Times.{IsUsual}
+use Rattle.coord_admin.specs.declared.patience.Patience.{Patience}
 use Rattle.coord_engine.specs.State.{Basis, based_on}
 use Rattle.coord_engine.specs.declared.closed.Closed.{Closed}
 use Rattle.coord_server.specs.EngineDesk.{DeskState}
-use Rattle.coord_server.specs.Ending.{HasKept, IsLeft, IsOneHistory, IsServedToClose, Serves}
+use Rattle.coord_server.specs.Ending.{HasKept, IsLeft, IsOneHistory, IsServedToClose, LeavesNothing, Serves, fault_at_end}
 use Rattle.coord_server.specs.declared.fault.ServerFault.{ServerFault}
 use Rattle.coord_server.specs.declared.fault.ServerFault.TheVariants as fault
 use Rattle.coord_server.specs.declared.life_end.LifeEnd.{LifeEnd}
@@ -63,6 +65,13 @@ abbrev pub HasLivedToClose : {D : Type 0} → (D → Bool) → (D → Present) �
 HasLivedToClose {D} keeps_model present began left =
     (n : ℕ) × (world : World) × Lives keeps_model present met_any life_steps n began tt world tt
     × ((desk : DeskState) × IsServedToClose (based_on keeps_model present world []) desk × IsOneHistory (based_on keeps_model present world []) desk.notes left)
+
+-- The fault that a server tells whose clients are waited for as usual, by lives from this world: nothing is left; or there were lives, and they ended with this fault.
+abbrev pub EndsWith : {D : Type 0} → (D → Bool) → (D → Present) → World → ServerFault → Type 0
+EndsWith {D} keeps_model present began met =
+    LeavesNothing met
+    ⊎ ((callers : Patience) × IsUsual callers × (ended : ServerEnd D Patience) × HasLived keeps_model present (λ _ _ _. ⊤) (λ _ _. ⊤) life_steps began callers ended
+    × (fault_at_end (has_stopped ended.closed.store) ended.served ended.is_broken ≡ Some met))
 
 -- ---- all lives are one history
 

@@ -5,7 +5,7 @@ ghost use Rattle.coord_engine.specs.State.{based_on};
 ghost use Rattle.coord_store.specs.Kept.{has_stopped};
 ghost use Rattle.coord_engine.specs.Closing.{IsSince};
 ghost use Rattle.coord_engine.specs.Threads.{AtSomeMoment, Closes};
-ghost use Rattle.coord_server.specs.Ending.{IsLife};
+ghost use Rattle.coord_server.specs.Ending.{IsLife, LeavesNothing};
 
 use crate::life_end::LifeEnd;
 use crate::printing::Opening;
@@ -51,8 +51,9 @@ pub fn serve_life<
     opening: Option<Opening<W>>,
 ) -> Result<Life<D, C>, ServerFault>
     requires { has_stopped store ≡ false }
-    ensures { IfOk result
+    ensures life { IfOk result
         (IsLife (based_on D.model.keeps_model D.model.present store.world []) C.met C.failed setting.now.life_steps callers) }
+    ensures nothing { IfErr result LeavesNothing }
 {
     let Ok(ledger) = Ledger::adopt(setting.alloc, store) else {
         return Err(ServerFault::OutOfMemory);
@@ -79,8 +80,9 @@ fn serve_ledger<
     requires home { ledger.out ≡ None }
     requires base { ledger.log.base ≡ L.base }
     requires before { (ledger.log.trail ≡ L.before) × (L.before ≡ []) }
-    ensures { IfOk result
+    ensures life { IfOk result
         (IsLife (based_on D.model.keeps_model D.model.present L.base L.before) C.met C.failed setting.now.life_steps callers) }
+    ensures nothing { IfErr result LeavesNothing }
 {
     let engine: Engine<D, L> = Engine::new(setting.alloc, blank, ledger);
     let begun = begin(setting, &engine)?;
@@ -112,11 +114,12 @@ fn closed_life<D: Disk, L: Origin, C: Drop>(
 ) -> Result<Life<D, C>, ServerFault>
     requires parts { L.parts ≡ 65536 }
     requires all { length ran.shares.items ≡ 9 }
-    ensures { IfOk result (λ life.
+    ensures closed { IfOk result (λ life.
         IsSince L.base L.before ran.shares.items life.closed.base life.closed.trail.items ×
         AtSomeMoment (based_on D.model.keeps_model D.model.present L.base L.before)
         (Closes life.closed.store life.closed.base life.closed.trail.items life.closed.settled
         ran.shares.items) × (life.callers ≡ ran.callers) × (life.left ≡ ran.left)) }
+    ensures nothing { IfErr result LeavesNothing }
 {
     let Ran {
         shares,

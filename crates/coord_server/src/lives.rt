@@ -3,6 +3,7 @@
 ghost use Rattle.std.specs.Prelude.{◌≡◌, ◌+◌, false, true, is_some, length, IfErr, IfOk, OnOk};
 ghost use Rattle.std.specs.Thread.{IsSend, IsSync};
 ghost use Rattle.coord_store.specs.Kept.{has_stopped};
+ghost use Rattle.coord_server.specs.Ending.{LeavesNothing};
 ghost use Rattle.coord_server.specs.declared.life_end.LifeEnd.TheVariants as LifeEndAs;
 ghost use Rattle.coord_server.specs.Lives.{EndsOneHistory, HasLived, IsOver};
 
@@ -53,6 +54,7 @@ pub fn serve_lives<
     requires { has_stopped store ≡ false }
     ensures lives { IfOk result (HasLived D.model.keeps_model D.model.present C.met C.failed most store.world callers) }
     ensures whole { IfOk result (λ ended. EndsOneHistory store.world ended.closed) }
+    ensures nothing { IfErr result LeavesNothing }
 {
     let Outlet {
         port,
@@ -82,15 +84,18 @@ fn serve_and_print<
     printing: Printing<W>,
 ) -> Result<ServerEnd<D, C>, ServerFault>
     requires { has_stopped store ≡ false }
-    ensures { IfOk result (HasLived D.model.keeps_model D.model.present C.met C.failed setting.now.life_steps store.world callers) }
+    ensures lived { IfOk result
+        (HasLived D.model.keeps_model D.model.present C.met C.failed setting.now.life_steps store.world callers) }
+    ensures nothing { IfErr result LeavesNothing }
 {
     thread::scope(
         thread::scope_env(),
         setting.rt,
         |scope| -> Result<ServerEnd<D, C>, ServerFault>
             requires { IsSend D.row × IsSend W.row × IsSync R.row × (has_stopped store ≡ false) }
-            ensures { IfOk result
+            ensures lived { IfOk result
                 (HasLived D.model.keeps_model D.model.present C.met C.failed setting.entry.now.life_steps store.world callers) }
+            ensures nothing { IfErr result LeavesNothing }
         {
             let printing = start_printing(scope, setting.rt, printing);
             print_and_live(setting, store, callers, opening, printing)
@@ -126,6 +131,7 @@ fn print_and_live<
     ensures printed { OnOk result (is_some printing ≡ true) }
     ensures lived { IfOk result
         (HasLived D.model.keeps_model D.model.present C.met C.failed setting.now.life_steps store.world callers) }
+    ensures nothing { IfErr result LeavesNothing }
 {
     let Some(printing) = printing else {
         return Err(ServerFault::OutOfMemory);
@@ -147,8 +153,9 @@ fn live<D: Disk + Send, C: Callers + Drop, W: Write + Drop, R: Threads + Wait + 
     opening: Opening<W>,
 ) -> Result<ServerEnd<D, C>, ServerFault>
     requires { has_stopped store ≡ false }
-    ensures { IfOk result
+    ensures lived { IfOk result
         (HasLived D.model.keeps_model D.model.present C.met C.failed setting.now.life_steps store.world callers) }
+    ensures nothing { IfErr result LeavesNothing }
 {
     let mut store = store;
     let mut callers = callers;

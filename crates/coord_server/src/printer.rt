@@ -3,7 +3,7 @@
 ghost use Rattle.std.specs.Prelude.{◌≡◌, ◌≢◌, Err, IfErr, IsErr, IsOk, OnErr, OnOk, false, true};
 ghost use Rattle.std.specs.Io.KnownBytes.{Appends};
 ghost use Rattle.std.specs.IoError.{error_kind};
-ghost use Rattle.coord_server.specs.Printed.{IsOfPrinting, listening_line, new_printer, signal_line};
+ghost use Rattle.coord_server.specs.Printed.{IsOfPrinting, listening_line, new_printer, signal_line, with_lost};
 
 use crate::ServerFault;
 use coord_types::NodeId;
@@ -20,6 +20,8 @@ pub struct Printer<W: Write> {
     alloc: Global,
     output: W,
     is_broken: bool,
+    /// How many signals were lost, since there was no memory for their lines.
+    lost: u64,
 }
 
 impl<W: Write> Model for Printer<W> {
@@ -27,7 +29,7 @@ impl<W: Write> Model for Printer<W> {
 
     ghost Value = { PrinterState W };
 
-    ghost view = { λ p. record { output = p.output; is_broken = p.is_broken } };
+    ghost view = { λ p. record { output = p.output; is_broken = p.is_broken; lost = p.lost } };
 }
 
 impl<W: Write> Printer<W> {
@@ -39,6 +41,7 @@ impl<W: Write> Printer<W> {
             alloc,
             output,
             is_broken: false,
+            lost: 0,
         }
     }
 
@@ -50,20 +53,28 @@ impl<W: Write> Printer<W> {
     }
 
     /// Prints `signal N EPOCH`: a reset has ended at node N. Answers whether the line was written.
-    /// If it was not and later lines are, there was no memory for it, and no part of it was
-    /// written.
+    /// If it was not and later lines are, there was no memory for it: no part of it was written, and
+    /// the signal counts as lost.
     pub fn print_signal(&mut self, node: NodeId, epoch: u64) -> bool
         ensures written { result ≡ true →
             Appends (W.contents self.old.output) (W.contents self.new.output)
             (signal_line node epoch) }
-        ensures whole { result ≡ true → self.new.is_broken ≡ false }
+        ensures whole { result ≡ true → (self.new.is_broken ≡ false) ×
+            (self.new.lost ≡ self.old.lost) }
         ensures broken { self.old.is_broken ≡ true → (result ≡ false) × (self.new ≡ self.old) }
-        ensures failed { result ≡ false → self.new.is_broken ≡ false → self.new ≡ self.old }
+        ensures failed { result ≡ false → self.new.is_broken ≡ false →
+            self.new ≡ with_lost self.old }
     {
+        if self.is_broken {
+            return false;
+        }
         let node = node.number();
         match format!(in self.alloc; "signal {node} {epoch}\n") {
             Ok(line) => self.print(&line).is_ok(),
-            Err(_) => false,
+            Err(_) => {
+                self.lost = self.lost.saturating_add(1);
+                false
+            }
         }
     }
 
@@ -92,6 +103,7 @@ impl<W: Write> Printer<W> {
         ensures whole { OnOk result (self.new.is_broken ≡ false) }
         ensures broken { self.old.is_broken ≡ true → (result ≡ Err ServerFault.Write) × (self.new ≡ self.old) }
         ensures failed { OnErr result (self.new.is_broken ≡ true) }
+        ensures lost { self.new.lost ≡ self.old.lost }
         ensures fault { IfErr result IsOfPrinting }
     {
         if self.is_broken {

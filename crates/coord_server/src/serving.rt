@@ -5,8 +5,8 @@ ghost use Rattle.coord_admin.specs.Times.{IsUsual};
 ghost use Rattle.coord_disk.specs.Model.Present.{IsImage};
 ghost use Rattle.coord_store.specs.Kept.{ImagesGive, has_stopped};
 ghost use Rattle.coord_store.specs.Recovered.{Recovered};
-ghost use Rattle.coord_server.specs.Ending.{fault_at_end};
-ghost use Rattle.coord_server.specs.Lives.{EndsOneHistory, HasLived, HasLivedToClose, life_steps};
+ghost use Rattle.coord_server.specs.Ending.{LeavesNothing, fault_at_end};
+ghost use Rattle.coord_server.specs.Lives.{EndsOneHistory, EndsWith, HasLived, HasLivedToClose, life_steps};
 
 use crate::lives::serve_lives;
 use crate::{ServerEnd, ServerFault};
@@ -43,6 +43,7 @@ pub fn serve_store<
     ensures images { IfOk result (λ closed. D.model.keeps_model closed.store.disk ≡ true →
         (image : List ℕ) → IsImage (D.model.present closed.store.disk) image →
         Recovered image closed.store.world) }
+    ensures fault { IfErr result (EndsWith D.model.keeps_model D.model.present store.world) }
 {
     let callers = Accepted::new(rt, listener, Patience::usual());
     serve_accepted(rt, alloc, store, callers, output)
@@ -70,6 +71,7 @@ fn serve_accepted<
     ensures images { IfOk result (λ closed. D.model.keeps_model closed.store.disk ≡ true →
         (image : List ℕ) → IsImage (D.model.present closed.store.disk) image →
         Recovered image closed.store.world) }
+    ensures fault { IfErr result (EndsWith D.model.keeps_model D.model.present store.world) }
 {
     let ended = serve_callers(rt, alloc, store, callers, output)?;
     closed_of(ended)
@@ -119,6 +121,7 @@ pub fn serve_callers<
     ensures whole { IfOk result (λ ended. EndsOneHistory store.world ended.closed) }
     ensures images { IfOk result (λ ended. D.model.keeps_model ended.closed.store.disk ≡ true →
         ImagesGive D.model ended.closed.store) }
+    ensures nothing { IfErr result LeavesNothing }
 {
     let ended = serve_lives(rt, alloc, LIFE_STEPS, store, callers, output)?;
     ended.closed.store.lemma_images_give_world();

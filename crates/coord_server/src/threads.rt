@@ -4,7 +4,7 @@ ghost use Rattle.std.specs.Prelude.{◌≡◌, ◌⊎◌, ◌+◌, ◌≤◌, []
 ghost use Rattle.std.specs.Thread.{IsSend, IsSync};
 ghost use Rattle.coord_engine.specs.State.{based_on};
 ghost use Rattle.coord_server.specs.EngineDesk.{HandsAgain};
-ghost use Rattle.coord_server.specs.Ending.{AddsWorkers, HasRun, IsOfStart, ServesLife, new_desk};
+ghost use Rattle.coord_server.specs.Ending.{AddsWorkers, HasRun, IsOfStart, LeavesNothing, ServesLife, new_desk};
 
 use crate::life_end::LifeEnd;
 use crate::printing::Opening;
@@ -67,18 +67,20 @@ pub fn run<
     callers: C,
     opening: Option<Opening<W>>,
 ) -> Result<Ran<L, C>, ServerFault>
-    ensures { IfOk result (λ ran.
+    ensures ran { IfOk result (λ ran.
         HasRun (based_on D.model.keeps_model D.model.present L.base L.before) C.met C.failed setting.now.life_steps
         callers ran.callers ran.left ran.shares.items) }
+    ensures nothing { IfErr result LeavesNothing }
 {
     thread::scope(
         thread::scope_env(),
         setting.rt,
         |scope| -> Result<Ran<L, C>, ServerFault>
             requires { IsSend D.row × IsSend L.row × IsSync L.row × IsSync R.row }
-            ensures { IfOk result (λ ran.
+            ensures ran { IfOk result (λ ran.
                 HasRun (based_on D.model.keeps_model D.model.present L.base L.before) C.met C.failed
                 setting.entry.now.life_steps callers ran.callers ran.left ran.shares.items) }
+            ensures nothing { IfErr result LeavesNothing }
         { run_in(scope, setting, engine, begun, callers, opening) },
     )
 }
@@ -103,9 +105,10 @@ fn run_in<
     callers: C,
     opening: Option<Opening<W>>,
 ) -> Result<Ran<L, C>, ServerFault>
-    ensures { IfOk result (λ ran.
+    ensures ran { IfOk result (λ ran.
         HasRun (based_on D.model.keeps_model D.model.present L.base L.before) C.met C.failed setting.now.life_steps
         callers ran.callers ran.left ran.shares.items) }
+    ensures nothing { IfErr result LeavesNothing }
 {
     let rt = setting.rt;
     let mut callers = callers;

@@ -6,3 +6,4 @@ mod gates;
 mod patience;
 mod ports;
 mod rings;
+mod still;

@@ -22,6 +22,10 @@ use coord_types::{MAX_BATCH_STEPS, Step};
 /// the wait costs more than the few that are missing.
 const MOST_AWAITED: u64 = 32;
 
+/// Says that the count of packets in hand was lowered by one. Nothing but `lower_in_hand` makes it.
+#[derive(Drop)]
+pub struct PutDown(());
+
 /// How many of these steps are orders.
 fn count_orders(steps: &[Step]) -> usize
     ensures { result ≡ count_by is_order steps.now }
@@ -48,10 +52,11 @@ impl<D: Disk, L: Origin> Guarded<D, L> {
     }
 
     /// A packet was submitted, dropped, kept or lost.
-    pub fn lower_in_hand(&mut self)
+    pub fn lower_in_hand(&mut self) -> PutDown
         ensures { self.new ≡ with_in_hand self.old (self.old.in_hand - 1) }
     {
         self.in_hand = self.in_hand.saturating_sub(1);
+        PutDown(())
     }
 
     /// Stops waiting for the packets that are still in hand.

@@ -6,10 +6,11 @@ ghost use Rattle.std.specs.Thread.{IsSend, IsSync};
 
 use super::full::is_met_full;
 use super::ports::{Manner, Ring};
+use super::still::Still;
 use crate::scripts::{closed, engine, made_with, resetting, ring_steps};
 use coord_check::check;
 use coord_disk::{Disk, MemDisk};
-use coord_engine::{Engine, Origin, Port, Share, flusher, hand_over, worker};
+use coord_engine::{Engine, Hand, Origin, Port, Share, flusher, hand_over, worker};
 use coord_ledger::Ledger;
 use coord_types::{Packet, Step};
 use crossbeam_channel::{Receiver, Sender};
@@ -20,7 +21,7 @@ use std::sync::Wait;
 use std::sync::ledger::Blank;
 use std::thread;
 use std::thread::{JoinHandle, Scope, Threads};
-use std::time::{Clock, Duration, Instant};
+use std::time::{Clock, Duration};
 
 /// How many nodes there are.
 pub(super) const NODES: u8 = 8;
@@ -108,7 +109,10 @@ fn run<D: Disk + Send, L: Origin + Send + Sync, R: Threads + Wait + Clock + Sync
             for packets in channels {
                 let share = engine.share(rt).expect(rt, "no share");
                 let started = scope
-                    .spawn(move || worker(rt, alloc, engine, packets.iter(rt), share))
+                    .spawn(move || {
+                        let mut hand = Hand::new(alloc);
+                        worker(rt, engine, packets.iter(rt), share, &mut hand)
+                    })
                     .ok()
                     .expect(rt, "no thread");
                 running.push(started).expect(rt, "no memory");
@@ -203,31 +207,10 @@ fn all_nodes_of_a_full_ring_signal(rt: HostRuntime) {
     assert!(rt; all_nodes_signal(&rt, rt.alloc(), Manner::Full));
 }
 
-/// How often a ring is reset to see how quick that is, since the machine may be busy.
-const TRIES: u64 = 20;
-
-/// In how many milliseconds it has to be done once. It takes twelve flights at least, and were packets
-/// waited for that have come, each of them would wait for 5.
-const MOST: u64 = 50;
-
-// Whether a ring is reset in time.
-fn is_quick<R: Threads + Wait + Clock + Sync + Abort>(rt: &R, alloc: Global) -> bool {
-    let start = Instant::now(rt).expect(rt, "no time");
-    assert!(rt; all_nodes_signal(rt, alloc, Manner::Faithful));
-    start.elapsed(rt).expect(rt, "no time") < Duration::from_millis(MOST)
-}
-
-// Whether one is, if that is tried again and again.
-fn is_quick_once<R: Threads + Wait + Clock + Sync + Abort>(rt: &R, alloc: Global) -> bool {
-    for _ in 0..TRIES {
-        if is_quick(rt, alloc) {
-            return true;
-        }
-    }
-    false
-}
-
+// No time passes, so a flight waits for ever for a packet that is never put down, until the engine
+// finishes.
 #[test]
 fn packets_that_came_are_waited_for_no_more(rt: HostRuntime) {
-    assert!(rt; is_quick_once(&rt, rt.alloc()));
+    let still = Still { rt: &rt };
+    assert!(rt; all_nodes_signal(&still, rt.alloc(), Manner::Faithful));
 }

@@ -1,4 +1,4 @@
-use Rattle.std.proofs.Common.{Ok, Err, sym, subst}
+use Rattle.std.proofs.Common.{Ok, Err, refl, sym, subst}
 use Rattle.coord_engine.specs.State.{based_on}
 use Rattle.coord_server.specs.EngineDesk.{Replies}
 use Rattle.coord_server.proofs.desk.collect.Goals as goal
@@ -11,4 +11,5 @@ returns-in-Ok g c =
 pub returns-in-Err : goal.returns-in-Err
 returns-in-Err g c =
     let b = based_on g.D.Disk.model.keeps_model g.D.Disk.model.present g.L.Origin.base g.L.Origin.before in
-    subst (λ posted. Replies {D = g.row.D.Denot} b posted (Err c.in-Err.refusal)) (sym c.in_ok-ticket.was) c.in-Err.ensures.1
+    let told = c.in-Err.ensures in
+    subst (λ posted. Replies {D = g.row.D.Denot} b posted (Err c.in-Err.refusal)) (sym c.in_ok-ticket.was) (record { state = told.state; held = told.held; so = (refl, told.so.1) })

@@ -1,8 +1,8 @@
-use Rattle.std.proofs.Common.{◌≡◌, true, false, sym, subst}
-use Rattle.std.proofs.lemmas.Result.{IfOk-weaker}
+use Rattle.std.proofs.Common.{◌≡◌, true, false, inr, sym, subst}
+use Rattle.std.proofs.lemmas.Result.{IfErr-weaker, IfOk-weaker}
 use Rattle.std.specs.Prelude.{⊤}
 use Rattle.coord_store.specs.Kept.{ImagesGive, has_stopped}
-use Rattle.coord_server.specs.Lives.{EndsOneHistory, HasLivedToClose}
+use Rattle.coord_server.specs.Lives.{EndsOneHistory, EndsWith, HasLivedToClose}
 use Rattle.coord_server.proofs.Ends.{closed_lives, not_stopped, only_world}
 use Rattle.coord_server.proofs.serving.serve_accepted.Goals as goal
 
@@ -25,3 +25,7 @@ returns-clause-images g c =
 pub returns-clause-whole : goal.returns-clause-whole
 returns-clause-whole g c =
     IfOk-weaker c.closed_of.result _ _ (λ closed is. subst (EndsOneHistory c.args.store.world) (sym is.0) c.in_ok-ended.ensures.whole) c.closed_of.ensures.closed
+
+pub returns-clause-fault : goal.returns-clause-fault
+returns-clause-fault g c =
+    IfErr-weaker c.closed_of.result _ _ (λ fault is. inr (c.args.callers, c.requires.patience, c.in_ok-ended.ended, c.in_ok-ended.ensures.lives, is)) c.closed_of.ensures.fault
