@@ -49,7 +49,7 @@ last_after w c n x =
     let s : Step = Order c n x in
     let session : Session = record { number = n; command = x; reply = reply w s } in
     let same : eq_by_cmp nat_cmp c c ≡ true = grind (arith, nat_tests) in
-    let before = (with_transitions (prepared w s) (transitions (state w) s)).sessions in
+    let before = (with_transitions (prepared w s) (transitions w.version (state w) s)).sessions in
     ap last_number (get-insert before c session c ∙ ap (λ b. cond b (Some session) (get before c)) same)
 
 -- at first there is none
