@@ -180,7 +180,7 @@ class Refused(Served):
         self.needs("a C compiler", preloaded.has_compiler())
         refusing, store = Refusing(PROGRAM, self.folder), self.made(topology([(1, 1)]))
         content = self.read("store")
-        _, before, behind = self.orders(store, refusing)
+        _, before, behind = self.orders(store, refusing, ALL_THREADS)
         for first in range(before + 1, behind + 1):
             self.write("store", content)
             if self.seconds(store, refusing, first) > 0.25:
