@@ -12,10 +12,12 @@ from support import preloaded, stores
 from support.case import Case
 from support.program import ran
 from support.serving import Serving
-from support.stores import topology
+from support.stores import ring, topology
 
 STEP = re.compile(rb'"step":(\d+)\}\n')
 SIGNAL = re.compile(rb"^signal 1 (\d+)\n")
+ANY_SIGNAL = re.compile(rb"^signal (\d+) 1\n")
+BEGUN = re.compile(r"^node (\d+) 1 \w+ \d+ 1 ", re.MULTILINE)
 RESET = {"op": "reset", "node": 1}
 # The second step is the one that signals.
 EACH_KIND = [RESET, {"op": "add", "node": 2, "group": 1}, {"op": "join", "a": 1, "b": 2}, {"op": "drop", "a": 1, "b": 2},
@@ -73,16 +75,22 @@ class Moments(Case):
         super().setUp()
         self.needs("a C compiler", preloaded.has_compiler())
 
-    def moments(self, before, calls):
-        """After each call that changes something: the device, and the greatest step that was answered so far."""
-        device, answered, store = Device(before), 1, None
+    def followed(self, before, calls):
+        """After each call: the device, and what the call was."""
+        device, store = Device(before), None
         for name, descriptor, place, text in calls:
             if name == "write":
                 store = descriptor
                 device.write(place, text)
             elif name == "sync" and descriptor == store:
                 device.sync()
-            elif name == "out":
+            yield name, place, text, device
+
+    def moments(self, before, calls):
+        """After each call: the device, and the greatest step that was answered so far."""
+        answered = 1
+        for name, place, text, device in self.followed(before, calls):
+            if name == "out":
                 steps = [int(step) for step in STEP.findall(text)] + [int(epoch) + 1 for epoch in SIGNAL.findall(text)]
                 answered = max([answered, *steps])
             yield name, place, device, answered
@@ -119,6 +127,21 @@ class Moments(Case):
             seen.add((name, answered))
         self.assertLessEqual({("out", step) for step in range(2, 8)}, seen)
         self.assertEqual(ran("check", self.path("left")).printed, "legal 7\n")
+
+    def test_each_moment_of_a_wave(self):
+        """A node whose signal was printed has begun its epoch on the device, so the next start does not signal it again."""
+        store, calls = self.made(ring(4, stores.HALF)), self.path("calls")
+        before, printed = self.read("store"), set()
+        with Serving(store, env=preloaded.environment(self.folder, CALLS=calls)) as server:
+            self.assertEqual(server.order(1, "reset", node=1)["kind"], "started")
+            server.await_signals(4)
+            self.assertEqual(server.close().status, 0)
+        for name, _, text, device in self.followed(before, calls_of(calls)):
+            if name == "out":
+                printed.update(node.decode() for node in ANY_SIGNAL.findall(text))
+            for image in device.images() if printed else []:
+                self.assertLessEqual(printed, set(BEGUN.findall(ran("show", self.write("left", image)).printed)))
+        self.assertEqual(printed, {"1", "2", "3", "4"})
 
     def test_moments_of_many_orders_and_checkpoints(self):
         """All moments of two checkpoints, which move the journal to the other half and back, and some of the others."""

@@ -8,6 +8,7 @@ import sys
 import time
 
 from support import preloaded
+from support.case import until
 from support.program import PROGRAM, ROOT, ran
 from support.refusing import ALL_THREADS, FIRST_THREAD, Refusing
 from support.served import DONE, FINISHED, Served, answered, refused
@@ -20,6 +21,7 @@ from resetd_client import Served as Seat  # noqa: E402
 
 HALF = 1 << 20  # so large that nothing is moved to the other half meanwhile
 NODES = range(1, 65)
+AT_A_START, AT_A_FLIGHT = 2, 2  # how many syncs there are
 NOT_CARRIED_OUT = [{"fault": "OutOfMemory"}, refused(4, "OutOfTurn"), refused(1, "Stopped")]
 ALONE = topology([(node, 1) for node in range(1, 17)], half=HALF)
 
@@ -71,6 +73,28 @@ class Together(Served):
             self.assertEqual([connection.reply() for _ in range(10)],
                              [*(answered(FINISHED, 16 + number) for number in range(1, 10)), {"kind": "closed"}])
             self.assertEqual(server.ended().status, 0)
+
+    def test_a_stop_between_orders_that_came_together(self):
+        """The sync behind their first flight fails: those that were settled have their replies, and each other one is Stopped."""
+        settings = preloaded.environment(self.folder, SYNC_FAILS=AT_A_START + AT_A_FLIGHT + 1)
+        with Serving(self.made(ALONE), env=settings) as server, server.connect() as connection:
+            numbers = range(1, 301)
+            connection.send(*({"op": "reset", "client": 1, "number": number, "node": 1} for number in numbers))
+            replies = [connection.reply() for _ in numbers]
+            settled = sum("kind" in reply for reply in replies)
+            kept = [answered(FINISHED, 16 + number) for number in numbers[:settled]]
+            self.assertEqual(replies, kept + [refused(1, "Stopped")] * (300 - settled))
+            self.assertTrue(0 < settled < 300, settled)
+            connection.send({"op": "close"})
+            self.assertEqual(server.ended().status, 3)
+
+    def test_a_client_that_leaves_before_its_replies(self):
+        """All that it has sent is carried out."""
+        with self.serving(ALONE) as server:
+            with server.connect() as connection:
+                connection.send(*({"op": "reset", "client": 1, "number": number, "node": 1} for number in range(1, 11)))
+            until("ten resets", lambda: server.show()["nodes"][0] == [1, 1, "ready", 0, 10, 0])
+            self.expect_closed(server, 10)
 
     def test_a_gateway_that_confirms_64_members(self):
         with self.serving(ring(64, HALF)) as server:

@@ -14,11 +14,8 @@ const LOOKS: u64 = 3_000;
 /// For how many seconds a reply is waited for.
 const PATIENCE_SECONDS: u64 = 10;
 
-const SHOW: &str = "{\"op\":\"show\"}\n";
-
-pub(crate) const CLOSE: &str = "{\"op\":\"close\"}\n";
-
-const CLOSED: &str = "{\"kind\":\"closed\"}\n";
+/// How the row of a node of group 1 ends that has begun its first epoch.
+const BEGUN: &str = ",1,\"ready\",0,1,0]";
 
 /// The replies to these lines.
 pub(crate) fn ask<R: Net<Stream = TcpStream, Listener = TcpListener> + Abort>(
@@ -34,54 +31,27 @@ pub(crate) fn ask<R: Net<Stream = TcpStream, Listener = TcpListener> + Abort>(
         .write_all(lines.as_bytes())
         .expect(rt, "lines that are not taken");
     stream.shutdown(Shutdown::Write).expect(rt, "no end");
-    told(rt, alloc, stream)
-}
-
-/// All that a client is told.
-pub(crate) fn told<R: Abort>(rt: &R, alloc: Global, mut stream: TcpStream) -> String {
     let told = io::read_to_string(alloc, &mut stream);
     drop(stream);
     told.expect(rt, "no replies")
 }
 
-/// How many rows of nodes end so.
-fn rows_with(shown: String, end: &str) -> usize {
-    let count = shown.as_str().matches(end).count();
+/// How many rows of nodes show a first epoch.
+fn begun_rows(shown: String) -> usize {
+    let count = shown.as_str().matches(BEGUN).count();
     drop(shown);
     count
 }
 
-/// Whether a text is this one.
-pub(crate) fn is_text(text: String, wanted: &str) -> bool {
-    let is_wanted = text.as_str() == wanted;
-    drop(text);
-    is_wanted
-}
-
-/// Asks until at least so many nodes are shown to be ready in this epoch. Whether they are.
+/// Asks until at least so many nodes are shown to be ready in their first epoch. Whether they are.
 pub(crate) fn all_begin<R: Clock + Net<Stream = TcpStream, Listener = TcpListener> + Abort>(
     rt: &R,
     alloc: Global,
     address: SocketAddr,
-    nodes: usize,
-    epoch: u64,
-) -> bool {
-    let end = format!(in alloc; ",1,\"ready\",0,{epoch},0]").expect(rt, "no memory");
-    let all = all_end(rt, alloc, address, nodes, &end);
-    drop(end);
-    all
-}
-
-/// Asks until the rows of at least so many nodes end so. Whether they do.
-fn all_end<R: Clock + Net<Stream = TcpStream, Listener = TcpListener> + Abort>(
-    rt: &R,
-    alloc: Global,
-    address: SocketAddr,
-    nodes: usize,
-    end: &str,
+    nodes: u8,
 ) -> bool {
     for _ in 0..LOOKS {
-        if rows_with(ask(rt, alloc, address, SHOW), end) >= nodes {
+        if begun_rows(ask(rt, alloc, address, "{\"op\":\"show\"}\n")) >= usize::from(nodes) {
             return true;
         }
         thread::sleep(rt, Duration::from_millis(1));
@@ -95,24 +65,12 @@ pub(crate) fn close<R: Net<Stream = TcpStream, Listener = TcpListener> + Abort>(
     alloc: Global,
     address: SocketAddr,
 ) {
-    assert!(rt; is_text(ask(rt, alloc, address, CLOSE), CLOSED));
+    let told = ask(rt, alloc, address, "{\"op\":\"close\"}\n");
+    assert!(rt; told.as_str() == "{\"kind\":\"closed\"}\n");
 }
 
-/// Has these lines answered, waits until so many nodes have signalled, and closes the server.
-pub(crate) fn asks<R: Clock + Net<Stream = TcpStream, Listener = TcpListener> + Abort>(
-    rt: &R,
-    alloc: Global,
-    address: SocketAddr,
-    lines: &str,
-    nodes: u8,
-) {
-    drop(ask(rt, alloc, address, lines));
-    assert!(rt; all_begin(rt, alloc, address, usize::from(nodes), 1));
-    close(rt, alloc, address);
-}
-
-/// Writes the lines that make a ring of the nodes up to this one, and reset one of them.
-fn write_ring(lines: &mut String, last: u8, first: u8) -> Result<(), AllocError> {
+/// Writes the lines that make a ring of the nodes up to this one, and reset node 1.
+fn write_ring(lines: &mut String, last: u8) -> Result<(), AllocError> {
     for node in 1..=last {
         writeln!(
             lines,
@@ -129,13 +87,13 @@ fn write_ring(lines: &mut String, last: u8, first: u8) -> Result<(), AllocError>
     }
     writeln!(
         lines,
-        "{{\"op\":\"reset\",\"client\":1,\"number\":1,\"node\":{first}}}"
+        "{{\"op\":\"reset\",\"client\":1,\"number\":1,\"node\":1}}"
     )
 }
 
-/// The lines that make a ring of the nodes up to this one, and reset one of them.
-pub(crate) fn ring_lines<R: Abort>(rt: &R, alloc: Global, last: u8, first: u8) -> String {
+/// The lines that make a ring of the nodes up to this one, and reset node 1.
+pub(crate) fn ring_lines<R: Abort>(rt: &R, alloc: Global, last: u8) -> String {
     let mut lines = String::new(alloc);
-    write_ring(&mut lines, last, first).expect(rt, "no memory");
+    write_ring(&mut lines, last).expect(rt, "no memory");
     lines
 }

@@ -4,13 +4,11 @@
 #[cfg(test)]
 mod asking;
 #[cfg(test)]
-mod kill;
+mod desks;
 #[cfg(test)]
 mod lives;
 #[cfg(test)]
 mod local;
-#[cfg(test)]
-mod loopback;
 #[cfg(test)]
 mod memory;
 #[cfg(test)]
@@ -21,7 +19,3 @@ mod printing;
 mod rings;
 #[cfg(test)]
 mod short_of_memory;
-#[cfg(test)]
-mod slow_output;
-#[cfg(test)]
-mod together;

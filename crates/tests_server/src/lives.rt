@@ -1,6 +1,6 @@
 //! A server that ends its lives after a few steps each, in the midst of a connection and of a wave.
 
-use crate::asking::{ask, asks, ring_lines};
+use crate::asking::{all_begin, ask, close, ring_lines};
 use crate::rings::{are_wave, created, listens, printed_nodes};
 use coord_admin::{Accepted, Patience};
 use coord_disk::MemDisk;
@@ -58,13 +58,16 @@ fn starts_and_asks<R: Clock + Net<Stream = TcpStream, Listener = TcpListener> + 
     lines: &str,
 ) {
     assert!(rt; starts(rt, alloc, address, lines));
-    asks(rt, alloc, address, "", LAST);
+    assert!(rt; all_begin(rt, alloc, address, LAST));
+    close(rt, alloc, address);
 }
 
-/// Whether the last life began behind others, and all that was accepted in them is settled.
+/// Whether the last life began behind others, and what was accepted in it and before is all and settled.
 fn is_last(closed: &Closed<MemDisk>) -> bool {
     let (base, count) = (closed.base.count(), closed.store.world().count());
-    base > 128 && closed.trail.len() < 8 * MOST && closed.settled == count
+    let steps = closed.trail.len();
+    let is_all = base.checked_add(steps as u64) == Some(count);
+    base > 128 && steps < 8 * MOST && is_all && closed.settled == count
 }
 
 /// Serves a store, and whether it was left so.
@@ -87,7 +90,7 @@ fn ends_last<R: Threads + Wait + Clock + Sync + Abort>(
 fn signals_once<
     R: Threads + Wait + Clock + Net<Stream = TcpStream, Listener = TcpListener> + Sync + Abort,
 >(rt: &R, alloc: Global) -> bool {
-    let lines = ring_lines(rt, alloc, LAST, 1);
+    let lines = ring_lines(rt, alloc, LAST);
     let store = created(rt, alloc);
     let (listener, address) = listens(rt);
     let mut output = Vec::new(alloc);
@@ -100,7 +103,7 @@ fn signals_once<
     drop(lines);
     let nodes = printed_nodes(rt, alloc, address, &output);
     drop(output);
-    are_wave(nodes, LAST, 1) && is_left
+    are_wave(nodes, LAST) && is_left
 }
 
 /// No signal is lost and none comes twice, a client whose connection is cut off goes on where it was,
