@@ -1,5 +1,5 @@
 -- What was written of a commit or of a migration, as the store tells it.
-use Rattle.std.proofs.Common.{◌≡◌, ◌≢◌, ◌⊎◌, ◌↔◌, inl, inr, ◌+◌, ℕ, List, length, Bool, true, false, None, Option, is_some, Result, Ok, Err, IsErrOf, refl, sym, ◌∙◌, subst, arith}
+use Rattle.std.proofs.Common.{◌≡◌, ◌≢◌, ◌⊎◌, ◌↔◌, inl, inr, ℕ, List, length, Bool, true, false, None, Option, is_some, Ok, Err, IsErrOf, refl, subst, arith}
 use Rattle.coord_disk.specs.Model.DiskModel.{DiskModel}
 use Rattle.coord_disk.specs.Model.Moments.{LeavesOnly, Runs}
 use Rattle.coord_journal.specs.Facade.{HasRoomFor, disk_of, half_of}

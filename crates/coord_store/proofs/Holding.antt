@@ -51,11 +51,6 @@ pub none_of : (o : Option World) (b : Bool) → b ≡ is_some o → b ≡ false 
 none_of None b is clear = refl
 none_of (Some w) b is clear = absurd cc
 
--- what holds in any case holds where a call is refused
-pub whenever : {T E : Type 0} (r : Result T E) (Q : E → Type 0) (P : Type 0) → P → IfErr r (λ e. Q e → P)
-whenever (Ok x) Q P holds = tt
-whenever (Err e) Q P holds = λ _. holds
-
 -- what follows where a call is refused for another reason than its device
 pub on_refusal : {T P Q : Type 0} (r : Result T CommitFault) → (P → Q) → IfErr r (λ fault. fault ≢ Device → P) → IfErr r (λ fault. fault ≢ Device → Q)
 on_refusal (Ok x) implies refused = tt

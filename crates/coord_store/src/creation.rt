@@ -12,7 +12,7 @@ ghost use Rattle.coord_store.specs.declared.faults.StoreFault.TheVariants.{Devic
 ghost use Rattle.coord_world.specs.protocol.NumberedWorld.{no_world};
 ghost use Rattle.coord_world.specs.protocol.Rows.{rows_of};
 
-use crate::opening::told;
+use crate::opening::fault_of;
 use crate::{Store, StoreFault};
 use coord_codec::write_world;
 use coord_disk::Disk;
@@ -84,11 +84,11 @@ impl<D: Disk> Store<D> {
         };
         match format(alloc, &mut disk, half_size, version, &snapshot) {
             Ok(()) => {}
-            Err(fault) => return Err((told(fault), disk)),
+            Err(fault) => return Err((fault_of(fault), disk)),
         }
         match coord_journal::open(alloc, disk) {
             Ok((journal, _)) => Ok(Store::over(alloc, journal, World::empty(alloc, known))),
-            Err((fault, disk)) => Err((told(fault), disk)),
+            Err((fault, disk)) => Err((fault_of(fault), disk)),
         }
     }
 }

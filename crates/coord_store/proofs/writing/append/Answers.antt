@@ -21,4 +21,4 @@ returns-in-Err-clause-follows g c w steps holds takes = record {
 
 pub returns-in-Err-clause-stays : goal.returns-in-Err-clause-stays
 returns-in-Err-clause-stays g c w holds =
-    stays_by g.D.Disk.model g.met.D.Disk.laws c.args.journal.now c.append.new.self w c.told.result holds (λ other. c.in-Err.ensures.answers.unchanged (λ e. other (c.told.ensures ∙ ap commit_fault_of e)))
+    stays_by g.D.Disk.model g.met.D.Disk.laws c.args.journal.now c.append.new.self w c.fault_of.result holds (λ other. c.in-Err.ensures.answers.unchanged (λ e. other (c.fault_of.ensures ∙ ap commit_fault_of e)))

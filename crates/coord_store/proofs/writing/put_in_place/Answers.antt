@@ -30,4 +30,4 @@ returns-clause-follows g c w holds =
 
 pub returns-clause-stays : goal.returns-clause-stays
 returns-clause-stays g c w holds =
-    stays_by g.D.Disk.model g.met.D.Disk.laws c.args.journal.now c.replace.new.self w c.told.result holds (λ other. c.in-Err-replace.ensures.answers.unchanged (λ e. other (c.told.ensures ∙ ap commit_fault_of e)))
+    stays_by g.D.Disk.model g.met.D.Disk.laws c.args.journal.now c.replace.new.self w c.fault_of.result holds (λ other. c.in-Err-replace.ensures.answers.unchanged (λ e. other (c.fault_of.ensures ∙ ap commit_fault_of e)))

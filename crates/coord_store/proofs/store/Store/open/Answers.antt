@@ -8,7 +8,7 @@ use Rattle.coord_store.proofs.store.Store.open.Goals as goal
 pub returns-in-Err-clause-only : goal.returns-in-Err-clause-only
 returns-in-Err-clause-only g c w k recovered =
     let read = (g.D.Disk.model.present c.args.disk).read in
-    recovered_is_opened read w c.told.result recovered (text_refused read c.in-Err.fault c.told.result c.told.ensures (c.in-Err.ensures.fault k))
+    recovered_is_opened read w c.fault_of.result recovered (text_refused read c.in-Err.fault c.fault_of.result c.fault_of.ensures (c.in-Err.ensures.fault k))
 
 pub returns-in-Ok-read_contents-clause-only : goal.returns-in-Ok-read_contents-clause-only
 returns-in-Ok-read_contents-clause-only g c w k recovered =
