@@ -11,7 +11,7 @@ ghost use Rattle.coord_world.specs.protocol.Legal.{Legal};
 ghost use Rattle.coord_world.specs.protocol.Next.{fold};
 
 use super::Store;
-use crate::steps::{judge_all, led_to};
+use crate::steps::{judge_all, led_to, lemma_in_ranges};
 use crate::writing::write;
 use crate::{CommitFault, StoreFault};
 use coord_batch::write_batch;
@@ -39,6 +39,7 @@ fn next_batch(
     ensures short { IfOk result (λ next. length next.1.items ≤ MAX_BODY) }
 {
     world.lemma_in_range();
+    lemma_in_ranges(steps);
     let next = led_to(world, steps, made)?;
     match write_batch(alloc, world.version(), world.count() + 1, steps) {
         Ok(body) => Ok((next, body)),
