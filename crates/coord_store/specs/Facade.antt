@@ -4,5 +4,5 @@ pub use Rattle.coord_store.specs.Kept.{GivesEither, GivesKept, Holds, ImagesGive
 pub use Rattle.coord_store.specs.Recovered.{AllFresh, Gives, HasSnapshot, IsBody, Recovered, Replays, Takes}
 pub use Rattle.coord_store.specs.Refused.{IsCreateFault, IsOpenFault, IsPassing, RefusesBatch, RefusesBatches, RefusesContent, RefusesCreate, RefusesOpen, RefusesReplay, RefusesSnapshot, RefusesText, StopsAt}
 pub use Rattle.coord_store.specs.Migrating.{IsQuiet, RefusesMigration, risen}
-pub use Rattle.coord_store.specs.Writing.{Ends, Follows, Stays}
+pub use Rattle.coord_store.specs.Writing.{Concludes, Ends, Follows, Stays, with_world}
 pub use Rattle.coord_store.specs.Changing.{Changes, Commits, FitsIn}

@@ -9,6 +9,7 @@ ghost use Rattle.coord_store.specs.Kept.{made};
 ghost use Rattle.coord_store.specs.Recovered.{Gives};
 ghost use Rattle.coord_store.specs.Refused.{IsCreateFault, RefusesCreate, failed_in};
 ghost use Rattle.coord_store.specs.declared.faults.StoreFault.TheVariants.{Device, HalfSize, NotEmpty, OutOfMemory};
+ghost use Rattle.coord_types.specs.declared.limits.TheConstants.{MAX_VERSIONS};
 ghost use Rattle.coord_world.specs.protocol.NumberedWorld.{no_world};
 ghost use Rattle.coord_world.specs.protocol.Rows.{rows_of};
 
@@ -51,7 +52,7 @@ impl<D: Disk> Store<D> {
         half_size: u64,
         version: u8,
     ) -> Result<Self, (StoreFault, D)>
-        requires { (1 ≤ version) × (version ≤ 2) }
+        requires { (1 ≤ version) × (version ≤ MAX_VERSIONS) }
         ensures empty { D.model.keeps_model disk ≡ true →
             IfOk result (λ store. length (D.model.present disk).read ≡ 0) }
         ensures half_size { IfOk result (λ store. IsHalfSize half_size) }
