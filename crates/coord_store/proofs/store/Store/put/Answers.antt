@@ -1,4 +1,4 @@
-use Rattle.std.proofs.Common.{◌≡◌, ◌≢◌, ◌⊎◌, Result, IfErr, is_some, refl, sym, ap, ◌∙◌, subst}
+use Rattle.std.proofs.Common.{◌≡◌, ◌≢◌, ◌⊎◌, IfErr, is_some, refl, sym, ap, ◌∙◌, subst}
 use Rattle.coord_disk.specs.Model.Moments.{Runs}
 use Rattle.coord_store.specs.Faults.{failures_in}
 use Rattle.coord_store.specs.Facade.{Changes, Kept}
