@@ -13,7 +13,11 @@ inner_of disk = disk.inner
 abbrev pub rule_of : {D R : Type 0} → FailingDisk D R → R
 rule_of disk = disk.rule
 
--- how many calls there were, up to the greatest u64
+-- one more, up to the greatest u64
+abbrev pub one_more : ℕ → ℕ
+one_more n = min (n + 1) (2 ^ 64 - 1)
+
+-- how many calls there were
 abbrev pub calls_of : {D R : Type 0} → FailingDisk D R → ℕ
 calls_of disk = disk.calls
 
@@ -24,6 +28,13 @@ failed_of disk = length disk.failed.items
 -- how often it has failed, itself or through the disk inside
 abbrev pub failures_of : {D R : Type 0} → DiskModel D → FailingDisk D R → ℕ
 failures_of m disk = m.failures (inner_of disk) + failed_of disk
+
+-- over this disk by this rule, and no call was made yet
+pub record IsOver {D R : Type 0} (inner : D) (rule : R) (disk : FailingDisk D R) : Type 0 where
+  pub inside : inner_of disk ≡ inner
+  pub follows : rule_of disk ≡ rule
+  pub calls : calls_of disk ≡ 0
+  pub failed : failed_of disk ≡ 0
 
 -- It means what the disk inside means.
 abbrev pub failing : {D R : Type 0} → DiskModel D → DiskModel (FailingDisk D R)
@@ -44,7 +55,7 @@ IsTorn m (Some kept) at bytes old new =
 -- A call through such a disk is counted, and the rule says whether it fails. If it is to fail, this
 -- is what it leaves. Else the call is passed on, and fails only where the disk inside fails.
 pub record IsCounted {D R T : Type 0} (m : DiskModel D) (says : R → Call → Bool → R → Type 0) (call : Call) (old new : FailingDisk D R) (result : Result T DiskFault) (leaves : Type 0) : Type 0 where
-  pub counted : calls_of new ≡ min (calls_of old + 1) (2 ^ 64 - 1)
+  pub counted : calls_of new ≡ one_more (calls_of old)
   pub fails : Bool
   pub said : says (rule_of old) call fails (rule_of new)
   pub failed : fails ≡ true → IsErr result × leaves
