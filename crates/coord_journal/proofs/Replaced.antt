@@ -43,12 +43,7 @@ spelled_new x half_size skipped front behind more =
 
 -- there are two halves
 one_of_two : (p h : ℕ) → p < 2 → h < 2 → (p ≡ h) ⊎ (p ≡ 1 - h)
-one_of_two zero zero p h = inl refl
-one_of_two zero (suc zero) p h = inr refl
-one_of_two (suc zero) zero p h = inr refl
-one_of_two (suc zero) (suc zero) p h = inl refl
-one_of_two (suc (suc n)) k p h = absurd (omega (arith, p))
-one_of_two k (suc (suc n)) p h = absurd (omega (arith, h))
+one_of_two p h h1 h2 = grind (arith, nat_tests, h1, h2)
 
 module _ (bytes : List ℕ) (content : Content) (half_size half used : ℕ) (text : IsTextAt bytes content half_size half used) (version : ℕ) (snapshot : List ℕ) (short : length snapshot ≤ MAX_SNAPSHOT) where
   abbrev head : List ℕ
@@ -122,7 +117,7 @@ module _ (bytes : List ℕ) (content : Content) (half_size half used : ℕ) (tex
         by_half (suc zero) is =
             let place : at ≡ 17 = at_is ∙ ap (λ (h : ℕ). 17 + half_start (1 - h) half_size) is ∙ omega arith in
             let all : length text.skipped ≡ half_size = text.skips ∙ ap (λ (h : ℕ). half_start h half_size) is ∙ omega arith in
-            torn_before block c (omega (arith, all, length_block, short, text.size.smallest)) (subst (λ (n : ℕ). Torn bytes n block c) place torn)
+            torn_before block c (omega (arith, all, length_block, short, text.size.smallest)) (rw (sym place) torn)
         by_half (suc (suc n)) is = absurd (omega (arith, is, text.selected))
 
     abbrev staged : List ℕ
@@ -165,9 +160,9 @@ module _ (bytes : List ℕ) (content : Content) (half_size half used : ℕ) (tex
       where
         either : (x % 2 ≡ half) ⊎ (x % 2 ≡ 1 - half) → IsTextAt (text.selector ∷ tail) content half_size half used → IsEitherText content (without_batch version snapshot) c
         either (inl even) old =
-            inl (half_size, half, used, subst (λ (l : List ℕ). IsTextAt l content half_size half used) (sym is) (reselected text.selector x tail more content half_size half used even old))
+            inl (half_size, half, used, rw is (reselected text.selector x tail more content half_size half used even old))
         either (inr odd) old =
-            inr (half_size, 1 - half, 6 + length snapshot, subst (λ (l : List ℕ). IsTextAt l (without_batch version snapshot) half_size (1 - half) (6 + length snapshot)) (sym is) (new_text x more odd))
+            inr (half_size, 1 - half, 6 + length snapshot, rw is (new_text x more odd))
 
     torn_selector : (y : ℕ) (c : List ℕ) → Torn staged 0 (y ∷ []) c → IsEitherText content (without_batch version snapshot) c
     torn_selector y c torn =
@@ -196,6 +191,6 @@ module _ (bytes : List ℕ) (content : Content) (half_size half used : ℕ) (tex
         ∙ ap (λ (l : List ℕ). overwritten l 0 (y ∷ [])) staged_is
         ∙ overwritten_behind [] (text.selector ∷ tail) (y ∷ []) 0 refl (omega arith)
         ∙ ap (λ (l : List ℕ). y ∷ l) (sym (append-nil tail)) in
-        subst (λ (n : ℕ). IsTextAt c (without_batch version snapshot) half_size other n) (sym total_is)
-        (subst (λ (h : ℕ). IsTextAt c (without_batch version snapshot) half_size h (6 + length snapshot)) (sym other_is)
-        (subst (λ (l : List ℕ). IsTextAt l (without_batch version snapshot) half_size (1 - half) (6 + length snapshot)) (sym same) new))
+        rw total_is
+        (rw other_is
+        (rw same new))

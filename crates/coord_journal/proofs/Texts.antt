@@ -1,8 +1,9 @@
 -- A text is a header and a half.
-use Rattle.std.proofs.Common.{◌≡◌, inl, inr, ℕ, ◌+◌, ◌<◌, ◌≤◌, ◌^◌, List, [], ◌∷◌, ◌++◌, length, take, drop, get_or, refl, sym, ◌∙◌, ap, subst, arith, length-append, length-take, length-drop, ◌%◌, min}
+use Rattle.std.proofs.Common.{◌≡◌, inl, inr, ℕ, ◌+◌, ◌<◌, ◌≤◌, ◌^◌, List, [], ◌∷◌, ◌++◌, length, take, drop, get_or, refl, sym, ◌∙◌, ap, arith, length-append, length-take, length-drop, ◌%◌, min}
+use Rattle.std.proofs.lemmas.Bool.Decides.{nat_tests}
 use Rattle.std.specs.Int.{w64, to_be_bytes, from_be_bytes}
 use Rattle.std.proofs.lemmas.Nat.{from_be_bytes-to_be_bytes_8}
-use Rattle.std.proofs.lemmas.List.{take_at, drop_at, drop-drop, take-append-drop}
+use Rattle.std.proofs.lemmas.List.{take_at, drop_at, take-append-drop}
 use Rattle.coord_journal.specs.Facade.{BeginsWithHeader, Content, HasHeader, IsHalf, IsHalfSize, IsReadFault, IsText, IsTextAt, RefusesOpen, formatted, half_front, half_start, magic, sized, used_by, without_batch}
 use Rattle.coord_journal.specs.declared.layout.TheConstants.{MAX_SNAPSHOT}
 use Rattle.coord_journal.specs.declared.fault.JournalFault.{JournalFault}
@@ -24,8 +25,7 @@ pub rest_read : (bytes : List ℕ) (selector half_size : ℕ) (rest : List ℕ) 
 rest_read bytes selector half_size rest is = ap (λ (l : List ℕ). drop 17 l) is ∙ drop_at (to_be_bytes w64 half_size) rest 8 refl
 
 same_half_size : (bytes : List ℕ) (s t m n : ℕ) (rest other : List ℕ) → HasHeader bytes s m rest → HasHeader bytes t n other → m ≡ n
-same_half_size bytes s t m n rest other here there =
-    sym (size_read bytes s m rest (omega (arith, here.size.greatest)) here.spelled) ∙ size_read bytes t n other (omega (arith, there.size.greatest)) there.spelled
+same_half_size bytes s t m n rest other h1 h2 = grind (arith, nat_tests, h1, h2)
 
 same_selector : (bytes : List ℕ) (s t m n : ℕ) (rest other : List ℕ) → HasHeader bytes s m rest → HasHeader bytes t n other → s ≡ t
 same_selector bytes s t m n rest other here there = sym (selector_read bytes s m rest here) ∙ selector_read bytes t n other there
@@ -61,7 +61,7 @@ module _ (bytes : List ℕ) (content : Content) (half_size half used : ℕ) (tex
       let start : half_start half half_size ≡ half_start other size =
       ap (λ (h : ℕ). half_start h half_size) selected
       ∙ ap (λ (n : ℕ). half_start other n) (same_half_size bytes text.selector selector half_size size behind_header rest text_header header) in
-      subst (λ (l : List ℕ). IsHalf l content used) (ap (λ (l : List ℕ). drop (half_start half half_size) l) same ∙ ap (λ (n : ℕ). drop n rest) start) text_half
+      rw (sym (ap (λ (l : List ℕ). drop (half_start half half_size) l) same ∙ ap (λ (n : ℕ). drop n rest) start)) text_half
 
   pub fits_in : (selector size : ℕ) (rest : List ℕ) → HasHeader bytes selector size rest → used ≤ size
   fits_in selector size rest header = omega (arith, text.fits, same_half_size bytes text.selector selector half_size size behind_header rest text_header header)
@@ -93,13 +93,11 @@ module _ (bytes : List ℕ) (selector half_size half : ℕ) (rest : List ℕ) (h
 
   in_text : (content : Content) (text : IsText content bytes) → IsHalf half_bytes content text.2
   in_text content text =
-      subst (λ (n : ℕ). IsHalf (drop n rest) content text.2) (sym starts) (half_in bytes content text.0 text.1 text.2 text.3 selector half_size half rest named header)
+      rw starts (half_in bytes content text.0 text.1 text.2 text.3 selector half_size half rest named header)
 
   -- there is no text where the half does not begin, or is refused
   pub cut_short : length rest < start → (content : Content) → IsText content bytes → ⊥
-  cut_short short content text =
-      let h = in_text content text in
-      omega (arith, short, h.used_is, half_long half_bytes content text.2 h, length-drop start rest)
+  cut_short short content text = grind (arith, nat_tests, short, text, length-drop start rest, in_text content text)
 
   pub refused : (n : ℕ) → n ≡ min half_size (length half_bytes) → ((content : Content) (used : ℕ) → IsHalf (take n half_bytes) content used → ⊥) → (content : Content) → IsText content bytes → ⊥
   refused n n_is bad content text =
@@ -161,12 +159,9 @@ formatted_text half_size version snapshot bytes size short is =
 
 -- the parts of bytes that are long enough for a header
 pub header_parts : (bytes : List ℕ) → 17 ≤ length bytes → bytes ≡ get_or bytes 0 0 ∷ (take 8 (drop 1 bytes) ++ (take 8 (drop 9 bytes) ++ drop 17 bytes))
-header_parts [] long = absurd (omega (arith, long))
-header_parts (b ∷ bytes) long =
-    ap (λ (l : List ℕ). b ∷ l)
-    (sym (take-append-drop 8 bytes) ∙ ap (λ (l : List ℕ). take 8 bytes ++ l) (sym (take-append-drop 8 (drop 8 bytes)) ∙ ap (λ (l : List ℕ). take 8 (drop 8 bytes) ++ l) (drop-drop 8 8 bytes)))
+header_parts bytes h1 = grind (arith, nat_tests, h1)
 
 -- a fault of reading says why
 pub refuses : (bytes : List ℕ) (fault : JournalFault) → IsReadFault fault → (fault ≡ BadRecord → BeginsWithHeader bytes × ((content : Content) → IsText content bytes → ⊥)) → RefusesOpen bytes fault
-refuses bytes fault (inl memory) why = subst (λ (f : JournalFault). RefusesOpen bytes f) (sym memory) tt
-refuses bytes fault (inr record_is_bad) why = subst (λ (f : JournalFault). RefusesOpen bytes f) (sym record_is_bad) (why record_is_bad)
+refuses bytes fault (inl memory) why = rw memory tt
+refuses bytes fault (inr record_is_bad) why = rw record_is_bad (why record_is_bad)
