@@ -1,10 +1,10 @@
 -- A gate that is opened adds its batch to the text.
-use Rattle.std.proofs.Common.{◌≡◌, ◌≢◌, ◌⊎◌, inl, inr, ℕ, zero, suc, ◌+◌, ◌<◌, ◌≤◌, List, [], ◌∷◌, ◌++◌, length, drop, subst, refl, sym, ◌∙◌, ap, arith, append_assoc, length-append, slice_get}
+use Rattle.std.proofs.Common.{◌≡◌, ◌≢◌, ◌⊎◌, inl, inr, ℕ, zero, suc, ◌+◌, ◌<◌, ◌≤◌, List, [], ◌∷◌, ◌++◌, length, drop, ◌%◌, subst, refl, sym, ◌∙◌, ap, arith, append_assoc, length-append, slice_get}
 use Rattle.std.specs.Int.{w32, w64, to_be_bytes}
 use Rattle.std.proofs.lemmas.List.{append-nil}
 use Rattle.std.proofs.lemmas.Bool.Decides.{nat_tests}
 use Rattle.coord_disk.specs.Model.Present.{Torn, overwritten}
-use Rattle.coord_disk.proofs.TornWrites.{begins, begins_but_hole, overwritten_behind}
+use Rattle.coord_disk.proofs.TornWrites.{begins, overwritten_behind, torn_byte}
 use Rattle.coord_journal.specs.Facade.{Content, IsEitherText, IsOpened, IsTextAt, TornInTurn, gate_place, half_front, lead, magic, size_of, sized, with_batch}
 use Rattle.coord_journal.specs.declared.layout.TheConstants.{MAX_BODY}
 
@@ -55,22 +55,25 @@ module _ (bytes : List ℕ) (content : Content) (half_size half used : ℕ) (tex
   pub gate : length before ≡ gate_place half_size half used
   gate = lead_length bytes content half_size half used text
 
-  -- what stands behind the closed gate is not read
-  pub closed : (c rest : List ℕ) → c ≡ before ++ 0 ∷ rest → IsTextAt c content half_size half used
-  closed c rest is = record {
-    selector = text.selector;
-    skipped = text.skipped;
+  -- The same text: by another selector of its half, with other bytes in front of that half, or behind its closed gate.
+  pub respelled : (c : List ℕ) (selector : ℕ) (skipped behind : List ℕ) → selector % 2 ≡ half → length skipped ≡ length text.skipped → c ≡ lead selector half_size skipped (half_front content.version content.snapshot text.opened) ++ 0 ∷ behind → IsTextAt c content half_size half used
+  respelled c selector skipped behind selected skips is = record {
+    selector = selector;
+    skipped = skipped;
     opened = text.opened;
-    behind = rest;
+    behind = behind;
     spelled = is;
     size = text.size;
-    selected = text.selected;
-    skips = text.skips;
+    selected = selected;
+    skips = skips ∙ text.skips;
     snapshot = text.snapshot;
     batches = text.batches;
     used_is = text.used_is;
     fits = text.fits;
   }
+
+  closed : (c rest : List ℕ) → c ≡ before ++ 0 ∷ rest → IsTextAt c content half_size half used
+  closed c rest is = respelled c text.selector text.skipped rest text.selected refl is
 
   -- so a write behind it leaves the text, however it is torn
   pub torn_behind : (new : List ℕ) (at : ℕ) → gate_place half_size half used < at → (c : List ℕ) → Torn bytes at new c → IsTextAt c content half_size half used
@@ -80,11 +83,6 @@ module _ (bytes : List ℕ) (content : Content) (half_size half used : ℕ) (tex
       let long : length (before ++ 0 ∷ []) ≤ length bytes = omega (arith, ap length split, length-append (before ++ 0 ∷ []) text.behind) in
       let rest = begins (before ++ 0 ∷ []) text.behind c (λ i lt. image.kept i (omega (arith, lt, long)) (let low : i < at = omega (arith, lt, place) in grind (arith, nat_tests)) ∙ ap (λ (l : List ℕ). slice_get l i) split) in
       closed c rest.0 (rest.1 ∙ append_assoc before (0 ∷ []) rest.0)
-
-pub single : (l : List ℕ) → length l ≡ 1 → (x : ℕ) × (l ≡ x ∷ [])
-single [] one = absurd (omega (arith, one))
-single (x ∷ []) one = (x, refl)
-single (x ∷ (y ∷ l)) one = absurd (omega (arith, one))
 
 module _ (bytes batch : List ℕ) (content : Content) (half_size half used : ℕ) (text : IsTextAt bytes content half_size half used) (short : length batch ≤ MAX_BODY) (room : used + 5 + length batch ≤ half_size) where
   abbrev lead_of : List ℕ
@@ -143,25 +141,12 @@ module _ (bytes batch : List ℕ) (content : Content) (half_size half used : ℕ
     either c zero behind is = inl (half_size, half, used, closed bytes content half_size half used text c (block ++ behind) is)
     either c (suc x) behind is = inr (half_size, half, used + 5 + length batch, opens c behind (suc x) (used + 5 + length batch) (omega arith) refl is)
 
-    but : (i : ℕ) → (i < length lead_of) ⊎ (length lead_of + 1 ≤ i) → i ≢ place
-    but i (inl lt) = omega (arith, lt, place_is, gate_is)
-    but i (inr le) = omega (arith, le, place_is, gate_is)
-
-    -- in each outcome of the second write the block stands whole, whatever the gate is
-    torn_gate : (c : List ℕ) → Torn (overwritten bytes at block) place (1 ∷ []) c → IsEitherText content (with_batch content batch) c
-    torn_gate c torn =
-        let image = subst (λ (l : List ℕ). Torn l place (1 ∷ []) c) staged torn in
-        let long : length (lead_of ++ 0 ∷ (block ++ rest)) ≡ place + 1 + length block + length rest = omega (arith, gate_is, place_is, length-append lead_of (0 ∷ (block ++ rest)), length-append block rest) in
-        let found = begins_but_hole lead_of (0 ∷ []) block rest c
-        (λ i lt out. image.kept i (omega (arith, lt, gate_is, place_is, long)) (let other : i ≢ place = but i out in grind (arith, nat_tests)))
-        (omega (arith, gate_is, place_is, long, image.no_shorter)) in
-        let one = single found.0 found.2 in
-        either c one.0 found.1 (found.3 ∙ ap (λ (l : List ℕ). lead_of ++ (l ++ (block ++ found.1))) one.1)
-
-    -- what a crash leaves of an append
+    -- What a crash leaves of an append. In each outcome of the second write the block stands whole, whatever the gate is.
     pub append_torn : (c : List ℕ) → TornInTurn bytes at block place (1 ∷ []) c → IsEitherText content (with_batch content batch) c
     append_torn c (inl one) = inl (half_size, half, used, torn_behind bytes content half_size half used text block at (omega (arith, at_is)) c one)
-    append_torn c (inr other) = torn_gate c other
+    append_torn c (inr other) =
+        let found = torn_byte lead_of (block ++ rest) 0 1 place (gate_is ∙ sym place_is) c (subst (λ (l : List ℕ). Torn l place (1 ∷ []) c) staged other) in
+        either c found.0 (rest ++ found.1) (found.2 ∙ ap (λ (l : List ℕ). lead_of ++ found.0 ∷ l) (append_assoc block rest found.1))
 
     -- what stands there once it is done
     pub appended : (c : List ℕ) (total : ℕ) → total ≡ used + 5 + length batch → c ≡ overwritten (overwritten bytes at block) place (1 ∷ []) → IsTextAt c (with_batch content batch) half_size half total

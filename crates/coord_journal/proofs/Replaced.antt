@@ -4,30 +4,17 @@ use Rattle.std.specs.Int.{w64, to_be_bytes}
 use Rattle.std.proofs.lemmas.List.{append-nil}
 use Rattle.std.proofs.lemmas.Bool.Decides.{nat_tests}
 use Rattle.coord_disk.specs.Model.Present.{Torn, is_within, overwritten, range_of}
-use Rattle.coord_disk.proofs.TornWrites.{begins_but_hole, length_padded, overwritten_behind, overwritten_inside, overwritten_torn, padded}
+use Rattle.coord_disk.proofs.TornWrites.{begins_but_hole, length_padded, overwritten_behind, overwritten_inside, overwritten_torn, padded, torn_byte}
 use Rattle.coord_journal.specs.Facade.{Content, IsEitherText, IsTextAt, TornInTurn, half_front, half_start, lead, magic, sized, without_batch}
 use Rattle.coord_journal.specs.declared.layout.TheConstants.{MAX_SNAPSHOT}
-use Rattle.coord_journal.proofs.Appended.{lead_push, length_sized, single, torn_behind}
+use Rattle.coord_journal.proofs.Appended.{lead_push, length_sized, respelled, torn_behind}
 
 -- a text is the same behind any selector that names its half
 reselected : (s x : ℕ) (tail more : List ℕ) (content : Content) (half_size half used : ℕ) → x % 2 ≡ half → IsTextAt (s ∷ tail) content half_size half used → IsTextAt (x ∷ (tail ++ more)) content half_size half used
 reselected s x tail more content half_size half used named text =
-    let front : List ℕ = half_front content.version content.snapshot text.opened in
-    let rest : List ℕ = magic ++ (to_be_bytes w64 half_size ++ (text.skipped ++ front)) in
-    record {
-      selector = x;
-      skipped = text.skipped;
-      opened = text.opened;
-      behind = text.behind ++ more;
-      spelled = ap (λ (l : List ℕ). x ∷ (drop 1 l ++ more)) text.spelled ∙ ap (λ (l : List ℕ). x ∷ l) (append_assoc rest (0 ∷ text.behind) more);
-      size = text.size;
-      selected = named;
-      skips = text.skips;
-      snapshot = text.snapshot;
-      batches = text.batches;
-      used_is = text.used_is;
-      fits = text.fits;
-    }
+    let rest : List ℕ = magic ++ (to_be_bytes w64 half_size ++ (text.skipped ++ half_front content.version content.snapshot text.opened)) in
+    respelled (s ∷ tail) content half_size half used text (x ∷ (tail ++ more)) x text.skipped (text.behind ++ more) named refl
+    (ap (λ (l : List ℕ). x ∷ (drop 1 l ++ more)) text.spelled ∙ ap (λ (l : List ℕ). x ∷ l) (append_assoc rest (0 ∷ text.behind) more))
 
 -- a half behind another selector, with more behind it
 spelled_new : (x half_size : ℕ) (skipped front behind more : List ℕ)
@@ -82,23 +69,11 @@ module _ (bytes : List ℕ) (content : Content) (half_size half used : ℕ) (tex
       let found = begins_but_hole head text.skipped (front ++ 0 ∷ []) text.behind c
       (λ i lt out. image.kept i (omega (arith, lt, long, length_head)) (outside i out) ∙ ap (λ (l : List ℕ). slice_get l i) whole)
       (omega (arith, long, length_head, image.no_shorter)) in
-      record {
-        selector = text.selector;
-        skipped = found.0;
-        opened = text.opened;
-        behind = found.1;
-        spelled = found.3
-            ∙ ap (λ (l : List ℕ). head ++ (found.0 ++ l)) (append_assoc front (0 ∷ []) found.1)
-            ∙ append_assoc (text.selector ∷ magic) (to_be_bytes w64 half_size) (found.0 ++ (front ++ 0 ∷ found.1))
-            ∙ lead_push text.selector half_size found.0 front (0 ∷ found.1);
-        size = text.size;
-        selected = text.selected;
-        skips = found.2 ∙ text.skips;
-        snapshot = text.snapshot;
-        batches = text.batches;
-        used_is = text.used_is;
-        fits = text.fits;
-      }
+      respelled bytes content half_size half used text c text.selector found.0 found.1 text.selected found.2
+      (found.3
+      ∙ ap (λ (l : List ℕ). head ++ (found.0 ++ l)) (append_assoc front (0 ∷ []) found.1)
+      ∙ append_assoc (text.selector ∷ magic) (to_be_bytes w64 half_size) (found.0 ++ (front ++ 0 ∷ found.1))
+      ∙ lead_push text.selector half_size found.0 front (0 ∷ found.1))
     where
       outside : (i : ℕ) → (i < length head) ⊎ (length head + length text.skipped ≤ i) → is_within (range_of 17 new ∷ []) i ≡ false
       outside i (inl lt) = let low : i < 17 = omega (arith, lt, length_head) in grind (arith, nat_tests)
@@ -164,23 +139,12 @@ module _ (bytes : List ℕ) (content : Content) (half_size half used : ℕ) (tex
         either (inr odd) old =
             inr (half_size, 1 - half, 6 + length snapshot, rw is (new_text x more odd))
 
-    torn_selector : (y : ℕ) (c : List ℕ) → Torn staged 0 (y ∷ []) c → IsEitherText content (without_batch version snapshot) c
-    torn_selector y c torn =
-        let image = subst (λ (l : List ℕ). Torn l 0 (y ∷ []) c) staged_is torn in
-        let found = begins_but_hole [] (text.selector ∷ []) tail [] c
-        (λ i lt out. image.kept i (omega (arith, lt)) (outside i out) ∙ ap (λ (l : List ℕ). slice_get (text.selector ∷ l) i) (sym (append-nil tail)))
-        (omega (arith, image.no_shorter)) in
-        let one = single found.0 found.2 in
-        named c found.1 one.0 (found.3 ∙ ap (λ (l : List ℕ). l ++ (tail ++ found.1)) one.1)
-      where
-        outside : (i : ℕ) → (i < 0) ⊎ (1 ≤ i) → is_within (range_of 0 (y ∷ []) ∷ []) i ≡ false
-        outside i (inl lt) = absurd (omega (arith, lt))
-        outside i (inr le) = grind (arith, nat_tests)
-
     -- what a crash leaves of a replace
     pub replace_torn : (y : ℕ) (c : List ℕ) → TornInTurn bytes at block 0 (y ∷ []) c → IsEitherText content (without_batch version snapshot) c
     replace_torn y c (inl one) = inl (half_size, half, used, kept c one)
-    replace_torn y c (inr other) = torn_selector y c other
+    replace_torn y c (inr other) =
+        let found = torn_byte [] tail text.selector y 0 refl c (subst (λ (l : List ℕ). Torn l 0 (y ∷ []) c) staged_is other) in
+        named c found.1 found.0 found.2
 
     -- what stands there once it is done
     pub replaced : (y other total : ℕ) (c : List ℕ) → other ≡ 1 - half → total ≡ 6 + length snapshot → y % 2 ≡ other → c ≡ overwritten staged 0 (y ∷ []) → IsTextAt c (without_batch version snapshot) half_size other total
