@@ -5,28 +5,18 @@ use Rattle.std.proofs.lemmas.List.{append-nil}
 use Rattle.std.proofs.lemmas.Bool.Decides.{nat_tests}
 use Rattle.coord_disk.specs.Model.Present.{Torn, is_within, overwritten, range_of}
 use Rattle.coord_disk.proofs.TornWrites.{begins_but_hole, length_padded, overwritten_behind, overwritten_inside, overwritten_torn, padded, torn_byte}
-use Rattle.coord_journal.specs.Facade.{Content, IsEitherText, IsTextAt, TornInTurn, half_front, half_start, lead, magic, sized, without_batch}
+use Rattle.coord_journal.specs.Facade.{Content, IsEitherText, IsTextAt, TornInTurn, half_front, half_start, magic, sized, without_batch}
 use Rattle.coord_journal.specs.declared.layout.TheConstants.{MAX_SNAPSHOT}
-use Rattle.coord_journal.proofs.Appended.{lead_push, length_sized, respelled, torn_behind}
+use Rattle.coord_journal.proofs.Appended.{lead, lead_push, length_sized, respelled, torn_behind}
 
 -- a text is the same behind any selector that names its half
 reselected : (s x : ℕ) (tail more : List ℕ) (content : Content) (half_size half used : ℕ) → x % 2 ≡ half → IsTextAt (s ∷ tail) content half_size half used → IsTextAt (x ∷ (tail ++ more)) content half_size half used
 reselected s x tail more content half_size half used named text =
-    let rest : List ℕ = magic ++ (to_be_bytes w64 half_size ++ (text.skipped ++ half_front content.version content.snapshot text.opened)) in
-    respelled (s ∷ tail) content half_size half used text (x ∷ (tail ++ more)) x text.skipped (text.behind ++ more) named refl
-    (ap (λ (l : List ℕ). x ∷ (drop 1 l ++ more)) text.spelled ∙ ap (λ (l : List ℕ). x ∷ l) (append_assoc rest (0 ∷ text.behind) more))
-
--- a half behind another selector, with more behind it
-spelled_new : (x half_size : ℕ) (skipped front behind more : List ℕ)
-    → x ∷ ((magic ++ (to_be_bytes w64 half_size ++ (skipped ++ ((front ++ 0 ∷ []) ++ behind)))) ++ more) ≡ lead x half_size skipped front ++ 0 ∷ (behind ++ more)
-spelled_new x half_size skipped front behind more =
-    let size : List ℕ = to_be_bytes w64 half_size in
-    let half : List ℕ = front ++ 0 ∷ [] in
-    ap (λ (l : List ℕ). x ∷ l) (append_assoc magic (size ++ (skipped ++ (half ++ behind))) more)
-    ∙ ap (λ (l : List ℕ). (x ∷ magic) ++ l) (append_assoc size (skipped ++ (half ++ behind)) more)
-    ∙ ap (λ (l : List ℕ). (x ∷ magic) ++ (size ++ l)) (append_assoc skipped (half ++ behind) more)
-    ∙ ap (λ (l : List ℕ). (x ∷ magic) ++ (size ++ (skipped ++ l))) (append_assoc half behind more ∙ append_assoc front (0 ∷ []) (behind ++ more))
-    ∙ lead_push x half_size skipped front (0 ∷ (behind ++ more))
+    let front : List ℕ = half_front content.version content.snapshot text.holds.opened in
+    respelled (s ∷ tail) content half_size half used text (x ∷ (tail ++ more)) x text.skipped (text.holds.behind ++ more) named refl
+    (ap (λ (l : List ℕ). x ∷ (drop 1 l ++ more)) text.header.spelled
+    ∙ sym (lead_push x half_size text.skipped text.half_bytes more)
+    ∙ ap (λ (l : List ℕ). lead x half_size text.skipped l) (ap (λ (l : List ℕ). l ++ more) text.holds.spelled ∙ append_assoc front (0 ∷ text.holds.behind) more))
 
 -- there are two halves
 one_of_two : (p h : ℕ) → p < 2 → h < 2 → (p ≡ h) ⊎ (p ≡ 1 - h)
@@ -37,16 +27,13 @@ module _ (bytes : List ℕ) (content : Content) (half_size half used : ℕ) (tex
   head = (text.selector ∷ magic) ++ to_be_bytes w64 half_size
 
   abbrev front : List ℕ
-  front = half_front content.version content.snapshot text.opened
+  front = half_front content.version content.snapshot text.holds.opened
 
   abbrev behind_header : List ℕ
-  behind_header = text.skipped ++ (front ++ 0 ∷ text.behind)
+  behind_header = text.skipped ++ text.half_bytes
 
   split : bytes ≡ head ++ behind_header
-  split =
-      text.spelled
-      ∙ sym (lead_push text.selector half_size text.skipped front (0 ∷ text.behind))
-      ∙ sym (append_assoc (text.selector ∷ magic) (to_be_bytes w64 half_size) behind_header)
+  split = text.header.spelled ∙ sym (append_assoc (text.selector ∷ magic) (to_be_bytes w64 half_size) behind_header)
 
   length_head : length head ≡ 17
   length_head = length-append (text.selector ∷ magic) (to_be_bytes w64 half_size)
@@ -63,17 +50,17 @@ module _ (bytes : List ℕ) (content : Content) (half_size half used : ℕ) (tex
   -- a write into what stands before the selected half leaves the text, however it is torn
   torn_before : (new c : List ℕ) → length new ≤ length text.skipped → Torn bytes 17 new c → IsTextAt c content half_size half used
   torn_before new c few image =
-      let whole : bytes ≡ head ++ (text.skipped ++ ((front ++ 0 ∷ []) ++ text.behind)) = split ∙ ap (λ (l : List ℕ). head ++ (text.skipped ++ l)) (sym (append_assoc front (0 ∷ []) text.behind)) in
-      let long : length bytes ≡ 17 + length text.skipped + length (front ++ 0 ∷ []) + length text.behind =
-      omega (arith, ap length whole, length_head, length-append head (text.skipped ++ ((front ++ 0 ∷ []) ++ text.behind)), length-append text.skipped ((front ++ 0 ∷ []) ++ text.behind), length-append (front ++ 0 ∷ []) text.behind) in
-      let found = begins_but_hole head text.skipped (front ++ 0 ∷ []) text.behind c
+      let behind : List ℕ = text.holds.behind in
+      let whole : bytes ≡ head ++ (text.skipped ++ ((front ++ 0 ∷ []) ++ behind)) = split ∙ ap (λ (l : List ℕ). head ++ (text.skipped ++ l)) (text.holds.spelled ∙ sym (append_assoc front (0 ∷ []) behind)) in
+      let long : length bytes ≡ 17 + length text.skipped + length (front ++ 0 ∷ []) + length behind =
+      omega (arith, ap length whole, length_head, length-append head (text.skipped ++ ((front ++ 0 ∷ []) ++ behind)), length-append text.skipped ((front ++ 0 ∷ []) ++ behind), length-append (front ++ 0 ∷ []) behind) in
+      let found = begins_but_hole head text.skipped (front ++ 0 ∷ []) behind c
       (λ i lt out. image.kept i (omega (arith, lt, long, length_head)) (outside i out) ∙ ap (λ (l : List ℕ). slice_get l i) whole)
       (omega (arith, long, length_head, image.no_shorter)) in
       respelled bytes content half_size half used text c text.selector found.0 found.1 text.selected found.2
       (found.3
       ∙ ap (λ (l : List ℕ). head ++ (found.0 ++ l)) (append_assoc front (0 ∷ []) found.1)
-      ∙ append_assoc (text.selector ∷ magic) (to_be_bytes w64 half_size) (found.0 ++ (front ++ 0 ∷ found.1))
-      ∙ lead_push text.selector half_size found.0 front (0 ∷ found.1))
+      ∙ append_assoc (text.selector ∷ magic) (to_be_bytes w64 half_size) (found.0 ++ (front ++ 0 ∷ found.1)))
     where
       outside : (i : ℕ) → (i < length head) ⊎ (length head + length text.skipped ≤ i) → is_within (range_of 17 new ∷ []) i ≡ false
       outside i (inl lt) = let low : i < 17 = omega (arith, lt, length_head) in grind (arith, nat_tests)
@@ -92,7 +79,7 @@ module _ (bytes : List ℕ) (content : Content) (half_size half used : ℕ) (tex
         by_half (suc zero) is =
             let place : at ≡ 17 = at_is ∙ ap (λ (h : ℕ). 17 + half_start (1 - h) half_size) is ∙ omega arith in
             let all : length text.skipped ≡ half_size = text.skips ∙ ap (λ (h : ℕ). half_start h half_size) is ∙ omega arith in
-            torn_before block c (omega (arith, all, length_block, short, text.size.smallest)) (rw (sym place) torn)
+            torn_before block c (omega (arith, all, length_block, short, text.header.size.smallest)) (rw (sym place) torn)
         by_half (suc (suc n)) is = absurd (omega (arith, is, text.selected))
 
     abbrev staged : List ℕ
@@ -115,16 +102,22 @@ module _ (bytes : List ℕ) (content : Content) (half_size half used : ℕ) (tex
     new_text x more named = record {
       selector = x;
       skipped = padded start behind_header;
-      opened = [];
-      behind = behind ++ more;
-      spelled = spelled_new x half_size (padded start behind_header) (half_front version snapshot []) behind more;
-      size = text.size;
+      half_bytes = block ++ (behind ++ more);
+      header = record {
+        spelled = sym (lead_push x half_size (padded start behind_header) (block ++ behind) more) ∙ ap (λ (l : List ℕ). lead x half_size (padded start behind_header) l) (append_assoc block behind more);
+        size = text.header.size;
+      };
       selected = named;
       skips = length_padded start behind_header;
-      snapshot = short;
-      batches = refl;
-      used_is = omega (arith, length-append (sized snapshot) [], length_sized snapshot);
-      fits = omega (arith, short, text.size.smallest);
+      holds = record {
+        opened = [];
+        behind = behind ++ more;
+        spelled = append_assoc (half_front version snapshot []) (0 ∷ []) (behind ++ more);
+        snapshot = short;
+        batches = refl;
+        used_is = omega (arith, length-append (sized snapshot) [], length_sized snapshot);
+      };
+      fits = omega (arith, short, text.header.size.smallest);
     }
 
     -- whatever the selector is, it names one of the two

@@ -8,7 +8,7 @@ use Rattle.coord_journal.specs.Facade.{BeginsWithHeader, Content, HasHeader, IsH
 use Rattle.coord_journal.specs.declared.layout.TheConstants.{MAX_SNAPSHOT}
 use Rattle.coord_journal.specs.declared.fault.JournalFault.{JournalFault}
 use Rattle.coord_journal.specs.declared.fault.JournalFault.TheVariants.{BadRecord}
-use Rattle.coord_journal.proofs.Appended.{lead_push, length_sized}
+use Rattle.coord_journal.proofs.Appended.{length_sized}
 use Rattle.coord_journal.proofs.Halves.{half_cut, half_long, half_same, half_used, half_whole}
 
 -- what a header says is told by the bytes
@@ -34,24 +34,14 @@ same_rest : (bytes : List ℕ) (s t m n : ℕ) (rest other : List ℕ) → HasHe
 same_rest bytes s t m n rest other here there = sym (rest_read bytes s m rest here.spelled) ∙ rest_read bytes t n other there.spelled
 
 module _ (bytes : List ℕ) (content : Content) (half_size half used : ℕ) (text : IsTextAt bytes content half_size half used) where
-  abbrev front : List ℕ
-  front = half_front content.version content.snapshot text.opened
-
   abbrev pub behind_header : List ℕ
-  behind_header = text.skipped ++ (front ++ 0 ∷ text.behind)
+  behind_header = text.skipped ++ text.half_bytes
 
   pub text_header : HasHeader bytes text.selector half_size behind_header
-  text_header = record { spelled = text.spelled ∙ sym (lead_push text.selector half_size text.skipped front (0 ∷ text.behind)); size = text.size }
+  text_header = text.header
 
   pub text_half : IsHalf (drop (half_start half half_size) behind_header) content used
-  text_half = record {
-    opened = text.opened;
-    behind = text.behind;
-    spelled = drop_at text.skipped (front ++ 0 ∷ text.behind) (half_start half half_size) text.skips;
-    snapshot = text.snapshot;
-    batches = text.batches;
-    used_is = text.used_is;
-  }
+  text_half = rw (drop_at text.skipped text.half_bytes (half_start half half_size) text.skips) text.holds
 
   -- whatever header was read, it is that of the text
   pub half_in : (selector size other : ℕ) (rest : List ℕ) → selector % 2 ≡ other → HasHeader bytes selector size rest → IsHalf (drop (half_start other size) rest) content used
@@ -110,9 +100,6 @@ module _ (bytes : List ℕ) (selector half_size half : ℕ) (rest : List ℕ) (h
     whole : IsHalf half_bytes content used
     whole = half_whole half_bytes content used n read
 
-    abbrev front_of : List ℕ
-    front_of = half_front content.version content.snapshot whole.opened
-
     long : length (take start rest) ≡ start
     long = omega (arith, within, length-take start rest)
 
@@ -120,17 +107,11 @@ module _ (bytes : List ℕ) (selector half_size half : ℕ) (rest : List ℕ) (h
     made = record {
       selector = selector;
       skipped = take start rest;
-      opened = whole.opened;
-      behind = whole.behind;
-      spelled = header.spelled
-          ∙ ap (λ (l : List ℕ). (selector ∷ magic) ++ (to_be_bytes w64 half_size ++ l)) (sym (take-append-drop start rest) ∙ ap (λ (l : List ℕ). take start rest ++ l) whole.spelled)
-          ∙ lead_push selector half_size (take start rest) front_of (0 ∷ whole.behind);
-      size = header.size;
+      half_bytes = half_bytes;
+      header = record { spelled = header.spelled ∙ ap (λ (l : List ℕ). (selector ∷ magic) ++ (to_be_bytes w64 half_size ++ l)) (sym (take-append-drop start rest)); size = header.size };
       selected = named;
       skips = long ∙ starts;
-      snapshot = whole.snapshot;
-      batches = whole.batches;
-      used_is = whole.used_is;
+      holds = whole;
       fits = omega (arith, few, half_long (take n half_bytes) content used read, length-take n half_bytes);
     }
 
@@ -144,15 +125,11 @@ formatted_text half_size version snapshot bytes size short is =
       record {
         selector = 0;
         skipped = [];
-        opened = [];
-        behind = [];
-        spelled = is;
-        size = size;
+        half_bytes = front ++ 0 ∷ [];
+        header = record { spelled = is; size = size };
         selected = refl;
         skips = omega arith;
-        snapshot = short;
-        batches = refl;
-        used_is = refl;
+        holds = record { opened = []; behind = []; spelled = refl; snapshot = short; batches = refl; used_is = refl };
         fits = omega (arith, size.smallest, short, length-append (sized snapshot) [], length_sized snapshot);
       },
     )
