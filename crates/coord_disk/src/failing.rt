@@ -87,7 +87,7 @@ impl<D: Disk, R: Rule> FailingDisk<D, R> {
 }
 
 impl<D: Disk, R: Rule> Disk for FailingDisk<D, R> {
-    ghost use Rattle.coord_disk.specs.Disks.Failing.{inner_of, rule_of, failing, failures_of, IsCounted, IsTorn, IsUntouched};
+    ghost use Rattle.coord_disk.specs.Disks.Failing.{inner_of, rule_of, failing, failures_of, IsCounted, IsTorn, IsUnreached};
     ghost use Rattle.coord_disk.specs.Model.DiskModel.{seen_through_is_model};
     ghost use Rattle.coord_disk.specs.declared.failing.Call.TheVariants.{Len, Read, Write, Sync};
 
@@ -99,7 +99,7 @@ impl<D: Disk, R: Rule> Disk for FailingDisk<D, R> {
         ensures call { Measures D.model (inner_of self.old) (inner_of self.new) result }
         ensures cause { HasCause (failures_of D.model self.old) (failures_of D.model self.new) result }
         ensures counted { IsCounted D.model R.says Len self.old self.new result
-            (IsUntouched self.old self.new) }
+            (IsUnreached self.old self.new) }
     {
         if self.counts(Call::Len) {
             return Err(fail(&mut self.failed));
@@ -112,7 +112,7 @@ impl<D: Disk, R: Rule> Disk for FailingDisk<D, R> {
         ensures call { Reads D.model at buf.old buf.new (inner_of self.old) (inner_of self.new) result }
         ensures cause { HasCause (failures_of D.model self.old) (failures_of D.model self.new) result }
         ensures counted { IsCounted D.model R.says Read self.old self.new result
-            (IsUntouched self.old self.new) }
+            (IsUnreached self.old self.new) }
     {
         if self.counts(Call::Read) {
             return Err(fail(&mut self.failed));
@@ -143,7 +143,7 @@ impl<D: Disk, R: Rule> Disk for FailingDisk<D, R> {
         ensures call { Syncs D.model (inner_of self.old) (inner_of self.new) result }
         ensures cause { HasCause (failures_of D.model self.old) (failures_of D.model self.new) result }
         ensures counted { IsCounted D.model R.says Sync self.old self.new result
-            (IsUntouched self.old self.new) }
+            (IsUnreached self.old self.new) }
     {
         if self.counts(Call::Sync) {
             return Err(fail(&mut self.failed));

@@ -40,15 +40,15 @@ pub record IsOver {D R : Type 0} (inner : D) (rule : R) (disk : FailingDisk D R)
 abbrev pub failing : {D R : Type 0} → DiskModel D → DiskModel (FailingDisk D R)
 failing m = seen_through m inner_of (failures_of m)
 
--- the disk inside stays as it is, and the failure is counted
-pub record IsUntouched {D R : Type 0} (old new : FailingDisk D R) : Type 0 where
+-- the call does not reach the disk inside, and its failure is counted
+pub record IsUnreached {D R : Type 0} (old new : FailingDisk D R) : Type 0 where
   pub same : inner_of new ≡ inner_of old
   pub counted : failed_of new ≡ failed_of old + 1
 
 -- What a write leaves that is to fail. Where the rule tears it, its first bytes are written, if the
 -- disk inside does not fail; else the disk inside stays as it is.
 abbrev pub IsTorn : {D R : Type 0} → DiskModel D → Option ℕ → ℕ → List ℕ → FailingDisk D R → FailingDisk D R → Type 0
-IsTorn m None at bytes old new = IsUntouched old new
+IsTorn m None at bytes old new = IsUnreached old new
 IsTorn m (Some kept) at bytes old new =
     m.keeps_model (inner_of old) ≡ true → m.failures (inner_of new) ≡ m.failures (inner_of old) → m.present (inner_of new) ≡ written_at at (take kept bytes) (m.present (inner_of old))
 
