@@ -49,9 +49,7 @@ is_ready old read read_now tail synced entries led read_is entries_is tail_is sy
     let disk = present_after (past_with read (Some old)) in
     let rest = tail_is ∙ ap (λ (l : List ℕ). drop (length l) read) (sym led.syncs) in
     let bytes = ap (λ (l : List ℕ). l ++ tail) led.syncs ∙ sym synced_is in
-    subst (λ (r : List ℕ). IsImage (record (replayed (whole old.first.items) entries) { synced = synced }) r) (sym read_is)
-    (subst (λ (e : List Entry). IsImage (record (replayed (whole old.first.items) e) { synced = synced }) read) (sym entries_is)
-    (subst (λ (s : List ℕ). IsImage (record disk { synced = s }) read) bytes (grown disk read tail led.image rest)))
+    rw (read_is, entries_is, ← bytes) (grown disk read tail led.image rest)
 
 -- one more sync
 module _ (old new : History) (read : List ℕ) (led : LedTo old read) (first : new.first.items ≡ old.first.items) (entries : new.entries.items ≡ old.entries.items ++ Synced ∷ []) (synced : new.synced.items ≡ read) where
@@ -62,7 +60,7 @@ module _ (old new : History) (read : List ℕ) (led : LedTo old read) (first : n
   sync_led = record {
     reads = ap (λ (p : Present). p.read) settled;
     syncs = ap (λ (p : Present). p.synced) settled ∙ sym synced;
-    image = subst (λ (p : Present). IsImage p read) (sym settled) (record { no_shorter = omega arith; no_longer = omega arith; kept = λ i lt out. refl });
+    image = rw settled (record { no_shorter = omega arith; no_longer = omega arith; kept = λ i lt out. refl });
   }
 
   pub sync_adds : Adds (past_with read (Some old)) (past_with read (Some new)) (whole read)
@@ -84,8 +82,7 @@ module _ (old new : History) (read next bytes : List ℕ) (at : ℕ) (v : Vec �
   write_led = record {
     reads = reads;
     syncs = ap (λ (p : Present). p.synced) written ∙ led.syncs ∙ sym synced;
-    image = subst (λ (r : List ℕ). IsImage (present_after (past_with next (Some new))) r) reads
-        (subst (λ (p : Present). IsImage p p.read) (sym written) (wrote_reads at bytes before (subst (λ (r : List ℕ). IsImage before r) (sym led.reads) led.image)));
+    image = rw (sym reads) (rw written (wrote_reads at bytes before (rw led.reads led.image)));
   }
 
   pub write_adds : Adds (past_with read (Some old)) (past_with next (Some new)) (written_at at bytes before)
@@ -97,7 +94,7 @@ adds_time old new now adds = record {
   later = omega (arith, size);
   soon = omega (arith, size);
   nothing_else = λ t image le left. since t image left (cases_lt left.0 (length new.entries));
-  keeps = λ t image le left. (left.0, left.1, omega (arith, left.2, size), subst (λ (p : Present). IsImage p image) (sym (front left.0 left.2)) left.3);
+  keeps = λ t image le left. (left.0, left.1, omega (arith, left.2, size), rw (front left.0 left.2) left.3);
 }
   where
     size : length new.entries ≡ length old.entries + 1
@@ -110,5 +107,5 @@ adds_time old new now adds = record {
         ∙ ap (λ (f : List ℕ). replayed (whole f) (take k old.entries)) adds.first
 
     since : (t : ℕ) (image : List ℕ) (left : LeftSince new t image) → (left.0 < length new.entries) ⊎ (length new.entries ≤ left.0) → LeftSince old t image ⊎ IsImage (present_after new) image
-    since t image left (inl before) = let le : left.0 ≤ length old.entries = omega (arith, before, size) in inl (left.0, left.1, le, subst (λ (p : Present). IsImage p image) (front left.0 le) left.3)
-    since t image left (inr behind) = inr (subst (λ (l : List Entry). IsImage (replayed (whole new.first) l) image) (take_all left.0 new.entries behind) left.3)
+    since t image left (inl before) = let le : left.0 ≤ length old.entries = omega (arith, before, size) in inl (left.0, left.1, le, rw (sym (front left.0 le)) left.3)
+    since t image left (inr behind) = inr (rw (sym (take_all left.0 new.entries behind)) left.3)

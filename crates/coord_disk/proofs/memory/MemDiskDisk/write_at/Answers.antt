@@ -13,6 +13,6 @@ returns-in-Ok-clause-call c =
       time = λ _. adds_time (past_of c.args.self.now) (past_of c.record_write.new.self) _ c.in-Ok.ensures.ok;
       change = λ _. record {
         written = written;
-        crash = subst (λ p. WritesWithin c.args.at c.args.bytes.now (present_of c.args.self.now) p) (sym written) (wrote c.args.at c.args.bytes.now (present_of c.args.self.now));
+        crash = rw written (wrote c.args.at c.args.bytes.now (present_of c.args.self.now));
       };
     }
