@@ -45,7 +45,7 @@ length_sized batch = length-append (to_be_bytes w32 (length batch)) batch
 pub length_block : (batch : List ℕ) → length (sized batch ++ 0 ∷ []) ≡ 5 + length batch
 length_block batch = omega (arith, length-append (sized batch) (0 ∷ []), length_sized batch)
 
-module _ (bytes : List ℕ) (content : Content) (half_size half used : ℕ) (text : IsTextAt bytes content half_size half used) where
+module _ {bytes : List ℕ} {content : Content} {half_size half used : ℕ} (text : IsTextAt bytes content half_size half used) where
   abbrev front : List ℕ
   front = half_front content.version content.snapshot text.holds.opened
 
@@ -85,9 +85,9 @@ module _ (bytes : List ℕ) (content : Content) (half_size half used : ℕ) (tex
       let rest = begins (before ++ 0 ∷ []) text.holds.behind c (λ i lt. image.kept i (omega (arith, lt, long)) (let low : i < at = omega (arith, lt, place) in grind (arith, nat_tests)) ∙ ap (λ (l : List ℕ). slice_get l i) whole) in
       closed c rest.0 (rest.1 ∙ append_assoc before (0 ∷ []) rest.0)
 
-module _ (bytes batch : List ℕ) (content : Content) (half_size half used : ℕ) (text : IsTextAt bytes content half_size half used) (short : length batch ≤ MAX_BODY) (room : used + 5 + length batch ≤ half_size) where
+module _ {bytes : List ℕ} {content : Content} {half_size half used : ℕ} (text : IsTextAt bytes content half_size half used) (batch : List ℕ) (short : length batch ≤ MAX_BODY) (room : used + 5 + length batch ≤ half_size) where
   abbrev lead_of : List ℕ
-  lead_of = before bytes content half_size half used text
+  lead_of = before text
 
   abbrev more : ℕ → List ℕ
   more open_gate = open_gate ∷ (sized batch ++ [])
@@ -138,23 +138,23 @@ module _ (bytes batch : List ℕ) (content : Content) (half_size half used : ℕ
   rest = drop (length block) text.holds.behind
 
   place_is : length lead_of ≡ gate_place half_size half used
-  place_is = gate bytes content half_size half used text
+  place_is = gate text
 
   module _ (at place : ℕ) (at_is : at ≡ gate_place half_size half used + 1) (gate_is : place ≡ gate_place half_size half used) where
     -- the block is put behind the gate
     staged : overwritten bytes at block ≡ lead_of ++ 0 ∷ (block ++ rest)
     staged =
-        ap (λ (l : List ℕ). overwritten l at block) (split bytes content half_size half used text ∙ sym (append_assoc lead_of (0 ∷ []) text.holds.behind))
+        ap (λ (l : List ℕ). overwritten l at block) (split text ∙ sym (append_assoc lead_of (0 ∷ []) text.holds.behind))
         ∙ overwritten_behind (lead_of ++ 0 ∷ []) text.holds.behind block at (omega (arith, at_is, place_is, length-append lead_of (0 ∷ []))) (omega (arith, length-append (sized batch) (0 ∷ [])))
         ∙ append_assoc lead_of (0 ∷ []) (block ++ rest)
 
     either : (c : List ℕ) (x : ℕ) (behind : List ℕ) → c ≡ lead_of ++ x ∷ (block ++ behind) → IsEitherText content (with_batch content batch) c
-    either c zero behind is = inl (half_size, half, used, closed bytes content half_size half used text c (block ++ behind) is)
+    either c zero behind is = inl (half_size, half, used, closed text c (block ++ behind) is)
     either c (suc x) behind is = inr (half_size, half, used + 5 + length batch, opens c behind (suc x) (used + 5 + length batch) (omega arith) refl is)
 
     -- What a crash leaves of an append. In each outcome of the second write the block stands whole, whatever the gate is.
     pub append_torn : (c : List ℕ) → TornInTurn bytes at block place (1 ∷ []) c → IsEitherText content (with_batch content batch) c
-    append_torn c (inl one) = inl (half_size, half, used, torn_behind bytes content half_size half used text block at (omega (arith, at_is)) c one)
+    append_torn c (inl one) = inl (half_size, half, used, torn_behind text block at (omega (arith, at_is)) c one)
     append_torn c (inr other) =
         let found = torn_byte lead_of (block ++ rest) 0 1 place (gate_is ∙ sym place_is) c (subst (λ (l : List ℕ). Torn l place (1 ∷ []) c) staged other) in
         either c found.0 (rest ++ found.1) (found.2 ∙ ap (λ (l : List ℕ). lead_of ++ found.0 ∷ l) (append_assoc block rest found.1))

@@ -10,10 +10,10 @@ use Rattle.coord_journal.specs.declared.layout.TheConstants.{MAX_SNAPSHOT}
 use Rattle.coord_journal.proofs.Appended.{lead, lead_push, length_sized, respelled, torn_behind}
 
 -- a text is the same behind any selector that names its half
-reselected : (s x : ℕ) (tail more : List ℕ) (content : Content) (half_size half used : ℕ) → x % 2 ≡ half → IsTextAt (s ∷ tail) content half_size half used → IsTextAt (x ∷ (tail ++ more)) content half_size half used
-reselected s x tail more content half_size half used named text =
+reselected : {s : ℕ} {tail : List ℕ} {content : Content} {half_size half used : ℕ} → IsTextAt (s ∷ tail) content half_size half used → (x : ℕ) (more : List ℕ) → x % 2 ≡ half → IsTextAt (x ∷ (tail ++ more)) content half_size half used
+reselected {tail = tail} {content = content} {half_size = half_size} text x more named =
     let front : List ℕ = half_front content.version content.snapshot text.holds.opened in
-    respelled (s ∷ tail) content half_size half used text (x ∷ (tail ++ more)) x text.skipped (text.holds.behind ++ more) named refl
+    respelled text (x ∷ (tail ++ more)) x text.skipped (text.holds.behind ++ more) named refl
     (ap (λ (l : List ℕ). x ∷ (drop 1 l ++ more)) text.header.spelled
     ∙ sym (lead_push x half_size text.skipped text.half_bytes more)
     ∙ ap (λ (l : List ℕ). lead x half_size text.skipped l) (ap (λ (l : List ℕ). l ++ more) text.holds.spelled ∙ append_assoc front (0 ∷ text.holds.behind) more))
@@ -22,7 +22,7 @@ reselected s x tail more content half_size half used named text =
 one_of_two : (p h : ℕ) → p < 2 → h < 2 → (p ≡ h) ⊎ (p ≡ 1 - h)
 one_of_two p h h1 h2 = grind (arith, nat_tests, h1, h2)
 
-module _ (bytes : List ℕ) (content : Content) (half_size half used : ℕ) (text : IsTextAt bytes content half_size half used) (version : ℕ) (snapshot : List ℕ) (short : length snapshot ≤ MAX_SNAPSHOT) where
+module _ {bytes : List ℕ} {content : Content} {half_size half used : ℕ} (text : IsTextAt bytes content half_size half used) (version : ℕ) (snapshot : List ℕ) (short : length snapshot ≤ MAX_SNAPSHOT) where
   abbrev head : List ℕ
   head = (text.selector ∷ magic) ++ to_be_bytes w64 half_size
 
@@ -57,7 +57,7 @@ module _ (bytes : List ℕ) (content : Content) (half_size half used : ℕ) (tex
       let found = begins_but_hole head text.skipped (front ++ 0 ∷ []) behind c
       (λ i lt out. image.kept i (omega (arith, lt, long, length_head)) (outside i out) ∙ ap (λ (l : List ℕ). slice_get l i) whole)
       (omega (arith, long, length_head, image.no_shorter)) in
-      respelled bytes content half_size half used text c text.selector found.0 found.1 text.selected found.2
+      respelled text c text.selector found.0 found.1 text.selected found.2
       (found.3
       ∙ ap (λ (l : List ℕ). head ++ (found.0 ++ l)) (append_assoc front (0 ∷ []) found.1)
       ∙ append_assoc (text.selector ∷ magic) (to_be_bytes w64 half_size) (found.0 ++ (front ++ 0 ∷ found.1)))
@@ -75,7 +75,7 @@ module _ (bytes : List ℕ) (content : Content) (half_size half used : ℕ) (tex
         by_half zero is =
             let place : at ≡ 17 + half_size = at_is ∙ ap (λ (h : ℕ). 17 + half_start (1 - h) half_size) is ∙ omega arith in
             let none : half_start half half_size ≡ 0 = ap (λ (h : ℕ). half_start h half_size) is ∙ omega arith in
-            torn_behind bytes content half_size half used text block at (omega (arith, place, none, text.fits)) c torn
+            torn_behind text block at (omega (arith, place, none, text.fits)) c torn
         by_half (suc zero) is =
             let place : at ≡ 17 = at_is ∙ ap (λ (h : ℕ). 17 + half_start (1 - h) half_size) is ∙ omega arith in
             let all : length text.skipped ≡ half_size = text.skips ∙ ap (λ (h : ℕ). half_start h half_size) is ∙ omega arith in
@@ -128,7 +128,7 @@ module _ (bytes : List ℕ) (content : Content) (half_size half used : ℕ) (tex
       where
         either : (x % 2 ≡ half) ⊎ (x % 2 ≡ 1 - half) → IsTextAt (text.selector ∷ tail) content half_size half used → IsEitherText content (without_batch version snapshot) c
         either (inl even) old =
-            inl (half_size, half, used, rw is (reselected text.selector x tail more content half_size half used even old))
+            inl (half_size, half, used, rw is (reselected old x more even))
         either (inr odd) old =
             inr (half_size, 1 - half, 6 + length snapshot, rw is (new_text x more odd))
 
