@@ -30,7 +30,7 @@ ReadsAs batches size bytes = (opened : List ℕ) × (behind : List ℕ) × (byte
 abbrev pub half_front : ℕ → List ℕ → List ℕ → List ℕ
 half_front version snapshot opened = version ∷ (sized snapshot ++ opened)
 
--- These bytes are a half: they hold the content, and so many of them are used, the closed gate included. What stands behind that gate is not read.
+-- These bytes are a half that holds this content, and so many of them are used, its closed gate included. What stands behind the gate is not read.
 pub record IsHalf (bytes : List ℕ) (content : Content) (used : ℕ) : Type 0 where
   pub opened : List ℕ
   pub behind : List ℕ
@@ -57,7 +57,7 @@ pub record HasHeader (bytes : List ℕ) (selector half_size : ℕ) (rest : List 
 abbrev pub half_start : ℕ → ℕ → ℕ
 half_start half half_size = half * half_size
 
--- These bytes are such a text: this half is selected, by an even or an odd selector, and so many bytes of it are used, its closed gate included.
+-- These bytes are the text of this content: a header, what stands in front of the selected half, and that half. An even or an odd selector names it, and so many bytes of it are used, its closed gate included.
 pub record IsTextAt (bytes : List ℕ) (content : Content) (half_size half used : ℕ) : Type 0 where
   pub selector : ℕ
   pub skipped : List ℕ
