@@ -1,6 +1,5 @@
-use Rattle.std.proofs.Common.{refl, subst, sym}
+use Rattle.std.proofs.Common.{refl}
 use Rattle.coord_disk.specs.Disks.Memory.{past_of, present_of}
-use Rattle.coord_disk.specs.Model.Present.{WritesWithin}
 use Rattle.coord_disk.proofs.Overwritten.{wrote}
 use Rattle.coord_disk.proofs.Replays.{adds_time}
 use Rattle.coord_disk.proofs.memory.MemDiskDisk.write_at.Goals as goal

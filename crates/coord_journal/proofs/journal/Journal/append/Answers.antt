@@ -1,6 +1,6 @@
 use Rattle.std.proofs.Common.{◌≡◌, ◌+◌, List, ℕ, [], ◌∷◌, length, sym, ◌∙◌, ap, arith, rules}
 use Rattle.coord_disk.specs.Model.Present.{overwritten, whole}
-use Rattle.coord_journal.specs.Facade.{half_number, with_batch}
+use Rattle.coord_journal.specs.Facade.{with_batch}
 use Rattle.coord_journal.proofs.Appended.{appended, length_block, size_push}
 use Rattle.coord_journal.proofs.Writing.{appending, nothing_written}
 use Rattle.coord_journal.proofs.journal.Journal.append.Goals as goal
