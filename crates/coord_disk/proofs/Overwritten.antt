@@ -56,17 +56,9 @@ in_place old grown now [] at k size some k_is now_is size_is grown_is = absurd (
 in_place old grown now (b ∷ bs) at k size some k_is now_is size_is grown_is =
     let zeros : List ℕ = replicate (size - length old) 0 in
     let padded : grown ≡ old ++ zeros = grown_is ∙ ap (λ (l : List ℕ). l ++ zeros) (take_all size old (omega (arith, size_is))) in
-    let front : take at grown ≡ take at old ++ replicate (at - length old) 0 =
-    ap (λ (l : List ℕ). take at l) padded ∙ take_padded old at (size - length old) (at - length old) (omega (arith, size_is)) refl in
-    let behind : drop k (drop at grown) ≡ drop (at + length (b ∷ bs)) old =
-    drop-drop k at grown
-    ∙ ap (λ (j : ℕ). drop (at + j) grown) k_is
-    ∙ ap (λ (l : List ℕ). drop (at + length (b ∷ bs)) l) padded
-    ∙ drop_padded old (at + length (b ∷ bs)) (size - length old) (omega (arith, size_is)) in
-    ap (λ (l : List ℕ). l ++ (now ++ drop k (drop at grown))) front
-    ∙ append_assoc (take at old) (replicate (at - length old) 0) (now ++ drop k (drop at grown))
-    ∙ ap (λ (l : List ℕ). take at old ++ (replicate (at - length old) 0 ++ (l ++ drop k (drop at grown)))) now_is
-    ∙ ap (λ (l : List ℕ). take at old ++ (replicate (at - length old) 0 ++ ((b ∷ bs) ++ l))) behind
+    let front = take_padded old at (size - length old) (at - length old) (omega (arith, size_is)) refl in
+    let behind = drop_padded old (at + length (b ∷ bs)) (size - length old) (omega (arith, size_is)) in
+    rw (drop-drop k at grown, padded, now_is, k_is, front, behind, append_assoc)
 
 pub no_shorter : (old bytes : List ℕ) (at : ℕ) → length old ≤ length (overwritten old at bytes)
 no_shorter old [] at = omega arith
@@ -85,12 +77,10 @@ elsewhere old (b ∷ bytes) at i lt (inr behind) =
     ∙ get_drop old (at + length (b ∷ bytes)) n i (omega (arith, behind))
 
 either_false : (a b : Bool) → a || b ≡ false → (a ≡ false) × (b ≡ false)
-either_false false b e = (refl, e)
-either_false true b e = absurd (cc e)
+either_false a b e = grind (arith, nat_tests, e)
 
 outside : (at i : ℕ) (bytes : List ℕ) (written : List Range) → is_within (range_of at bytes ∷ written) i ≡ false → (i < at) ⊎ (at + length bytes ≤ i)
-outside at i bytes written out =
-    let here = (either_false (nat_le at i && nat_lt i (at + length bytes)) (is_within written i) out).0 in grind (arith, nat_tests, here)
+outside at i bytes written out = grind (arith, nat_tests, out)
 
 -- what is written is a write
 pub wrote : (at : ℕ) (bytes : List ℕ) (disk : Present) → WritesWithin at bytes disk (written_at at bytes disk)

@@ -17,10 +17,7 @@ replayed-push disk (d ∷ entries) entry = replayed-push (after disk d) entries 
 
 -- up to the n-th of them, and with it
 pub replayed-take : (disk : Present) (entries : List Entry) (n : ℕ) (entry : Entry) → n < length entries → entry ≡ get_or entries n entry → replayed disk (take (n + 1) entries) ≡ after (replayed disk (take n entries)) entry
-replayed-take disk entries n entry lt is =
-    ap (λ (l : List Entry). replayed disk l) (take_more entries n entry lt)
-    ∙ replayed-push disk (take n entries) (get_or entries n entry)
-    ∙ ap (λ (d : Entry). after (replayed disk (take n entries)) d) (sym is)
+replayed-take disk entries n entry lt is = rw (take_more entries n entry lt, replayed-push, ← is)
 
 -- whether a place is written, once one more thing was done
 module _ (entries : List Entry) (n place : ℕ) (entry : Entry) (some : 0 < n) (few : n ≤ length entries) (is : entry ≡ get_or entries (n - 1) entry) (first : List ℕ) where
@@ -37,10 +34,7 @@ module _ (entries : List Entry) (n place : ℕ) (entry : Entry) (some : 0 < n) (
   wrote_within at v wrote = ap (λ (p : Present). is_within p.written place) (step ∙ ap (λ (d : Entry). after (replayed (whole first) (take (n - 1) entries)) d) wrote)
 
 pub present-push : (old new : Past) (entry : Entry) → new.first ≡ old.first → new.entries ≡ old.entries ++ entry ∷ [] → present_after new ≡ after (present_after old) entry
-present-push old new entry first entries =
-    ap (λ (l : List Entry). replayed (whole new.first) l) entries
-    ∙ ap (λ (f : List ℕ). replayed (whole f) (old.entries ++ entry ∷ [])) first
-    ∙ replayed-push (whole old.first) old.entries entry
+present-push old new entry first entries = rw (entries, first) (replayed-push (whole old.first) old.entries entry)
 
 -- the synced bytes once they are as long as what is read, where nothing was recorded since
 pub is_ready : (old : History) (read read_now tail synced : List ℕ) (entries : List Entry) → LedTo old read → read_now ≡ read → entries ≡ old.entries.items → tail ≡ drop (length old.synced.items) read → synced ≡ old.synced.items ++ tail

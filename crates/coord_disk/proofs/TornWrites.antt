@@ -1,5 +1,5 @@
 -- What one write leaves where all was synced before it.
-use Rattle.std.proofs.Common.{◌≡◌, ◌≢◌, ◌⊎◌, inl, inr, ℕ, suc, ◌+◌, ◌-◌, ◌<◌, ◌≤◌, List, [], ◌∷◌, ◌++◌, length, take, drop, Some, refl, sym, ◌∙◌, ap, subst, arith, append_assoc, length-append, length-take, slice_get, replicate, unwrap_or}
+use Rattle.std.proofs.Common.{◌≡◌, ◌≢◌, ◌⊎◌, inl, inr, ℕ, suc, ◌+◌, ◌-◌, ◌<◌, ◌≤◌, List, [], ◌∷◌, ◌++◌, length, take, drop, Some, refl, sym, ◌∙◌, ap, subst, arith, append_assoc, length-append, length-take, slice_get, replicate}
 use Rattle.std.proofs.lemmas.Bool.Decides.{nat_tests}
 use Rattle.std.proofs.lemmas.List.{append-nil, length-replicate, nil_from_length, take_at}
 use Rattle.std.proofs.Math.Seq.{drop-append-add, take-append-add}
@@ -27,7 +27,7 @@ pub overwritten_torn : (bytes new : List ℕ) (at : ℕ) → Torn bytes at new (
 overwritten_torn bytes new at = wrote_reads at new (whole bytes) (record { no_shorter = omega arith; no_longer = omega arith; kept = λ i lt out. refl })
 
 same_some : (x y : ℕ) → Some x ≡ Some y → x ≡ y
-same_some x y e = ap (λ o. unwrap_or o 0) e
+same_some x y e = cc
 
 -- bytes that agree with a front begin with it
 pub begins : (front behind c : List ℕ) → ((i : ℕ) → i < length front → slice_get c i ≡ slice_get (front ++ behind) i) → (rest : List ℕ) × (c ≡ front ++ rest)
@@ -81,10 +81,7 @@ pub overwritten_behind : (front behind new : List ℕ) (at : ℕ) → at ≡ len
 overwritten_behind front behind [] at is some = absurd (omega (arith, some))
 overwritten_behind front behind (b ∷ bs) at is some =
     let none : at - length (front ++ behind) ≡ 0 = omega (arith, is, length-append front behind) in
-    ap (λ (l : List ℕ). l ++ (replicate (at - length (front ++ behind)) 0 ++ (b ∷ bs ++ drop (at + length (b ∷ bs)) (front ++ behind)))) (take_at front behind at (sym is))
-    ∙ ap (λ (n : ℕ). front ++ (replicate n 0 ++ (b ∷ bs ++ drop (at + length (b ∷ bs)) (front ++ behind)))) none
-    ∙ ap (λ (n : ℕ). front ++ (b ∷ bs ++ drop (n + length (b ∷ bs)) (front ++ behind))) is
-    ∙ ap (λ (l : List ℕ). front ++ (b ∷ bs ++ l)) (drop-append-add front behind (length (b ∷ bs)))
+    rw (take_at front behind at (sym is), none, is, drop-append-add front behind (length (b ∷ bs)))
 
 -- the bytes in front of a place, with zeros where there are too few
 abbrev pub padded : ℕ → List ℕ → List ℕ
@@ -99,13 +96,7 @@ overwritten_inside front behind [] at n is some = absurd (omega (arith, some))
 overwritten_inside front behind (b ∷ bs) at n is some =
     let gap : at - length (front ++ behind) ≡ n - length behind = omega (arith, is, length-append front behind) in
     let tail : at + length (b ∷ bs) ≡ length front + (n + length (b ∷ bs)) = omega (arith, is) in
-    ap (λ (k : ℕ). take k (front ++ behind) ++ (replicate (at - length (front ++ behind)) 0 ++ (b ∷ bs ++ drop (at + length (b ∷ bs)) (front ++ behind)))) is
-    ∙ ap (λ (l : List ℕ). l ++ (replicate (at - length (front ++ behind)) 0 ++ (b ∷ bs ++ drop (at + length (b ∷ bs)) (front ++ behind)))) (take-append-add front behind n)
-    ∙ ap (λ (k : ℕ). (front ++ take n behind) ++ (replicate k 0 ++ (b ∷ bs ++ drop (at + length (b ∷ bs)) (front ++ behind)))) gap
-    ∙ ap (λ (k : ℕ). (front ++ take n behind) ++ (replicate (n - length behind) 0 ++ (b ∷ bs ++ drop k (front ++ behind)))) tail
-    ∙ ap (λ (l : List ℕ). (front ++ take n behind) ++ (replicate (n - length behind) 0 ++ (b ∷ bs ++ l))) (drop-append-add front behind (n + length (b ∷ bs)))
-    ∙ append_assoc front (take n behind) (replicate (n - length behind) 0 ++ (b ∷ bs ++ drop (n + length (b ∷ bs)) behind))
-    ∙ ap (λ (l : List ℕ). front ++ l) (sym (append_assoc (take n behind) (replicate (n - length behind) 0) (b ∷ bs ++ drop (n + length (b ∷ bs)) behind)))
+    rw (gap, tail, is, take-append-add front behind n, drop-append-add front behind (n + length (b ∷ bs)), append_assoc, append_assoc)
 
 -- where all is synced, a crash leaves it
 pub whole_image : (bytes : List ℕ) (p : Present) → p ≡ whole bytes → (c : List ℕ) → IsImage p c → c ≡ bytes
