@@ -34,10 +34,7 @@ abbrev pub lead : ℕ → ℕ → List ℕ → List ℕ → List ℕ
 lead selector half_size skipped front = (selector ∷ magic) ++ (to_be_bytes w64 half_size ++ (skipped ++ front))
 
 pub lead_push : (selector half_size : ℕ) (skipped front more : List ℕ) → lead selector half_size skipped (front ++ more) ≡ lead selector half_size skipped front ++ more
-lead_push selector half_size skipped front more =
-    sym (append_assoc (selector ∷ magic) (to_be_bytes w64 half_size ++ (skipped ++ front)) more
-    ∙ ap (λ (l : List ℕ). (selector ∷ magic) ++ l) (append_assoc (to_be_bytes w64 half_size) (skipped ++ front) more
-    ∙ ap (λ (l : List ℕ). to_be_bytes w64 half_size ++ l) (append_assoc skipped front more)))
+lead_push selector half_size skipped front more = simp append_assoc
 
 pub length_sized : (batch : List ℕ) → length (sized batch) ≡ 4 + length batch
 length_sized batch = length-append (to_be_bytes w32 (length batch)) batch

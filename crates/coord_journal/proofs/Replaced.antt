@@ -103,10 +103,7 @@ module _ {bytes : List ℕ} {content : Content} {half_size half used : ℕ} (tex
       selector = x;
       skipped = padded start behind_header;
       half_bytes = block ++ (behind ++ more);
-      header = record {
-        spelled = sym (lead_push x half_size (padded start behind_header) (block ++ behind) more) ∙ ap (λ (l : List ℕ). lead x half_size (padded start behind_header) l) (append_assoc block behind more);
-        size = text.header.size;
-      };
+      header = record { spelled = simp append_assoc; size = text.header.size };
       selected = named;
       skips = length_padded start behind_header;
       holds = record {
