@@ -1,6 +1,6 @@
 use Rattle.std.proofs.Common.{◌≡◌, ◌≢◌, ℕ, List, sym, ap, ◌∙◌, subst, arith}
 use Rattle.coord_world.specs.protocol.NumberedWorld.{World, no_world}
-use Rattle.coord_journal.specs.Facade.{Content, content_of, without_batch}
+use Rattle.coord_journal.specs.Facade.{content_of, without_batch}
 use Rattle.coord_journal.specs.declared.fault.JournalFault.{JournalFault}
 use Rattle.coord_journal.specs.declared.fault.JournalFault.TheVariants as journal
 use Rattle.coord_store.specs.Faults.{store_fault_of}
@@ -22,7 +22,7 @@ over-requires-clause-holds g c k =
     let R : World → Type 0 = λ w. Gives made w in
     let gives = subst R (sym c.empty.ensures.value) (subst Q (sym c.deref.ensures.value) (subst P c.in-Some.ensures.value c.in-Ok.ensures.gives)) in
     let same = c.in-Ok-open.ensures.only made k1 (c.in-Ok-format.ensures.text k0) in
-    record { content = content_of c.in-Ok-open.field-0-1; ready = c.in-Ok-open.ensures.ready k1; gives = subst (λ (d : Content). Gives d c.empty.result) (sym same) gives }
+    record { content = content_of c.in-Ok-open.field-0-1; ready = c.in-Ok-open.ensures.ready k1; gives = rw same gives }
 
 pub returns-clause-fault : goal.returns-clause-fault
 returns-clause-fault g c k0 =
