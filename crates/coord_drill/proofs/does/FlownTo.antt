@@ -32,8 +32,8 @@ begun_size m b one = by_home (stays_home (is_some m.flight) m.log) one
 
 pub flown_to : (old mid new : Log) (r : Flown) → mid ≡ old → Lands mid r new → FlownTo old r new
 flown_to old mid new flown.Nothing same back = absurd back
-flown_to old mid new (flown.Settled rs) same back = subst (λ g. Lands g (flown.Settled rs) new) same back
-flown_to old mid new (flown.Failed fault) same back = subst (λ g. Lands g (flown.Failed fault) new) same back
+flown_to old mid new (flown.Settled rs) same back = rw (sym same) back
+flown_to old mid new (flown.Failed fault) same back = rw (sym same) back
 
 -- the departure of a flight, and then its commit and its return
 pub flown_by : {D : Type 0} (disk : DiskModel D) (crashes : D → D → Type 0) (v out new : DriverState D) (r : Flown) (b count : ℕ) → Lands out.ledger.log r new.ledger.log → Leads disk crashes v (Begin ∷ []) (Begun b ∷ []) out → Leads disk crashes out landing_events (landed_answers r count) new →
@@ -125,8 +125,7 @@ module _ {D : Type 0} (disk : DiskModel D) (crashes : D → D → Type 0) (v w :
 
     granted : AllByRecursion (IsGranted w.ledger.log) claims
     granted =
-        subst (λ cs. AllByRecursion (IsGranted w.ledger.log) cs) (sym all)
-        (subst (λ g. AllByRecursion (IsGranted g) (claims_of (settled_world log) (pending log))) (sym settled)
+        rw all (rw settled
         (granted_from (with_settled log b) (take log.settled log.trail) (drop log.settled log.trail) (sym (take-append-drop log.settled log.trail))))
 
     lines : collected_lines (settled_world w.ledger.log).version (settled_world w.ledger.log).count claims rs ≡ settled_lines (settled_world log).version (outs (settled_world log) (take b (pending log)))

@@ -86,10 +86,10 @@ all_finish s (Some f) is out = by_mark f.mark refl
     fits = subst (FlightFits s.log) out is.flight
 
     none : s.log.doubt ≡ None
-    none = no_doubt s.log f s.log.doubt (subst (λ o. DoubtFits s.log o s.log.doubt) out is.doubt)
+    none = no_doubt s.log f s.log.doubt (rw (sym out) is.doubt)
 
     back : (m : Mark) → f.mark ≡ m → IsConsistent (after_finish s f.size m) → IsConsistent (finished s s.flight)
-    back m e is = subst (λ o. IsConsistent (finished s o)) (sym out) (subst (λ x. IsConsistent (after_finish s f.size x)) (sym e) is)
+    back m e is = rw out (rw e is)
 
     by_mark : (m : Mark) → f.mark ≡ m → AllByRecursion (λ a. IsConsistent (after s Finish a)) (to_finish (settled_count s.log) f.size m)
     by_mark New e = (back New e (stays_flight s None is tt (subst (DoubtFits s.log None) (sym none) tt)), tt)
@@ -138,7 +138,7 @@ stays_crashed s k is le =
 crash_stays : (s : Machine) (n : ℕ) → IsConsistent s → KeepsMore s n → IsConsistent (after s Crash (Opened (s.log.base.count + n)))
 crash_stays s n is keeps =
     let same : s.log.base.count + n - s.log.base.count ≡ s.log.settled + keeps.more = omega (arith, keeps.is) in
-    subst (λ m. IsConsistent (crashed s m)) (sym same) (stays_crashed s keeps.more is keeps.within)
+    rw same (stays_crashed s keeps.more is keeps.within)
 
 pub all_crash : (s : Machine) (ns : List ℕ) → IsConsistent s → AllByRecursion (KeepsMore s) ns → AllByRecursion (λ a. IsConsistent (after s Crash a)) (map (λ n. Opened (s.log.base.count + n)) ns)
 all_crash s [] is all = tt

@@ -117,7 +117,7 @@ module _ (s : Machine) (n : ℕ) (is : IsConsistent s) (le : n ≤ s.log.settled
 
   on_event : (e : Event) → is_crash e ≡ false → AllByRecursion (λ a. after (rebased_machine s n) e a ≡ rebased_machine (after s e a) n) (answers s e)
   on_event (Submit x) calm =
-      subst (λ u. AllByRecursion (λ a. after_submit (rebased_machine s n) x u a ≡ rebased_machine (after_submit s x (verdict s.log x) a) n) (to_submit (accepted_count s.log + 1) (verdict s.log x))) (sym (judged x)) (on_submit x (verdict s.log x))
+      rw (judged x) (on_submit x (verdict s.log x))
   on_event Begin calm =
       by_test (stays_home (is_some s.flight) s.log)
       (λ b. AllByRecursion (λ a. after (rebased_machine s n) Begin a ≡ rebased_machine (after s Begin a) n) (cond b (Nothing ∷ []) (Begun (next_size s.log) ∷ Refused OutOfMemory ∷ [])))

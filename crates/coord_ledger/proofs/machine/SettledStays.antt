@@ -53,7 +53,7 @@ crash_keeps : (s : Machine) (n : ℕ) → KeepsMore s n → KeepsSettled s (afte
 crash_keeps s n keeps =
     let more = keeps.more in
     let is : s.log.base.count + n - s.log.base.count ≡ s.log.settled + more = omega (arith, keeps.is) in
-    subst (λ m. KeepsSettled s (crashed s m)) (sym is) (record { base = refl; settled = omega arith; steps = take-take s.log.settled (s.log.settled + more) s.log.trail (omega arith) })
+    rw is (record { base = refl; settled = omega arith; steps = take-take s.log.settled (s.log.settled + more) s.log.trail (omega arith) })
 
 keeps_crash : (s : Machine) (ns : List ℕ) → AllByRecursion (KeepsMore s) ns → AllByRecursion (λ a. KeepsSettled s (after s Crash a)) (map (λ n. Opened (s.log.base.count + n)) ns)
 keeps_crash s [] all = tt
