@@ -10,7 +10,7 @@ use Rattle.coord_world.specs.Facade.{World, fold, outs}
 use Rattle.coord_ledger.proofs.follows.Follows.{flight_is, log_is}
 use Rattle.coord_ledger.proofs.machine.Logs.{world-add}
 use Rattle.coord_ledger.specs.declared.events.Event.TheVariants.{Begin}
-use Rattle.coord_ledger.specs.Facade.{Claim, DriverState, IsGranted, IsOneOf, Log, Machine, flight_out, next_size, pending, run as after_run, settled_count, settled_world, settling_releases, started, stays_home, to_begin, with_doubt, with_settled}
+use Rattle.coord_ledger.specs.Facade.{Claim, DriverState, IsGranted, IsOneOf, Log, Machine, flight_out, next_size, pending, run as after_run, settled_count, settled_world, settling_releases, started, cannot_flush, to_begin, with_doubt, with_settled}
 use Rattle.coord_drill.specs.Facade.{AreGranted, Begins, Begun, Drill, Flies, Flown, FlownTo, GoesBy, Lands, IsHeld, IsReadyWith, IsRun, Leads, LeadsPart, Nothing, Refused, Release, Reply, claims_of, collected_lines, drill_of, flight_events, flight_lines, flown_answers, flown_lines, landed_answers, landing_events, left_by, machine_of, seen_as, settled_lines, waiting}
 use Rattle.coord_drill.specs.declared.drill.flying.Flown.TheVariants as flown
 use Rattle.coord_drill.proofs.does.Moments.{leads_then}
@@ -21,7 +21,7 @@ use Rattle.coord_drill.proofs.does.Verdicts.{no_refusal}
 
 -- as many steps are out as the machine sends
 pub begun_size : (m : Machine) (b : ℕ) → IsOneOf (Begun b) (to_begin m) → b ≡ next_size m.log
-begun_size m b one = by_home (stays_home (is_some m.flight) m.log) one
+begun_size m b one = by_home (cannot_flush (is_some m.flight) m.log) one
   where
     by_home : (home : Bool) → IsOneOf (Begun b) (cond home (Nothing ∷ []) (Begun (next_size m.log) ∷ Refused OutOfMemory ∷ [])) → b ≡ next_size m.log
     by_home true (inl same) = cc

@@ -4,7 +4,7 @@ use Rattle.std.specs.List.{AllByRecursion}
 use Rattle.coord_lines.specs.Lines.{Line}
 use Rattle.coord_types.specs.declared.refusals.Refusal.TheVariants.{OutOfMemory}
 use Rattle.coord_ledger.specs.declared.events.Event.TheVariants as event
-use Rattle.coord_ledger.specs.Facade.{Answered, IsOneOf, Machine, accepted_count, after_submit, front_world, kept_by, next_size, settled_count, stays_home, to_submit, verdict, with_step}
+use Rattle.coord_ledger.specs.Facade.{Answered, IsOneOf, Machine, accepted_count, after_submit, front_world, kept_by, next_size, settled_count, cannot_flush, to_submit, verdict, with_step}
 use Rattle.coord_drill.specs.declared.asked.Asked.TheVariants as ask
 use Rattle.coord_drill.specs.Facade.{Accepted, Answer, Asked, Begun, Committed, DrillState, Event, Finished, Fresh, LineResponds, Nothing, Opened, Prints, Refusal, Refused, Repeat, Repeated, Reply, Request, Responds, Step, UnlessSkipped, Verdict, after_asked, asked, asked_by, asked_lines, bad_line, flight_events, is_skipped, line_events, machine_of, step_events}
 use Rattle.coord_drill.proofs.does.Verdicts.{never_memory, no_refusal, other_refusal}
@@ -26,12 +26,12 @@ none s = record { given = []; answered = tt; with_memory = tt }
 
 -- a flight stays home, or goes out and is committed
 may_fly : (s : DrillState) (tickets : List (Option Reply)) → May (record (machine_of s) { tickets = tickets }) flight_events
-may_fly s tickets = by_home (stays_home false s.log) refl
+may_fly s tickets = by_home (cannot_flush false s.log) refl
   where
     m : Machine
     m = record (machine_of s) { tickets = tickets }
 
-    by_home : (home : Bool) → stays_home false s.log ≡ home → May m flight_events
+    by_home : (home : Bool) → cannot_flush false s.log ≡ home → May m flight_events
     by_home true is = record {
       given = Nothing ∷ [];
       answered = (rw is (inl refl), tt);

@@ -5,7 +5,7 @@ use Rattle.std.proofs.lemmas.Bool.Decides.{nat_tests}
 use Rattle.std.proofs.lemmas.List.{length-drop, take-take}
 use Rattle.coord_types.specs.declared.refusals.Refusal.TheVariants.{OutOfMemory}
 use Rattle.coord_world.proofs.Facade.{by_test}
-use Rattle.coord_ledger.specs.Facade.{Begin, Begun, Commit, Crash, DoubtFits, Finish, FlightFits, FlightOut, Good, IsConsistent, IsOneOf, Log, Machine, Mark, New, Nothing, Opened, Refused, Torn, after, after_finish, crashed, cut_to, finished, kept, kept_by, kept_with, marked, next_size, pending, settled_count, stays_home, to_begin, to_commit, to_finish, with_doubt, with_flight, with_settled}
+use Rattle.coord_ledger.specs.Facade.{Begin, Begun, Commit, Crash, DoubtFits, Finish, FlightFits, FlightOut, Good, IsConsistent, IsOneOf, Log, Machine, Mark, New, Nothing, Opened, Refused, Torn, after, after_finish, crashed, cut_to, finished, kept, kept_by, kept_with, marked, next_size, pending, settled_count, cannot_flush, to_begin, to_commit, to_finish, with_doubt, with_flight, with_settled}
 use Rattle.coord_ledger.proofs.machine.Lists.{each_one}
 use Rattle.coord_ledger.proofs.machine.Logs.{doubted_stays, log_stays}
 use Rattle.coord_ledger.proofs.machine.ConsistentTold.{told_releasing, told_same, told_settled}
@@ -17,7 +17,7 @@ stays_flight s f is fits doubt = record { log = is.log; flight = fits; doubt = d
 
 pub all_begin : (s : Machine) → IsConsistent s → AllByRecursion (λ a. IsConsistent (after s Begin a)) (to_begin s)
 all_begin s is =
-    by_test (stays_home (is_some s.flight) s.log)
+    by_test (cannot_flush (is_some s.flight) s.log)
     (λ b. AllByRecursion (λ a. IsConsistent (after s Begin a)) (cond b (Nothing ∷ []) (Begun (next_size s.log) ∷ Refused OutOfMemory ∷ [])))
     (λ _. (is, tt))
     (λ free.
