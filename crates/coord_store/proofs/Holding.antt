@@ -113,8 +113,7 @@ module _ {D : Type 0} (m : DiskModel D) where
 
   -- where nothing was written
   pub unwritten : IsModel m → (old new : Journal D) (w : World) → Holds m old w → new ≡ old → LeavesOnly m (disk_of old) (disk_of new) (IsOnlyWorld w) × Holds m new w
-  unwritten laws old new w holds same =
-      let P : Journal D → Type 0 = λ j. LeavesOnly m (disk_of old) (disk_of j) (IsOnlyWorld w) × Holds m j w in subst P (sym same) (begun laws old w holds, holds)
+  unwritten laws old new w holds same = rw same (begun laws old w holds, holds)
 
   pub stays_by : {T : Type 0} → IsModel m → (old new : Journal D) (w : World) (fault : CommitFault) → Holds m old w → (fault ≢ Device → new ≡ old) → Stays {T = T} m w old new (Err fault)
   stays_by laws old new w fault holds same = record { any_moment = λ other. (unwritten laws old new w holds (same other)).0; held = λ other. (unwritten laws old new w holds (same other)).1 }

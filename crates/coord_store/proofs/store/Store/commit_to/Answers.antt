@@ -11,7 +11,7 @@ pub invariant_of-self : goal.invariant_of-self
 invariant_of-self g c =
     let w = c.self.inside.world in
     let steps = c.args.steps.now in
-    let takes = subst (λ b. Takes w b steps) (sym c.deref.ensures.value) c.in-Ok.ensures.taken in
+    let takes : Takes w c.deref.result.now steps = rw c.deref.ensures.value c.in-Ok.ensures.taken in
     let none = none_of c.self.inside.torn c.is_some.result c.is_some.ensures c.if-is_some.false in
     let keeps = subst (λ next. Concludes next w c.conclude.new.world c.self.inside.torn c.conclude.new.torn c.write-written.result) c.in-Ok.ensures.world c.conclude.ensures.keeps in
     kept_after g.D.Disk.model c.self.inside.journal c.write-written.new.journal w (fold w steps) c.conclude.new.world c.self.inside.torn c.conclude.new.torn none c.self.invariant.holds
@@ -43,7 +43,7 @@ returns-clause-commits g c =
     let w = c.self.inside.world in
     let torn = c.self.inside.torn in
     let steps = c.args.steps.now in
-    let takes = subst (λ b. Takes w b steps) (sym c.deref.ensures.value) c.in-Ok.ensures.taken in
+    let takes : Takes w c.deref.result.now steps = rw c.deref.ensures.value c.in-Ok.ensures.taken in
     let none = none_of c.self.inside.torn c.is_some.result c.is_some.ensures c.if-is_some.false in
     let keeps = subst (λ next. Concludes next w c.conclude.new.world torn c.conclude.new.torn c.write-written.result) c.in-Ok.ensures.world c.conclude.ensures.keeps in
     rw (← c.self.view_is, c.conclude.ensures.answer)
