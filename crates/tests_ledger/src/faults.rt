@@ -2,8 +2,8 @@
 //! are those that were settled, or those of the flight too.
 
 use crate::runs::{Host, OPENING, add, choosing, linking, made, opened, push, ran, reset, tells};
-use coord_disk::{BlipDisk, CrashDisk, FailingDisk, FuseDisk, MemDisk, Rule};
-use coord_ledger::{Driver, Event, RunFault, RunFaultKind, run_events};
+use coord_disk::{BlipDisk, CrashDisk, Disk, FailingDisk, FuseDisk, MemDisk, Rule};
+use coord_ledger::{Driver, Event, RunFault, RunFaultKind, Trace, run_events};
 use coord_store::StoreFault;
 use coord_types::Step;
 
@@ -57,6 +57,48 @@ fn full(rt: &impl Host) -> Case {
     }
 }
 
+impl Case {
+    // The number of the last step of the flight.
+    fn last(&self) -> u64 {
+        self.settled.saturating_add(self.steps.len() as u64)
+    }
+
+    // What the flight is told, and a step and a flight behind it.
+    fn told(&self, rt: &impl Host, is_done: bool) -> String {
+        let (count, settled, last) = (self.steps.len(), self.settled, self.last());
+        let next = last.saturating_add(1);
+        let told = if is_done {
+            format!(in rt.alloc();
+                "[Begun({count}), Committed, Finished({last}), Accepted({next}), Begun(1)]"
+            )
+        } else {
+            format!(in rt.alloc();
+                "[Begun({count}), Failed(Device), Finished({settled}), Refused(Stopped), Nothing]"
+            )
+        };
+        told.expect(rt, "not printed")
+    }
+
+    // Runs the flight on a device, and a step and a flight behind it.
+    fn flown<R: Rule>(
+        &self,
+        rt: &impl Host,
+        disk: FailingDisk<MemDisk, R>,
+    ) -> (Trace, FailingDisk<MemDisk, R>) {
+        let next = self.last().saturating_add(1);
+        let mut events = Vec::new(rt.alloc());
+        push(rt, &mut events, &self.steps);
+        let behind = [Event::Submit(reset(next)), Event::Begin];
+        events.extend_from_slice(&behind).expect(rt, "no place");
+        ran(rt, disk, &events)
+    }
+
+    // The trace has what the flight is told.
+    fn is_told(&self, rt: &impl Host, trace: &Trace, is_done: bool) {
+        tells(rt, trace, self.steps.len(), &self.told(rt, is_done));
+    }
+}
+
 // What a device leaves that fails in the flight of a case once so many calls of its commit were passed,
 // where the last one may have opened the gate. No call is made behind the one that fails, and the
 // ledger stops.
@@ -67,42 +109,24 @@ fn is_left<R: Rule>(
     passed: u64,
     is_opened: bool,
 ) {
-    let (count, settled) = (case.steps.len() as u64, case.settled);
-    let after = settled.saturating_add(count);
-    let next = after.saturating_add(1);
-    let mut events = Vec::new(rt.alloc());
-    push(rt, &mut events, &case.steps);
-    events
-        .extend_from_slice(&[Event::Submit(reset(next)), Event::Begin])
-        .expect(rt, "no place");
-    let (trace, disk) = ran(rt, disk, &events);
     let is_done = case.calls <= passed;
-    let told = if is_done {
-        format!(in rt.alloc();
-            "[Begun({count}), Committed, Finished({after}), Accepted({next}), Begun(1)]"
-        )
-    } else {
-        format!(in rt.alloc();
-            "[Begun({count}), Failed(Device), Finished({settled}), Refused(Stopped), Nothing]"
-        )
-    };
-    tells(
-        rt,
-        &trace,
-        case.steps.len(),
-        &told.expect(rt, "not printed"),
-    );
-    assert_eq!(rt;
-        disk.calls(),
-        OPENING.saturating_add(case.calls.min(passed.saturating_add(1)))
-    );
-    let left = opened(rt, disk.into_inner().crash()).accepted_count();
+    let (trace, disk) = case.flown(rt, disk);
+    case.is_told(rt, &trace, is_done);
+    drop(trace);
+    let made = case.calls.min(passed.saturating_add(1));
+    assert_eq!(rt; disk.calls(), OPENING.saturating_add(made));
+    let left = accepted_on(rt, disk.into_inner().crash());
     let is_kept = is_done || is_opened && passed.saturating_add(1) == case.calls;
-    assert_eq!(rt;
-        left,
-        if is_kept { after } else { settled },
-        "{passed} passed"
-    );
+    let wanted = if is_kept { case.last() } else { case.settled };
+    assert_eq!(rt; left, wanted, "{passed} passed");
+}
+
+// How many steps the ledger over a device has.
+fn accepted_on<D: Disk>(rt: &impl Host, disk: D) -> u64 {
+    let ledger = opened(rt, disk);
+    let count = ledger.accepted_count();
+    drop(ledger);
+    count
 }
 
 // A device that stops behind so many calls, and one that fails one call.
@@ -149,15 +173,20 @@ fn a_run_breaks_off_at_a_crash_that_is_not_opened(rt: HostRuntime) {
     }
 }
 
-// The opening behind a crash meets a call that fails, and gives the device back as it was.
-#[test]
-fn a_device_that_is_not_opened_comes_back_as_it_was(rt: HostRuntime) {
-    let ledger = opened(&rt, BlipDisk::new(made(&rt), OPENING));
-    match Driver::over(ledger).crash(rt.alloc()) {
+// A device whose opening behind a crash is refused.
+fn not_reopened<D: CrashDisk>(rt: &impl Host, disk: D) -> D {
+    match Driver::over(opened(rt, disk)).crash(rt.alloc()) {
         Ok((count, _driver)) => panic!(rt; "opened with {count} steps"),
         Err((kind, disk)) => {
             assert_eq!(rt; kind, RunFaultKind::Store(StoreFault::Device));
-            assert_eq!(rt; opened(&rt, disk).accepted_count(), 0);
+            disk
         }
     }
+}
+
+// The opening behind a crash meets a call that fails, and gives the device back as it was.
+#[test]
+fn a_device_that_is_not_opened_comes_back_as_it_was(rt: HostRuntime) {
+    let disk = BlipDisk::new(made(&rt), OPENING);
+    assert_eq!(rt; accepted_on(&rt, not_reopened(&rt, disk)), 0);
 }

@@ -77,6 +77,18 @@ fn a_flight_and_a_ticket_of_another_ledger_come_back(rt: HostRuntime) {
     returns(&rt, &mut own, &other);
     let anew = opened(&rt, disk_of(&rt, other));
     returns(&rt, &mut own, &anew);
+    drop(own);
+    drop(anew);
+}
+
+// One step is shown to who has seen none, and to no one who has seen a second one.
+fn shows_one(rt: &impl Host, ledger: &Ledger<MemDisk>) {
+    let mut seen = Seen::new();
+    let view = ledger.show(&mut seen).expect(rt, "not shown");
+    assert_eq!(rt; view.settled, 1);
+    seen.note(2);
+    let refusal = ledger.show(&mut seen).err();
+    assert_eq!(rt; refusal, Some(Refusal::Behind { settled: 1 }));
 }
 
 #[test]
@@ -84,11 +96,6 @@ fn who_has_seen_more_is_refused(rt: HostRuntime) {
     let mut ledger = opened(&rt, made(&rt));
     accept(&rt, &mut ledger, add(1, 1));
     let ledger = settled(&rt, ledger);
-    let mut seen = Seen::new();
-    assert_eq!(rt; ledger.show(&mut seen).map(|view| view.settled), Ok(1));
-    seen.note(2);
-    assert_eq!(rt;
-        ledger.show(&mut seen).err(),
-        Some(Refusal::Behind { settled: 1 })
-    );
+    shows_one(&rt, &ledger);
+    drop(ledger);
 }
