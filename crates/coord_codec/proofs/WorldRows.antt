@@ -14,12 +14,13 @@ use Rattle.coord_types.specs.declared.steps.Command.TheVariants.{Add, Remove, Jo
 use Rattle.coord_types.specs.declared.steps.Kind.{Kind}
 use Rattle.coord_types.specs.declared.steps.Kind.TheVariants as kinds
 use Rattle.coord_types.proofs.Masks.{maskable_nodes, mask_below, nodes_back}
+use Rattle.coord_link.specs.declared.lane.TheConstants.{PLACES}
 use Rattle.coord_link.specs.LaneMachine.{Lane}
 use Rattle.coord_world.specs.Facade.{CarryWithin, IsNode, LaneInRange, LanesCarryWithin, LinkRowFits, NodeRowFits, RowIsDistant, Rows, RowsFit, SessionInRange, answers, by_client, by_ends, by_id, degree, farthest, group_in, group_of, is_end, pair_cmp, pair_cmp_total}
 use Rattle.coord_world.specs.declared.rows.parts.NodeRow.{NodeRow}
 use Rattle.coord_tables.specs.declared.links.LinkRow.{LinkRow}
 use Rattle.coord_world.specs.declared.rows.parts.ClientRow.{ClientRow}
-use Rattle.coord_world.proofs.Facade.{all_weaker, both}
+use Rattle.coord_world.proofs.Facade.{all_weaker, both, farthest_le}
 use Rattle.coord_batch.specs.Decoding.{is_version}
 use Rattle.coord_batch.specs.Fields.{distance, message, unless}
 use Rattle.coord_batch.specs.Format.{FitBehind, Format}
@@ -78,16 +79,8 @@ distance_fits version most n small few = by_version (eqb version 1) few
     by_version true le = omega (arith, le)
     by_version false le = at_most_fits most n small le
 
--- no distance is further than what is allowed of a number
-farthest_most : (version most : ℕ) → farthest version most ≤ most
-farthest_most version most = by_version (eqb version 1)
-  where
-    by_version : (b : Bool) → cond b 0 most ≤ most
-    by_version true = omega arith
-    by_version false = omega arith
-
 node_distance_in : (version count n : ℕ) (m : Mode) → (distance version (most_distance m count)).Fits n → (n ≤ farthest version count) × (m ≡ modes.Ready → n ≡ 0)
-node_distance_in version count n modes.Ready fits = let none = distance_in version 0 n fits in let le = farthest_most version 0 in (omega (arith, none, le), λ _. omega (arith, none, le))
+node_distance_in version count n modes.Ready fits = let none = distance_in version 0 n fits in let le = farthest_le version 0 in (omega (arith, none, le), λ _. omega (arith, none, le))
 node_distance_in version count n modes.Abort fits = (distance_in version count n fits, λ e. cc)
 node_distance_in version count n modes.Converge fits = (distance_in version count n fits, λ e. cc)
 
@@ -109,14 +102,14 @@ module _ {Row : Type 0} (key : Row → ℕ) (row : List Row → Format Row) (IsR
   all_in one_in front (r ∷ rs) fits =
       let one = one_in front r fits.0 in
       let rest = all_in one_in (front ++ r ∷ []) rs fits.1 in
-      ((one.0, rest.0), (one.1, subst (λ last. RiseFrom key nat_cmp_total last rs) (last_push key 0 front r) rest.1))
+      ((one.0, rest.0), (one.1, rw (sym (last_push key 0 front r)) rest.1))
 
   all_fit : ((front : List Row) (r : Row) → IsRow r → IsAbove front r → (row front).Fits r) → (front rs : List Row) → AllByRecursion IsRow rs → RiseFrom key nat_cmp_total (last_by key 0 front) rs → FitBehind row front rs
   unfolding FitBehind
   all_fit one_fits front [] all rise = tt
   all_fit one_fits front (r ∷ rs) all rise = (
     one_fits front r all.0 rise.0,
-    all_fit one_fits (front ++ r ∷ []) rs all.1 (subst (λ last. RiseFrom key nat_cmp_total last rs) (sym (last_push key 0 front r)) rise.1),
+    all_fit one_fits (front ++ r ∷ []) rs all.1 (rw (last_push key 0 front r) rise.1),
   )
 
 -- ---- nodes
@@ -134,7 +127,7 @@ module _ (version count : ℕ) where
       let p = fits.0.0 in
       let f = fits.1.0 in
       let d = node_distance_in version count fits.0.1 p.1.1.0 fits.1.1 in
-      subst (λ s. IsRow s × (is_lt (nat_cmp (last_by node_key 0 front) s.id) ≡ true)) (sym fits.2) (
+      rw fits.2 (
         (
           record {
             least = (node_in_range p.0 f.0.0).0;
@@ -235,18 +228,18 @@ module _ (version count : ℕ) (small : count < 2 ^ 64) where
   messages_in front [] fits = tt
   messages_in front (m ∷ ms) fits = (distance_in version count (carried m) (message_in_range version count m small fits.0), messages_in (front ++ m ∷ []) ms fits.1)
 
-  queue_in : (ms : List Msg) → (queue version count).Fits ms → (length ms ≤ 4) × CarryWithin (farthest version count) ms
+  queue_in : (ms : List Msg) → (queue version count).Fits ms → (length ms ≤ PLACES) × CarryWithin (farthest version count) ms
   unfolding queue
-  queue_in ms fits = (how_many_in_range 4 (length ms) fits.0, messages_in [] ms fits.1)
+  queue_in ms fits = (how_many_in_range PLACES (length ms) fits.0, messages_in [] ms fits.1)
 
   each_message : (front ms : List Msg) → CarryWithin (farthest version count) ms → FitBehind (λ _. message version count) front ms
   unfolding FitBehind
   each_message front [] carry = tt
   each_message front (m ∷ ms) carry = (message_fits version count m (distance_fits version count (carried m) small carry.0), each_message (front ++ m ∷ []) ms carry.1)
 
-  queue_fits : (ms : List Msg) → length ms ≤ 4 → CarryWithin (farthest version count) ms → (queue version count).Fits ms
+  queue_fits : (ms : List Msg) → length ms ≤ PLACES → CarryWithin (farthest version count) ms → (queue version count).Fits ms
   unfolding queue
-  queue_fits ms few carry = (how_many_fits 4 (length ms) (omega arith) few, each_message [] ms carry)
+  queue_fits ms few carry = (how_many_fits PLACES (length ms) (omega arith) few, each_message [] ms carry)
 
 module _ (version count : ℕ) (listed : List NodeRow) (small : count < 2 ^ 64) where
   -- what a link's row says, and what it says of those before it
@@ -257,7 +250,7 @@ module _ (version count : ℕ) (listed : List NodeRow) (small : count < 2 ^ 64) 
     pub first_room : degree r.a front < 16
     pub second_room : degree r.b front < 16
 
-  lane_in : (inc base got : ℕ) (ms : List Msg) → (1 ≤ inc) × (inc ≤ count) → (lane version count).Fits (base, (got, ms)) → LaneInRange count (record { inc = inc; base = base; got = got; queue = ms }) × ((length ms ≤ 4) × CarryWithin (farthest version count) ms)
+  lane_in : (inc base got : ℕ) (ms : List Msg) → (1 ≤ inc) × (inc ≤ count) → (lane version count).Fits (base, (got, ms)) → LaneInRange count (record { inc = inc; base = base; got = got; queue = ms }) × ((length ms ≤ PLACES) × CarryWithin (farthest version count) ms)
   unfolding lane
   lane_in inc base got ms made fits = (record { made = made.0; inc = made.1; base = at_most_in_range count base fits.0; got = at_most_in_range count got fits.1.0 }, queue_in version count small ms fits.1.1)
 
@@ -287,7 +280,7 @@ module _ (version count : ℕ) (listed : List NodeRow) (small : count < 2 ^ 64) 
       })
 
   module _ (all : AllByRecursion (NodeRowFits count) listed) where
-    lane_fits : (l : Lane) → LaneInRange count l → length l.queue ≤ 4 → CarryWithin (farthest version count) l.queue → (lane version count).Fits (l.base, (l.got, l.queue))
+    lane_fits : (l : Lane) → LaneInRange count l → length l.queue ≤ PLACES → CarryWithin (farthest version count) l.queue → (lane version count).Fits (l.base, (l.got, l.queue))
     unfolding lane
     lane_fits l range few carry = (at_most_fits count l.base small range.base, (at_most_fits count l.got small range.got, queue_fits version count small l.queue few carry))
 
@@ -315,8 +308,8 @@ module _ (version count : ℕ) (listed : List NodeRow) (small : count < 2 ^ 64) 
   -- a node of the last link has room for one more
   room_more : (front : List LinkRow) (r : LinkRow) → LinkedRow front r → ((u : ℕ) → degree u front ≤ 16) → (u : ℕ) → degree u (front ++ r ∷ []) ≤ 16
   room_more front r row few u =
-      let at_first : eqb u r.a ≡ true → degree u front < 16 = λ t. let same : u ≡ r.a = grind (arith, nat_tests) in subst (λ z. degree z front < 16) (sym same) row.first_room in
-      let at_second : eqb u r.b ≡ true → degree u front < 16 = λ t. let same : u ≡ r.b = grind (arith, nat_tests) in subst (λ z. degree z front < 16) (sym same) row.second_room in
+      let at_first : eqb u r.a ≡ true → degree u front < 16 = λ t. let same : u ≡ r.a = grind (arith, nat_tests) in rw same row.first_room in
+      let at_second : eqb u r.b ≡ true → degree u front < 16 = λ t. let same : u ≡ r.b = grind (arith, nat_tests) in rw same row.second_room in
       grind (arith, nat_tests, degree-push u front r, few u, at_first, at_second)
 
   record LinkedRows (front rs : List LinkRow) : Type 0 where
@@ -327,15 +320,15 @@ module _ (version count : ℕ) (listed : List NodeRow) (small : count < 2 ^ 64) 
 
   links_in : (front rs : List LinkRow) → ((u : ℕ) → degree u front ≤ 16) → FitBehind (link_row version count listed) front rs → LinkedRows front rs
   unfolding FitBehind
-  links_in front [] few fits = record { ranges = tt; carried = tt; rise = tt; degrees = λ u. subst (λ l. degree u l ≤ 16) (sym (append-nil front)) (few u) }
+  links_in front [] few fits = record { ranges = tt; carried = tt; rise = tt; degrees = λ u. rw (append-nil front) (few u) }
   links_in front (r ∷ rs) few fits =
       let row = link_row_in front r fits.0 in
       let rest = links_in (front ++ r ∷ []) rs (room_more front r row few) fits.1 in
       record {
         ranges = (row.range, rest.ranges);
         carried = (row.carried, rest.carried);
-        rise = (row.rises, subst (λ last. RiseFrom link_key pair_cmp_total last rs) (last_push link_key (0, 0) front r) rest.rise);
-        degrees = λ u. subst (λ l. degree u l ≤ 16) (append_assoc front (r ∷ []) rs) (rest.degrees u);
+        rise = (row.rises, rw (sym (last_push link_key (0, 0) front r)) rest.rise);
+        degrees = λ u. rw (sym (append_assoc front (r ∷ []) rs)) (rest.degrees u);
       }
 
   module _ (all : AllByRecursion (NodeRowFits count) listed) where
@@ -357,8 +350,8 @@ module _ (version count : ℕ) (listed : List NodeRow) (small : count < 2 ^ 64) 
       links_fit (front ++ r ∷ []) rs (record {
         ranges = rows.ranges.1;
         carried = rows.carried.1;
-        rise = subst (λ last. RiseFrom link_key pair_cmp_total last rs) (sym (last_push link_key (0, 0) front r)) rows.rise.1;
-        degrees = λ u. subst (λ l. degree u l ≤ 16) (sym (append_assoc front (r ∷ []) rs)) (rows.degrees u);
+        rise = rw (last_push link_key (0, 0) front r) rows.rise.1;
+        degrees = λ u. rw (append_assoc front (r ∷ []) rs) (rows.degrees u);
       }),
     )
 
@@ -398,7 +391,7 @@ module _ (count : ℕ) where
       let id = client_in_range p.0 f.0.0 in
       let number = from_one_to_in_range count p.1.0 f.1.0 in
       let step = from_one_to_in_range count p.1.1.1.0 f.1.1.1.0 in
-      subst (λ s. ClientRowFits count s × (is_lt (nat_cmp (last_by client_key 0 front) s.client) ≡ true)) (sym fits.2) (
+      rw fits.2 (
         record {
           least = id.0;
           greatest = id.1;

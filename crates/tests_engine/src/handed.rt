@@ -1,18 +1,14 @@
 //! What is released, handed to a port: each delivery once, however many a flight releases. Nothing is
 //! known of a port, so no contract says it.
 
-ghost use Rattle.std.specs.Prelude.{◌≡◌};
-
-use crate::scripts::{adding, engine, made_with, pair_steps, resetting};
+use crate::engines::{Doing, does};
+use crate::scripts::{adding, pair_steps, resetting};
 use coord_disk::{Disk, MemDisk};
-use coord_engine::{Engine, Origin, Port, flusher, hand_over};
-use coord_ledger::Ledger;
+use coord_engine::{Engine, Origin, Port, Share, flusher, hand_over};
 use coord_types::{NodeId, Packet, Step};
 use std::alloc::Global;
-use std::marker::Brand;
 use std::process::Abort;
 use std::sync::Wait;
-use std::sync::ledger::Blank;
 use std::time::Clock;
 
 /// A node without neighbours, by the client with its number.
@@ -47,24 +43,18 @@ fn new_port() -> Counting {
     }
 }
 
-// What a flight releases is handed over: a packet and a signal, each once.
-fn hand_each<D: Disk, L: Origin, R: Wait + Abort>(
+/// What a flight releases is handed over: a packet and a signal, each once.
+pub(crate) fn hands_each<D: Disk, L: Origin, R: Wait + Clock + Abort>(
     rt: &R,
     alloc: Global,
-    blank: Blank,
-    ledger: Ledger<D>,
-)
-    requires name { blank.name ≡ L.name }
-    requires parts { (blank.parts ≡ L.parts) × (L.parts ≡ 65536) }
-    requires base { ledger.log.base ≡ L.base }
-    requires before { ledger.log.trail ≡ L.before }
-{
-    let engine: Engine<D, L> = engine(rt, alloc, blank, ledger);
+    engine: &Engine<D, L>,
+) -> Vec<Share<L>> {
     let flight = engine.flush_once(rt).expect(rt, "no flight");
     let releases = flight.expect(rt, "no releases");
     let mut port = new_port();
-    let count = hand_over(rt, &engine, &mut port, releases);
+    let count = hand_over(rt, engine, &mut port, releases);
     assert_eq!(rt; (count, port.carried, port.signalled), (2, 1, 1));
+    Vec::new(alloc)
 }
 
 // Two nodes that are linked and one that is alone. One of the two is reset, and sends to the other; and
@@ -81,34 +71,29 @@ fn steps() -> Option<[Step; 6]> {
     ])
 }
 
-fn hands_each<R: Wait + Abort>(rt: &R, alloc: Global) {
-    let steps = steps().expect(rt, "no steps");
-    let ledger = made_with(rt, alloc, MemDisk::new(alloc), &steps);
-    hand_each::<MemDisk, Brand, R>(rt, alloc, Blank::new(65536), ledger);
-}
-
 #[test]
 fn each_delivery_is_handed_once(rt: HostRuntime) {
-    hands_each(&rt, rt.alloc());
+    let steps = steps().expect(&rt, "no steps");
+    does(
+        &rt,
+        rt.alloc(),
+        MemDisk::new(rt.alloc()),
+        &steps,
+        Doing::HandsEach,
+    );
 }
 
-// A flusher hands over the signals of all nodes, which one flight releases.
-fn flushes_all<D: Disk, L: Origin, R: Wait + Clock + Abort>(
+/// A flusher hands over the signals of all nodes, which one flight releases.
+pub(crate) fn flushes_all<D: Disk, L: Origin, R: Wait + Clock + Abort>(
     rt: &R,
     alloc: Global,
-    blank: Blank,
-    ledger: Ledger<D>,
-)
-    requires name { blank.name ≡ L.name }
-    requires parts { (blank.parts ≡ L.parts) × (L.parts ≡ 65536) }
-    requires base { ledger.log.base ≡ L.base }
-    requires before { ledger.log.trail ≡ L.before }
-{
-    let engine: Engine<D, L> = engine(rt, alloc, blank, ledger);
+    engine: &Engine<D, L>,
+) -> Vec<Share<L>> {
     let mut port = new_port();
     engine.finish(rt);
-    flusher(rt, &engine, &mut port);
+    flusher(rt, engine, &mut port);
     assert_eq!(rt; (port.carried, port.signalled), (0, u64::from(NODES)));
+    Vec::new(alloc)
 }
 
 // Nodes that are alone, each of which is reset, by one client.
@@ -124,13 +109,14 @@ fn lone_resets<R: Abort>(rt: &R, alloc: Global) -> Vec<Step> {
     steps
 }
 
-fn flushes<R: Wait + Clock + Abort>(rt: &R, alloc: Global) {
-    let steps = lone_resets(rt, alloc);
-    let ledger = made_with(rt, alloc, MemDisk::new(alloc), &steps);
-    flushes_all::<MemDisk, Brand, R>(rt, alloc, Blank::new(65536), ledger);
-}
-
 #[test]
 fn a_long_flight_is_handed_over(rt: HostRuntime) {
-    flushes(&rt, rt.alloc());
+    let steps = lone_resets(&rt, rt.alloc());
+    does(
+        &rt,
+        rt.alloc(),
+        MemDisk::new(rt.alloc()),
+        &steps,
+        Doing::FlushesAll,
+    );
 }

@@ -4,6 +4,8 @@
 #[cfg(test)]
 mod closing;
 #[cfg(test)]
+mod engines;
+#[cfg(test)]
 mod handed;
 #[cfg(test)]
 mod long_life;

@@ -1,18 +1,16 @@
 //! An engine that keeps many steps.
 
-ghost use Rattle.std.specs.Prelude.{◌≡◌, ◌<◌};
+ghost use Rattle.std.specs.Prelude.{◌<◌};
 
-use crate::scripts::{adding, closed, created, engine, resetting};
+use crate::engines::{Doing, does};
+use crate::scripts::{adding, resetting};
 use coord_disk::{Disk, MemDisk};
-use coord_engine::{Engine, Origin, Port, Share, hand_over};
-use coord_ledger::Ledger;
+use coord_engine::{Closed, Engine, Origin, Port, Share, hand_over};
 use coord_types::{NodeId, Packet};
 use std::alloc::Global;
-use std::marker::Brand;
 use std::process::Abort;
-use std::sync::ledger::Blank;
 use std::sync::{Mutex, Wait};
-use std::test::Fail;
+use std::time::Clock;
 
 /// How many flights there are, and how many steps each takes.
 const FLIGHTS: u64 = 410;
@@ -44,77 +42,61 @@ impl<R: Wait> Port for &Epochs<R> {
     }
 }
 
-/// Submits the orders of a flight, has it flown, and hands over what it released. Whether all were
-/// accepted and settled.
-fn flies<D: Disk, L: Origin, R: Wait>(
+/// Submits the orders of a flight, has it flown, and hands over what it released.
+fn flies<D: Disk, L: Origin, R: Wait + Clock + Abort>(
     rt: &R,
     engine: &Engine<D, L>,
     share: &mut Share<L>,
     port: &Epochs<&R>,
     flight: u64,
-) -> bool
+)
     requires { flight < 410 }
 {
     for number in flight * STEPS + 1..=flight * STEPS + STEPS {
-        let Some(step) = resetting(2, number, NODE) else {
-            return false;
-        };
-        match engine.submit(rt, step, share) {
-            Ok(ticket) => ticket.forget(),
-            Err(_) => return false,
-        }
+        let step = resetting(2, number, NODE).expect(rt, "no step");
+        let ticket = engine.submit(rt, step, share);
+        ticket.expect(rt, "refused").forget();
     }
-    match engine.flush_once(rt) {
-        Ok(Some(releases)) => hand_over(rt, engine, &mut { port }, releases) == STEPS,
-        Ok(None) | Err(_) => false,
-    }
+    let releases = engine.flush_once(rt).expect(rt, "no flight");
+    let releases = releases.expect(rt, "no releases");
+    assert_eq!(rt; hand_over(rt, engine, &mut { port }, releases), STEPS);
 }
 
-/// Whether each flight is settled and handed over, and the engine closes with the notes of them all.
-fn keeps_all<D: Disk, L: Origin, R: Wait + Abort>(
+/// Each flight is settled and handed over, and the engine closes with the notes of them all.
+pub(crate) fn keeps_all<D: Disk, L: Origin, R: Wait + Clock + Abort>(
     rt: &R,
     alloc: Global,
-    blank: Blank,
-    ledger: Ledger<D>,
-) -> bool
-    requires name { blank.name ≡ L.name }
-    requires parts { (blank.parts ≡ L.parts) × (L.parts ≡ 65536) }
-    requires base { ledger.log.base ≡ L.base }
-    requires before { ledger.log.trail ≡ L.before }
-{
-    let engine: Engine<D, L> = engine(rt, alloc, blank, ledger);
+    engine: &Engine<D, L>,
+) -> Vec<Share<L>> {
     let mut share = engine.share(rt).expect(rt, "no share");
-    let made = engine.flush_once(rt).ok().expect(rt, "no flight");
-    made.expect(rt, "no release").lose_rest();
+    let made = engine.flush_once(rt).expect(rt, "no flight");
+    made.expect(rt, "no releases").lose_rest();
     let port = Epochs {
         rt,
         last: Mutex::new(0),
     };
-    let mut are_settled = true;
     for flight in 0..FLIGHTS {
-        if !flies(rt, &engine, &mut share, &port, flight) {
-            are_settled = false;
-        }
+        flies(rt, engine, &mut share, &port, flight);
     }
     let last = *port.last.lock(rt);
     drop(port);
-    let mut shares = Vec::new(alloc);
-    shares.push(share).expect(rt, "no memory");
-    let closed = closed(engine, shares).expect(rt, "no close");
-    let settled = closed.settled;
-    drop(closed);
-    are_settled && last == FLIGHTS * STEPS && settled == FLIGHTS * STEPS + 1
+    assert_eq!(rt; last, FLIGHTS * STEPS);
+    vec![in alloc; share].expect(rt, "no memory")
 }
 
-fn keeps_a_hundred_thousand<R: Wait + Abort>(rt: &R, alloc: Global) -> Result<bool, Fail> {
-    let add = adding(1, 1, NODE).ok_or("step")?;
-    let ledger = created(alloc, MemDisk::new(alloc), &[add])?;
-    Ok(keeps_all::<MemDisk, Brand, R>(rt, alloc, Blank::new(65536), ledger))
+pub(crate) fn has_kept_all<D: Disk, R: Abort>(rt: &R, closed: &Closed<D>) {
+    assert_eq!(rt; closed.settled, FLIGHTS * STEPS + 1);
 }
 
 /// 104,960 steps, and as many signals, each once and in order.
 #[test]
-fn a_hundred_thousand_steps(rt: HostRuntime) -> Result<(), Fail> {
-    assert!(rt; keeps_a_hundred_thousand(&rt, rt.alloc())?);
-    Ok(())
+fn a_hundred_thousand_steps(rt: HostRuntime) {
+    let add = adding(1, 1, NODE).expect(&rt, "no step");
+    does(
+        &rt,
+        rt.alloc(),
+        MemDisk::new(rt.alloc()),
+        &[add],
+        Doing::KeepsAll,
+    );
 }

@@ -1,9 +1,9 @@
 //! Tests that start threads.
 
-mod callers;
+pub(crate) mod callers;
 mod full;
-mod gates;
-mod patience;
-mod ports;
-mod rings;
+pub(crate) mod gates;
+pub(crate) mod patience;
+pub(crate) mod ports;
+pub(crate) mod rings;
 mod still;

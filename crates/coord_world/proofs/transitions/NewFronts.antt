@@ -1,8 +1,8 @@
 -- The new fronts of a step stand on the lanes that it touches: those that it sends on, and the one that it clears.
-use Rattle.std.proofs.Common.{◌≡◌, ◌≢◌, ℕ, ◌+◌, Bool, true, false, List, [], ◌∷◌, ◌++◌, Option, Some, None, cond, eqb, refl, sym, ap, ◌∙◌, subst, arith, append-nil, nat_lt, is_some}
+use Rattle.std.proofs.Common.{◌≡◌, ◌≢◌, ℕ, ◌+◌, Bool, true, false, List, [], ◌∷◌, ◌++◌, Option, Some, None, cond, eqb, refl, sym, ap, ◌∙◌, arith, append-nil, nat_lt, is_some}
 use Rattle.std.proofs.lemmas.Bool.Decides.{nat_tests}
 use Rattle.coord_types.specs.NodeSet as set
-use Rattle.coord_types.specs.Facade.{NodeState, behind_front}
+use Rattle.coord_types.specs.Facade.{NodeState}
 use Rattle.coord_types.proofs.Sets.{contains-empty, contains-remove, items-sorted}
 use Rattle.coord_types.proofs.Tables.{option_map}
 use Rattle.coord_types.specs.declared.messages.Msg.{Msg}
@@ -12,8 +12,8 @@ use Rattle.coord_types.specs.declared.steps.Step.TheVariants.{Order, Take, Clear
 use Rattle.coord_link.specs.LaneMachine.{Lane, cleared, new_lane, sent, took}
 use Rattle.coord_node.specs.Facade.{Transition, added, is_link, lost, request, sends_of, transition, without, without_parent}
 use Rattle.coord_tables.proofs.LinkLanes.{lane-apart}
-use Rattle.coord_world.specs.Facade.{Links, World, all_sent, had_front, is_lane, lane_at, lanes_in_order, next, on_lane, sent_by, state, with_command, with_transition}
-use Rattle.coord_world.specs.code.Fronts.{by_lesser, front_behind, fronts_sent, new_fronts, packets_of}
+use Rattle.coord_world.specs.Facade.{Links, World, all_sent, is_lane, lane_at, lanes_in_order, next, on_lane, sent_by, state, with_command, with_transition}
+use Rattle.coord_world.specs.code.Fronts.{by_lesser, front_behind, fronts_sent, new_fronts}
 use Rattle.coord_world.specs.code.Ready.{IsReadyFor}
 use Rattle.coord_tables.proofs.Cases.{by_test}
 use Rattle.coord_world.proofs.acceptance.FreshOrder.{fresh_order}
@@ -66,10 +66,6 @@ clear_fronts w a b turned =
 
     here : is_lane (a, b) a b ≡ true
     here = grind (arith, nat_tests)
-
-    next_front : (i n g h : ℕ) (q rest : List Msg) → sent_by (Some (record { inc = i; base = n; got = g; queue = q })) (a, b) (record { inc = i; base = n + 1; got = h; queue = rest }) rest ≡ packets_of (a, b) (record { inc = i; base = n + 1; got = h; queue = rest }) rest
-    next_front i n g h q [] = refl
-    next_front i n g h q (m ∷ ms) = grind (arith, nat_tests)
 
     behind : (o : Option Lane) → lane_at w.links a b ≡ o → front_now w.links (a, b) (option_map (λ l. cond (is_lane (a, b) a b) (cleared l) l) o) ≡ front_behind o (a, b)
     behind None was = refl
@@ -151,7 +147,7 @@ fronts_are w (Order c n (Remove u)) ready = quiet_step w w.links ready.ranges.tu
 fronts_are w (Order c n (Join a b)) ready = quiet_step w (with_command w (Join a b)).links (after w (Order c n (Join a b)) ready) (λ k l is. made (is_link a b k.0 k.1) k (lane_at w.links k.0 k.1) l (sym (lane_made w a b k.0 k.1) ∙ is))
   where
     made : (t : Bool) (k : ℕ × ℕ) (o : Option Lane) (l : Lane) → cond t (Some (new_lane (w.count + 1))) o ≡ Some l → sent_by o k l l.queue ≡ []
-    made true k o l is = let same : new_lane (w.count + 1) ≡ l = cc in subst (λ z. sent_by o k z z.queue ≡ []) same refl
+    made true k o l is = let same : new_lane (w.count + 1) ≡ l = cc in rw (sym same) refl
     made false k o l is = still_same k o l is
 fronts_are w (Order c n (Drop a b)) ready = drop_fronts w a b (fresh_order w w c n (Drop a b) ready.fresh).apart (after w (Order c n (Drop a b)) ready)
 fronts_are w (Order c n (Reset u)) ready = reset_fronts w u (request w.version (state w u)) (after w (Order c n (Reset u)) ready)

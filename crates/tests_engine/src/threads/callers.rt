@@ -1,19 +1,17 @@
 //! Two callers, each in a thread of its own, and what was accepted and settled of them.
 
-ghost use Rattle.std.specs.Prelude.{◌≡◌};
-
-use crate::scripts::{adding, closed, engine, made_with, resetting};
+use crate::engines::{Doing, does};
+use crate::scripts::{adding, resetting};
 use coord_disk::{Disk, MemDisk};
-use coord_engine::{Engine, Origin, Share};
-use coord_ledger::{Ledger, Seen, Ticket};
+use coord_engine::{Closed, Engine, Origin, Share};
+use coord_ledger::{Note, Seen, Ticket};
 use coord_types::{Kind, Reply};
 use std::alloc::Global;
-use std::marker::Brand;
 use std::process::Abort;
 use std::sync::Wait;
-use std::sync::ledger::Blank;
 use std::thread;
 use std::thread::Threads;
+use std::time::Clock;
 
 /// How often each caller resets its node.
 const RESETS: u64 = 100;
@@ -76,33 +74,13 @@ fn is_shown<D: Disk, L: Origin, R: Wait + Abort>(rt: &R, engine: &Engine<D, L>) 
     );
 }
 
-// What two callers submitted is settled by a few flights and collected, and the engine closes with their
-// shares over a history of just their notes, behind the steps that added nodes.
-fn make_one_history<D: Disk + Send, L: Origin + Send + Sync, R: Threads + Wait + Sync + Abort>(
-    rt: &R,
-    alloc: Global,
-    blank: Blank,
-    ledger: Ledger<D>,
-)
-    requires name { blank.name ≡ L.name }
-    requires parts { (blank.parts ≡ L.parts) × (L.parts ≡ 65536) }
-    requires base { ledger.log.base ≡ L.base }
-    requires before { ledger.log.trail ≡ L.before }
-{
-    let engine: Engine<D, L> = engine(rt, alloc, blank, ledger);
-    let shares = call_twice(rt, alloc, &engine);
-    let mut notes = Vec::new(alloc);
-    for share in &shares {
-        notes
-            .extend_from_slice(share.notes())
-            .expect(rt, "no memory");
-    }
-    let closed = closed(engine, shares).expect(rt, "no close");
+// The trail has just these notes, behind the steps that added the nodes.
+pub(crate) fn is_history<D: Disk, R: Abort>(rt: &R, notes: &[Note], closed: &Closed<D>) {
     assert_eq!(rt;
         (notes.len(), closed.trail.len()),
         (2 * RESETS as usize, STEPS)
     );
-    for note in &notes {
+    for note in notes {
         assert!(rt; closed.names(note));
     }
     for (place, who) in [(0, 1), (1, 2)] {
@@ -110,12 +88,13 @@ fn make_one_history<D: Disk + Send, L: Origin + Send + Sync, R: Threads + Wait +
     }
 }
 
-// The shares of two callers, each in a thread of its own.
-fn call_twice<D: Disk + Send, L: Origin + Send + Sync, R: Threads + Wait + Sync + Abort>(
-    rt: &R,
-    alloc: Global,
-    engine: &Engine<D, L>,
-) -> Vec<Share<L>> {
+/// What two callers submit, each in a thread of its own, is settled by a few flights and collected. Their
+/// shares.
+pub(crate) fn call_twice<
+    D: Disk + Send,
+    L: Origin + Send + Sync,
+    R: Threads + Wait + Clock + Sync + Abort,
+>(rt: &R, alloc: Global, engine: &Engine<D, L>) -> Vec<Share<L>> {
     let one = engine.share(rt).expect(rt, "no share");
     let two = engine.share(rt).expect(rt, "no share");
     let ((one, first), (two, second)) = thread::join(
@@ -134,18 +113,13 @@ fn call_twice<D: Disk + Send, L: Origin + Send + Sync, R: Threads + Wait + Sync 
     Vec::from_array(alloc, [one, two]).expect(rt, "no memory")
 }
 
-// Two callers of an engine over a device in memory, to which two nodes were added.
-fn callers_make_one_history<R: Threads + Wait + Sync + Abort>(rt: &R, alloc: Global) {
-    let adds = [
-        adding(1, 1, 1).expect(rt, "no step"),
-        adding(2, 1, 2).expect(rt, "no step"),
-    ];
-    let ledger = made_with(rt, alloc, MemDisk::new(alloc), &adds);
-    let blank = Blank::new(65536);
-    make_one_history::<MemDisk, Brand, R>(rt, alloc, blank, ledger);
-}
-
+// Two nodes were added before.
 #[test]
 fn two_callers_make_one_history(rt: HostRuntime) {
-    callers_make_one_history(&rt, rt.alloc());
+    let adds = [
+        adding(1, 1, 1).expect(&rt, "no step"),
+        adding(2, 1, 2).expect(&rt, "no step"),
+    ];
+    let disk = MemDisk::new(rt.alloc());
+    does(&rt, rt.alloc(), disk, &adds, Doing::CallTwice);
 }

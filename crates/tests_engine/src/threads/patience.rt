@@ -1,19 +1,16 @@
 //! A flusher whose port takes packets that never come back as steps.
 
-ghost use Rattle.std.specs.Prelude.{◌≡◌};
 ghost use Rattle.std.specs.Thread.{IsSend, IsSync};
 
 use super::rings::start_flusher;
-use crate::scripts::{adding, engine, made_with, pair_steps, removing, resetting};
+use crate::engines::{Doing, does};
+use crate::scripts::{adding, pair_steps, removing, resetting};
 use coord_disk::{Disk, MemDisk};
 use coord_engine::{Engine, Origin, Port, Share};
-use coord_ledger::Ledger;
 use coord_types::{NodeId, Packet, Step};
 use std::alloc::Global;
-use std::marker::Brand;
 use std::process::Abort;
 use std::sync::Wait;
-use std::sync::ledger::Blank;
 use std::thread;
 use std::thread::Threads;
 use std::time::{Clock, Duration, Instant};
@@ -54,22 +51,17 @@ fn changing(number: u64) -> Option<Step> {
     }
 }
 
-// Whether an order is accepted and settled.
-fn is_settled<D: Disk, L: Origin, R: Wait>(
+// An order is accepted and settled.
+fn settle<D: Disk, L: Origin, R: Wait + Abort>(
     rt: &R,
     engine: &Engine<D, L>,
     share: &mut Share<L>,
     step: Step,
-) -> bool {
-    let Ok(ticket) = engine.submit(rt, step, share) else {
-        return false;
-    };
+) {
+    let ticket = engine.submit(rt, step, share).expect(rt, "refused");
     match engine.collect(rt, ticket) {
-        Ok(_) => true,
-        Err((_, back)) => {
-            back.forget();
-            false
-        }
+        Ok(_) => {}
+        Err((refusal, _ticket)) => panic!(rt; "not settled: {refusal:?}"),
     }
 }
 
@@ -83,7 +75,7 @@ fn are_quick<D: Disk, L: Origin, R: Wait + Clock + Abort>(
     let start = Instant::now(rt).expect(rt, "no time");
     for at in 0..ORDERS {
         let step = changing(first.wrapping_add(at)).expect(rt, "no step");
-        assert!(rt; is_settled(rt, engine, share, step));
+        settle(rt, engine, share, step);
     }
     start.elapsed(rt).expect(rt, "no time") < Duration::from_millis(MOST)
 }
@@ -95,7 +87,7 @@ fn is_quick_once<D: Disk, L: Origin, R: Wait + Clock + Abort>(
     share: &mut Share<L>,
 ) -> bool {
     let reset = resetting(1, 3, 1).expect(rt, "no step");
-    assert!(rt; is_settled(rt, engine, share, reset));
+    settle(rt, engine, share, reset);
     for tried in 0..TRIES {
         if are_quick(rt, engine, share, tried * ORDERS + 1) {
             return true;
@@ -104,15 +96,27 @@ fn is_quick_once<D: Disk, L: Origin, R: Wait + Clock + Abort>(
     false
 }
 
-// The same with a flusher.
-fn run<D: Disk + Send, L: Origin + Send + Sync, R: Threads + Wait + Clock + Sync + Abort>(
-    rt: &R,
-    engine: &Engine<D, L>,
-) -> bool {
+/// It is so with a flusher.
+pub(crate) fn waits_once<
+    D: Disk + Send,
+    L: Origin + Send + Sync,
+    R: Threads + Wait + Clock + Sync + Abort,
+>(rt: &R, alloc: Global, engine: &Engine<D, L>) -> Vec<Share<L>> {
+    let (share, is_quick) = settled_quickly(rt, engine);
+    assert!(rt; is_quick);
+    vec![in alloc; share].expect(rt, "no memory")
+}
+
+// The share of a caller, and whether its orders were settled in time with a flusher.
+fn settled_quickly<
+    D: Disk + Send,
+    L: Origin + Send + Sync,
+    R: Threads + Wait + Clock + Sync + Abort,
+>(rt: &R, engine: &Engine<D, L>) -> (Share<L>, bool) {
     thread::scope(
         thread::scope_env(),
         rt,
-        |scope| -> bool
+        |scope| -> (Share<L>, bool)
             requires { IsSend D.row × IsSend L.row × IsSync L.row × IsSync R.row }
         {
             let mut share = engine.share(rt).expect(rt, "no share");
@@ -120,37 +124,20 @@ fn run<D: Disk + Send, L: Origin + Send + Sync, R: Threads + Wait + Clock + Sync
             let is_quick = is_quick_once(rt, engine, &mut share);
             engine.finish(rt);
             flushing.join(rt);
-            drop(share);
-            is_quick
+            (share, is_quick)
         },
     )
 }
 
-fn wait_once<D: Disk + Send, L: Origin + Send + Sync, R: Threads + Wait + Clock + Sync + Abort>(
-    rt: &R,
-    alloc: Global,
-    blank: Blank,
-    ledger: Ledger<D>,
-) -> bool
-    requires name { blank.name ≡ L.name }
-    requires parts { (blank.parts ≡ L.parts) × (L.parts ≡ 65536) }
-    requires base { ledger.log.base ≡ L.base }
-    requires before { ledger.log.trail ≡ L.before }
-{
-    let engine: Engine<D, L> = engine(rt, alloc, blank, ledger);
-    let is_so = run(rt, &engine);
-    drop(engine);
-    is_so
-}
-
 // Two nodes over a device in memory.
-fn waits_once<R: Threads + Wait + Clock + Sync + Abort>(rt: &R, alloc: Global) -> bool {
-    let steps = pair_steps().expect(rt, "no step");
-    let ledger = made_with(rt, alloc, MemDisk::new(alloc), &steps);
-    wait_once::<MemDisk, Brand, R>(rt, alloc, Blank::new(65536), ledger)
-}
-
 #[test]
 fn packets_that_are_gone_are_waited_for_once(rt: HostRuntime) {
-    assert!(rt; waits_once(&rt, rt.alloc()));
+    let steps = pair_steps().expect(&rt, "no step");
+    does(
+        &rt,
+        rt.alloc(),
+        MemDisk::new(rt.alloc()),
+        &steps,
+        Doing::WaitsOnce,
+    );
 }

@@ -1,24 +1,21 @@
 //! Rings of eight nodes, each with a worker of its own: one reset makes each of them signal once,
 //! also where its first packets come when no more steps may be pending.
 
-ghost use Rattle.std.specs.Prelude.{◌≡◌};
 ghost use Rattle.std.specs.Thread.{IsSend, IsSync};
 
 use super::full::is_met_full;
 use super::ports::{Manner, Ring};
 use super::still::Still;
-use crate::scripts::{closed, engine, made_with, resetting, ring_steps};
+use crate::engines::{Doing, does};
+use crate::scripts::{resetting, ring_steps};
 use coord_check::check;
 use coord_disk::{Disk, MemDisk};
-use coord_engine::{Engine, Hand, Origin, Port, Share, flusher, hand_over, worker};
-use coord_ledger::Ledger;
+use coord_engine::{Closed, Engine, Hand, Origin, Port, Share, flusher, hand_over, worker};
 use coord_types::{Packet, Step};
 use crossbeam_channel::{Receiver, Sender};
 use std::alloc::Global;
-use std::marker::Brand;
 use std::process::Abort;
 use std::sync::Wait;
-use std::sync::ledger::Blank;
 use std::thread;
 use std::thread::{JoinHandle, Scope, Threads};
 use std::time::{Clock, Duration};
@@ -153,58 +150,51 @@ pub(super) fn start_flusher<
         .expect(rt, "no thread")
 }
 
-// Whether each node of a ring signals once, and its engine closes with all shares over a legal store.
-fn reset_ring<D: Disk + Send, L: Origin + Send + Sync, R: Threads + Wait + Clock + Sync + Abort>(
-    rt: &R,
-    alloc: Global,
-    blank: Blank,
-    ledger: Ledger<D>,
-    manner: Manner,
-) -> bool
-    requires name { blank.name ≡ L.name }
-    requires parts { (blank.parts ≡ L.parts) × (L.parts ≡ 65536) }
-    requires base { ledger.log.base ≡ L.base }
-    requires before { ledger.log.trail ≡ L.before }
-{
-    let engine: Engine<D, L> = engine(rt, alloc, blank, ledger);
+/// Each node of a ring that is reset signals once. All shares.
+pub(crate) fn resets_ring<
+    D: Disk + Send,
+    L: Origin + Send + Sync,
+    R: Threads + Wait + Clock + Sync + Abort,
+>(rt: &R, alloc: Global, engine: &Engine<D, L>, manner: Manner) -> Vec<Share<L>> {
     let reset = resetting(1, 3, 1).expect(rt, "no step");
     let (to, from) = channels(rt, alloc);
     let ring = Ring::new(rt, alloc, to, manner);
-    let (shares, signalled) = run(rt, alloc, &engine, &ring, from, reset, manner);
-    let closed = closed(engine, shares).expect(rt, "no close");
-    let is_legal = check(closed.store.world()).is_none();
-    drop(closed);
-    let each_once = ring.has_each_once(NODES, 1);
+    let (shares, signalled) = run(rt, alloc, engine, &ring, from, reset, manner);
+    assert!(rt; signalled && ring.has_each_once(NODES, 1));
     drop(ring);
-    signalled && each_once && is_legal
+    shares
+}
+
+/// What is left is a legal store.
+pub(crate) fn is_legal<D: Disk, R: Abort>(rt: &R, closed: &Closed<D>) {
+    assert!(rt; check(closed.store.world()).is_none());
 }
 
 // One reset of a ring over a device in memory.
-fn all_nodes_signal<R: Threads + Wait + Clock + Sync + Abort>(
-    rt: &R,
-    alloc: Global,
-    manner: Manner,
-) -> bool {
+fn ring_signals<R: Threads + Wait + Clock + Sync + Abort>(rt: &R, alloc: Global, manner: Manner) {
     let steps = ring_steps(rt, alloc, NODES);
-    let ledger = made_with(rt, alloc, MemDisk::new(alloc), &steps);
-    drop(steps);
-    let blank = Blank::new(65536);
-    reset_ring::<MemDisk, Brand, R>(rt, alloc, blank, ledger, manner)
+    does(
+        rt,
+        alloc,
+        MemDisk::new(alloc),
+        &steps,
+        Doing::ResetsRing(manner),
+    );
 }
 
 #[test]
 fn all_nodes_of_a_ring_signal(rt: HostRuntime) {
-    assert!(rt; all_nodes_signal(&rt, rt.alloc(), Manner::Faithful));
+    ring_signals(&rt, rt.alloc(), Manner::Faithful);
 }
 
 #[test]
 fn all_nodes_of_a_lossy_ring_signal(rt: HostRuntime) {
-    assert!(rt; all_nodes_signal(&rt, rt.alloc(), Manner::Lossy));
+    ring_signals(&rt, rt.alloc(), Manner::Lossy);
 }
 
 #[test]
 fn all_nodes_of_a_full_ring_signal(rt: HostRuntime) {
-    assert!(rt; all_nodes_signal(&rt, rt.alloc(), Manner::Full));
+    ring_signals(&rt, rt.alloc(), Manner::Full);
 }
 
 // No time passes, so a flight waits for ever for a packet that is never put down, until the engine
@@ -212,5 +202,5 @@ fn all_nodes_of_a_full_ring_signal(rt: HostRuntime) {
 #[test]
 fn packets_that_came_are_waited_for_no_more(rt: HostRuntime) {
     let still = Still { rt: &rt };
-    assert!(rt; all_nodes_signal(&still, rt.alloc(), Manner::Faithful));
+    ring_signals(&still, rt.alloc(), Manner::Faithful);
 }

@@ -1,0 +1,150 @@
+//! What the tests do with an engine.
+
+ghost use Rattle.std.specs.Prelude.{◌≡◌};
+
+use crate::closing::gives_all;
+use crate::handed::{flushes_all, hands_each};
+use crate::long_life::{has_kept_all, keeps_all};
+use crate::retried::settles_one;
+use crate::threads::callers::{call_twice, is_history};
+use crate::threads::gates::accepts_in_sync;
+use crate::threads::patience::waits_once;
+use crate::threads::ports::Manner;
+use crate::threads::rings::{is_legal, resets_ring};
+use coord_disk::Disk;
+use coord_engine::{CloseFault, Closed, Engine, Origin, Share};
+use coord_ledger::{Ledger, Note};
+use coord_store::Store;
+use coord_types::Step;
+use std::alloc::Global;
+use std::marker::Brand;
+use std::process::Abort;
+use std::sync::Wait;
+use std::sync::atomic::AtomicBool;
+use std::sync::ledger::Blank;
+use std::thread::Threads;
+use std::time::Clock;
+
+/// What is done with a new engine.
+#[derive(Clone, Copy)]
+pub(crate) enum Doing<'a> {
+    GivesAll,
+    HandsEach,
+    FlushesAll,
+    KeepsAll,
+    SettlesOne,
+    CallTwice,
+    AcceptsInSync(&'a AtomicBool, &'a AtomicBool),
+    WaitsOnce,
+    ResetsRing(Manner),
+}
+
+// Does it. It gives all shares of the engine.
+fn done<D: Disk + Send, L: Origin + Send + Sync, R: Threads + Wait + Clock + Sync + Abort>(
+    rt: &R,
+    alloc: Global,
+    engine: &Engine<D, L>,
+    doing: Doing<'_>,
+) -> Vec<Share<L>> {
+    match doing {
+        Doing::GivesAll => gives_all(rt, alloc, engine),
+        Doing::HandsEach => hands_each(rt, alloc, engine),
+        Doing::FlushesAll => flushes_all(rt, alloc, engine),
+        Doing::KeepsAll => keeps_all(rt, alloc, engine),
+        Doing::SettlesOne => settles_one(rt, alloc, engine),
+        Doing::CallTwice => call_twice(rt, alloc, engine),
+        Doing::AcceptsInSync(entered, answered) => {
+            accepts_in_sync(rt, alloc, engine, entered, answered)
+        }
+        Doing::WaitsOnce => waits_once(rt, alloc, engine),
+        Doing::ResetsRing(manner) => resets_ring(rt, alloc, engine, manner),
+    }
+}
+
+// What is left of the engine is right, which closed with shares of these notes.
+fn is_left<D: Disk, R: Abort>(rt: &R, doing: Doing<'_>, notes: &[Note], closed: &Closed<D>) {
+    match doing {
+        Doing::KeepsAll => has_kept_all(rt, closed),
+        Doing::CallTwice => is_history(rt, notes, closed),
+        Doing::ResetsRing(_) => is_legal(rt, closed),
+        _ => {}
+    }
+}
+
+// A ledger over a store that is made on this device, with these steps pending.
+fn made_with<D: Disk, R: Abort>(rt: &R, alloc: Global, disk: D, steps: &[Step]) -> Ledger<D> {
+    let store = Store::create(alloc, disk, 32_768, 1).map_err(|(fault, _disk)| fault);
+    let store = store.expect(rt, "no store");
+    assert!(rt; !store.stopped());
+    let ledger = Ledger::adopt(alloc, store).map_err(|(fault, _store)| fault);
+    let mut ledger = ledger.expect(rt, "no ledger");
+    for step in steps {
+        ledger.submit(*step).expect(rt, "refused").forget();
+    }
+    ledger
+}
+
+// The notes of all shares.
+fn notes_of<L: Origin, R: Abort>(rt: &R, alloc: Global, shares: &[Share<L>]) -> Vec<Note> {
+    let mut notes = Vec::new(alloc);
+    for share in shares {
+        let more = share.notes();
+        notes.extend_from_slice(more).expect(rt, "no memory");
+    }
+    notes
+}
+
+// What is left of an engine that closes with these shares, and not without the last one.
+fn closed<D: Disk, L: Origin, R: Abort>(
+    rt: &R,
+    engine: Engine<D, L>,
+    mut shares: Vec<Share<L>>,
+) -> Closed<D>
+    requires { L.parts ≡ 65536 }
+{
+    let Some(last) = shares.pop() else {
+        return engine.close(shares).ok().expect(rt, "no close");
+    };
+    match engine.close(shares) {
+        Err((CloseFault::SharesMissing, engine, mut shares)) => {
+            shares.push(last).expect(rt, "no memory");
+            engine.close(shares).ok().expect(rt, "no close")
+        }
+        _ => panic!(rt; "it closes without the last share"),
+    }
+}
+
+fn done_over<D: Disk + Send, L: Origin + Send + Sync, R: Threads + Wait + Clock + Sync + Abort>(
+    rt: &R,
+    alloc: Global,
+    blank: Blank,
+    ledger: Ledger<D>,
+    doing: Doing<'_>,
+)
+    requires name { blank.name ≡ L.name }
+    requires parts { (blank.parts ≡ L.parts) × (L.parts ≡ 65536) }
+    requires base { ledger.log.base ≡ L.base }
+    requires before { ledger.log.trail ≡ L.before }
+{
+    assert!(rt; !ledger.is_out());
+    let engine: Engine<D, L> = Engine::new(alloc, blank, ledger);
+    let shares = done(rt, alloc, &engine, doing);
+    let notes = notes_of(rt, alloc, &shares);
+    let closed = closed(rt, engine, shares);
+    is_left(rt, doing, &notes, &closed);
+    drop(closed);
+    drop(notes);
+}
+
+/// Does it with an engine over a store that is made on this device, with these steps pending. The engine
+/// then closes with all its shares, and not without the last one.
+pub(crate) fn does<D: Disk + Send, R: Threads + Wait + Clock + Sync + Abort>(
+    rt: &R,
+    alloc: Global,
+    disk: D,
+    steps: &[Step],
+    doing: Doing<'_>,
+) {
+    let ledger = made_with(rt, alloc, disk, steps);
+    done_over::<D, Brand, R>(rt, alloc, Blank::new(65536), ledger, doing);
+}
