@@ -1,16 +1,23 @@
 """Clients that come in great numbers, that leave too early, or half."""
 
 import os
+import signal
 import socket
 import threading
 
 from support import preloaded
-from support.case import Case
+from support.case import Case, until
 from support.serving import Serving
 from support.stores import ring, topology
 
 RESENT = {"count": 0, "kind": "resent"}
 GONE_AT_ONCE = b"\1\0\0\0\0\0\0\0"  # of SO_LINGER: a close resets the connection
+
+
+def state_of(process):
+    """The letter of a process's state; T of one that is stopped."""
+    with open(f"/proc/{process}/stat", encoding="ascii") as file:
+        return file.read().rsplit(")", 1)[1].split()[0]
 
 
 class Connections(Case):
@@ -40,14 +47,27 @@ class Connections(Case):
         told = [line.split()[2] for line in self.read("calls").decode().splitlines() if line.startswith("at-once ")]
         self.assertEqual(told, ["1"] * 3)
 
-    def test_answers_whose_writing_is_interrupted(self):
-        """As a stop of the process does. Also those that go out byte by byte come whole, and once."""
+    def test_reads_and_writes_that_are_interrupted(self):
+        """As a stop of the process does. Also answers that go out byte by byte come whole, and once."""
         self.needs("a C compiler", preloaded.has_compiler())
         environment = preloaded.environment(self.folder, INTERRUPTS=1, PIECE=1)
         with Serving(self.made(ring(64)), env=environment) as server, server.connect() as connection:
             for _ in range(3):
                 connection.send({"op": "resend"}, {"op": "show"})
                 self.assertEqual((connection.reply(), len(connection.reply()["links"])), (RESENT, 64))
+            connection.socket.close()
+            self.assertEqual(server.close().status, 0)
+
+    def test_a_server_that_is_stopped_and_goes_on(self):
+        """A wait for a line, and for the rest of one, goes on too."""
+        with self.serving() as server, server.connect() as connection:
+            for _ in range(10):
+                for part in (b'{"op":', b'"resend"}\n'):
+                    server.process.send_signal(signal.SIGSTOP)
+                    until("a stop", lambda: state_of(server.process.pid) == "T")
+                    server.process.send_signal(signal.SIGCONT)
+                    connection.send(part)
+                self.assertEqual(connection.reply(), RESENT)
             connection.socket.close()
             self.assertEqual(server.close().status, 0)
 

@@ -209,6 +209,26 @@ class Patience(Case):
                     self.clock(begun + CONNECTION)
                     self.assertLessEqual(self.served_to_the_end(connection), 1)
 
+    def test_waits_that_are_interrupted(self):
+        """Again and again, as by stops of the process. Each goes on, and by a clock that is put forward as long as it may."""
+        self.needs("a C compiler", preloaded.has_compiler())
+        with self.serving(env=preloaded.environment(self.folder, CLOCK=self.clock(0), STOPS=1)) as server:
+            for begun, part, most in ((0, b"", SILENCE), (1_000, b'{"op":', LINE)):
+                self.clock(begun)
+                with server.connect() as connection:
+                    self.expect_served(connection, lines=2)
+                    connection.send(part)
+                    self.clock(begun + most - 5)
+                    self.expect_nothing(connection)
+                    self.clock(begun + most)
+                    self.assertEqual(await_end(connection), b"")
+
+    def expect_nothing(self, connection):
+        """For some time the server neither says anything nor ends the connection."""
+        connection.socket.settimeout(0.5)
+        with self.assertRaises(TimeoutError):
+            connection.socket.recv(1)
+
     def clock(self, ahead):
         """Puts the server's clock ahead by so many seconds, and answers its file."""
         with open(self.path("clock"), "r+b" if os.path.exists(self.path("clock")) else "wb") as file:

@@ -97,13 +97,14 @@ static int synced(int number, int file) {
 }
 int fsync(int file) { return synced(SYS_fsync, file); }
 int fdatasync(int file) { return synced(SYS_fdatasync, file); }
-// With INTERRUPTS every other call that sends is interrupted, and has sent nothing.
+static int interrupted(void) {
+    errno = EINTR;
+    return -1;
+}
+// With INTERRUPTS every other call that sends or receives is interrupted, and has moved nothing.
 ssize_t send(int socket, const void *bytes, size_t count, int flags) {
     static long sends;
-    if (setting("INTERRUPTS") && ++sends % 2) {
-        errno = EINTR;
-        return -1;
-    }
+    if (setting("INTERRUPTS") && ++sends % 2) return interrupted();
     note("out", socket, 0, bytes, piece(count));
     return syscall(SYS_sendto, socket, bytes, piece(count), flags, 0, 0);
 }
@@ -145,8 +146,16 @@ int pthread_create(pthread_t *thread, const pthread_attr_t *how, void *(*run)(vo
     return ++threads == setting("THREAD_FAILS") ? EAGAIN : usual(thread, how, run, given);
 }
 ssize_t read(int file, void *buffer, size_t count) { return syscall(SYS_read, file, buffer, piece(count)); }
+// With STOPS each wait for what comes is interrupted after 10 ms.
 ssize_t recv(int socket, void *buffer, size_t count, int flags) {
-    return syscall(SYS_recvfrom, socket, buffer, piece(count), flags, 0, 0);
+    static long receives;
+    if (flags & MSG_PEEK) return syscall(SYS_recvfrom, socket, buffer, count, flags, 0, 0);
+    if (setting("INTERRUPTS") && ++receives % 2) return interrupted();
+    if (!setting("STOPS")) return syscall(SYS_recvfrom, socket, buffer, piece(count), flags, 0, 0);
+    ssize_t received = syscall(SYS_recvfrom, socket, buffer, piece(count), flags | MSG_DONTWAIT, 0, 0);
+    if (received >= 0 || errno != EAGAIN) return received;
+    usleep(10000);
+    return interrupted();
 }
 """
 

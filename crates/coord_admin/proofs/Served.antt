@@ -14,20 +14,20 @@ module _ {D : Type 0} (answers : D → Request → Answer → D → Type 0) wher
   served_on [] c d f e all s unclosed = (e, subst (λ x. IsServed answers x c e) all s, unclosed, refl)
   served_on (first ∷ cs) c d f e all s unclosed = (all.0, all.1, all.2, served_on cs c all.0 f e all.3 s unclosed)
 
-  module _ {V : Type 0} (met : V → List Talk → V → Type 0) (turn : (a b c : V) (some more : List Talk) → met a some b → met b more c → met a (some ++ more) c) where
+  module _ {V : Type 0} (talked : V → List Talk → V → Type 0) (turn : (a b c : V) (some more : List Talk) → talked a some b → talked b more c → talked a (some ++ more) c) where
     -- no one more has ended
-    pub met_still : (v w x : V) (ts : List Talk) → met v ts w → met w [] x → met v ts x
-    met_still v w x ts first second = subst (λ l. met v l x) (append-nil ts) (turn v w x ts [] first second)
+    pub talked_still : (v w x : V) (ts : List Talk) → talked v ts w → talked w [] x → talked v ts x
+    talked_still v w x ts first second = subst (λ l. talked v l x) (append-nil ts) (turn v w x ts [] first second)
 
     -- one more has ended
-    pub met_on : (v w x y : V) (cs : List Connection) (c : Connection) → met v (talks cs) w → met w [] x → met x (c.talk ∷ []) y → met v (talks (cs ++ c ∷ [])) y
-    met_on v w x y cs c first second third = subst (λ l. met v l y) (sym (talks_on cs c)) (turn v x y (talks cs) (c.talk ∷ []) (met_still v w x (talks cs) first second) third)
+    pub talked_on : (v w x y : V) (cs : List Connection) (c : Connection) → talked v (talks cs) w → talked w [] x → talked x (c.talk ∷ []) y → talked v (talks (cs ++ c ∷ [])) y
+    talked_on v w x y cs c first second third = subst (λ l. talked v l y) (sym (talks_on cs c)) (turn v x y (talks cs) (c.talk ∷ []) (talked_still v w x (talks cs) first second) third)
 
-    pub open_still : (v w x : V) (d f : D) → ServedOpen answers met v d w f → met w [] x → ServedOpen answers met v d x f
-    open_still v w x d f o still = (o.0, met_still v w x (talks o.0) o.1 still, o.2)
+    pub open_still : (v w x : V) (d f : D) → ServedOpen answers talked v d w f → talked w [] x → ServedOpen answers talked v d x f
+    open_still v w x d f o still = (o.0, talked_still v w x (talks o.0) o.1 still, o.2)
 
-    pub open_on : (v w x y : V) (d f e : D) (c : Connection) → ServedOpen answers met v d w f → met w [] x → met x (c.talk ∷ []) y → IsServed answers f c e → has_closed c.ended ≡ false → ServedOpen answers met v d y e
-    open_on v w x y d f e c o still now served unclosed = (o.0 ++ c ∷ [], met_on v w x y o.0 c o.1 still now, served_on o.0 c d f e o.2 served unclosed)
+    pub open_on : (v w x y : V) (d f e : D) (c : Connection) → ServedOpen answers talked v d w f → talked w [] x → talked x (c.talk ∷ []) y → IsServed answers f c e → has_closed c.ended ≡ false → ServedOpen answers talked v d y e
+    open_on v w x y d f e c o still now served unclosed = (o.0 ++ c ∷ [], talked_on v w x y o.0 c o.1 still now, served_on o.0 c d f e o.2 served unclosed)
 
-    pub closed_on : (v w x y : V) (d f e : D) (c : Connection) → ServedOpen answers met v d w f → met w [] x → met x (c.talk ∷ []) y → IsServed answers f c e → has_closed c.ended ≡ true → ServedToClose answers met v d y e
-    closed_on v w x y d f e c o still now served closed = (o.0, c, f, met_on v w x y o.0 c o.1 still now, o.2, served, closed)
+    pub closed_on : (v w x y : V) (d f e : D) (c : Connection) → ServedOpen answers talked v d w f → talked w [] x → talked x (c.talk ∷ []) y → IsServed answers f c e → has_closed c.ended ≡ true → ServedToClose answers talked v d y e
+    closed_on v w x y d f e c o still now served closed = (o.0, c, f, talked_on v w x y o.0 c o.1 still now, o.2, served, closed)

@@ -37,12 +37,12 @@ module _ {D : Type 0} (answers : D → Request → Answer → D → Type 0) wher
   AllServed d [] e = e ≡ d
   AllServed d (c ∷ cs) e = (f : D) × IsServed d c f × (has_closed c.ended ≡ false) × AllServed f cs e
 
-  -- `met v talks w`: those who call were v, had these talks, and then are w
-  module _ {V : Type 0} (met : V → List Talk → V → Type 0) where
-    -- the connections that were met, the last of which closed the desk
+  -- `talked v talks w`: those who call were v, had these talks, and then are w
+  module _ {V : Type 0} (talked : V → List Talk → V → Type 0) where
+    -- the connections that there were, the last of which closed the desk
     abbrev pub ServedToClose : V → D → V → D → Type 0
-    ServedToClose v d w e = (cs : List Connection) × (last : Connection) × (f : D) × met v (talks (cs ++ last ∷ [])) w × AllServed d cs f × IsServed f last e × (has_closed last.ended ≡ true)
+    ServedToClose v d w e = (cs : List Connection) × (last : Connection) × (f : D) × talked v (talks (cs ++ last ∷ [])) w × AllServed d cs f × IsServed f last e × (has_closed last.ended ≡ true)
 
-    -- the connections that were met, none of which closed the desk
+    -- the connections that there were, none of which closed the desk
     abbrev pub ServedOpen : V → D → V → D → Type 0
-    ServedOpen v d w e = (cs : List Connection) × met v (talks cs) w × AllServed d cs e
+    ServedOpen v d w e = (cs : List Connection) × talked v (talks cs) w × AllServed d cs e

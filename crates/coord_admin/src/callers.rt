@@ -18,7 +18,7 @@ pub trait Callers {
     type Line: Duplex + Drop;
 
     /// Between two states of it these connections have ended, in order.
-    ghost met: { Self → List Talk → Self → Type 0 };
+    ghost talked: { Self → List Talk → Self → Type 0 };
 
     /// Nothing has come in or gone out over a connection yet.
     ghost begins: { Self.Line → Type 0 };
@@ -36,20 +36,20 @@ pub trait Callers {
     fn next(&mut self) -> io::Result<Self::Line>
         ensures begun { IfOk result begins }
         ensures failed { OnErr result (failed self.old self.new) }
-        ensures none_ended { met self.old [] self.new };
+        ensures none_ended { talked self.old [] self.new };
 
     /// Ends a connection. If it was ended from here, by a close or a cut, its client is first given
     /// time to read the last answer.
     fn end(&mut self, line: Self::Line, ends_here: bool)
         ensures ended { ended self.old line ends_here self.new }
-        ensures met { (first : Self.Line) (bytes_read bytes_written : List ℕ) → begins first →
+        ensures talked { (first : Self.Line) (bytes_read bytes_written : List ℕ) → begins first →
             Self.Line.exchanged first bytes_read bytes_written line →
-            met self.old (record { bytes_read = bytes_read; bytes_written = bytes_written } ∷ []) self.new };
+            talked self.old (record { bytes_read = bytes_read; bytes_written = bytes_written } ∷ []) self.new };
 
-    ghost at_rest: { (a : Self) → met a [] a };
+    ghost at_rest: { (a : Self) → talked a [] a };
 
-    ghost in_turn: { (a b c : Self) (some more : List Talk) → met a some b → met b more c →
-        met a (some ++ more) c };
+    ghost in_turn: { (a b c : Self) (some more : List Talk) → talked a some b → talked b more c →
+        talked a (some ++ more) c };
 }
 
 /// The connections that a listener accepts, each with a bound on how long its client is waited for.
@@ -85,7 +85,7 @@ impl<'a, S: Read + Write + OpenStream + Drop, L: OpenListener<Stream = S>, T: Cl
     for Accepted<'a, L, T> {
     type Line = TimedStream<'a, S, T>;
 
-    ghost met = { λ _ _ _. ⊤ };
+    ghost talked = { λ _ _ _. ⊤ };
 
     ghost begins = { λ _. ⊤ };
 

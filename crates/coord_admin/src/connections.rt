@@ -36,14 +36,14 @@ pub fn serve_connections<C: Callers, D: Desk, R: Wait>(
     callers: &mut C,
     desk: &mut D,
 ) -> io::Result<Stop>
-    ensures closed { result ≡ Ok StopAs.Closed → ServedToClose D.answers C.met callers.old desk.old
+    ensures closed { result ≡ Ok StopAs.Closed → ServedToClose D.answers C.talked callers.old desk.old
         callers.new desk.new }
-    ensures old { result ≡ Ok StopAs.Old → ServedOpen D.answers C.met callers.old desk.old
+    ensures old { result ≡ Ok StopAs.Old → ServedOpen D.answers C.talked callers.old desk.old
         callers.new desk.new × HasKept D.keeps desk.new most }
-    ensures failed { OnErr result ((last : C) × ServedOpen D.answers C.met callers.old desk.old last
+    ensures failed { OnErr result ((last : C) × ServedOpen D.answers C.talked callers.old desk.old last
         desk.new × C.failed last callers.new) }
     ensures open { OnErr result
-        (ServedOpen D.answers C.met callers.old desk.old callers.new desk.new) }
+        (ServedOpen D.answers C.talked callers.old desk.old callers.new desk.new) }
 {
     for _ in rt.forever() {
         let mut line = match next_in_life(most, callers, desk)? {
@@ -62,9 +62,9 @@ pub fn serve_connections<C: Callers, D: Desk, R: Wait>(
 /// Ends a connection that ended so for `serve`.
 fn end<C: Callers>(callers: &mut C, line: C::Line, ended: Result<Ended, ServeFault>)
     ensures ended { C.ended callers.old line (ends_here ended) callers.new }
-    ensures met { (first : C.Line) (bytes_read bytes_written : List ℕ) → C.begins first →
+    ensures talked { (first : C.Line) (bytes_read bytes_written : List ℕ) → C.begins first →
         C.Line.exchanged first bytes_read bytes_written line →
-        C.met callers.old (record { bytes_read = bytes_read; bytes_written = bytes_written } ∷ []) callers.new }
+        C.talked callers.old (record { bytes_read = bytes_read; bytes_written = bytes_written } ∷ []) callers.new }
 {
     callers.end(line, ends_here(ended));
 }

@@ -43,7 +43,7 @@ pub fn next_in_life<C: Callers, D: Desk>(
         HasKeptFewer D.keeps desk.now most)) }
     ensures old { IfOk result (λ next. IfNone next (HasKept D.keeps desk.now most)) }
     ensures failed { OnErr result (C.failed callers.old callers.new) }
-    ensures none_ended { C.met callers.old [] callers.new }
+    ensures none_ended { C.talked callers.old [] callers.new }
 {
     match age_of(most, desk.kept()) {
         Age::Young => match callers.next() {

@@ -1,6 +1,6 @@
 //! A connection over a socket, with bounds on how long its client is waited for.
 
-ghost use Rattle.std.specs.Prelude.{⊤};
+ghost use Rattle.std.specs.Prelude.{◌≡◌, ◌≤◌, ⊤, length, IfOk};
 
 use crate::duplex::{Duplex, NotRead, NotWritten};
 use crate::patience::{DISCARD_READS, Patience};
@@ -11,6 +11,9 @@ use std::time::{Clock, Duration, Instant};
 
 /// The most calls of `write` for one reply.
 const MOST_WRITES: u64 = 1_048_576;
+
+/// The most calls of `read` for one wait.
+const MOST_READS: u64 = 1_048_576;
 
 /// A stream whose reads and writes wait no longer than its patience allows. No clause can say which
 /// bytes a socket gives and takes: so whoever reads and writes through it is generic over
@@ -32,6 +35,38 @@ fn left<T: Clock>(clock: &T, start: Instant, span: Duration) -> Option<Duration>
         Some(left) if !left.is_zero() => Some(left),
         _ => None,
     }
+}
+
+/// Reads what comes within a span of time. A wait that is interrupted, as by a stop of the process,
+/// goes on for what is left of the span.
+fn read_within<S: Read + OpenStream, T: Clock>(
+    clock: &T,
+    stream: &mut S,
+    buffer: &mut [u8],
+    span: Duration,
+) -> Result<usize, NotRead>
+    ensures fits { IfOk result (λ n. n ≤ length buffer.new) }
+    ensures length { length buffer.new ≡ length buffer.old }
+{
+    let Ok(start) = Instant::now(clock) else {
+        return Err(NotRead);
+    };
+    let mut wait = span;
+    for _ in 0..MOST_READS {
+        if stream.set_read_timeout(Some(wait)).is_err() {
+            return Err(NotRead);
+        }
+        match stream.read(buffer) {
+            Ok(count) => return Ok(count),
+            Err(error) if error.kind() == ErrorKind::Interrupted => {}
+            Err(_) => return Err(NotRead),
+        }
+        wait = match left(clock, start, span) {
+            Some(wait) => wait,
+            None => return Err(NotRead),
+        };
+    }
+    Err(NotRead)
 }
 
 impl<'a, S: Read + Write + OpenStream + Drop, T: Clock> TimedStream<'a, S, T> {
@@ -82,11 +117,8 @@ impl<'a, S: Read + Write + OpenStream + Drop, T: Clock> TimedStream<'a, S, T> {
             let Some(wait) = left(self.clock, start, self.patience.discard) else {
                 return;
             };
-            if self.stream.set_read_timeout(Some(wait)).is_err() {
-                return;
-            }
-            match self.stream.read(&mut buffer) {
-                Ok(0) | Err(_) => return,
+            match read_within(self.clock, &mut self.stream, &mut buffer, wait) {
+                Ok(0) | Err(NotRead) => return,
                 Ok(_) => {}
             }
         }
@@ -99,15 +131,9 @@ impl<'a, S: Read + Write + OpenStream + Drop, T: Clock> Duplex for TimedStream<'
     ghost has_ended = { λ _. ⊤ };
 
     fn receive(&mut self, buffer: &mut [u8], is_within_line: bool) -> Result<usize, NotRead> {
-        let Some(wait) = self.waits(is_within_line) else {
-            return Err(NotRead);
-        };
-        if self.stream.set_read_timeout(Some(wait)).is_err() {
-            return Err(NotRead);
-        }
-        match self.stream.read(buffer) {
-            Ok(count) => Ok(count),
-            Err(_) => Err(NotRead),
+        match self.waits(is_within_line) {
+            Some(wait) => read_within(self.clock, &mut self.stream, buffer, wait),
+            None => Err(NotRead),
         }
     }
 

@@ -81,11 +81,11 @@ pub going_on : {D : Type 0} (kept : Kept D) → kept.torn ≡ None → has_stopp
 going_on kept going is = none_is_not kept.torn going is
 
 -- a disk is put back: where what it holds then is known, it is what the disk held
-closed : (Q : Option Present → Type 0) (known after : Option Present) → (Q known → Q None) → IfSome after (λ disk. known ≡ Some disk) → Q known → Q after
+pub closed : (Q : Option Present → Type 0) (known after : Option Present) → (Q known → Q None) → IfSome after (λ disk. known ≡ Some disk) → Q known → Q after
 closed Q known None less is held = less held
 closed Q known (Some disk) less is held = subst Q is held
 
-unread : (before : Option Present) → ReadsAsBefore before None
+pub unread : (before : Option Present) → ReadsAsBefore before None
 unread None = tt
 unread (Some disk) = tt
 

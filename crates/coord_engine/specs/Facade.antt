@@ -1,6 +1,6 @@
 -- The definitions in which the proofs and the crates above speak of this crate.
 pub use Rattle.coord_engine.specs.Calls.{AnswersStep, CollectsAs, IsTold, LedgerAndNotes, RefusesTicket, engine_verdict, note_of}
-pub use Rattle.coord_engine.specs.Closing.{IsSince}
+pub use Rattle.coord_engine.specs.Closing.{IsSince, RefusesClosing}
 pub use Rattle.coord_engine.specs.Flights.{AnswersBegin, AnswersFlush, Begins, ComesBack, Commits, RefusesFlush}
 pub use Rattle.coord_engine.specs.Named.{AreNoted, IsNamed, all_notes, notes_of}
 pub use Rattle.coord_engine.specs.Port.{AreAsked, IsAsked, deliveries_of, delivery_of, step_of}

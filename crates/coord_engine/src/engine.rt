@@ -10,6 +10,7 @@ ghost use Rattle.coord_engine.specs.Flights.{AnswersBegin, AnswersFlush, ComesBa
 ghost use Rattle.coord_engine.specs.State.{based_on, most_shares};
 ghost use Rattle.coord_engine.specs.Threads.{AnswersShow, AnswersTicket, AtSomeMoment, Closes, SendsAgain, Submits};
 
+use crate::flushing::rest;
 use crate::{CloseFault, Closed, Collected, Guarded, Origin, Share};
 use coord_disk::Disk;
 use coord_ledger::{Flight, Ledger, Releases, Seen, Ticket};
@@ -19,7 +20,7 @@ use coord_view::View;
 use std::alloc::{AllocError, Global};
 use std::sync::ledger::Blank;
 use std::sync::{Condvar, Mutex, MutexGuard, Wait};
-use std::thread;
+use std::time::Clock;
 
 /// Commits a flight.
 fn commit<D: Disk>(flight: &mut Flight<D>) -> Result<(), CommitFault>
@@ -28,9 +29,9 @@ fn commit<D: Disk>(flight: &mut Flight<D>) -> Result<(), CommitFault>
     flight.commit()
 }
 
-/// What is told of a flight that was committed with this answer, and then gave these releases as it
-/// came back: a flight that was not settled releases nothing.
-fn told(
+/// What a flush answers whose flight was committed with this answer, and then gave these releases as
+/// it came back: a flight that was not settled releases nothing.
+fn answer_of(
     committed: Result<(), CommitFault>,
     releases: Releases,
 ) -> Result<Option<Releases>, CommitFault>
@@ -134,9 +135,9 @@ impl<D: Disk, L: Origin> Engine<D, L> {
     pub fn collect<R: Wait>(&self, rt: &R, ticket: Ticket) -> Result<Reply, (Refusal, Ticket)>
         ensures { AnswersTicket (based_on D.model.keeps_model D.model.present L.base L.before) ticket result }
     {
-        let (guarded, told) = self.lock_to_tell(rt, ticket);
+        let (guarded, answer) = self.lock_to_tell(rt, ticket);
         guarded.keeps();
-        told
+        answer
     }
 
     /// Waits until there is something to tell to a ticket, and takes the lock then. What is told is
@@ -200,7 +201,7 @@ impl<D: Disk, L: Origin> Engine<D, L> {
     /// None where nothing is pending, a flight is out or the ledger has stopped.
     ///
     /// After `OutOfMemory` it may be tried again; after `Device` the ledger has stopped.
-    pub fn flush_once<R: Wait>(&self, rt: &R) -> Result<Option<Releases>, CommitFault>
+    pub fn flush_once<R: Wait + Clock>(&self, rt: &R) -> Result<Option<Releases>, CommitFault>
         ensures { AnswersFlush (based_on D.model.keeps_model D.model.present L.base L.before) D.model.failures result }
     {
         let mut flight = match self.begin(rt) {
@@ -211,7 +212,7 @@ impl<D: Disk, L: Origin> Engine<D, L> {
         let committed = commit(&mut flight);
         let releases = self.end(rt, flight);
         self.wake_all();
-        told(committed, releases)
+        answer_of(committed, releases)
     }
 
     /// Wakes all that wait, for replies or for steps.
@@ -230,8 +231,8 @@ impl<D: Disk, L: Origin> Engine<D, L> {
         guarded.begin()
     }
 
-    /// Takes a flight back. Where it is refused, for memory, it is tried again.
-    pub(crate) fn end<R: Wait>(&self, rt: &R, flight: Flight<D>) -> Releases
+    /// Takes a flight back. Where it is refused, for memory, it is tried again behind a rest.
+    pub(crate) fn end<R: Wait + Clock>(&self, rt: &R, flight: Flight<D>) -> Releases
         ensures released { result ≡ releases_in flight flight.mark }
         ensures back { AtSomeMoment (based_on D.model.keeps_model D.model.present L.base L.before)
             (ComesBack flight) }
@@ -248,7 +249,7 @@ impl<D: Disk, L: Origin> Engine<D, L> {
                 Err((_, back)) => out = back,
             }
             drop(guarded);
-            thread::yield_now();
+            rest(rt);
         }
         unreachable!()
     }

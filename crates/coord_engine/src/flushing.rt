@@ -29,6 +29,11 @@ const CALLERS_PART: u32 = 16;
 /// How many milliseconds a flusher that found no memory waits before it tries again.
 const REST: u64 = 1;
 
+/// Waits so long.
+pub(crate) fn rest<R: Clock>(rt: &R) {
+    thread::sleep(rt, Duration::from_millis(REST));
+}
+
 /// How long to wait for callers after a flight that left at `start`; not at all if no clock can be
 /// read.
 fn patience_since<R: Clock>(rt: &R, start: io::Result<Instant>) -> Duration {
@@ -176,7 +181,7 @@ impl Pace {
     fn rest<R: Clock>(&mut self, rt: &R)
         ensures { self.new.rest_is_due ≡ false }
     {
-        thread::sleep(rt, Duration::from_millis(REST));
+        rest(rt);
         self.rest_is_due = false;
     }
 }

@@ -14,8 +14,8 @@ use Rattle.coord_world.specs.protocol.NumberedWorld.{World}
 use Rattle.coord_admin.specs.Connections.{Talk}
 use Rattle.coord_admin.specs.LifeLimit.{HasKept as KeepsSteps}
 use Rattle.coord_server.specs.EngineDesk.{DeskKeeps, DeskState}
-use Rattle.coord_server.specs.Ending.{AddsWorkers, HasKept, HasRun, IsLife, IsOneHistory, IsServedToClose, Serves, ServesLife, fault_at_end}
-use Rattle.coord_server.specs.Lives.{HasLived, HasLivedToClose, IsOver, Lives, Rests, life_steps, met_any}
+use Rattle.coord_server.specs.Ending.{AddsWorkers, HasKept, HasRun, IsLife, IsNotClosed, IsOneHistory, IsServedToClose, LeavesNothing, Serves, ServesLife, fault_at_end}
+use Rattle.coord_server.specs.Lives.{HasLived, HasLivedToClose, IsOver, Lives, Rests, life_steps, talked_any}
 use Rattle.coord_server.specs.declared.fault.ServerFault.{ServerFault}
 use Rattle.coord_server.specs.declared.fault.ServerFault.TheVariants as fault
 use Rattle.coord_server.specs.declared.life.Life.{Life}
@@ -46,38 +46,47 @@ one_history {D} b own shares left none added since closed =
       closed = subst (λ l. AtSomeMoment b (Closes {D = D} left.store left.base left.trail.items left.settled l)) added.1 closed;
     }
 
+-- of an engine that was not taken apart nothing is left
+pub nothing_left : {D : Type 0} (keeps_model : D → Bool) (present : D → Present) (world : World) (before : List Step) (shares : List (List Note)) (told : ServerFault) → before ≡ [] → length shares ≡ 9
+    → IsNotClosed (based_on keeps_model present world before) shares told → LeavesNothing keeps_model present told
+nothing_left keeps_model present world before shares fault.OutOfMemory none all is = tt
+nothing_left keeps_model present world before shares fault.Socket none all is = absurd is
+nothing_left keeps_model present world before shares fault.Device none all is = absurd is
+nothing_left keeps_model present world before shares fault.Write none all is = absurd is
+nothing_left keeps_model present world before shares (fault.NotClosed why) none all is = (world, shares, all, subst (λ l. IsNotClosed (based_on keeps_model present world l) shares (fault.NotClosed why)) none is)
+
 -- an engine of which a desk tells so many steps has kept them
 pub kept_most : {D : Type 0} (b : Basis D) (desk : DeskState) (most : ℕ) → KeepsSteps (DeskKeeps b) desk most → HasKept b most
 kept_most b desk most (kept, moment, enough) = record { state = moment.state; held = moment.held; so = omega (arith, moment.so, enough) }
 
-module _ {D : Type 0} (b : Basis D) {V : Type 0} (met : V → List Talk → V → Type 0) (failed : V → V → Type 0) (most : ℕ) where
-  closed_if_none : (stopped : Bool) (served : Option ServerFault) (is_broken : Bool) (v w : V) (desk : DeskState) → fault_at_end stopped served is_broken ≡ None → Serves b met failed most v w desk served → IsServedToClose b desk
+module _ {D : Type 0} (b : Basis D) {V : Type 0} (talked : V → List Talk → V → Type 0) (failed : V → V → Type 0) (most : ℕ) where
+  closed_if_none : (stopped : Bool) (served : Option ServerFault) (is_broken : Bool) (v w : V) (desk : DeskState) → fault_at_end stopped served is_broken ≡ None → Serves b talked failed most v w desk served → IsServedToClose b desk
   closed_if_none false None false v w desk none s = (s.0, s.1, s.2, tt, s.4, s.5, s.6)
   closed_if_none false None true v w desk none s = absurd cc
-  closed_if_none false (Some met_fault) is_broken v w desk none s = absurd cc
+  closed_if_none false (Some why) is_broken v w desk none s = absurd cc
   closed_if_none true served is_broken v w desk none s = absurd cc
 
   -- the desk's notes, in the share that it gave back
-  pub serves_with : (v w : V) (desk : DeskState) (left : LifeEnd) (notes : List Note) → ServesLife b met failed most v w desk left → notes ≡ desk.notes → (seen : ℕ) × ServesLife b met failed most v w (record { notes = notes; seen = seen }) left
-  serves_with v w desk left notes s same = (desk.seen, subst (λ n. ServesLife b met failed most v w (record { notes = n; seen = desk.seen }) left) (sym same) s)
+  pub serves_with : (v w : V) (desk : DeskState) (left : LifeEnd) (notes : List Note) → ServesLife b talked failed most v w desk left → notes ≡ desk.notes → (seen : ℕ) × ServesLife b talked failed most v w (record { notes = notes; seen = seen }) left
+  serves_with v w desk left notes s same = (desk.seen, subst (λ n. ServesLife b talked failed most v w (record { notes = n; seen = desk.seen }) left) (sym same) s)
 
   -- the shares of the desk and of the workers, once all are back
-  pub has_run : (v w : V) (left : LifeEnd) (own : List Note) (shares : List (List Note)) → (seen : ℕ) × ServesLife b met failed most v w (record { notes = own; seen = seen }) left
-      → AddsWorkers (own ∷ []) shares → length shares ≡ 9 → HasRun b met failed most v w left shares
+  pub has_run : (v w : V) (left : LifeEnd) (own : List Note) (shares : List (List Note)) → (seen : ℕ) × ServesLife b talked failed most v w (record { notes = own; seen = seen }) left
+      → AddsWorkers (own ∷ []) shares → length shares ≡ 9 → HasRun b talked failed most v w left shares
   has_run v w left own shares s added all = record { desk = record { notes = own; seen = s.0 }; served = s.1; added = added; all = all }
 
   -- one life: how the desk went on, and what is left of the engine, which was taken apart with all shares
-  pub lived : (v u : V) (ran : LifeEnd) (shares : List (List Note)) (life : Life D V) → b.before ≡ [] → HasRun b met failed most v u ran shares
+  pub lived : (v u : V) (ran : LifeEnd) (shares : List (List Note)) (life : Life D V) → b.before ≡ [] → HasRun b talked failed most v u ran shares
       → IsSince b.base b.before shares life.closed.base life.closed.trail.items → AtSomeMoment b (Closes {D = D} life.closed.store life.closed.base life.closed.trail.items life.closed.settled shares)
-      → life.callers ≡ u → life.left ≡ ran → IsLife b met failed most v life
+      → life.callers ≡ u → life.left ≡ ran → IsLife b talked failed most v life
   lived v u ran shares life none is since closed same_w same = record {
     desk = is.desk;
-    served = subst (λ (x : V). ServesLife b met failed most v x is.desk life.left) (sym same_w) (subst (λ (l : LifeEnd). ServesLife b met failed most v u is.desk l) (sym same) is.served);
+    served = subst (λ (x : V). ServesLife b talked failed most v x is.desk life.left) (sym same_w) (subst (λ (l : LifeEnd). ServesLife b talked failed most v u is.desk l) (sym same) is.served);
     history = one_history b is.desk.notes shares life.closed none is.added since closed;
   }
 
   -- a last life that ended so
-  served_so : (v w : V) (desk : DeskState) (served : Option ServerFault) → ServesLife b met failed most v w desk (Ended served) → Serves b met failed most v w desk served
+  served_so : (v w : V) (desk : DeskState) (served : Option ServerFault) → ServesLife b talked failed most v w desk (Ended served) → Serves b talked failed most v w desk served
   served_so v w desk None s = s
   served_so v w desk (Some fault.OutOfMemory) s = s
   served_so v w desk (Some fault.Write) s = s
@@ -85,35 +94,35 @@ module _ {D : Type 0} (b : Basis D) {V : Type 0} (met : V → List Talk → V �
   served_so v w desk (Some fault.Device) s = absurd s
   served_so v w desk (Some (fault.NotClosed why)) s = s
 
-  served_at_last : (v w : V) (desk : DeskState) (left : LifeEnd) (served : Option ServerFault) → ServesLife b met failed most v w desk left → IsOver left served → Serves b met failed most v w desk served
-  served_at_last v w desk Resting served s over = subst (Serves b met failed most v w desk) (sym over) s
-  served_at_last v w desk (Ended met_fault) served s over = subst (Serves b met failed most v w desk) (sym over) (served_so v w desk met_fault s)
+  served_at_last : (v w : V) (desk : DeskState) (left : LifeEnd) (served : Option ServerFault) → ServesLife b talked failed most v w desk left → IsOver left served → Serves b talked failed most v w desk served
+  served_at_last v w desk Resting served s over = subst (Serves b talked failed most v w desk) (sym over) s
+  served_at_last v w desk (Ended why) served s over = subst (Serves b talked failed most v w desk) (sym over) (served_so v w desk why s)
 
 -- ---- lives
 
-module _ {D : Type 0} (keeps_model : D → Bool) (present : D → Present) {V : Type 0} (met : V → List Talk → V → Type 0) (failed : V → V → Type 0) (most : ℕ) where
+module _ {D : Type 0} (keeps_model : D → Bool) (present : D → Present) {V : Type 0} (talked : V → List Talk → V → Type 0) (failed : V → V → Type 0) (most : ℕ) where
   abbrev b : World → Basis D
   b world = based_on keeps_model present world []
 
-  rests : (world : World) (v : V) (life : Life D V) → life.left ≡ Resting → IsLife (b world) met failed most v life → has_stopped life.closed.store ≡ false → life.closed.settled ≡ life.closed.base.count + length life.closed.trail.items
-      → Rests keeps_model present met most world v life.callers life.closed.store.world
+  rests : (world : World) (v : V) (life : Life D V) → life.left ≡ Resting → IsLife (b world) talked failed most v life → has_stopped life.closed.store ≡ false → life.closed.settled ≡ life.closed.base.count + length life.closed.trail.items
+      → Rests keeps_model present talked most world v life.callers life.closed.store.world
   rests world v life is so going all =
-      let rested = subst (ServesLife (b world) met failed most v life.callers so.desk) is so.served in
+      let rested = subst (ServesLife (b world) talked failed most v life.callers so.desk) is so.served in
       record { desk = so.desk; left = life.closed; served = rested.0; old = rested.1; history = so.history; all_settled = all; going = going; goes_on = refl }
 
   -- one more life has rested, and the next one begins with this
-  pub lives_next : (began world : World) (v u others : V) (life : Life D V) (next : Kept D) → (n : ℕ) × Lives keeps_model present met most n began v world u → IsLife (b world) met failed most u life
+  pub lives_next : (began world : World) (v u others : V) (life : Life D V) (next : Kept D) → (n : ℕ) × Lives keeps_model present talked most n began v world u → IsLife (b world) talked failed most u life
       → life.left ≡ Resting → next ≡ life.closed.store → others ≡ life.callers → has_stopped life.closed.store ≡ false → life.closed.settled ≡ life.closed.base.count + length life.closed.trail.items
-      → ((n : ℕ) × Lives keeps_model present met most n began v next.world others) × (has_stopped next ≡ false)
+      → ((n : ℕ) × Lives keeps_model present talked most n began v next.world others) × (has_stopped next ≡ false)
   lives_next began world v u others life next lives so is same same_w going all =
-      let on : (n : ℕ) × Lives keeps_model present met most n began v life.closed.store.world life.callers = (suc lives.0, (world, u, lives.1, rests world u life is so going all)) in (
-        subst (λ x. (n : ℕ) × Lives keeps_model present met most n began v next.world x) (sym same_w) (subst (λ (k : Kept D). (n : ℕ) × Lives keeps_model present met most n began v k.world life.callers) (sym same) on),
+      let on : (n : ℕ) × Lives keeps_model present talked most n began v life.closed.store.world life.callers = (suc lives.0, (world, u, lives.1, rests world u life is so going all)) in (
+        subst (λ x. (n : ℕ) × Lives keeps_model present talked most n began v next.world x) (sym same_w) (subst (λ (k : Kept D). (n : ℕ) × Lives keeps_model present talked most n began v k.world life.callers) (sym same) on),
         subst (λ (k : Kept D). has_stopped k ≡ false) (sym same) going,
       )
 
   -- and the last one has ended
-  pub lives_end : (began world : World) (v u : V) (life : Life D V) (ended : ServerEnd D V) → (n : ℕ) × Lives keeps_model present met most n began v world u → IsLife (b world) met failed most u life
-      → IsOver life.left ended.served → ended.closed ≡ life.closed → ended.callers ≡ life.callers → HasLived keeps_model present met failed most began v ended
+  pub lives_end : (began world : World) (v u : V) (life : Life D V) (ended : ServerEnd D V) → (n : ℕ) × Lives keeps_model present talked most n began v world u → IsLife (b world) talked failed most u life
+      → IsOver life.left ended.served → ended.closed ≡ life.closed → ended.callers ≡ life.callers → HasLived keeps_model present talked failed most began v ended
   lives_end began world v u life ended lives so over same same_w = (
     lives.0,
     world,
@@ -121,14 +130,14 @@ module _ {D : Type 0} (keeps_model : D → Bool) (present : D → Present) {V : 
     lives.1,
     (
       so.desk,
-      subst (λ w. Serves (b world) met failed most u w so.desk ended.served) (sym same_w) (served_at_last (b world) met failed most u life.callers so.desk life.left ended.served so.served over),
+      subst (λ w. Serves (b world) talked failed most u w so.desk ended.served) (sym same_w) (served_at_last (b world) talked failed most u life.callers so.desk life.left ended.served so.served over),
       subst (IsOneHistory (b world) so.desk.notes) (sym same) so.history,
     ),
   )
 
-module _ {D : Type 0} (keeps_model : D → Bool) (present : D → Present) {V : Type 0} (met : V → List Talk → V → Type 0) (most : ℕ) where
+module _ {D : Type 0} (keeps_model : D → Bool) (present : D → Present) {V : Type 0} (talked : V → List Talk → V → Type 0) (most : ℕ) where
   -- whoever called
-  rested_any : (world next : World) (v w : V) → Rests keeps_model present met most world v w next → Rests keeps_model present met_any most world tt tt next
+  rested_any : (world next : World) (v w : V) → Rests keeps_model present talked most world v w next → Rests keeps_model present talked_any most world tt tt next
   rested_any world next v w r = record {
     desk = r.desk;
     left = r.left;
@@ -140,19 +149,19 @@ module _ {D : Type 0} (keeps_model : D → Bool) (present : D → Present) {V : 
     goes_on = r.goes_on;
   }
 
-  lives_any : (n : ℕ) (began next : World) (v w : V) → Lives keeps_model present met most n began v next w → Lives keeps_model present met_any most n began tt next tt
+  lives_any : (n : ℕ) (began next : World) (v w : V) → Lives keeps_model present talked most n began v next w → Lives keeps_model present talked_any most n began tt next tt
   lives_any zero began next v w is = (is.0, refl)
   lives_any (suc n) began next v w is = (is.0, tt, lives_any n began is.0 v is.1 is.2, rested_any is.0 next is.1 w is.3)
 
 -- of a server whose lives have the steps that its own have
-pub closed_lives : {D : Type 0} (keeps_model : D → Bool) (present : D → Present) {V : Type 0} (met : V → List Talk → V → Type 0) (failed : V → V → Type 0) (began : World) (v : V) (ended : ServerEnd D V)
-    → fault_at_end (has_stopped ended.closed.store) ended.served ended.is_broken ≡ None → HasLived keeps_model present met failed life_steps began v ended → HasLivedToClose keeps_model present began ended.closed
-closed_lives keeps_model present met failed began v ended none is =
+pub closed_lives : {D : Type 0} (keeps_model : D → Bool) (present : D → Present) {V : Type 0} (talked : V → List Talk → V → Type 0) (failed : V → V → Type 0) (began : World) (v : V) (ended : ServerEnd D V)
+    → fault_at_end (has_stopped ended.closed.store) ended.served ended.is_broken ≡ None → HasLived keeps_model present talked failed life_steps began v ended → HasLivedToClose keeps_model present began ended.closed
+closed_lives keeps_model present talked failed began v ended none is =
     let b = based_on keeps_model present is.1 [] in (
       is.0,
       is.1,
-      lives_any keeps_model present met life_steps is.0 began is.1 v is.2 is.3,
-      (is.4.0, closed_if_none b met failed life_steps (has_stopped ended.closed.store) ended.served ended.is_broken is.2 ended.callers is.4.0 none is.4.1, is.4.2),
+      lives_any keeps_model present talked life_steps is.0 began is.1 v is.2 is.3,
+      (is.4.0, closed_if_none b talked failed life_steps (has_stopped ended.closed.store) ended.served ended.is_broken is.2 ended.callers is.4.0 none is.4.1, is.4.2),
     )
 
 -- a store that has not stopped: each image of its disk gives its world

@@ -13,7 +13,7 @@ use Rattle.coord_admin.specs.Connections.{Talk}
 use Rattle.coord_engine.specs.State.{Basis, based_on}
 use Rattle.coord_engine.specs.declared.closed.Closed.{Closed}
 use Rattle.coord_server.specs.Ending.{IsOneHistory}
-use Rattle.coord_server.specs.Lives.{AreOneHistory, ClosedLivesAreOne, EndsOneHistory, HasLived, LifeSteps, Lives, LivesAreOne, Rests, all_given, all_steps, life_steps, met_any, steps_in, steps_of}
+use Rattle.coord_server.specs.Lives.{AreOneHistory, ClosedLivesAreOne, EndsOneHistory, HasLived, LifeSteps, Lives, LivesAreOne, Rests, all_given, all_steps, life_steps, talked_any, steps_in, steps_of}
 use Rattle.coord_server.specs.declared.server_end.ServerEnd.{ServerEnd}
 
 -- ---- one life
@@ -140,26 +140,26 @@ one_history {D} began world ls left here t =
       world = t.kept ∙ whole ∙ ap (fold began) (sym first);
     }
 
-module _ {D : Type 0} (keeps_model : D → Bool) (present : D → Present) {V : Type 0} (met : V → List Talk → V → Type 0) (most : ℕ) where
+module _ {D : Type 0} (keeps_model : D → Bool) (present : D → Present) {V : Type 0} (talked : V → List Talk → V → Type 0) (most : ℕ) where
   -- a life that rests goes on to the next one
-  rest_goes_on : (began world next : World) (ls : List LifeSteps) (v w : V) (r : Rests keeps_model present met most world v w next) → GoOn began ls world → GoOn began (ls ++ steps_in r.left ∷ []) next
+  rest_goes_on : (began world next : World) (ls : List LifeSteps) (v w : V) (r : Rests keeps_model present talked most world v w next) → GoOn began ls world → GoOn began (ls ++ steps_in r.left ∷ []) next
   rest_goes_on began world next ls v w r here =
       let t = tells (based_on keeps_model present world []) r.desk.notes r.left r.history in
       goes_on ls began world next (steps_in r.left) here t.from t.steps (r.goes_on ∙ leaves_all world r.left t r.all_settled)
 
-  lives_go_on : (n : ℕ) (began next : World) (v w : V) (lives : Lives keeps_model present met most n began v next w) → GoOn began (steps_of keeps_model present met most n began v next w lives) next
+  lives_go_on : (n : ℕ) (began next : World) (v w : V) (lives : Lives keeps_model present talked most n began v next w) → GoOn began (steps_of keeps_model present talked most n began v next w lives) next
   lives_go_on zero began next v w lives = lives.0
-  lives_go_on (suc n) began next v w lives = rest_goes_on began lives.0 next (steps_of keeps_model present met most n began v lives.0 lives.1 lives.2) lives.1 w lives.3 (lives_go_on n began lives.0 v lives.1 lives.2)
+  lives_go_on (suc n) began next v w lives = rest_goes_on began lives.0 next (steps_of keeps_model present talked most n began v lives.0 lives.1 lives.2) lives.1 w lives.3 (lives_go_on n began lives.0 v lives.1 lives.2)
 
-module _ {D : Type 0} (keeps_model : D → Bool) (present : D → Present) {V : Type 0} (met : V → List Talk → V → Type 0) (failed : V → V → Type 0) (most : ℕ) where
-  pub lives_are_one : LivesAreOne keeps_model present met failed most
+module _ {D : Type 0} (keeps_model : D → Bool) (present : D → Present) {V : Type 0} (talked : V → List Talk → V → Type 0) (failed : V → V → Type 0) (most : ℕ) where
+  pub lives_are_one : LivesAreOne keeps_model present talked failed most
   lives_are_one began v ended lived =
-      one_history began lived.1 (steps_of keeps_model present met most lived.0 began v lived.1 lived.2 lived.3) ended.closed (lives_go_on keeps_model present met most lived.0 began lived.1 v lived.2 lived.3) (tells (based_on keeps_model present lived.1 []) lived.4.0.notes ended.closed lived.4.2)
+      one_history began lived.1 (steps_of keeps_model present talked most lived.0 began v lived.1 lived.2 lived.3) ended.closed (lives_go_on keeps_model present talked most lived.0 began lived.1 v lived.2 lived.3) (tells (based_on keeps_model present lived.1 []) lived.4.0.notes ended.closed lived.4.2)
 
   -- so is what they leave
-  pub ends : (began : World) (v : V) (ended : ServerEnd D V) → HasLived keeps_model present met failed most began v ended → EndsOneHistory began ended.closed
-  ends began v ended lived = (steps_of keeps_model present met most lived.0 began v lived.1 lived.2 lived.3, lives_are_one began v ended lived)
+  pub ends : (began : World) (v : V) (ended : ServerEnd D V) → HasLived keeps_model present talked failed most began v ended → EndsOneHistory began ended.closed
+  ends began v ended lived = (steps_of keeps_model present talked most lived.0 began v lived.1 lived.2 lived.3, lives_are_one began v ended lived)
 
 pub closed_lives_are_one : {D : Type 0} (keeps_model : D → Bool) (present : D → Present) → ClosedLivesAreOne keeps_model present
 closed_lives_are_one {D} keeps_model present began left lived =
-    one_history began lived.1 (steps_of keeps_model present met_any life_steps lived.0 began tt lived.1 tt lived.2) left (lives_go_on keeps_model present met_any life_steps lived.0 began lived.1 tt tt lived.2) (tells (based_on keeps_model present lived.1 []) lived.3.0.notes left lived.3.2)
+    one_history began lived.1 (steps_of keeps_model present talked_any life_steps lived.0 began tt lived.1 tt lived.2) left (lives_go_on keeps_model present talked_any life_steps lived.0 began lived.1 tt tt lived.2) (tells (based_on keeps_model present lived.1 []) lived.3.0.notes left lived.3.2)

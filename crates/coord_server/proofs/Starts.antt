@@ -7,9 +7,9 @@ use Rattle.coord_server.specs.declared.fault.ServerFault.{ServerFault}
 use Rattle.coord_server.specs.declared.local.Signal.{Signal}
 
 -- a first line that was not printed
-pub printing_is_of_start : (met : ServerFault) → IsOfPrinting met → IsOfStart met
-printing_is_of_start met (inl memory) = subst IsOfStart (sym memory) tt
-printing_is_of_start met (inr write) = subst IsOfStart (sym write) tt
+pub printing_is_of_start : (told : ServerFault) → IsOfPrinting told → IsOfStart told
+printing_is_of_start told (inl memory) = subst IsOfStart (sym memory) tt
+printing_is_of_start told (inr write) = subst IsOfStart (sym write) tt
 
 prints_last : {W : Type 0} (contents : W → Option (List ℕ)) (p m q : PrinterState W) (came : List Signal) (s : Signal) → PrintsEach contents p came m → Prints contents m s q → PrintsEach contents p (came ++ s ∷ []) q
 prints_last contents p m q [] s is last = (q, subst (λ x. Prints contents x s q) is last, refl)

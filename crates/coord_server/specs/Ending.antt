@@ -1,7 +1,9 @@
 -- How a server ends, and what it leaves of its engine.
 use Rattle.std.specs.Prelude.{◌≡◌, ◌⊎◌, ℕ, ◌≤◌, List, [], ◌∷◌, ◌++◌, All, Bool, true, false, Option, Some, None, length}
 use Rattle.coord_ledger.specs.declared.ticket.Note.{Note}
-use Rattle.coord_engine.specs.Facade.{AtSomeMoment, Basis, Closes, IsNamed, IsOfPacket}
+use Rattle.coord_disk.specs.Model.Present.{Present}
+use Rattle.coord_world.specs.Facade.{World}
+use Rattle.coord_engine.specs.Facade.{AtSomeMoment, Basis, Closes, IsNamed, IsOfPacket, RefusesClosing, based_on}
 use Rattle.coord_engine.specs.declared.closed.Closed.{Closed}
 use Rattle.coord_admin.specs.Connections.{Talk, ServedOpen, ServedToClose}
 use Rattle.coord_server.specs.EngineDesk.{DeskState, DeskAnswers}
@@ -31,15 +33,15 @@ AddsWorkers first all = (workers : List (List Note)) × (all ≡ first ++ worker
 abbrev pub HasKept : {D : Type 0} → Basis D → ℕ → Type 0
 HasKept b most = AtSomeMoment b (λ g. most ≤ length g.ledger.log.trail)
 
--- `met v talks w`: those who call were v, had these talks, and then are w
-module _ {D : Type 0} (b : Basis D) {V : Type 0} (met : V → List Talk → V → Type 0) where
+-- `talked v talks w`: those who call were v, had these talks, and then are w
+module _ {D : Type 0} (b : Basis D) {V : Type 0} (talked : V → List Talk → V → Type 0) where
   -- those who called were served by a desk that began with nothing, until one of them closed it
   abbrev pub IsClosed : V → V → DeskState → Type 0
-  IsClosed v w desk = ServedToClose (DeskAnswers b) met v new_desk w desk
+  IsClosed v w desk = ServedToClose (DeskAnswers b) talked v new_desk w desk
 
   -- or until no one came any more
   abbrev pub IsLeft : V → V → DeskState → Type 0
-  IsLeft v w desk = ServedOpen (DeskAnswers b) met v new_desk w desk
+  IsLeft v w desk = ServedOpen (DeskAnswers b) talked v new_desk w desk
 
   -- `failed v w`: those who call were v, and have failed
   module _ (failed : V → V → Type 0) (most : ℕ) where
@@ -47,9 +49,9 @@ module _ {D : Type 0} (b : Basis D) {V : Type 0} (met : V → List Talk → V �
     abbrev pub ServesLife : V → V → DeskState → LifeEnd → Type 0
     ServesLife v w desk end.Resting = IsLeft v w desk × HasKept b most
     ServesLife v w desk (end.Ended None) = IsClosed v w desk
-    ServesLife v w desk (end.Ended (Some fault.OutOfMemory)) = met v [] w × (desk ≡ new_desk)
-    ServesLife v w desk (end.Ended (Some fault.Write)) = met v [] w × (desk ≡ new_desk)
-    ServesLife v w desk (end.Ended (Some fault.Socket)) = (met v [] w × (desk ≡ new_desk)) ⊎ ((last : V) × IsLeft v last desk × failed last w)
+    ServesLife v w desk (end.Ended (Some fault.OutOfMemory)) = talked v [] w × (desk ≡ new_desk)
+    ServesLife v w desk (end.Ended (Some fault.Write)) = talked v [] w × (desk ≡ new_desk)
+    ServesLife v w desk (end.Ended (Some fault.Socket)) = (talked v [] w × (desk ≡ new_desk)) ⊎ ((last : V) × IsLeft v last desk × failed last w)
     ServesLife v w desk (end.Ended (Some other)) = ⊥
 
     -- and in the last life of a server that ends so: a store that has stopped is met where a life rests
@@ -81,15 +83,20 @@ IsOfStart fault.Socket = Unit {0}
 IsOfStart fault.Write = Unit {0}
 IsOfStart other = ⊥
 
--- what is told where nothing is left to give back: no memory or no thread could be had to begin a life, or an engine was not taken apart
-abbrev pub LeavesNothing : ServerFault → Type 0
-LeavesNothing fault.OutOfMemory = Unit {0}
-LeavesNothing (fault.NotClosed why) = Unit {0}
-LeavesNothing other = ⊥
+-- an engine was not taken apart with these shares, and that is why
+abbrev pub IsNotClosed : {D : Type 0} → Basis D → List (List Note) → ServerFault → Type 0
+IsNotClosed {D} b shares (fault.NotClosed why) = AtSomeMoment b (λ g. RefusesClosing {D = D} g shares why)
+IsNotClosed b shares other = ⊥
+
+-- what is told where nothing is left to give back: no memory or no thread could be had to begin a life, or the engine of a life was not taken apart with all nine shares
+abbrev pub LeavesNothing : {D : Type 0} → (D → Bool) → (D → Present) → ServerFault → Type 0
+LeavesNothing keeps_model present fault.OutOfMemory = Unit {0}
+LeavesNothing keeps_model present (fault.NotClosed why) = (world : World) × (shares : List (List Note)) × (length shares ≡ 9) × IsNotClosed (based_on keeps_model present world []) shares (fault.NotClosed why)
+LeavesNothing keeps_model present other = ⊥
 
 -- what a server that has ended tells: a store that has stopped first, then what ended the serving, then an output that failed
 abbrev pub fault_at_end : Bool → Option ServerFault → Bool → Option ServerFault
 fault_at_end true served is_broken = Some fault.Device
-fault_at_end false (Some met) is_broken = Some met
+fault_at_end false (Some why) is_broken = Some why
 fault_at_end false None true = Some fault.Write
 fault_at_end false None false = None

@@ -22,18 +22,18 @@ use Rattle.coord_server.specs.declared.server_end.ServerEnd.{ServerEnd}
 -- how a server ends whose last life was left so: one that rests over a store that has stopped ends it too
 abbrev pub IsOver : LifeEnd → Option ServerFault → Type 0
 IsOver end.Resting served = served ≡ Some fault.Device
-IsOver (end.Ended met) served = served ≡ met
+IsOver (end.Ended why) served = served ≡ why
 
 -- nobody is told apart from anybody
-abbrev pub met_any : Unit {0} → List Talk → Unit {0} → Type 0
-met_any v talks w = Unit {0}
+abbrev pub talked_any : Unit {0} → List Talk → Unit {0} → Type 0
+talked_any v talks w = Unit {0}
 
 -- after how many steps a life of a server ends (docs/OPERATING.md names it)
 abbrev pub life_steps : ℕ
 life_steps = 262144
 
--- `met v talks w`: those who call were v, had these talks, and then are w. A life ends after `most` steps
-module _ {D : Type 0} (keeps_model : D → Bool) (present : D → Present) {V : Type 0} (met : V → List Talk → V → Type 0) (most : ℕ) where
+-- `talked v talks w`: those who call were v, had these talks, and then are w. A life ends after `most` steps
+module _ {D : Type 0} (keeps_model : D → Bool) (present : D → Present) {V : Type 0} (talked : V → List Talk → V → Type 0) (most : ℕ) where
   -- what a life is based on that began over a store with this world
   abbrev pub begun_over : World → Basis D
   begun_over world = based_on keeps_model present world []
@@ -42,7 +42,7 @@ module _ {D : Type 0} (keeps_model : D → Bool) (present : D → Present) {V : 
   pub record Rests (began : World) (v w : V) (next : World) : Type 0 where
     pub desk : DeskState
     pub left : Closed D
-    pub served : IsLeft (begun_over began) met v w desk
+    pub served : IsLeft (begun_over began) talked v w desk
     pub old : HasKept (begun_over began) most
     pub history : IsOneHistory (begun_over began) desk.notes left
     pub all_settled : left.settled ≡ left.base.count + length left.trail.items
@@ -56,22 +56,22 @@ module _ {D : Type 0} (keeps_model : D → Bool) (present : D → Present) {V : 
 
 -- some lives that rest, and then a last one, which leaves this. `failed v w`: those who call were v, and have failed
 abbrev pub HasLived : {D : Type 0} → (D → Bool) → (D → Present) → {V : Type 0} → (V → List Talk → V → Type 0) → (V → V → Type 0) → ℕ → World → V → ServerEnd D V → Type 0
-HasLived {D} keeps_model present {V} met failed most began v ended =
-    (n : ℕ) × (world : World) × (u : V) × Lives keeps_model present met most n began v world u
-    × ((desk : DeskState) × Serves (based_on keeps_model present world []) met failed most u ended.callers desk ended.served × IsOneHistory (based_on keeps_model present world []) desk.notes ended.closed)
+HasLived {D} keeps_model present {V} talked failed most began v ended =
+    (n : ℕ) × (world : World) × (u : V) × Lives keeps_model present talked most n began v world u
+    × ((desk : DeskState) × Serves (based_on keeps_model present world []) talked failed most u ended.callers desk ended.served × IsOneHistory (based_on keeps_model present world []) desk.notes ended.closed)
 
 -- the same where a line has closed the last one, and each life has the steps of a server's
 abbrev pub HasLivedToClose : {D : Type 0} → (D → Bool) → (D → Present) → World → Closed D → Type 0
 HasLivedToClose {D} keeps_model present began left =
-    (n : ℕ) × (world : World) × Lives keeps_model present met_any life_steps n began tt world tt
+    (n : ℕ) × (world : World) × Lives keeps_model present talked_any life_steps n began tt world tt
     × ((desk : DeskState) × IsServedToClose (based_on keeps_model present world []) desk × IsOneHistory (based_on keeps_model present world []) desk.notes left)
 
 -- The fault that a server tells whose clients are waited for as usual, by lives from this world: nothing is left; or there were lives, and they ended with this fault.
 abbrev pub EndsWith : {D : Type 0} → (D → Bool) → (D → Present) → World → ServerFault → Type 0
-EndsWith {D} keeps_model present began met =
-    LeavesNothing met
+EndsWith {D} keeps_model present began told =
+    LeavesNothing keeps_model present told
     ⊎ ((callers : Patience) × IsUsual callers × (ended : ServerEnd D Patience) × HasLived keeps_model present (λ _ _ _. ⊤) (λ _ _. ⊤) life_steps began callers ended
-    × (fault_at_end (has_stopped ended.closed.store) ended.served ended.is_broken ≡ Some met))
+    × (fault_at_end (has_stopped ended.closed.store) ended.served ended.is_broken ≡ Some told))
 
 -- ---- all lives are one history
 
@@ -102,23 +102,23 @@ pub record AreOneHistory {D : Type 0} (began : World) (lives : List LifeSteps) (
   pub most : settled ≤ began.count + length (all_steps lives)
   pub world : store.world ≡ fold began (take (settled - began.count) (all_steps lives))
 
-module _ {D : Type 0} (keeps_model : D → Bool) (present : D → Present) {V : Type 0} (met : V → List Talk → V → Type 0) (most : ℕ) where
+module _ {D : Type 0} (keeps_model : D → Bool) (present : D → Present) {V : Type 0} (talked : V → List Talk → V → Type 0) (most : ℕ) where
   -- what each of these lives did, the first one first
-  abbrev pub steps_of : (n : ℕ) (began : World) (v : V) (next : World) (w : V) → Lives keeps_model present met most n began v next w → List LifeSteps
+  abbrev pub steps_of : (n : ℕ) (began : World) (v : V) (next : World) (w : V) → Lives keeps_model present talked most n began v next w → List LifeSteps
   steps_of zero began v next w lives = []
   steps_of (suc n) began v next w lives = steps_of n began v lives.0 lives.1 lives.2 ++ steps_in lives.3.left ∷ []
 
 -- lives that rest, and the one behind them that left this, are one history
 abbrev pub LivesAreOne : {D : Type 0} → (D → Bool) → (D → Present) → {V : Type 0} → (V → List Talk → V → Type 0) → (V → V → Type 0) → ℕ → Type 0
-LivesAreOne {D} keeps_model present {V} met failed most =
-    (began : World) (v : V) (ended : ServerEnd D V) (lived : HasLived keeps_model present met failed most began v ended)
-    → AreOneHistory began (steps_of keeps_model present met most lived.0 began v lived.1 lived.2 lived.3 ++ steps_in ended.closed ∷ []) ended.closed.store ended.closed.settled
+LivesAreOne {D} keeps_model present {V} talked failed most =
+    (began : World) (v : V) (ended : ServerEnd D V) (lived : HasLived keeps_model present talked failed most began v ended)
+    → AreOneHistory began (steps_of keeps_model present talked most lived.0 began v lived.1 lived.2 lived.3 ++ steps_in ended.closed ∷ []) ended.closed.store ended.closed.settled
 
 -- the same where a line has closed the last one
 abbrev pub ClosedLivesAreOne : {D : Type 0} → (D → Bool) → (D → Present) → Type 0
 ClosedLivesAreOne {D} keeps_model present =
     (began : World) (left : Closed D) (lived : HasLivedToClose keeps_model present began left)
-    → AreOneHistory began (steps_of keeps_model present met_any life_steps lived.0 began tt lived.1 tt lived.2 ++ steps_in left ∷ []) left.store left.settled
+    → AreOneHistory began (steps_of keeps_model present talked_any life_steps lived.0 began tt lived.1 tt lived.2 ++ steps_in left ∷ []) left.store left.settled
 
 -- this is what lives, all of them one history, have left
 abbrev pub EndsOneHistory : {D : Type 0} → World → Closed D → Type 0

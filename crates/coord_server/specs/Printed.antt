@@ -32,7 +32,7 @@ with_lost p = record p { lost = one_more p.lost }
 
 -- what is told of a line that was not printed
 abbrev pub IsOfPrinting : ServerFault → Type 0
-IsOfPrinting met = (met ≡ fault.OutOfMemory) ⊎ (met ≡ fault.Write)
+IsOfPrinting told = (told ≡ fault.OutOfMemory) ⊎ (told ≡ fault.Write)
 
 -- `contents` are the bytes of an output, where they are known
 module _ {W : Type 0} (contents : W → Option (List ℕ)) where

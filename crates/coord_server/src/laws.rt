@@ -11,7 +11,7 @@ use coord_disk::Disk;
 /// All lives of a server are one history: one trail from the world of its first store, of which each
 /// step has a number of its own.
 pub fn lives_are_one<D: Disk, C: Callers>()
-    ensures { (most : ℕ) → LivesAreOne D.model.keeps_model D.model.present C.met C.failed most }
+    ensures { (most : ℕ) → LivesAreOne D.model.keeps_model D.model.present C.talked C.failed most }
 {}
 
 /// The same, where a line has closed the last life.

@@ -5,12 +5,12 @@ ghost use Rattle.coord_engine.specs.State.{based_on};
 ghost use Rattle.coord_store.specs.Kept.{has_stopped};
 ghost use Rattle.coord_engine.specs.Closing.{IsSince};
 ghost use Rattle.coord_engine.specs.Threads.{AtSomeMoment, Closes};
-ghost use Rattle.coord_server.specs.Ending.{IsLife, LeavesNothing};
+ghost use Rattle.coord_server.specs.Ending.{IsLife, IsNotClosed, LeavesNothing};
 
 use crate::life_end::LifeEnd;
 use crate::printing::Opening;
 use crate::setting::Setting;
-use crate::threads::{Begun, Ran, run};
+use crate::threads::{Begun, Completed, run};
 use crate::{ServerFault, WORKERS};
 use coord_admin::Callers;
 use coord_disk::Disk;
@@ -52,8 +52,8 @@ pub fn serve_life<
 ) -> Result<Life<D, C>, ServerFault>
     requires { has_stopped store ≡ false }
     ensures life { IfOk result
-        (IsLife (based_on D.model.keeps_model D.model.present store.world []) C.met C.failed setting.now.life_steps callers) }
-    ensures nothing { IfErr result LeavesNothing }
+        (IsLife (based_on D.model.keeps_model D.model.present store.world []) C.talked C.failed setting.now.life_steps callers) }
+    ensures nothing { IfErr result (LeavesNothing D.model.keeps_model D.model.present) }
 {
     let Ok(ledger) = Ledger::adopt(setting.alloc, store) else {
         return Err(ServerFault::OutOfMemory);
@@ -81,13 +81,13 @@ fn serve_ledger<
     requires base { ledger.log.base ≡ L.base }
     requires before { (ledger.log.trail ≡ L.before) × (L.before ≡ []) }
     ensures life { IfOk result
-        (IsLife (based_on D.model.keeps_model D.model.present L.base L.before) C.met C.failed setting.now.life_steps callers) }
-    ensures nothing { IfErr result LeavesNothing }
+        (IsLife (based_on D.model.keeps_model D.model.present L.base L.before) C.talked C.failed setting.now.life_steps callers) }
+    ensures nothing { IfErr result (LeavesNothing D.model.keeps_model D.model.present) }
 {
     let engine: Engine<D, L> = Engine::new(setting.alloc, blank, ledger);
     let begun = begin(setting, &engine)?;
-    let ran = run(setting, &engine, begun, callers, opening)?;
-    closed_life(engine, ran)
+    let completed = run(setting, &engine, begun, callers, opening)?;
+    closed_life(engine, completed)
 }
 
 /// Gives out the desk's share, makes room for all that a life may not lose, and connects the port to
@@ -110,22 +110,23 @@ fn begin<D: Disk, L: Origin, R: Wait>(
 /// What is left of a life, once its engine is taken apart with all shares.
 fn closed_life<D: Disk, L: Origin, C: Drop>(
     engine: Engine<D, L>,
-    ran: Ran<L, C>,
+    completed: Completed<L, C>,
 ) -> Result<Life<D, C>, ServerFault>
     requires parts { L.parts ≡ 65536 }
-    requires all { length ran.shares.items ≡ 9 }
+    requires all { length completed.shares.items ≡ 9 }
     ensures closed { IfOk result (λ life.
-        IsSince L.base L.before ran.shares.items life.closed.base life.closed.trail.items ×
+        IsSince L.base L.before completed.shares.items life.closed.base life.closed.trail.items ×
         AtSomeMoment (based_on D.model.keeps_model D.model.present L.base L.before)
         (Closes life.closed.store life.closed.base life.closed.trail.items life.closed.settled
-        ran.shares.items) × (life.callers ≡ ran.callers) × (life.left ≡ ran.left)) }
-    ensures nothing { IfErr result LeavesNothing }
+        completed.shares.items) × (life.callers ≡ completed.callers) × (life.left ≡ completed.left)) }
+    ensures nothing { IfErr result
+        (IsNotClosed (based_on D.model.keeps_model D.model.present L.base L.before) completed.shares.items) }
 {
-    let Ran {
+    let Completed {
         shares,
         callers,
         left,
-    } = ran;
+    } = completed;
     match engine.close(shares) {
         Ok(closed) => Ok(Life {
             closed,

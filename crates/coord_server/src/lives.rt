@@ -52,9 +52,9 @@ pub fn serve_lives<
     output: W,
 ) -> Result<ServerEnd<D, C>, ServerFault>
     requires { has_stopped store ≡ false }
-    ensures lives { IfOk result (HasLived D.model.keeps_model D.model.present C.met C.failed most store.world callers) }
+    ensures lives { IfOk result (HasLived D.model.keeps_model D.model.present C.talked C.failed most store.world callers) }
     ensures whole { IfOk result (λ ended. EndsOneHistory store.world ended.closed) }
-    ensures nothing { IfErr result LeavesNothing }
+    ensures nothing { IfErr result (LeavesNothing D.model.keeps_model D.model.present) }
 {
     let Outlet {
         port,
@@ -85,8 +85,8 @@ fn serve_and_print<
 ) -> Result<ServerEnd<D, C>, ServerFault>
     requires { has_stopped store ≡ false }
     ensures lived { IfOk result
-        (HasLived D.model.keeps_model D.model.present C.met C.failed setting.now.life_steps store.world callers) }
-    ensures nothing { IfErr result LeavesNothing }
+        (HasLived D.model.keeps_model D.model.present C.talked C.failed setting.now.life_steps store.world callers) }
+    ensures nothing { IfErr result (LeavesNothing D.model.keeps_model D.model.present) }
 {
     thread::scope(
         thread::scope_env(),
@@ -94,8 +94,8 @@ fn serve_and_print<
         |scope| -> Result<ServerEnd<D, C>, ServerFault>
             requires { IsSend D.row × IsSend W.row × IsSync R.row × (has_stopped store ≡ false) }
             ensures lived { IfOk result
-                (HasLived D.model.keeps_model D.model.present C.met C.failed setting.entry.now.life_steps store.world callers) }
-            ensures nothing { IfErr result LeavesNothing }
+                (HasLived D.model.keeps_model D.model.present C.talked C.failed setting.entry.now.life_steps store.world callers) }
+            ensures nothing { IfErr result (LeavesNothing D.model.keeps_model D.model.present) }
         {
             let printing = start_printing(scope, setting.rt, printing);
             print_and_live(setting, store, callers, opening, printing)
@@ -130,8 +130,8 @@ fn print_and_live<
     requires { has_stopped store ≡ false }
     ensures printed { OnOk result (is_some printing ≡ true) }
     ensures lived { IfOk result
-        (HasLived D.model.keeps_model D.model.present C.met C.failed setting.now.life_steps store.world callers) }
-    ensures nothing { IfErr result LeavesNothing }
+        (HasLived D.model.keeps_model D.model.present C.talked C.failed setting.now.life_steps store.world callers) }
+    ensures nothing { IfErr result (LeavesNothing D.model.keeps_model D.model.present) }
 {
     let Some(printing) = printing else {
         return Err(ServerFault::OutOfMemory);
@@ -154,8 +154,8 @@ fn live<D: Disk + Send, C: Callers + Drop, W: Write + Drop, R: Threads + Wait + 
 ) -> Result<ServerEnd<D, C>, ServerFault>
     requires { has_stopped store ≡ false }
     ensures lived { IfOk result
-        (HasLived D.model.keeps_model D.model.present C.met C.failed setting.now.life_steps store.world callers) }
-    ensures nothing { IfErr result LeavesNothing }
+        (HasLived D.model.keeps_model D.model.present C.talked C.failed setting.now.life_steps store.world callers) }
+    ensures nothing { IfErr result (LeavesNothing D.model.keeps_model D.model.present) }
 {
     let mut store = store;
     let mut callers = callers;

@@ -121,24 +121,18 @@ fn write_line<W: Write>(output: &mut W, line: &str) -> Result<(), ServerFault>
         line.now) }
     ensures fault { IfErr result IsOfPrinting }
 {
-    told(output.write_all(line.as_bytes()))?;
-    told(output.flush())
+    output.write_all(line.as_bytes()).map_err(fault_of)?;
+    output.flush().map_err(fault_of)
 }
 
-/// The fault of an output: want of memory if it says so, else that it failed.
-fn told(answer: io::Result<()>) -> Result<(), ServerFault>
-    ensures ok { OnOk answer (IsOk result) }
-    ensures memory { IfErr answer (λ error. error_kind error ≡ ErrorKind.OutOfMemory →
-        result ≡ Err ServerFault.OutOfMemory) }
-    ensures other { IfErr answer (λ error. error_kind error ≢ ErrorKind.OutOfMemory →
-        result ≡ Err ServerFault.Write) }
-    ensures fault { IfErr result IsOfPrinting }
+/// Of an output that has failed: want of memory if it says so, else that it could not be written.
+fn fault_of(error: io::Error) -> ServerFault
+    ensures memory { error_kind error ≡ ErrorKind.OutOfMemory → result ≡ ServerFault.OutOfMemory }
+    ensures other { error_kind error ≢ ErrorKind.OutOfMemory → result ≡ ServerFault.Write }
+    ensures fault { IsOfPrinting result }
 {
-    match answer {
-        Ok(()) => Ok(()),
-        Err(error) => match error.kind() {
-            ErrorKind::OutOfMemory => Err(ServerFault::OutOfMemory),
-            _ => Err(ServerFault::Write),
-        },
+    match error.kind() {
+        ErrorKind::OutOfMemory => ServerFault::OutOfMemory,
+        _ => ServerFault::Write,
     }
 }

@@ -4,7 +4,7 @@ ghost use Rattle.std.specs.Prelude.{◌≡◌, ◌⊎◌, List, Err, IfErr, OnOk
 ghost use Rattle.std.specs.Iterator.{Drains, IsFinite};
 ghost use Rattle.coord_server.specs.Ending.{IsOfStart};
 ghost use Rattle.coord_server.specs.Printed.{PrintsEach, TellsAddress};
-ghost use Rattle.coord_server.specs.declared.local.Signal.{Signal as Told};
+ghost use Rattle.coord_server.specs.declared.local.Signal.{Signal as Printed};
 
 use crate::{LocalPort, Printer, ServerFault, Signal};
 use coord_admin::Callers;
@@ -21,7 +21,7 @@ pub fn print_signals<W: Write, I: Iterator<Item = Signal>>(
 ) -> Printer<W>
     requires { I.can_next signals × IsFinite (I.remaining signals) }
     ensures { (result.is_broken ≡ true) ⊎
-        ((came : List Told) × Drains I.next_gives signals came ×
+        ((came : List Printed) × Drains I.next_gives signals came ×
         PrintsEach W.contents printer came result) }
 {
     let mut printer = printer;
@@ -103,10 +103,10 @@ impl<R: Wait + Drop, W: Write + Drop> Outlet<R, W> {
     /// Of an output to which nothing was printed yet.
     pub fn new(rt: R, alloc: Global, output: W) -> Result<Self, AllocError> {
         let (to, handed) = crossbeam_channel::bounded(alloc, 1)?;
-        let (told, signals) = crossbeam_channel::unbounded(alloc)?;
+        let (signalled, signals) = crossbeam_channel::unbounded(alloc)?;
         let printer = Printer::new(alloc, output);
         Ok(Outlet {
-            port: LocalPort::new(rt, Vec::new(alloc), told),
+            port: LocalPort::new(rt, Vec::new(alloc), signalled),
             opening: Opening { printer, to },
             printing: Printing { handed, signals },
         })

@@ -117,11 +117,11 @@ pub fn serve_callers<
 ) -> Result<ServerEnd<D, C>, ServerFault>
     requires { has_stopped store ≡ false }
     ensures lives { IfOk result
-        (HasLived D.model.keeps_model D.model.present C.met C.failed life_steps store.world callers) }
+        (HasLived D.model.keeps_model D.model.present C.talked C.failed life_steps store.world callers) }
     ensures whole { IfOk result (λ ended. EndsOneHistory store.world ended.closed) }
     ensures images { IfOk result (λ ended. D.model.keeps_model ended.closed.store.disk ≡ true →
         ImagesGive D.model ended.closed.store) }
-    ensures nothing { IfErr result LeavesNothing }
+    ensures nothing { IfErr result (LeavesNothing D.model.keeps_model D.model.present) }
 {
     let ended = serve_lives(rt, alloc, LIFE_STEPS, store, callers, output)?;
     ended.closed.store.lemma_images_give_world();

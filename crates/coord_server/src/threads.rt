@@ -4,7 +4,7 @@ ghost use Rattle.std.specs.Prelude.{◌≡◌, ◌⊎◌, ◌+◌, ◌≤◌, []
 ghost use Rattle.std.specs.Thread.{IsSend, IsSync};
 ghost use Rattle.coord_engine.specs.State.{based_on};
 ghost use Rattle.coord_server.specs.EngineDesk.{HandsAgain};
-ghost use Rattle.coord_server.specs.Ending.{AddsWorkers, HasRun, IsOfStart, LeavesNothing, ServesLife, new_desk};
+ghost use Rattle.coord_server.specs.Ending.{AddsWorkers, HasRun, IsOfStart, ServesLife, new_desk};
 
 use crate::life_end::LifeEnd;
 use crate::printing::Opening;
@@ -36,9 +36,9 @@ pub struct Begun<L: Count> {
     pub ghost eight: { length packets.items ≡ 8 },
 }
 
-/// What they leave: all shares, the desk's first.
+/// What they leave once all have ended: all shares, the desk's first.
 #[derive(Drop)]
-pub struct Ran<L: Count, C> {
+pub struct Completed<L: Count, C> {
     pub shares: Vec<Share<L>>,
     pub callers: C,
     pub left: LifeEnd,
@@ -66,21 +66,21 @@ pub fn run<
     begun: Begun<L>,
     callers: C,
     opening: Option<Opening<W>>,
-) -> Result<Ran<L, C>, ServerFault>
-    ensures ran { IfOk result (λ ran.
-        HasRun (based_on D.model.keeps_model D.model.present L.base L.before) C.met C.failed setting.now.life_steps
-        callers ran.callers ran.left ran.shares.items) }
-    ensures nothing { IfErr result LeavesNothing }
+) -> Result<Completed<L, C>, ServerFault>
+    ensures completed { IfOk result (λ completed.
+        HasRun (based_on D.model.keeps_model D.model.present L.base L.before) C.talked C.failed setting.now.life_steps
+        callers completed.callers completed.left completed.shares.items) }
+    ensures nothing { IfErr result (λ fault. fault ≡ ServerFault.OutOfMemory) }
 {
     thread::scope(
         thread::scope_env(),
         setting.rt,
-        |scope| -> Result<Ran<L, C>, ServerFault>
+        |scope| -> Result<Completed<L, C>, ServerFault>
             requires { IsSend D.row × IsSend L.row × IsSync L.row × IsSync R.row }
-            ensures ran { IfOk result (λ ran.
-                HasRun (based_on D.model.keeps_model D.model.present L.base L.before) C.met C.failed
-                setting.entry.now.life_steps callers ran.callers ran.left ran.shares.items) }
-            ensures nothing { IfErr result LeavesNothing }
+            ensures completed { IfOk result (λ completed.
+                HasRun (based_on D.model.keeps_model D.model.present L.base L.before) C.talked C.failed
+                setting.entry.now.life_steps callers completed.callers completed.left completed.shares.items) }
+            ensures nothing { IfErr result (λ fault. fault ≡ ServerFault.OutOfMemory) }
         { run_in(scope, setting, engine, begun, callers, opening) },
     )
 }
@@ -104,11 +104,11 @@ fn run_in<
     begun: Begun<L>,
     callers: C,
     opening: Option<Opening<W>>,
-) -> Result<Ran<L, C>, ServerFault>
-    ensures ran { IfOk result (λ ran.
-        HasRun (based_on D.model.keeps_model D.model.present L.base L.before) C.met C.failed setting.now.life_steps
-        callers ran.callers ran.left ran.shares.items) }
-    ensures nothing { IfErr result LeavesNothing }
+) -> Result<Completed<L, C>, ServerFault>
+    ensures completed { IfOk result (λ completed.
+        HasRun (based_on D.model.keeps_model D.model.present L.base L.before) C.talked C.failed setting.now.life_steps
+        callers completed.callers completed.left completed.shares.items) }
+    ensures nothing { IfErr result (λ fault. fault ≡ ServerFault.OutOfMemory) }
 {
     let rt = setting.rt;
     let mut callers = callers;
@@ -123,7 +123,7 @@ fn run_in<
     engine.finish(rt);
     flushing.join(rt);
     setting.port.hang_up();
-    Ok(Ran {
+    Ok(Completed {
         shares: all_joined(rt, room, own, workers),
         callers,
         left,
@@ -195,7 +195,7 @@ fn serve_over<D: Disk, L: Origin, C: Callers, W: Write + Drop, R: Wait>(
 ) -> (Share<L>, LifeEnd)
     requires { own ≡ [] }
     ensures { (seen : ℕ) × ServesLife
-        (based_on D.model.keeps_model D.model.present L.base L.before) C.met C.failed setting.now.life_steps callers.old
+        (based_on D.model.keeps_model D.model.present L.base L.before) C.talked C.failed setting.now.life_steps callers.old
         callers.new (record { notes = result.0; seen = seen }) result.1 }
 {
     let opened = open(setting.rt, &*callers, opening);
@@ -233,7 +233,7 @@ fn serve_clients<D: Disk, L: Origin, C: Callers, P: Port, R: Wait>(
         (result ≡ LifeEnd.Ended (Some ServerFault.OutOfMemory)) ⊎ ((count : ℕ) × (port : P) ×
         (later : P) × HandsAgain (based_on D.model.keeps_model D.model.present L.base L.before) P.carried
         P.signalled count port later)) }
-    ensures served { ServesLife (based_on D.model.keeps_model D.model.present L.base L.before) C.met C.failed
+    ensures served { ServesLife (based_on D.model.keeps_model D.model.present L.base L.before) C.talked C.failed
         setting.now.life_steps callers.old callers.new desk.new result }
 {
     if let Err(fault) = opened {

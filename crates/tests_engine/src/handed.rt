@@ -48,7 +48,7 @@ fn new_port() -> Counting {
 }
 
 // What a flight releases is handed over: a packet and a signal, each once.
-fn hand_each<D: Disk, L: Origin, R: Wait + Abort>(
+fn hand_each<D: Disk, L: Origin, R: Wait + Clock + Abort>(
     rt: &R,
     alloc: Global,
     blank: Blank,
@@ -81,7 +81,7 @@ fn steps() -> Option<[Step; 6]> {
     ])
 }
 
-fn hands_each<R: Wait + Abort>(rt: &R, alloc: Global) {
+fn hands_each<R: Wait + Clock + Abort>(rt: &R, alloc: Global) {
     let steps = steps().expect(rt, "no steps");
     let ledger = made_with(rt, alloc, MemDisk::new(alloc), &steps);
     hand_each::<MemDisk, Brand, R>(rt, alloc, Blank::new(65536), ledger);

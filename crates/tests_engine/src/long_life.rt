@@ -13,6 +13,7 @@ use std::process::Abort;
 use std::sync::ledger::Blank;
 use std::sync::{Mutex, Wait};
 use std::test::Fail;
+use std::time::Clock;
 
 /// How many flights there are, and how many steps each takes.
 const FLIGHTS: u64 = 410;
@@ -46,7 +47,7 @@ impl<R: Wait> Port for &Epochs<R> {
 
 /// Submits the orders of a flight, has it flown, and hands over what it released. Whether all were
 /// accepted and settled.
-fn flies<D: Disk, L: Origin, R: Wait>(
+fn flies<D: Disk, L: Origin, R: Wait + Clock>(
     rt: &R,
     engine: &Engine<D, L>,
     share: &mut Share<L>,
@@ -71,7 +72,7 @@ fn flies<D: Disk, L: Origin, R: Wait>(
 }
 
 /// Whether each flight is settled and handed over, and the engine closes with the notes of them all.
-fn keeps_all<D: Disk, L: Origin, R: Wait + Abort>(
+fn keeps_all<D: Disk, L: Origin, R: Wait + Clock + Abort>(
     rt: &R,
     alloc: Global,
     blank: Blank,
@@ -106,7 +107,7 @@ fn keeps_all<D: Disk, L: Origin, R: Wait + Abort>(
     are_settled && last == FLIGHTS * STEPS && settled == FLIGHTS * STEPS + 1
 }
 
-fn keeps_a_hundred_thousand<R: Wait + Abort>(rt: &R, alloc: Global) -> Result<bool, Fail> {
+fn keeps_a_hundred_thousand<R: Wait + Clock + Abort>(rt: &R, alloc: Global) -> Result<bool, Fail> {
     let add = adding(1, 1, NODE).ok_or("step")?;
     let ledger = created(alloc, MemDisk::new(alloc), &[add])?;
     Ok(keeps_all::<MemDisk, Brand, R>(rt, alloc, Blank::new(65536), ledger))

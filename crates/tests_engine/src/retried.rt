@@ -13,16 +13,20 @@ use std::marker::Brand;
 use std::process::Abort;
 use std::sync::Wait;
 use std::sync::ledger::Blank;
+use std::time::Clock;
 
 // How much a flight releases; None where none went out.
-fn flushed<D: Disk, L: Origin, R: Wait + Abort>(rt: &R, engine: &Engine<D, L>) -> Option<u64> {
+fn flushed<D: Disk, L: Origin, R: Wait + Clock + Abort>(
+    rt: &R,
+    engine: &Engine<D, L>,
+) -> Option<u64> {
     let flight = engine.flush_once(rt).expect(rt, "no flight");
     flight.map(|releases| releases.lose_rest())
 }
 
 // One step is settled by one flight, and is shown then. A caller who has seen a second one is shown
 // nothing. Once the engine finishes no other is accepted.
-fn settle_one<D: Disk, L: Origin, R: Wait + Abort>(
+fn settle_one<D: Disk, L: Origin, R: Wait + Clock + Abort>(
     rt: &R,
     alloc: Global,
     blank: Blank,
@@ -66,7 +70,7 @@ fn settle_one<D: Disk, L: Origin, R: Wait + Abort>(
     }
 }
 
-fn settles_one<R: Wait + Abort>(rt: &R, alloc: Global) {
+fn settles_one<R: Wait + Clock + Abort>(rt: &R, alloc: Global) {
     let steps = [
         adding(1, 1, 1).expect(rt, "no step"),
         adding(1, 2, 2).expect(rt, "no step"),

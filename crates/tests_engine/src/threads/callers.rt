@@ -14,6 +14,7 @@ use std::sync::Wait;
 use std::sync::ledger::Blank;
 use std::thread;
 use std::thread::Threads;
+use std::time::Clock;
 
 /// How often each caller resets its node.
 const RESETS: u64 = 100;
@@ -78,12 +79,11 @@ fn is_shown<D: Disk, L: Origin, R: Wait + Abort>(rt: &R, engine: &Engine<D, L>) 
 
 // What two callers submitted is settled by a few flights and collected, and the engine closes with their
 // shares over a history of just their notes, behind the steps that added nodes.
-fn make_one_history<D: Disk + Send, L: Origin + Send + Sync, R: Threads + Wait + Sync + Abort>(
-    rt: &R,
-    alloc: Global,
-    blank: Blank,
-    ledger: Ledger<D>,
-)
+fn make_one_history<
+    D: Disk + Send,
+    L: Origin + Send + Sync,
+    R: Threads + Wait + Clock + Sync + Abort,
+>(rt: &R, alloc: Global, blank: Blank, ledger: Ledger<D>)
     requires name { blank.name ≡ L.name }
     requires parts { (blank.parts ≡ L.parts) × (L.parts ≡ 65536) }
     requires base { ledger.log.base ≡ L.base }
@@ -111,7 +111,7 @@ fn make_one_history<D: Disk + Send, L: Origin + Send + Sync, R: Threads + Wait +
 }
 
 // The shares of two callers, each in a thread of its own.
-fn call_twice<D: Disk + Send, L: Origin + Send + Sync, R: Threads + Wait + Sync + Abort>(
+fn call_twice<D: Disk + Send, L: Origin + Send + Sync, R: Threads + Wait + Clock + Sync + Abort>(
     rt: &R,
     alloc: Global,
     engine: &Engine<D, L>,
@@ -135,7 +135,7 @@ fn call_twice<D: Disk + Send, L: Origin + Send + Sync, R: Threads + Wait + Sync 
 }
 
 // Two callers of an engine over a device in memory, to which two nodes were added.
-fn callers_make_one_history<R: Threads + Wait + Sync + Abort>(rt: &R, alloc: Global) {
+fn callers_make_one_history<R: Threads + Wait + Clock + Sync + Abort>(rt: &R, alloc: Global) {
     let adds = [
         adding(1, 1, 1).expect(rt, "no step"),
         adding(2, 1, 2).expect(rt, "no step"),

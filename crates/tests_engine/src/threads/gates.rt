@@ -15,6 +15,7 @@ use std::sync::ledger::Blank;
 use std::sync::{Arc, Wait};
 use std::thread;
 use std::thread::Threads;
+use std::time::Clock;
 
 /// How often a thread looks whether a sync stands at the gate.
 const LOOKS: u64 = 100_000_000;
@@ -40,7 +41,11 @@ fn accept_meanwhile<D: Disk, L: Origin, R: Wait + Abort>(
 }
 
 // One thread's step is settled, and another's are accepted meanwhile.
-fn accept_in_sync<D: Disk + Send, L: Origin + Send + Sync, R: Threads + Wait + Sync + Abort>(
+fn accept_in_sync<
+    D: Disk + Send,
+    L: Origin + Send + Sync,
+    R: Threads + Wait + Clock + Sync + Abort,
+>(
     rt: &R,
     alloc: Global,
     blank: Blank,
@@ -75,7 +80,7 @@ fn accept_in_sync<D: Disk + Send, L: Origin + Send + Sync, R: Threads + Wait + S
 }
 
 // Steps of another thread while a sync of a flight stands at the gate.
-fn accepts_in_sync<R: Threads + Wait + Sync + Abort>(rt: &R, alloc: Global) {
+fn accepts_in_sync<R: Threads + Wait + Clock + Sync + Abort>(rt: &R, alloc: Global) {
     let entered = Arc::new(alloc, AtomicBool::new(false)).expect(rt, "no memory");
     let answered = Arc::new(alloc, AtomicBool::new(true)).expect(rt, "no memory");
     // A device in memory whose syncs wait at a gate with these flags.

@@ -5,10 +5,10 @@ pub loop-preserved : goal.loop-preserved
 loop-preserved g c =
     let next = c.in-Ok.ensures.next in
     let settled = c.in-Ok.ensures.settled in
-    let on = lives_next g.D.Disk.model.keeps_model g.D.Disk.model.present g.C.Callers.met g.C.Callers.failed c.args.setting.now.life_steps _ _ _ _ _ c.in_ok-life.life _ c.loop.invariant.2 c.in_ok-life.ensures.life next.0 next.1 next.2 settled.0 settled.1 in
+    let on = lives_next g.D.Disk.model.keeps_model g.D.Disk.model.present g.C.Callers.talked g.C.Callers.failed c.args.setting.now.life_steps _ _ _ _ _ c.in_ok-life.life _ c.loop.invariant.2 c.in_ok-life.ensures.life next.0 next.1 next.2 settled.0 settled.1 in
     (tt, tt, on.0, on.1)
 
 pub returns-in-Err-clause-lived : goal.returns-in-Err-clause-lived
 returns-in-Err-clause-lived g c =
     let over = c.in-Err.ensures.over in
-    lives_end g.D.Disk.model.keeps_model g.D.Disk.model.present g.C.Callers.met g.C.Callers.failed c.args.setting.now.life_steps _ _ _ _ c.in_ok-life.life c.in-Err.ended c.loop.invariant.2 c.in_ok-life.ensures.life over.0 over.1 over.2
+    lives_end g.D.Disk.model.keeps_model g.D.Disk.model.present g.C.Callers.talked g.C.Callers.failed c.args.setting.now.life_steps _ _ _ _ c.in_ok-life.life c.in-Err.ended c.loop.invariant.2 c.in_ok-life.ensures.life over.0 over.1 over.2

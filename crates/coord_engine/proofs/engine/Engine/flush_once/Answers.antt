@@ -7,4 +7,4 @@ pub returns : goal.returns
 returns g c =
     let b = based_on g.D.Disk.model.keeps_model g.D.Disk.model.present g.L.Origin.base g.L.Origin.before in
     let leaves = subst (Begins b) c.in-Ok-Some.field-0-is c.in-Ok-Some.ensures in
-    told_back b g.D.Disk.model.failures c.in-Ok-Some.flight c.commit-committed.new.flight c.end-releases.result leaves c.commit-committed.result c.commit-committed.ensures c.end-releases.ensures.released c.end-releases.ensures.back c.told.result c.told.ensures
+    told_back b g.D.Disk.model.failures c.in-Ok-Some.flight c.commit-committed.new.flight c.end-releases.result leaves c.commit-committed.result c.commit-committed.ensures c.end-releases.ensures.released c.end-releases.ensures.back c.answer_of.result c.answer_of.ensures
