@@ -323,26 +323,10 @@ module _ {C : Type 0} (exchanged : C → List ℕ → List ℕ → C → Type 0)
 
 module _ {D : Type 0} (answers : D → Request → Answer → D → Type 0) {C : Type 0} (exchanged : C → List ℕ → List ℕ → C → Type 0) (turn : InTurn exchanged) where
   -- the reply to the next line was not written whole
-  pub broken-at : (d f e : D) (a b c : C) (bytes_read : List ℕ) (lines done left : List Line) (line : Line) (told : List Answer) → AllGet answers d done told f → exchanged a bytes_read (reply_lines told) b → lines ≡ done ++ line ∷ left
+  broken-at : (d f e : D) (a b c : C) (bytes_read : List ℕ) (lines done left : List Line) (line : Line) (told : List Answer) → AllGet answers d done told f → exchanged a bytes_read (reply_lines told) b → lines ≡ done ++ line ∷ left
       → (x : Answer) × GetsAtLast answers f line x e × WritesPart exchanged b c (reply_line x) → (text : List ℕ) × exchanged a bytes_read text c × BreaksOff answers d lines text e
   broken-at d f e a b c bytes_read lines done left line told h written same w =
       (reply_lines told ++ w.2.0, told-on exchanged turn a b c bytes_read (reply_lines told) w.2.0 written w.2.1, (told, line, [], left, f, e, w.0, [], w.2.0, (done, same, h), w.1, refl, inl refl, w.2.2, refl))
-
-  pub broken-line : (d f e : D) (a b c : C) (bytes_read : List ℕ) (lines done left : List Line) (line : Line) (told : List Answer) → AllGet answers d done told f → exchanged a bytes_read (reply_lines told) b → lines ≡ done ++ line ∷ left
-      → (x : Answer) × Gets answers f line x e × WritesPart exchanged b c (reply_line x) → (text : List ℕ) × exchanged a bytes_read text c × BreaksOff answers d lines text e
-  broken-line d f e a b c bytes_read lines done left line told h written same w = broken-at d f e a b c bytes_read lines done left line told h written same (w.0, inl w.1, w.2)
-
-  -- the next line has closed the desk
-  pub closed-at : (d f e : D) (a b c : C) (bytes_read : List ℕ) (lines done : List Line) (line : Line) (behind : List ℕ) (told : List Answer) (closed : Bool) → closed ≡ true → AllGet answers d done told f → exchanged a bytes_read (reply_lines told) b
-      → lines ≡ done ++ line ∷ lines_on (Some []) behind
-      → (x : Answer) × (closed ≡ is_closed x) × Gets answers f line x e × exchanged b [] (reply_line x) c → (text : List ℕ) × exchanged a bytes_read text c × Closes answers d lines text e
-  closed-at d f e a b c bytes_read lines done line behind told closed is h written same w =
-      let other = lines_on-some (Some []) behind in
-      let k = closes-told w.0 (sym w.1 ∙ is) in (
-        reply_lines told ++ reply_line Closed,
-        told-on exchanged turn a b c bytes_read (reply_lines told) (reply_line Closed) written (subst (λ x. exchanged b [] (reply_line x) c) k w.3),
-        (told, line, other.0, other.1, f, (done, same ∙ ap (λ l. done ++ line ∷ l) other.2, h), subst (λ x. Gets answers f line x e) k w.2, refl),
-      )
 
   -- it has ended, but that could not be told
   pub broken-end : (d e : D) (a b c : C) (bytes_read seen : List ℕ) (line : Line) (done : List Line) (told : List Answer) → IsWithin line → AllGet answers d done told e → exchanged a bytes_read (reply_lines told) b

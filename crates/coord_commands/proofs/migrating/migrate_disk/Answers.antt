@@ -2,7 +2,7 @@ use Rattle.std.proofs.Common.{◌≡◌, ◌⊎◌, ⊎_elim, ◌+◌, ◌∙◌
 use Rattle.coord_disk.proofs.MomentLemmas.{and_then, weaker}
 use Rattle.coord_disk.specs.Model.Moments.{LeavesOnly}
 use Rattle.coord_disk.specs.Model.Present.{IsImage, Present}
-use Rattle.coord_store.specs.Facade.{GivesEither, Kept, Recovered, has_stopped, risen}
+use Rattle.coord_store.specs.Facade.{Kept, Recovered, has_stopped, risen}
 use Rattle.coord_world.specs.protocol.NumberedWorld.{World}
 use Rattle.coord_commands.specs.Migrating.{IsEitherVersion, failures_in}
 use Rattle.coord_commands.proofs.Raising.{either_of, fault_of, going_on, if_both, if_present, line_of}
