@@ -218,8 +218,9 @@ class Patience(Case):
                 with server.connect() as connection:
                     self.expect_served(connection, lines=2)
                     connection.send(part)
-                    self.clock(begun + most - 5)
-                    self.expect_nothing(connection)
+                    for ahead in (0, most - 5):
+                        self.clock(begun + ahead)
+                        self.expect_nothing(connection)
                     self.clock(begun + most)
                     self.assertEqual(await_end(connection), b"")
 

@@ -175,14 +175,15 @@ class Refused(Served):
             return time.monotonic() - began if [reply.get("step") for reply in replies] == [2, 3, 4] else 0
 
     def test_a_flusher_that_finds_no_memory_rests(self):
-        """From one allocation on it is the flusher that is refused. It tries again 300 times, and rests for a millisecond
-        before each, so that it does not take the processor from those who have the memory."""
+        """From one allocation on it is the flusher that is refused, before a flight or as one comes back. Each time it tries
+        again 300 times, and rests for a millisecond before each, so that it does not take the processor from those who have
+        the memory."""
         self.needs("a C compiler", preloaded.has_compiler())
         refusing, store = Refusing(PROGRAM, self.folder), self.made(topology([(1, 1)]))
         content = self.read("store")
         _, before, behind = self.orders(store, refusing, ALL_THREADS)
+        times = []
         for first in range(before + 1, behind + 1):
             self.write("store", content)
-            if self.seconds(store, refusing, first) > 0.25:
-                return
-        self.fail("the orders were always carried out sooner than 300 rests take")
+            times.append(self.seconds(store, refusing, first))
+        self.assertGreater(min(filter(None, times), default=0), 0.25, times)
