@@ -70,7 +70,9 @@ module _ {D : Type 0} (model : DiskModel D) where
 
   -- the device of a disk that is refused otherwise has not failed
   no_device : (fault : StoreFault) → failed_in fault ≡ 0 → fault ≡ Device → ⊥
-  no_device fault never is = let one : failed_in Device ≡ 0 = ap failed_in (sym is) ∙ never in cc
+  no_device fault never is =
+      let one : failed_in Device ≡ 0 = ap failed_in (sym is) ∙ never in
+      absurd (omega (arith, one))
 
   pub refused : (before after : Option Present) (taken back : D) (fault : StoreFault) → known_of model.keeps_model model.present taken ≡ before → IfSome after (λ known. known_of model.keeps_model model.present back ≡ Some known)
       → model.failures back ≡ model.failures taken + failed_in fault → (model.keeps_model taken ≡ true → fault ≢ Device → model.present back ≡ whole (model.present taken).read)
@@ -101,12 +103,12 @@ module _ {D : Type 0} (model : DiskModel D) where
   pub ended : (before after : Option Present) (store : Kept D) (fault : ServerFault) → IsOpened model before store → EndsWith model.keeps_model model.present store.world fault → EndsServing model before after (fault_of_server fault)
   ended before after store fault is ends = inr (inr (record { began = store.world; opened = is.world; fault = fault; ends = ends; named = refl }))
 
+  of_unopened : (before after : Option Present) (fault : StoreFault) → ((fault ≡ Device) × (after ≡ before)) ⊎ (IsOfOpening (reads before) (Store fault) × IsPutBack model (failed_in fault) before after) → IsOfServing (reads before) (Store fault)
+  of_unopened before after fault (inl none) = subst (λ (f : StoreFault). IsOfServing (reads before) (Store f)) (sym none.0) tt
+  of_unopened before after fault (inr refuses) = refuses.0
+
   -- as far as the bytes tell
   pub of_ending : (before after : Option Present) (told : Fault) → EndsServing model before after told → IsOfServing (reads before) told
-  of_ending before after told (inl is) = subst (IsOfServing (reads before)) (sym is.named) (of_refused is.why)
-    where
-      of_refused : ((is.fault ≡ Device) × (after ≡ before)) ⊎ (IsOfOpening (reads before) (Store is.fault) × IsPutBack model (failed_in is.fault) before after) → IsOfServing (reads before) (Store is.fault)
-      of_refused (inl none) = subst (λ (f : StoreFault). IsOfServing (reads before) (Store f)) (sym none.0) tt
-      of_refused (inr refuses) = refuses.0
+  of_ending before after told (inl is) = subst (IsOfServing (reads before)) (sym is.named) (of_unopened before after is.fault is.why)
   of_ending before after told (inr (inl is)) = subst (IsOfServing (reads before)) (sym is.0) is.1
   of_ending before after told (inr (inr is)) = subst (IsOfServing (reads before)) (sym is.named) (of_serving (reads before) is.fault (gives_some (reads before) is.began is.opened))
