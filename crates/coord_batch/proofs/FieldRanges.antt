@@ -1,7 +1,6 @@
 -- Which values the fields can spell: those in their ranges.
 use Rattle.std.proofs.Common.{ℕ, zero, suc, ◌<◌, ◌≤◌, ◌^◌, Bool, true, false, eqb, refl, sym, subst, arith}
 use Rattle.coord_types.specs.Facade.{IsNode, carried}
-use Rattle.coord_batch.specs.Format.{nothing}
 use Rattle.std.proofs.lemmas.Bool.Decides.{nat_tests}
 use Rattle.coord_types.specs.declared.messages.Msg.{Msg}
 use Rattle.coord_types.specs.declared.messages.Msg.TheVariants as msg

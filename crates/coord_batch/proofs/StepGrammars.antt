@@ -7,7 +7,7 @@ use Rattle.coord_types.specs.declared.steps.Command.{Command}
 use Rattle.coord_types.specs.declared.steps.Command.TheVariants.{Add, Join, Drop, Remove, Reset, Confirm}
 use Rattle.coord_types.specs.declared.steps.Step.{Step}
 use Rattle.coord_types.specs.declared.steps.Step.TheVariants.{Order, Take, Clear}
-use Rattle.coord_batch.specs.Format.{Format, byte, u16, u64, nothing, such_that, ◌&◌}
+use Rattle.coord_batch.specs.Format.{Format, byte, u16, u64, nothing, ◌&◌}
 use Rattle.coord_batch.specs.Fields.{node, group, client, distance, unless, message, message_case, message_tag, from_one, at_most, from_one_to, how_many}
 use Rattle.coord_batch.specs.Steps.{both_of, first_of, command, command_case, command_tag, data_packet, receipt_packet, order, order_of, taken_of, cleared_of, step, step_case, step_tag, how_many_steps, steps, batch}
 use Rattle.coord_batch.proofs.Grammars.{IsGrammar, byte_grammar, nothing_grammar, u16_grammar, u64_grammar, such_grammar, followed_grammar, made_grammar, cases_grammar, counted_grammar}

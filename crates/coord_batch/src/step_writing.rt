@@ -16,9 +16,7 @@ fn put_form(out: &mut Vec<u8>, form: u8, id: NodeId) -> Result<(), AllocError>
     ensures ok { OnOk result (out.new.items ≡ out.old.items ++ form ∷ id ∷ []) }
     ensures fits { OnOk result (IsNode id) }
 {
-    out.push(form)?;
-    out.push(id.number())?;
-    Ok(())
+    out.extend_from_slice(&[form, id.number()])
 }
 
 /// Puts a command's spelling at the end.
@@ -63,8 +61,7 @@ fn put_address(
         to_be_bytes w64 number) }
     ensures fits { OnOk result (IsNode from × IsNode to) }
 {
-    out.push(from.number())?;
-    out.push(to.number())?;
+    out.extend_from_slice(&[from.number(), to.number()])?;
     out.extend_from_slice(&inc.to_be_bytes())?;
     out.extend_from_slice(&number.to_be_bytes())?;
     Ok(())
@@ -123,8 +120,7 @@ pub(crate) fn put_step(out: &mut Vec<u8>, version: Version, taken: &Step) -> Res
 {
     match *taken {
         Step::Order(client, number, command) => {
-            out.push(0)?;
-            out.push(client.number())?;
+            out.extend_from_slice(&[0, client.number()])?;
             out.extend_from_slice(&number.to_be_bytes())?;
             put_command(out, &command)
         }

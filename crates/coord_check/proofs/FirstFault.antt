@@ -1,7 +1,9 @@
 -- The first fault of many places in turn.
-use Rattle.std.proofs.Common.{◌≡◌, ℕ, zero, suc, ◌+◌, ◌-◌, ◌<◌, ◌≤◌, Bool, true, false, Option, Some, None, List, [], ◌∷◌, ◌++◌, length, get_or, drop, refl, sym, ap, ◌∙◌, arith, if◌then◌else◌}
-use Rattle.std.specs.List.{flat_map, range_with_len}
+use Rattle.std.proofs.Common.{◌≡◌, ℕ, ◌+◌, ◌<◌, ◌≤◌, Bool, true, false, Option, Some, None, List, [], ◌∷◌, ◌++◌, length, get_or, drop, refl, sym, ap, ◌∙◌, arith, if◌then◌else◌}
+use Rattle.std.specs.List.{flat_map}
 use Rattle.std.proofs.lemmas.List.{drop_more}
+use Rattle.coord_types.specs.declared.limits.TheConstants.{MAX_NODES}
+use Rattle.coord_types.proofs.Numbers.{no_more_numbers, numbers_next}
 use Rattle.coord_link.specs.LaneMachine.{Lane, transit}
 use Rattle.coord_world.specs.Facade.{World, is_linked, lane_at, link, transit_or_none, view}
 use Rattle.coord_check.specs.declared.violation.Letter.{Letter}
@@ -10,6 +12,7 @@ use Rattle.coord_check.specs.declared.violation.Violation.{Violation}
 use Rattle.coord_check.specs.Faults.{first, nodes_from, holds_of, link_holds, fault_unless, end_faults, letter_faults, link_letters, link_faults}
 use Rattle.coord_check.specs.LinkEnds.{link_end, end_at, lane_or_none, seen}
 use Rattle.coord_check.specs.declared.link_end.LinkEnd.{LinkEnd}
+use Rattle.coord_check.proofs.NoFaults.{not_told}
 
 -- a list with a first element has that one before another list too; one with none is empty
 pub first_here : {X : Type 0} (xs ys : List X) (x : X) → first xs ≡ Some x → first (xs ++ ys) ≡ Some x
@@ -23,30 +26,15 @@ no_first (x ∷ xs) is = cc
 pub first_further : {X : Type 0} (xs ys : List X) → first xs ≡ None → first (xs ++ ys) ≡ first ys
 first_further xs ys none = ap (λ l. first (l ++ ys)) (no_first xs none)
 
-range_step : (u n : ℕ) → 0 < n → range_with_len u n ≡ u ∷ range_with_len (u + 1) (n - 1)
-range_step u zero lt = absurd (omega arith)
-range_step u (suc n) lt = let e : n ≡ suc n - 1 = omega arith in ap (λ k. u ∷ range_with_len (u + 1) k) e
-
-pub nodes_from-step : (u : ℕ) → u < 65 → nodes_from u ≡ u ∷ nodes_from (u + 1)
-unfolding nodes_from
-nodes_from-step u lt =
-    let some : 0 < 65 - u = omega arith in
-    let e : 65 - u - 1 ≡ 65 - (u + 1) = omega arith in
-    range_step u (65 - u) some ∙ ap (λ k. u ∷ range_with_len (u + 1) k) e
-
-pub nodes_from-end : (u : ℕ) → 65 ≤ u → nodes_from u ≡ []
-unfolding nodes_from
-nodes_from-end u le = let e : 65 - u ≡ 0 = omega arith in ap (range_with_len u) e
-
 module _ {X : Type 0} (f : ℕ → List X) (u : ℕ) where
-  pub passed : u < 65 → first (f u) ≡ None → first (flat_map f (nodes_from (u + 1))) ≡ first (flat_map f (nodes_from u))
-  passed lt none = sym (ap (λ us. first (flat_map f us)) (nodes_from-step u lt) ∙ first_further (f u) (flat_map f (nodes_from (u + 1))) none)
+  pub passed : u ≤ MAX_NODES → first (f u) ≡ None → first (flat_map f (nodes_from (u + 1))) ≡ first (flat_map f (nodes_from u))
+  passed le none = sym (ap (λ us. first (flat_map f us)) (numbers_next MAX_NODES u le) ∙ first_further (f u) (flat_map f (nodes_from (u + 1))) none)
 
-  pub met : (x : X) → u < 65 → first (f u) ≡ Some x → first (flat_map f (nodes_from u)) ≡ Some x
-  met x lt is = ap (λ us. first (flat_map f us)) (nodes_from-step u lt) ∙ first_here (f u) (flat_map f (nodes_from (u + 1))) x is
+  pub met : (x : X) → u ≤ MAX_NODES → first (f u) ≡ Some x → first (flat_map f (nodes_from u)) ≡ Some x
+  met x le is = ap (λ us. first (flat_map f us)) (numbers_next MAX_NODES u le) ∙ first_here (f u) (flat_map f (nodes_from (u + 1))) x is
 
-  pub all_passed : 65 ≤ u → first (flat_map f (nodes_from u)) ≡ None
-  all_passed le = ap (λ us. first (flat_map f us)) (nodes_from-end u le)
+  pub all_passed : MAX_NODES < u → first (flat_map f (nodes_from u)) ≡ None
+  all_passed past = ap (λ us. first (flat_map f us)) (no_more_numbers MAX_NODES u past)
 
 module _ {K X : Type 0} (f : K → List X) (ks : List K) (i : ℕ) (d : K) where
   at_place : i < length ks → first (flat_map f (drop i ks)) ≡ first (f (get_or ks i d) ++ flat_map f (drop (i + 1) ks))
@@ -66,10 +54,6 @@ way_is (Some l) = refl
 -- the code's reading of two ends
 link_is : (w : World) (u v : ℕ) → link (view w) u v ≡ seen (link_end w u v) (link_end w v u)
 link_is w u v i = record { here = end_at (link_end w u v); there = end_at (link_end w v u); out = way_is (lane_at w.links u v) i; back = way_is (lane_at w.links v u) i }
-
-told_true : (b : Bool) (v : Violation) → b ≡ true → fault_unless b v ≡ []
-told_true true v is = refl
-told_true false v is = cc
 
 told_false : (b : Bool) (v : Violation) → b ≡ false → fault_unless b v ≡ v ∷ []
 told_false true v is = cc
@@ -115,10 +99,10 @@ module _ (w : World) (a b : ℕ) where
     -- the other end alone does
     pub broken_back : (t s : Bool) → t ≡ holds_of x near.lane (seen near far) → t ≡ true → s ≡ holds_of x far.lane (seen far near) → s ≡ false → first (flat_map (letter_faults w a b) (drop i link_letters)) ≡ Some (record { a = b; b = a; letter = x })
     broken_back t s e not_here d is =
-        met_letter _ (ap (λ l. first (l ++ end_faults w b a x)) (told_true _ _ (here t true e not_here)) ∙ ap first (told_false _ _ (back s false d is)))
+        met_letter _ (ap (λ l. first (l ++ end_faults w b a x)) (not_told _ _ (here t true e not_here)) ∙ ap first (told_false _ _ (back s false d is)))
 
     -- neither does
     pub unbroken_letter : (t s : Bool) → t ≡ holds_of x near.lane (seen near far) → t ≡ true → s ≡ holds_of x far.lane (seen far near) → s ≡ true → first (flat_map (letter_faults w a b) (drop (i + 1) link_letters)) ≡ first (flat_map (letter_faults w a b) (drop i link_letters))
     unbroken_letter t s e not_here d not_back =
-        let none : first (letter_faults w a b x) ≡ None = ap (λ l. first (l ++ end_faults w b a x)) (told_true _ _ (here t true e not_here)) ∙ ap first (told_true _ _ (back s true d not_back)) in
+        let none : first (letter_faults w a b x) ≡ None = ap (λ l. first (l ++ end_faults w b a x)) (not_told _ _ (here t true e not_here)) ∙ ap first (not_told _ _ (back s true d not_back)) in
         sym (left_is (i + 1)) ∙ passed_at (letter_faults w a b) tried i letter.N lt (ap (λ y. first (letter_faults w a b y)) at ∙ none) ∙ left_is i

@@ -1,6 +1,7 @@
 -- When nothing is told.
 use Rattle.std.proofs.Common.{◌≡◌, ℕ, zero, suc, ◌+◌, ◌-◌, ◌<◌, ◌≤◌, Bool, true, false, List, [], ◌∷◌, ◌++◌, refl, sym, ap, ◌∙◌, ◌⊎◌, inl, inr, arith}
 use Rattle.std.specs.List.{AllByRecursion, flat_map, range_with_len}
+use Rattle.coord_types.specs.Numbers.{numbers}
 use Rattle.coord_check.specs.declared.violation.Letter.{Letter}
 use Rattle.coord_check.specs.declared.violation.Letter.TheVariants as letter
 use Rattle.coord_check.specs.declared.violation.Violation.{Violation}
@@ -21,26 +22,26 @@ both_empty (x ∷ xs) ys is = cc
 pub empty_both : {X : Type 0} (xs ys : List X) → xs ≡ [] → ys ≡ [] → xs ++ ys ≡ []
 empty_both xs ys e d = ap (λ l. l ++ ys) e ∙ d
 
-split : (u v : ℕ) → u ≤ v → (u ≡ v) ⊎ (u < v)
-split u v le = grind arith
+pub lesser_or_same : (u v : ℕ) → u ≤ v → (u ≡ v) ⊎ (u < v)
+lesser_or_same u v le = grind arith
 
 module _ {X : Type 0} (f : ℕ → List X) where
   range_empty : (u n : ℕ) → flat_map f (range_with_len u n) ≡ [] → (v : ℕ) → u ≤ v → v < u + n → f v ≡ []
   range_empty u zero is v le lt = absurd (omega arith)
   range_empty u (suc n) is v le lt =
       let parts : (f u ≡ []) × (flat_map f (range_with_len (u + 1) n) ≡ []) = both_empty (f u) (flat_map f (range_with_len (u + 1) n)) is in
-      elim (split u v le) [ inl e ↦ ap f (sym e) ∙ parts.0 | inr above ↦ range_empty (u + 1) n parts.1 v (omega arith) (omega arith) ]
+      elim (lesser_or_same u v le) [ inl e ↦ ap f (sym e) ∙ parts.0 | inr above ↦ range_empty (u + 1) n parts.1 v (omega arith) (omega arith) ]
 
   empty_range : (u n : ℕ) → ((v : ℕ) → u ≤ v → v < u + n → f v ≡ []) → flat_map f (range_with_len u n) ≡ []
   empty_range u zero all = refl
   empty_range u (suc n) all = empty_both (f u) (flat_map f (range_with_len (u + 1) n)) (all u (omega arith) (omega arith)) (empty_range (u + 1) n (λ v le lt. all v (omega arith) (omega arith)))
 
   pub none_told : (u : ℕ) → flat_map f (nodes_from u) ≡ [] → (v : ℕ) → u ≤ v → v ≤ 64 → f v ≡ []
-  unfolding nodes_from
+  unfolding numbers
   none_told u is v le lt = range_empty u (65 - u) is v le (omega arith)
 
   pub tell_none : (u : ℕ) → ((v : ℕ) → u ≤ v → v ≤ 64 → f v ≡ []) → flat_map f (nodes_from u) ≡ []
-  unfolding nodes_from
+  unfolding numbers
   tell_none u all = empty_range u (65 - u) (λ v le lt. all v le (omega arith))
 
 module _ {X : Type 0} (f : Letter → List X) where

@@ -1,10 +1,11 @@
 -- A walk over the neighbours of a node meets each of its links to a node with a greater number.
-use Rattle.std.proofs.Common.{◌≡◌, ℕ, zero, suc, ◌+◌, ◌-◌, ◌<◌, ◌≤◌, Bool, true, false, ◌||◌, List, [], ◌∷◌, ◌++◌, Some, None, refl, sym, ap, ap₂, subst, ◌∙◌, ◌⊎◌, inl, inr, arith, if◌then◌else◌, nat_eq, nat_lt, nat_cmp, Less}
+use Rattle.std.proofs.Common.{◌≡◌, ℕ, zero, suc, ◌+◌, ◌-◌, ◌<◌, ◌≤◌, Bool, true, false, ◌||◌, List, [], ◌∷◌, ◌++◌, Some, None, refl, sym, ap, ap₂, subst, ◌∙◌, inl, inr, arith, if◌then◌else◌, nat_eq, nat_lt, nat_cmp, Less}
 use Rattle.std.specs.List.{AllByRecursion, flat_map, list_any, range_with_len}
 use Rattle.std.specs.List.Sorted.{IsStrictlySortedBy}
 use Rattle.std.proofs.lemmas.Bool.Decides.{nat_tests}
 use Rattle.std.proofs.lemmas.Map.Keys.{sorted_head, sorted_tail}
 use Rattle.coord_types.specs.NodeSet.{NodeSet, first as first_member, items, remove}
+use Rattle.coord_types.specs.Numbers.{numbers}
 use Rattle.coord_types.proofs.Sets.{contains-items, items-first, items-sorted, all_listed}
 use Rattle.coord_world.specs.Facade.{InRange, World, is_linked, state}
 use Rattle.coord_world.proofs.Facade.{lane-mirrored}
@@ -12,6 +13,7 @@ use Rattle.coord_check.specs.declared.violation.Violation.{Violation}
 use Rattle.coord_check.specs.Faults.{first, faults_from, letter_faults, link_faults, link_letters, nodes_from}
 use Rattle.coord_check.proofs.FirstFault.{first_further}
 use Rattle.coord_check.proofs.LegalWithoutFaults.{is_node}
+use Rattle.coord_check.proofs.NoFaults.{lesser_or_same}
 
 -- numbers that rise, none of them below u
 abbrev RiseFrom : ℕ → List ℕ → Type 0
@@ -35,9 +37,6 @@ not_listed u v (x ∷ xs) rise lt =
 
 other : (x v : ℕ) (b : Bool) → x < v → b ≡ false → (nat_eq x v || b) ≡ false
 other x v b lt none = grind (arith, nat_tests)
-
-lesser_or_same : (u x : ℕ) → u ≤ x → (u ≡ x) ⊎ (u < x)
-lesser_or_same u x le = grind arith
 
 module _ {X : Type 0} (f : ℕ → List X) where
   -- a range and the numbers of it that are listed lead to the same, where the others lead to nothing
@@ -82,7 +81,7 @@ module _ {X : Type 0} (f : ℕ → List X) where
       ]
 
   pub nodes_above : (a : ℕ) → a < 65 → flat_map (from_above a) (nodes_from 1) ≡ flat_map f (nodes_from (a + 1))
-  unfolding nodes_from
+  unfolding numbers
   nodes_above a lt = some_in a 1 64 (omega arith) (omega arith)
 
 unlinked : (w : World) (a v : ℕ) (t : Bool) → t ≡ false → (if t then flat_map (letter_faults w a v) link_letters else []) ≡ []
@@ -121,7 +120,7 @@ module _ (w : World) (a : ℕ) where
 
     -- the walk meets what is told of the links from a node upwards
     pub walk_is : a < 65 → flat_map told_above (items (state w a).neighbours) ≡ faults_from w a
-    unfolding near nodes_from
+    unfolding near numbers
     walk_is lt =
         sym (sparse told_above 65 1 64 (items near) refl
         (rise_of_sorted 1 (items near) (items-sorted near) (all_listed (λ y. 1 ≤ y) (items near) (λ v is. (neighbour v is).0)))

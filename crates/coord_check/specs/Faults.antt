@@ -1,8 +1,8 @@
 -- All faults of a world, in the order in which they are told.
-use Rattle.std.specs.Prelude.{◌≡◌, ℕ, ◌+◌, ◌-◌, Bool, true, false, List, [], ◌∷◌, ◌++◌, Option, Some, None, if◌then◌else◌}
-use Rattle.std.specs.List.{flat_map, range_with_len}
+use Rattle.std.specs.Prelude.{◌≡◌, ℕ, ◌+◌, Bool, true, false, List, [], ◌∷◌, ◌++◌, Option, Some, None, if◌then◌else◌}
+use Rattle.std.specs.List.{flat_map}
 use Rattle.coord_types.specs.declared.limits.TheConstants.{MAX_NODES}
-use Rattle.coord_types.specs.Table.{has}
+use Rattle.coord_types.specs.Facade.{has, numbers}
 use Rattle.coord_link.specs.LaneMachine.{Lane, has_front_taken_at_most}
 use Rattle.coord_world.specs.Facade.{Link, World, has_ack_in_one_place, has_no_early_ready, has_one_parent_at_most, has_one_ready_at_most, has_readies_first, has_ready_for_child, has_right_distances, is_legal_node, is_linked, lane_at, link, state, view}
 use Rattle.coord_check.specs.LinkEnds.{lane_or_none}
@@ -40,8 +40,8 @@ first [] = None
 first (x ∷ xs) = Some x
 
 -- the numbers of nodes, from one on to the greatest, in ascending order
-unfoldable pub nodes_from : ℕ → List ℕ
-nodes_from u = range_with_len u (MAX_NODES + 1 - u)
+abbrev pub nodes_from : ℕ → List ℕ
+nodes_from u = numbers MAX_NODES u
 
 -- told where the test fails
 abbrev pub fault_unless : Bool → Violation → List Violation

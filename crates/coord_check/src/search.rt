@@ -11,11 +11,8 @@ use crate::letters::holds;
 use crate::link_end::LinkEnd;
 use crate::node_check::is_legal_node;
 use crate::violation::{Letter, Violation};
-use coord_types::{MAX_NODES, NodeId, NodeSet};
+use coord_types::{END_OF_NODES, NodeId, NodeSet};
 use coord_world::World;
-
-/// One more than the greatest number of a node.
-const END: u8 = MAX_NODES + 1;
 
 /// The letters of links, in the order in which they are tried.
 const LINK_LETTERS: [Letter; 8] = [
@@ -49,7 +46,7 @@ fn first_of_nodes(world: &World, count: u64) -> Option<Violation>
     requires { count ≡ world.now.count }
     ensures { result ≡ first (flat_map (node_faults world.now) (nodes_from 1)) }
 {
-    for number in 1..END {
+    for number in 1..END_OF_NODES {
         let id = NodeId::new(number)?;
         if let Some(fault) = fault_of_node(world, count, id) {
             return Some(fault);
@@ -74,7 +71,7 @@ fn first_of_links(world: &World) -> Option<Violation>
     requires { InRange world.now }
     ensures { result ≡ first (flat_map (faults_from world.now) (nodes_from 1)) }
 {
-    for number in 1..END {
+    for number in 1..END_OF_NODES {
         let a = NodeId::new(number)?;
         if let Some(fault) = first_of_links_from(world, a) {
             return Some(fault);

@@ -10,18 +10,11 @@ use Rattle.std.proofs.lemmas.Grind.{flat_map-append}
 use Rattle.std.proofs.lemmas.List.{length-map}
 use Rattle.std.proofs.lemmas.List.Folds.{flat_map-map}
 use Rattle.coord_types.specs.Table.{Table, entries, get, len}
+use Rattle.coord_types.specs.Numbers.{numbers}
+use Rattle.coord_types.proofs.Numbers.{no_more_numbers, numbers_next}
 use Rattle.coord_types.proofs.Tables.{get-entries, len-entries}
 use Rattle.coord_world.proofs.Facade.{by_test}
-use Rattle.coord_codec.specs.ByNumber.{HasKeysTo, entry_at, numbers, one_or_none}
-
--- the first of the numbers, and those behind it
-pub numbers_next : (most u : ℕ) → u ≤ most → numbers most u ≡ u ∷ numbers most (u + 1)
-unfolding numbers
-numbers_next most u le = let one_more : most + 1 - u ≡ suc (most + 1 - (u + 1)) = omega (arith, le) in ap (range_with_len u) one_more
-
-pub no_more_numbers : (most u : ℕ) → most < u → numbers most u ≡ []
-unfolding numbers
-no_more_numbers most u past = let none : most + 1 - u ≡ 0 = omega (arith, past) in ap (range_with_len u) none
+use Rattle.coord_codec.specs.ByNumber.{HasKeysTo, entry_at, one_or_none}
 
 module _ {X : Type 0} (f : ℕ → Option X) where
   abbrev entry : ℕ → Option X → List (ℕ × X)

@@ -1,16 +1,11 @@
 -- Rows that each stand above the one before are in order.
-use Rattle.std.proofs.Common.{◌≡◌, ℕ, ◌+◌, ◌≤◌, Bool, true, false, ◌&&◌, List, [], ◌∷◌, ◌++◌, map, length, refl, ap, ◌∙◌, arith, Ordering, is_lt, nat_cmp, Less, Equal, Greater}
-use Rattle.coord_world.proofs.Facade.{both}
+use Rattle.std.proofs.Common.{◌≡◌, ℕ, ◌+◌, ◌≤◌, true, ◌&&◌, List, [], ◌∷◌, ◌++◌, map, length, refl, ap, ◌∙◌, arith, Ordering, is_lt, nat_cmp, Less}
+use Rattle.coord_world.proofs.Facade.{both, is_less}
 use Rattle.std.specs.Cmp.{IsTotalOrder}
 use Rattle.std.specs.List.{AllByRecursion}
 use Rattle.std.specs.FinMap.Entries.{below_all, is_sorted}
 use Rattle.std.proofs.lemmas.Bool.Decides.{nat_tests}
 use Rattle.coord_codec.specs.Worlds.{last_by}
-
-is_less : (r : Ordering) → is_lt r ≡ true → r ≡ Less
-is_less Less is = refl
-is_less Equal is = cc
-is_less Greater is = cc
 
 module _ {K A : Type 0} (key : A → K) where
   abbrev pub keyed : List A → List (K × A)

@@ -2,6 +2,7 @@
 use Rattle.std.proofs.Common.{◌≡◌, ℕ, zero, suc, ◌<◌, ◌^◌, leb, ltb, List, [], refl, arith}
 use Rattle.coord_types.specs.Facade.{mask_of, mode_from, mode_number, nodes_of}
 use Rattle.coord_types.specs.declared.steps.Command.{Command}
+use Rattle.coord_link.specs.declared.lane.TheConstants.{PLACES}
 use Rattle.coord_types.proofs.Masks.{mask_back}
 use Rattle.coord_world.specs.protocol.Ranges.{answers}
 use Rattle.coord_world.specs.declared.rows.parts.NodeRow.{NodeRow}
@@ -72,7 +73,7 @@ ends_grammar listed front =
 
 queue_grammar : (version count : ℕ) → IsGrammar (queue version count)
 unfolding queue
-queue_grammar version count = counted_grammar _ (λ _. message version count) (how_many_grammar 4) (λ _. message_grammar version count) (λ _. refl)
+queue_grammar version count = counted_grammar _ (λ _. message version count) (how_many_grammar PLACES) (λ _. message_grammar version count) (λ _. refl)
 
 lane_grammar : (version count : ℕ) → IsGrammar (lane version count)
 unfolding lane

@@ -14,12 +14,13 @@ use Rattle.coord_types.specs.declared.steps.Command.TheVariants.{Add, Remove, Jo
 use Rattle.coord_types.specs.declared.steps.Kind.{Kind}
 use Rattle.coord_types.specs.declared.steps.Kind.TheVariants as kinds
 use Rattle.coord_types.proofs.Masks.{maskable_nodes, mask_below, nodes_back}
+use Rattle.coord_link.specs.declared.lane.TheConstants.{PLACES}
 use Rattle.coord_link.specs.LaneMachine.{Lane}
 use Rattle.coord_world.specs.Facade.{CarryWithin, IsNode, LaneInRange, LanesCarryWithin, LinkRowFits, NodeRowFits, RowIsDistant, Rows, RowsFit, SessionInRange, answers, by_client, by_ends, by_id, degree, farthest, group_in, group_of, is_end, pair_cmp, pair_cmp_total}
 use Rattle.coord_world.specs.declared.rows.parts.NodeRow.{NodeRow}
 use Rattle.coord_tables.specs.declared.links.LinkRow.{LinkRow}
 use Rattle.coord_world.specs.declared.rows.parts.ClientRow.{ClientRow}
-use Rattle.coord_world.proofs.Facade.{all_weaker, both}
+use Rattle.coord_world.proofs.Facade.{all_weaker, both, farthest_le}
 use Rattle.coord_batch.specs.Decoding.{is_version}
 use Rattle.coord_batch.specs.Fields.{distance, message, unless}
 use Rattle.coord_batch.specs.Format.{FitBehind, Format}
@@ -78,16 +79,8 @@ distance_fits version most n small few = by_version (eqb version 1) few
     by_version true le = omega (arith, le)
     by_version false le = at_most_fits most n small le
 
--- no distance is further than what is allowed of a number
-farthest_most : (version most : ℕ) → farthest version most ≤ most
-farthest_most version most = by_version (eqb version 1)
-  where
-    by_version : (b : Bool) → cond b 0 most ≤ most
-    by_version true = omega arith
-    by_version false = omega arith
-
 node_distance_in : (version count n : ℕ) (m : Mode) → (distance version (most_distance m count)).Fits n → (n ≤ farthest version count) × (m ≡ modes.Ready → n ≡ 0)
-node_distance_in version count n modes.Ready fits = let none = distance_in version 0 n fits in let le = farthest_most version 0 in (omega (arith, none, le), λ _. omega (arith, none, le))
+node_distance_in version count n modes.Ready fits = let none = distance_in version 0 n fits in let le = farthest_le version 0 in (omega (arith, none, le), λ _. omega (arith, none, le))
 node_distance_in version count n modes.Abort fits = (distance_in version count n fits, λ e. cc)
 node_distance_in version count n modes.Converge fits = (distance_in version count n fits, λ e. cc)
 
@@ -235,18 +228,18 @@ module _ (version count : ℕ) (small : count < 2 ^ 64) where
   messages_in front [] fits = tt
   messages_in front (m ∷ ms) fits = (distance_in version count (carried m) (message_in_range version count m small fits.0), messages_in (front ++ m ∷ []) ms fits.1)
 
-  queue_in : (ms : List Msg) → (queue version count).Fits ms → (length ms ≤ 4) × CarryWithin (farthest version count) ms
+  queue_in : (ms : List Msg) → (queue version count).Fits ms → (length ms ≤ PLACES) × CarryWithin (farthest version count) ms
   unfolding queue
-  queue_in ms fits = (how_many_in_range 4 (length ms) fits.0, messages_in [] ms fits.1)
+  queue_in ms fits = (how_many_in_range PLACES (length ms) fits.0, messages_in [] ms fits.1)
 
   each_message : (front ms : List Msg) → CarryWithin (farthest version count) ms → FitBehind (λ _. message version count) front ms
   unfolding FitBehind
   each_message front [] carry = tt
   each_message front (m ∷ ms) carry = (message_fits version count m (distance_fits version count (carried m) small carry.0), each_message (front ++ m ∷ []) ms carry.1)
 
-  queue_fits : (ms : List Msg) → length ms ≤ 4 → CarryWithin (farthest version count) ms → (queue version count).Fits ms
+  queue_fits : (ms : List Msg) → length ms ≤ PLACES → CarryWithin (farthest version count) ms → (queue version count).Fits ms
   unfolding queue
-  queue_fits ms few carry = (how_many_fits 4 (length ms) (omega arith) few, each_message [] ms carry)
+  queue_fits ms few carry = (how_many_fits PLACES (length ms) (omega arith) few, each_message [] ms carry)
 
 module _ (version count : ℕ) (listed : List NodeRow) (small : count < 2 ^ 64) where
   -- what a link's row says, and what it says of those before it
@@ -257,7 +250,7 @@ module _ (version count : ℕ) (listed : List NodeRow) (small : count < 2 ^ 64) 
     pub first_room : degree r.a front < 16
     pub second_room : degree r.b front < 16
 
-  lane_in : (inc base got : ℕ) (ms : List Msg) → (1 ≤ inc) × (inc ≤ count) → (lane version count).Fits (base, (got, ms)) → LaneInRange count (record { inc = inc; base = base; got = got; queue = ms }) × ((length ms ≤ 4) × CarryWithin (farthest version count) ms)
+  lane_in : (inc base got : ℕ) (ms : List Msg) → (1 ≤ inc) × (inc ≤ count) → (lane version count).Fits (base, (got, ms)) → LaneInRange count (record { inc = inc; base = base; got = got; queue = ms }) × ((length ms ≤ PLACES) × CarryWithin (farthest version count) ms)
   unfolding lane
   lane_in inc base got ms made fits = (record { made = made.0; inc = made.1; base = at_most_in_range count base fits.0; got = at_most_in_range count got fits.1.0 }, queue_in version count small ms fits.1.1)
 
@@ -287,7 +280,7 @@ module _ (version count : ℕ) (listed : List NodeRow) (small : count < 2 ^ 64) 
       })
 
   module _ (all : AllByRecursion (NodeRowFits count) listed) where
-    lane_fits : (l : Lane) → LaneInRange count l → length l.queue ≤ 4 → CarryWithin (farthest version count) l.queue → (lane version count).Fits (l.base, (l.got, l.queue))
+    lane_fits : (l : Lane) → LaneInRange count l → length l.queue ≤ PLACES → CarryWithin (farthest version count) l.queue → (lane version count).Fits (l.base, (l.got, l.queue))
     unfolding lane
     lane_fits l range few carry = (at_most_fits count l.base small range.base, (at_most_fits count l.got small range.got, queue_fits version count small l.queue few carry))
 

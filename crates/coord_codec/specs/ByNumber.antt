@@ -1,8 +1,7 @@
 -- The entries of a table by number, and their rows.
-use Rattle.std.specs.Prelude.{◌≡◌, ℕ, ◌+◌, ◌-◌, ◌≤◌, List, [], ◌∷◌, Option, Some, None}
+use Rattle.std.specs.Prelude.{◌≡◌, ℕ, ◌≤◌, List, [], ◌∷◌, Option, Some, None}
 use Rattle.std.specs.Cmp.{nat_cmp_total}
 use Rattle.std.specs.Option.{option_map}
-use Rattle.std.specs.List.{range_with_len}
 use Rattle.coord_types.specs.Facade.{NodeState, Table, get}
 use Rattle.coord_types.specs.declared.steps.Session.{Session}
 use Rattle.coord_world.specs.protocol.Rows as rows
@@ -11,10 +10,6 @@ use Rattle.coord_codec.specs.Worlds.{client_row, node_row}
 abbrev pub one_or_none : {A : Type 0} → Option A → List A
 one_or_none None = []
 one_or_none (Some x) = x ∷ []
-
--- the numbers from one on, up to the greatest
-unfoldable pub numbers : ℕ → ℕ → List ℕ
-numbers most u = range_with_len u (most + 1 - u)
 
 -- each key of a table is a number from 1 to this one
 abbrev pub HasKeysTo : {X : Type 0} → ℕ → Table nat_cmp_total X → Type 0

@@ -1,16 +1,13 @@
 //! The rows that were read, and what they say of the next one.
 
 ghost use Rattle.std.specs.Prelude.{◌≡◌, ◌≤◌, ◌<◌, ◌+◌, ◌-◌, ◌++◌, [], ◌∷◌, ℕ, None, Some, IsSome, length, slice_index_or, slice_set, OnOk};
-ghost use Rattle.coord_types.specs.declared.limits.TheConstants.{MAX_NODES};
+ghost use Rattle.coord_types.specs.declared.limits.TheConstants.{MAX_NODES, NODES};
 ghost use Rattle.coord_world.specs.protocol.Rows.{degree, group_of};
 ghost use Rattle.coord_codec.specs.Worlds.{can_link, first_rises, last_by, last_ends, second_rises};
 
-use coord_types::{Group, MAX_DEGREE, MAX_NODES, NodeId};
+use coord_types::{Group, MAX_DEGREE, NODES, NodeId};
 use coord_world::{LinkRow, NodeRow};
 use std::alloc::{AllocError, Global};
-
-/// One place for each node.
-const NODES: usize = MAX_NODES as usize;
 
 /// The place of a node, from 0.
 fn place_of(id: NodeId) -> usize

@@ -88,11 +88,12 @@ fn put_node_bytes(out: &mut Vec<u8>, number: u8, node: &Node) -> Result<(), Allo
         ++ number ∷ node.now.group ∷ mode_number node.now.mode ∷ parent_number node.now.parent ∷
         []) }
 {
-    out.push(number)?;
-    out.push(node.group().number())?;
-    out.push(mode_byte(node.mode()))?;
-    out.push(parent_byte(node.parent()))?;
-    Ok(())
+    out.extend_from_slice(&[
+        number,
+        node.group().number(),
+        mode_byte(node.mode()),
+        parent_byte(node.parent()),
+    ])
 }
 
 /// A node's distance, which stands in version 2 alone.
@@ -169,8 +170,7 @@ fn put_link_row(out: &mut Vec<u8>, version: Version, row: &LinkRow) -> Result<()
     ensures { OnOk result (out.new.items ≡
         out.old.items ++ (link_row version 0 [] []).text row.now) }
 {
-    out.push(row.a.number())?;
-    out.push(row.b.number())?;
+    out.extend_from_slice(&[row.a.number(), row.b.number()])?;
     out.extend_from_slice(&row.forth.inc().to_be_bytes())?;
     put_lane(out, version, &row.forth)?;
     put_lane(out, version, &row.back)

@@ -41,8 +41,7 @@ module _ (to from : List ℕ) (start stop : ℕ) (size : length to ≡ length fr
 
 -- a place outside the part that lies before the end lies outside the range
 pub apart : (at len size start stop i : ℕ) → start ≡ min size at → stop ≡ start + min len (size - start) → i < size → (i < start) ⊎ (stop ≤ i) → (nat_le at i && nat_lt i (at + len)) ≡ false
-apart at len size start stop i start_is stop_is lt (inl before) = let here : i < at = omega (arith, before, start_is) in grind (arith, nat_tests, here)
-apart at len size start stop i start_is stop_is lt (inr behind) = let here : at + len ≤ i = omega (arith, behind, start_is, stop_is, lt) in grind (arith, nat_tests, here)
+apart at len size start stop i start_is stop_is lt out = grind (arith, nat_tests, start_is, stop_is, lt, out)
 
 -- the synced bytes once they are as long as what is read
 pub grown : (disk : Present) (read tail : List ℕ) → IsImage disk read → tail ≡ drop (length disk.synced) read → IsImage (record disk { synced = disk.synced ++ tail }) read

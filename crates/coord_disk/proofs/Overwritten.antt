@@ -1,6 +1,6 @@
 -- What stands where after a write.
 use Rattle.std.proofs.Common.{◌≡◌, ◌⊎◌, inl, inr, ℕ, zero, suc, ◌+◌, ◌-◌, ◌<◌, ◌≤◌, max, false, List, [], ◌∷◌, ◌++◌, length, take, drop, refl, sym, ◌∙◌, ap, arith, append_assoc, length-append, length-take, length-drop, slice_get, replicate, nat_le, nat_lt, ◌&&◌, ◌||◌, Bool, true}
-use Rattle.std.proofs.lemmas.List.{append-nil, drop-drop, drop_all, take-replicate, take_all}
+use Rattle.std.proofs.lemmas.List.{append-nil, drop-drop, drop_all, length-replicate, take-replicate, take_all}
 use Rattle.std.proofs.lemmas.Bool.Decides.{nat_tests}
 use Rattle.coord_disk.specs.Model.Present.{Present, Range, IsImage, WritesWithin, is_within, overwritten, range_of, written_at}
 
@@ -26,10 +26,6 @@ get_drop [] (suc n) i k is = refl
 get_drop (x ∷ xs) (suc n) i zero is = absurd (omega (arith, is))
 get_drop (x ∷ xs) (suc n) i (suc k) is = get_drop xs n i k (omega (arith, is))
 
-pub length_zeros : (n : ℕ) → length {A = ℕ} (replicate n 0) ≡ n
-length_zeros zero = refl
-length_zeros (suc n) = omega (arith, length_zeros n)
-
 take_padded : (old : List ℕ) (n k m : ℕ) → n ≤ length old + k → m ≡ n - length old → take n (old ++ replicate k 0) ≡ take n old ++ replicate m 0
 take_padded [] zero k m le m_is = let none : 0 ≡ m = omega (arith, m_is) in ap (λ (j : ℕ). replicate j 0) none
 take_padded [] (suc n) k m le m_is = let all : suc n ≡ m = omega (arith, m_is) in take-replicate (suc n) k 0 (omega (arith, le)) ∙ ap (λ (j : ℕ). replicate j 0) all
@@ -37,7 +33,7 @@ take_padded (x ∷ old) zero k m le m_is = let none : 0 ≡ m = omega (arith, m_
 take_padded (x ∷ old) (suc n) k m le m_is = ap (λ (l : List ℕ). x ∷ l) (take_padded old n k m (omega (arith, le)) (omega (arith, m_is)))
 
 drop_padded : (old : List ℕ) (n k : ℕ) → k ≤ n - length old → drop n (old ++ replicate k 0) ≡ drop n old
-drop_padded [] n k le = drop_all n (replicate k 0) (omega (arith, le, length_zeros k)) ∙ sym (drop_all n [] (omega arith))
+drop_padded [] n k le = drop_all n (replicate k 0) (omega (arith, le, length-replicate {A = ℕ} k 0)) ∙ sym (drop_all n [] (omega arith))
 drop_padded (x ∷ old) zero k le =
     let none : k ≡ 0 = omega (arith, le) in
     ap (λ (j : ℕ). (x ∷ old) ++ replicate j 0) none ∙ append-nil (x ∷ old)
@@ -47,7 +43,7 @@ size_of : (old bytes : List ℕ) (at : ℕ) (b : ℕ) → length (overwritten ol
 size_of old bytes at b =
     let tail : List ℕ = drop (at + length (b ∷ bytes)) old in
     let zeros : List ℕ = replicate (at - length old) 0 in
-    omega (arith, length-append (take at old) (zeros ++ (b ∷ bytes ++ tail)), length-append zeros (b ∷ bytes ++ tail), length-append (b ∷ bytes) tail, length-take at old, length_zeros (at - length old), length-drop (at + length (b ∷ bytes)) old)
+    omega (arith, length-append (take at old) (zeros ++ (b ∷ bytes ++ tail)), length-append zeros (b ∷ bytes ++ tail), length-append (b ∷ bytes) tail, length-take at old, length-replicate {A = ℕ} (at - length old) 0, length-drop (at + length (b ∷ bytes)) old)
 
 pub length_overwritten : (old bytes : List ℕ) (at : ℕ) → 0 < length bytes → length (overwritten old at bytes) ≡ max (length old) (at + length bytes)
 length_overwritten old [] at some = absurd (omega (arith, some))
@@ -60,17 +56,9 @@ in_place old grown now [] at k size some k_is now_is size_is grown_is = absurd (
 in_place old grown now (b ∷ bs) at k size some k_is now_is size_is grown_is =
     let zeros : List ℕ = replicate (size - length old) 0 in
     let padded : grown ≡ old ++ zeros = grown_is ∙ ap (λ (l : List ℕ). l ++ zeros) (take_all size old (omega (arith, size_is))) in
-    let front : take at grown ≡ take at old ++ replicate (at - length old) 0 =
-    ap (λ (l : List ℕ). take at l) padded ∙ take_padded old at (size - length old) (at - length old) (omega (arith, size_is)) refl in
-    let behind : drop k (drop at grown) ≡ drop (at + length (b ∷ bs)) old =
-    drop-drop k at grown
-    ∙ ap (λ (j : ℕ). drop (at + j) grown) k_is
-    ∙ ap (λ (l : List ℕ). drop (at + length (b ∷ bs)) l) padded
-    ∙ drop_padded old (at + length (b ∷ bs)) (size - length old) (omega (arith, size_is)) in
-    ap (λ (l : List ℕ). l ++ (now ++ drop k (drop at grown))) front
-    ∙ append_assoc (take at old) (replicate (at - length old) 0) (now ++ drop k (drop at grown))
-    ∙ ap (λ (l : List ℕ). take at old ++ (replicate (at - length old) 0 ++ (l ++ drop k (drop at grown)))) now_is
-    ∙ ap (λ (l : List ℕ). take at old ++ (replicate (at - length old) 0 ++ ((b ∷ bs) ++ l))) behind
+    let front = take_padded old at (size - length old) (at - length old) (omega (arith, size_is)) refl in
+    let behind = drop_padded old (at + length (b ∷ bs)) (size - length old) (omega (arith, size_is)) in
+    rw (drop-drop k at grown, padded, now_is, k_is, front, behind, append_assoc)
 
 pub no_shorter : (old bytes : List ℕ) (at : ℕ) → length old ≤ length (overwritten old at bytes)
 no_shorter old [] at = omega arith
@@ -84,17 +72,15 @@ elsewhere old (b ∷ bytes) at i lt (inr behind) =
     let tail = drop (at + length (b ∷ bytes)) old in
     let n = i - (at + length (b ∷ bytes)) in
     get_right (take at old) (replicate (at - length old) 0 ++ (b ∷ bytes ++ tail)) i (length (b ∷ bytes) + n) (omega (arith, behind, lt, length-take at old))
-    ∙ get_right (replicate (at - length old) 0) (b ∷ bytes ++ tail) (length (b ∷ bytes) + n) (length (b ∷ bytes) + n) (omega (arith, behind, lt, length_zeros (at - length old)))
+    ∙ get_right (replicate (at - length old) 0) (b ∷ bytes ++ tail) (length (b ∷ bytes) + n) (length (b ∷ bytes) + n) (omega (arith, behind, lt, length-replicate {A = ℕ} (at - length old) 0))
     ∙ get_right (b ∷ bytes) tail (length (b ∷ bytes) + n) n refl
     ∙ get_drop old (at + length (b ∷ bytes)) n i (omega (arith, behind))
 
 either_false : (a b : Bool) → a || b ≡ false → (a ≡ false) × (b ≡ false)
-either_false false b e = (refl, e)
-either_false true b e = absurd (cc e)
+either_false a b e = grind (arith, nat_tests, e)
 
 outside : (at i : ℕ) (bytes : List ℕ) (written : List Range) → is_within (range_of at bytes ∷ written) i ≡ false → (i < at) ⊎ (at + length bytes ≤ i)
-outside at i bytes written out =
-    let here = (either_false (nat_le at i && nat_lt i (at + length bytes)) (is_within written i) out).0 in grind (arith, nat_tests, here)
+outside at i bytes written out = grind (arith, nat_tests, out)
 
 -- what is written is a write
 pub wrote : (at : ℕ) (bytes : List ℕ) (disk : Present) → WritesWithin at bytes disk (written_at at bytes disk)

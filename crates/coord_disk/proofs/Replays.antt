@@ -1,5 +1,5 @@
 -- What one more write or sync makes of a disk in memory.
-use Rattle.std.proofs.Common.{◌≡◌, ◌⊎◌, inl, inr, length-append, ℕ, ◌+◌, ◌<◌, List, [], ◌∷◌, ◌++◌, length, take, drop, get_or, refl, sym, ◌∙◌, ap, subst, arith, ◌-◌, ◌≤◌, false, ◌&&◌, ◌||◌, nat_le, nat_lt, Vec, Some, Global}
+use Rattle.std.proofs.Common.{◌≡◌, ◌⊎◌, inl, inr, length-append, ℕ, ◌+◌, ◌<◌, List, [], ◌∷◌, ◌++◌, length, take, drop, get_or, refl, sym, ◌∙◌, ap, arith, ◌-◌, ◌≤◌, false, ◌&&◌, ◌||◌, nat_le, nat_lt, Vec, Some, Global}
 use Rattle.std.proofs.lemmas.List.{take_all, take_more, take-append-le}
 use Rattle.std.proofs.lemmas.Bool.{cases_lt}
 use Rattle.coord_disk.specs.Disks.History.{Past, LedTo, LeftSince, Adds, after, past_with, present_after, replayed}
@@ -17,10 +17,7 @@ replayed-push disk (d ∷ entries) entry = replayed-push (after disk d) entries 
 
 -- up to the n-th of them, and with it
 pub replayed-take : (disk : Present) (entries : List Entry) (n : ℕ) (entry : Entry) → n < length entries → entry ≡ get_or entries n entry → replayed disk (take (n + 1) entries) ≡ after (replayed disk (take n entries)) entry
-replayed-take disk entries n entry lt is =
-    ap (λ (l : List Entry). replayed disk l) (take_more entries n entry lt)
-    ∙ replayed-push disk (take n entries) (get_or entries n entry)
-    ∙ ap (λ (d : Entry). after (replayed disk (take n entries)) d) (sym is)
+replayed-take disk entries n entry lt is = rw (take_more entries n entry lt, replayed-push, ← is)
 
 -- whether a place is written, once one more thing was done
 module _ (entries : List Entry) (n place : ℕ) (entry : Entry) (some : 0 < n) (few : n ≤ length entries) (is : entry ≡ get_or entries (n - 1) entry) (first : List ℕ) where
@@ -37,10 +34,7 @@ module _ (entries : List Entry) (n place : ℕ) (entry : Entry) (some : 0 < n) (
   wrote_within at v wrote = ap (λ (p : Present). is_within p.written place) (step ∙ ap (λ (d : Entry). after (replayed (whole first) (take (n - 1) entries)) d) wrote)
 
 pub present-push : (old new : Past) (entry : Entry) → new.first ≡ old.first → new.entries ≡ old.entries ++ entry ∷ [] → present_after new ≡ after (present_after old) entry
-present-push old new entry first entries =
-    ap (λ (l : List Entry). replayed (whole new.first) l) entries
-    ∙ ap (λ (f : List ℕ). replayed (whole f) (old.entries ++ entry ∷ [])) first
-    ∙ replayed-push (whole old.first) old.entries entry
+present-push old new entry first entries = rw (entries, first) (replayed-push (whole old.first) old.entries entry)
 
 -- the synced bytes once they are as long as what is read, where nothing was recorded since
 pub is_ready : (old : History) (read read_now tail synced : List ℕ) (entries : List Entry) → LedTo old read → read_now ≡ read → entries ≡ old.entries.items → tail ≡ drop (length old.synced.items) read → synced ≡ old.synced.items ++ tail
@@ -49,9 +43,7 @@ is_ready old read read_now tail synced entries led read_is entries_is tail_is sy
     let disk = present_after (past_with read (Some old)) in
     let rest = tail_is ∙ ap (λ (l : List ℕ). drop (length l) read) (sym led.syncs) in
     let bytes = ap (λ (l : List ℕ). l ++ tail) led.syncs ∙ sym synced_is in
-    subst (λ (r : List ℕ). IsImage (record (replayed (whole old.first.items) entries) { synced = synced }) r) (sym read_is)
-    (subst (λ (e : List Entry). IsImage (record (replayed (whole old.first.items) e) { synced = synced }) read) (sym entries_is)
-    (subst (λ (s : List ℕ). IsImage (record disk { synced = s }) read) bytes (grown disk read tail led.image rest)))
+    rw (read_is, entries_is, ← bytes) (grown disk read tail led.image rest)
 
 -- one more sync
 module _ (old new : History) (read : List ℕ) (led : LedTo old read) (first : new.first.items ≡ old.first.items) (entries : new.entries.items ≡ old.entries.items ++ Synced ∷ []) (synced : new.synced.items ≡ read) where
@@ -62,7 +54,7 @@ module _ (old new : History) (read : List ℕ) (led : LedTo old read) (first : n
   sync_led = record {
     reads = ap (λ (p : Present). p.read) settled;
     syncs = ap (λ (p : Present). p.synced) settled ∙ sym synced;
-    image = subst (λ (p : Present). IsImage p read) (sym settled) (record { no_shorter = omega arith; no_longer = omega arith; kept = λ i lt out. refl });
+    image = rw settled (record { no_shorter = omega arith; no_longer = omega arith; kept = λ i lt out. refl });
   }
 
   pub sync_adds : Adds (past_with read (Some old)) (past_with read (Some new)) (whole read)
@@ -84,8 +76,7 @@ module _ (old new : History) (read next bytes : List ℕ) (at : ℕ) (v : Vec �
   write_led = record {
     reads = reads;
     syncs = ap (λ (p : Present). p.synced) written ∙ led.syncs ∙ sym synced;
-    image = subst (λ (r : List ℕ). IsImage (present_after (past_with next (Some new))) r) reads
-        (subst (λ (p : Present). IsImage p p.read) (sym written) (wrote_reads at bytes before (subst (λ (r : List ℕ). IsImage before r) (sym led.reads) led.image)));
+    image = rw (sym reads) (rw written (wrote_reads at bytes before (rw led.reads led.image)));
   }
 
   pub write_adds : Adds (past_with read (Some old)) (past_with next (Some new)) (written_at at bytes before)
@@ -97,7 +88,7 @@ adds_time old new now adds = record {
   later = omega (arith, size);
   soon = omega (arith, size);
   nothing_else = λ t image le left. since t image left (cases_lt left.0 (length new.entries));
-  keeps = λ t image le left. (left.0, left.1, omega (arith, left.2, size), subst (λ (p : Present). IsImage p image) (sym (front left.0 left.2)) left.3);
+  keeps = λ t image le left. (left.0, left.1, omega (arith, left.2, size), rw (front left.0 left.2) left.3);
 }
   where
     size : length new.entries ≡ length old.entries + 1
@@ -110,5 +101,5 @@ adds_time old new now adds = record {
         ∙ ap (λ (f : List ℕ). replayed (whole f) (take k old.entries)) adds.first
 
     since : (t : ℕ) (image : List ℕ) (left : LeftSince new t image) → (left.0 < length new.entries) ⊎ (length new.entries ≤ left.0) → LeftSince old t image ⊎ IsImage (present_after new) image
-    since t image left (inl before) = let le : left.0 ≤ length old.entries = omega (arith, before, size) in inl (left.0, left.1, le, subst (λ (p : Present). IsImage p image) (front left.0 le) left.3)
-    since t image left (inr behind) = inr (subst (λ (l : List Entry). IsImage (replayed (whole new.first) l) image) (take_all left.0 new.entries behind) left.3)
+    since t image left (inl before) = let le : left.0 ≤ length old.entries = omega (arith, before, size) in inl (left.0, left.1, le, rw (sym (front left.0 le)) left.3)
+    since t image left (inr behind) = inr (rw (sym (take_all left.0 new.entries behind)) left.3)

@@ -1,9 +1,10 @@
 -- What one write leaves where all was synced before it.
-use Rattle.std.proofs.Common.{◌≡◌, ◌⊎◌, inl, inr, ℕ, suc, ◌+◌, ◌-◌, ◌<◌, ◌≤◌, List, [], ◌∷◌, ◌++◌, length, take, drop, Some, refl, sym, ◌∙◌, ap, subst, arith, append_assoc, length-append, length-take, slice_get, replicate, unwrap_or}
-use Rattle.std.proofs.lemmas.List.{take_at, append-nil}
+use Rattle.std.proofs.Common.{◌≡◌, ◌≢◌, ◌⊎◌, inl, inr, ℕ, suc, ◌+◌, ◌-◌, ◌<◌, ◌≤◌, List, [], ◌∷◌, ◌++◌, length, take, drop, Some, refl, sym, ◌∙◌, ap, subst, arith, append_assoc, length-append, length-take, slice_get, replicate}
+use Rattle.std.proofs.lemmas.Bool.Decides.{nat_tests}
+use Rattle.std.proofs.lemmas.List.{append-nil, length-replicate, nil_from_length, take_at}
 use Rattle.std.proofs.Math.Seq.{drop-append-add, take-append-add}
 use Rattle.coord_disk.specs.Model.Present.{Present, IsImage, WritesWithin, Torn, overwritten, whole}
-use Rattle.coord_disk.proofs.Overwritten.{length_zeros, no_shorter, wrote_reads}
+use Rattle.coord_disk.proofs.Overwritten.{no_shorter, wrote_reads}
 
 -- a write that may have failed leaves the torn bytes
 pub torn : (bytes new : List ℕ) (at : ℕ) (p q : Present) → p ≡ whole bytes → WritesWithin at new p q → (c : List ℕ) → IsImage q c → Torn bytes at new c
@@ -26,7 +27,7 @@ pub overwritten_torn : (bytes new : List ℕ) (at : ℕ) → Torn bytes at new (
 overwritten_torn bytes new at = wrote_reads at new (whole bytes) (record { no_shorter = omega arith; no_longer = omega arith; kept = λ i lt out. refl })
 
 same_some : (x y : ℕ) → Some x ≡ Some y → x ≡ y
-same_some x y e = ap (λ o. unwrap_or o 0) e
+same_some x y e = cc
 
 -- bytes that agree with a front begin with it
 pub begins : (front behind c : List ℕ) → ((i : ℕ) → i < length front → slice_get c i ≡ slice_get (front ++ behind) i) → (rest : List ℕ) × (c ≡ front ++ rest)
@@ -56,22 +57,38 @@ begins_but_hole (f ∷ front) hole block after (x ∷ c) agree long =
     one_on i (inl lt) = inl (omega (arith, lt))
     one_on i (inr le) = inr (omega (arith, le))
 
+single : (l : List ℕ) → length l ≡ 1 → (x : ℕ) × (l ≡ x ∷ [])
+single [] one = absurd (omega (arith, one))
+single (x ∷ []) one = (x, refl)
+single (x ∷ (y ∷ l)) one = absurd (omega (arith, one))
+
+-- One byte is written over another: whatever a crash leaves in its place, what stands before and behind it stays.
+pub torn_byte : (front behind : List ℕ) (old new at : ℕ) → at ≡ length front → (c : List ℕ) → Torn (front ++ old ∷ behind) at (new ∷ []) c → (x : ℕ) × (rest : List ℕ) × (c ≡ front ++ x ∷ (behind ++ rest))
+torn_byte front behind old new at is c image =
+    let long : length (front ++ old ∷ behind) ≡ length front + 1 + length behind = omega (arith, length-append front (old ∷ behind)) in
+    let found = begins_but_hole front (old ∷ []) behind [] c
+    (λ i lt out. image.kept i (omega (arith, lt, long)) (let other : i ≢ at = elsewhere i out in grind (arith, nat_tests)) ∙ ap (λ (l : List ℕ). slice_get (front ++ old ∷ l) i) (sym (append-nil behind)))
+    (omega (arith, long, image.no_shorter)) in
+    let one = single found.0 found.2 in
+    (one.0, found.1, found.3 ∙ ap (λ (l : List ℕ). front ++ (l ++ (behind ++ found.1))) one.1)
+  where
+    elsewhere : (i : ℕ) → (i < length front) ⊎ (length front + 1 ≤ i) → i ≢ at
+    elsewhere i (inl lt) = omega (arith, lt, is)
+    elsewhere i (inr le) = omega (arith, le, is)
+
 -- written over what stands behind a front
 pub overwritten_behind : (front behind new : List ℕ) (at : ℕ) → at ≡ length front → 0 < length new → overwritten (front ++ behind) at new ≡ front ++ (new ++ drop (length new) behind)
 overwritten_behind front behind [] at is some = absurd (omega (arith, some))
 overwritten_behind front behind (b ∷ bs) at is some =
     let none : at - length (front ++ behind) ≡ 0 = omega (arith, is, length-append front behind) in
-    ap (λ (l : List ℕ). l ++ (replicate (at - length (front ++ behind)) 0 ++ (b ∷ bs ++ drop (at + length (b ∷ bs)) (front ++ behind)))) (take_at front behind at (sym is))
-    ∙ ap (λ (n : ℕ). front ++ (replicate n 0 ++ (b ∷ bs ++ drop (at + length (b ∷ bs)) (front ++ behind)))) none
-    ∙ ap (λ (n : ℕ). front ++ (b ∷ bs ++ drop (n + length (b ∷ bs)) (front ++ behind))) is
-    ∙ ap (λ (l : List ℕ). front ++ (b ∷ bs ++ l)) (drop-append-add front behind (length (b ∷ bs)))
+    rw (take_at front behind at (sym is), none, is, drop-append-add front behind (length (b ∷ bs)))
 
 -- the bytes in front of a place, with zeros where there are too few
 abbrev pub padded : ℕ → List ℕ → List ℕ
 padded n bytes = take n bytes ++ replicate (n - length bytes) 0
 
 pub length_padded : (n : ℕ) (bytes : List ℕ) → length (padded n bytes) ≡ n
-length_padded n bytes = omega (arith, length-append (take n bytes) (replicate (n - length bytes) 0), length-take n bytes, length_zeros (n - length bytes))
+length_padded n bytes = omega (arith, length-append (take n bytes) (replicate (n - length bytes) 0), length-take n bytes, length-replicate {A = ℕ} (n - length bytes) 0)
 
 -- written behind a front, at a place of the rest
 pub overwritten_inside : (front behind new : List ℕ) (at n : ℕ) → at ≡ length front + n → 0 < length new → overwritten (front ++ behind) at new ≡ front ++ (padded n behind ++ (new ++ drop (n + length new) behind))
@@ -79,21 +96,11 @@ overwritten_inside front behind [] at n is some = absurd (omega (arith, some))
 overwritten_inside front behind (b ∷ bs) at n is some =
     let gap : at - length (front ++ behind) ≡ n - length behind = omega (arith, is, length-append front behind) in
     let tail : at + length (b ∷ bs) ≡ length front + (n + length (b ∷ bs)) = omega (arith, is) in
-    ap (λ (k : ℕ). take k (front ++ behind) ++ (replicate (at - length (front ++ behind)) 0 ++ (b ∷ bs ++ drop (at + length (b ∷ bs)) (front ++ behind)))) is
-    ∙ ap (λ (l : List ℕ). l ++ (replicate (at - length (front ++ behind)) 0 ++ (b ∷ bs ++ drop (at + length (b ∷ bs)) (front ++ behind)))) (take-append-add front behind n)
-    ∙ ap (λ (k : ℕ). (front ++ take n behind) ++ (replicate k 0 ++ (b ∷ bs ++ drop (at + length (b ∷ bs)) (front ++ behind)))) gap
-    ∙ ap (λ (k : ℕ). (front ++ take n behind) ++ (replicate (n - length behind) 0 ++ (b ∷ bs ++ drop k (front ++ behind)))) tail
-    ∙ ap (λ (l : List ℕ). (front ++ take n behind) ++ (replicate (n - length behind) 0 ++ (b ∷ bs ++ l))) (drop-append-add front behind (n + length (b ∷ bs)))
-    ∙ append_assoc front (take n behind) (replicate (n - length behind) 0 ++ (b ∷ bs ++ drop (n + length (b ∷ bs)) behind))
-    ∙ ap (λ (l : List ℕ). front ++ l) (sym (append_assoc (take n behind) (replicate (n - length behind) 0) (b ∷ bs ++ drop (n + length (b ∷ bs)) behind)))
-
-empty : (l : List ℕ) → length l ≤ 0 → l ≡ []
-empty [] le = refl
-empty (x ∷ l) le = absurd (omega (arith, le))
+    rw (gap, tail, is, take-append-add front behind n, drop-append-add front behind (n + length (b ∷ bs)), append_assoc, append_assoc)
 
 -- where all is synced, a crash leaves it
 pub whole_image : (bytes : List ℕ) (p : Present) → p ≡ whole bytes → (c : List ℕ) → IsImage p c → c ≡ bytes
 whole_image bytes p is c image =
     let there = subst (λ q. IsImage q c) is image in
     let rest = begins bytes [] c (λ i lt. there.kept i lt refl ∙ ap (λ (l : List ℕ). slice_get l i) (sym (append-nil bytes))) in
-    rest.1 ∙ ap (λ (l : List ℕ). bytes ++ l) (empty rest.0 (omega (arith, there.no_longer, ap length rest.1, length-append bytes rest.0))) ∙ append-nil bytes
+    rest.1 ∙ ap (λ (l : List ℕ). bytes ++ l) (nil_from_length rest.0 (omega (arith, there.no_longer, ap length rest.1, length-append bytes rest.0))) ∙ append-nil bytes

@@ -1,7 +1,5 @@
-pub mod Blip
 pub mod Failing
 pub mod Filled
-pub mod Fuse
 pub mod Gate
 pub mod History
 pub mod Left
@@ -9,5 +7,5 @@ pub mod Memory
 pub mod MemoryFile
 pub mod MemoryLaws
 pub mod Raw
+pub mod Rules
 pub mod System
-pub mod Torn

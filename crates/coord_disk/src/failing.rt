@@ -1,6 +1,6 @@
 //! A disk that fails calls of its own, and leaves the disk inside untouched then.
 
-ghost use Rattle.std.specs.Prelude.{◌≡◌, ◌+◌, ◌-◌, ◌<◌, ◌^◌, min, Bool, ℕ, Option, None, length};
+ghost use Rattle.std.specs.Prelude.{◌≡◌, ◌+◌, ◌<◌, ◌^◌, Bool, ℕ, Option, None, length};
 ghost use Rattle.coord_disk.specs.Model.Calls.{Crashes, HasBytes, HasCause, Measures, Reads, Syncs, Writes};
 
 use crate::fault::fail;
@@ -46,14 +46,11 @@ pub struct FailingDisk<D, R> {
 }
 
 impl<D: Disk, R: Rule> FailingDisk<D, R> {
-    ghost use Rattle.coord_disk.specs.Disks.Failing.{inner_of, rule_of, calls_of, failed_of};
+    ghost use Rattle.coord_disk.specs.Disks.Failing.{IsOver, inner_of, rule_of, calls_of, failed_of, one_more};
 
     /// Over this disk, by this rule.
     pub fn over(inner: D, rule: R) -> Self
-        ensures inner { inner_of result ≡ inner }
-        ensures rule { rule_of result ≡ rule }
-        ensures calls { calls_of result ≡ 0 }
-        ensures failed { failed_of result ≡ 0 }
+        ensures { IsOver inner rule result }
     {
         FailingDisk {
             inner,
@@ -81,7 +78,7 @@ impl<D: Disk, R: Rule> FailingDisk<D, R> {
     fn counts(&mut self, call: Call) -> bool
         ensures inner { inner_of self.new ≡ inner_of self.old }
         ensures rule { R.says (rule_of self.old) call result (rule_of self.new) }
-        ensures calls { calls_of self.new ≡ min (calls_of self.old + 1) (2 ^ 64 - 1) }
+        ensures calls { calls_of self.new ≡ one_more (calls_of self.old) }
         ensures failed { failed_of self.new ≡ failed_of self.old }
     {
         self.calls = self.calls.saturating_add(1);
@@ -90,7 +87,7 @@ impl<D: Disk, R: Rule> FailingDisk<D, R> {
 }
 
 impl<D: Disk, R: Rule> Disk for FailingDisk<D, R> {
-    ghost use Rattle.coord_disk.specs.Disks.Failing.{inner_of, rule_of, failing, failures_of, IsCounted, IsTorn, IsUntouched};
+    ghost use Rattle.coord_disk.specs.Disks.Failing.{inner_of, rule_of, failing, failures_of, IsCounted, IsTorn, IsUnreached};
     ghost use Rattle.coord_disk.specs.Model.DiskModel.{seen_through_is_model};
     ghost use Rattle.coord_disk.specs.declared.failing.Call.TheVariants.{Len, Read, Write, Sync};
 
@@ -102,7 +99,7 @@ impl<D: Disk, R: Rule> Disk for FailingDisk<D, R> {
         ensures call { Measures D.model (inner_of self.old) (inner_of self.new) result }
         ensures cause { HasCause (failures_of D.model self.old) (failures_of D.model self.new) result }
         ensures counted { IsCounted D.model R.says Len self.old self.new result
-            (IsUntouched self.old self.new) }
+            (IsUnreached self.old self.new) }
     {
         if self.counts(Call::Len) {
             return Err(fail(&mut self.failed));
@@ -115,7 +112,7 @@ impl<D: Disk, R: Rule> Disk for FailingDisk<D, R> {
         ensures call { Reads D.model at buf.old buf.new (inner_of self.old) (inner_of self.new) result }
         ensures cause { HasCause (failures_of D.model self.old) (failures_of D.model self.new) result }
         ensures counted { IsCounted D.model R.says Read self.old self.new result
-            (IsUntouched self.old self.new) }
+            (IsUnreached self.old self.new) }
     {
         if self.counts(Call::Read) {
             return Err(fail(&mut self.failed));
@@ -146,7 +143,7 @@ impl<D: Disk, R: Rule> Disk for FailingDisk<D, R> {
         ensures call { Syncs D.model (inner_of self.old) (inner_of self.new) result }
         ensures cause { HasCause (failures_of D.model self.old) (failures_of D.model self.new) result }
         ensures counted { IsCounted D.model R.says Sync self.old self.new result
-            (IsUntouched self.old self.new) }
+            (IsUnreached self.old self.new) }
     {
         if self.counts(Call::Sync) {
             return Err(fail(&mut self.failed));

@@ -1,6 +1,7 @@
 //! A disk whose sync waits at a gate.
 
-ghost use Rattle.std.specs.Prelude.{◌≡◌};
+ghost use Rattle.coord_disk.specs.Disks.Failing.{IsOver};
+ghost use Rattle.coord_disk.specs.Disks.Gate.{GateSays, gate_of};
 
 use crate::Disk;
 use crate::failing::{Call, FailingDisk, Rule};
@@ -34,8 +35,6 @@ impl Gate {
 }
 
 impl Rule for Gate {
-    ghost use Rattle.coord_disk.specs.Disks.Gate.{GateSays};
-
     ghost says = { GateSays };
 
     fn fails(&mut self, call: Call) -> bool {
@@ -51,17 +50,10 @@ impl Rule for Gate {
 }
 
 impl<D: Disk> FailingDisk<D, Gate> {
-    ghost use Rattle.coord_disk.specs.Disks.Failing.{inner_of, rule_of, calls_of, failed_of};
-    ghost use Rattle.coord_disk.specs.Disks.Gate.{entered_of, answered_of};
-
     /// Over this disk. Each sync sets the first flag, and reads the second up to 100,000,000 times:
     /// once that is set the sync is passed on, and where it stays clear the sync fails.
     pub fn new(inner: D, entered: Arc<AtomicBool>, answered: Arc<AtomicBool>) -> Self
-        ensures inner { inner_of result ≡ inner }
-        ensures entered { entered_of (rule_of result) ≡ entered }
-        ensures answered { answered_of (rule_of result) ≡ answered }
-        ensures calls { calls_of result ≡ 0 }
-        ensures failed { failed_of result ≡ 0 }
+        ensures { IsOver inner (gate_of entered answered) result }
     {
         FailingDisk::over(inner, Gate { entered, answered })
     }

@@ -17,32 +17,28 @@
 //! A `FileDisk` is the disk over one.
 #![tactic(auto)]
 
-mod blip;
 mod choice;
 mod crash;
 mod disk;
 mod failing;
 mod fault;
-mod fuse;
 mod gate;
 mod history;
 mod memory;
 mod memory_file;
 mod over;
 mod raw;
+mod rules;
 mod system;
-mod torn;
 
-pub use blip::{Blip, BlipDisk};
 pub use choice::Choice;
 pub use disk::{CrashDisk, Disk};
 pub use failing::{Call, FailingDisk, Rule};
 pub use fault::DiskFault;
-pub use fuse::{Fuse, FuseDisk};
 pub use gate::{Gate, GateDisk};
 pub use memory::MemDisk;
 pub use memory_file::{MemFile, Syncs};
 pub use over::RawDisk;
 pub use raw::RawFile;
+pub use rules::{Blip, BlipDisk, Fuse, FuseDisk, TornDisk};
 pub use system::{FileDisk, SystemFile};
-pub use torn::TornDisk;

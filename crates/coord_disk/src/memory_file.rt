@@ -96,7 +96,7 @@ impl MemFile {
 }
 
 /// A disk in memory fails for want of memory alone.
-fn told<T>(answer: Result<T, DiskFault>) -> io::Result<T>
+fn io_answer<T>(answer: Result<T, DiskFault>) -> io::Result<T>
     ensures ok { IfOk result (λ value. answer ≡ Ok value) }
     ensures same { is_ok result ≡ is_ok answer }
 {
@@ -124,15 +124,15 @@ impl RawFile for MemFile {
     ghost may_be_absent = { λ f _ out. f.absent out };
 
     fn len(&mut self) -> io::Result<u64> {
-        told(self.disk.len())
+        io_answer(self.disk.len())
     }
 
     fn read(&mut self, at: u64, buf: &mut [u8]) -> io::Result<()> {
-        told(self.disk.read(at, buf))
+        io_answer(self.disk.read(at, buf))
     }
 
     fn write_at(&mut self, at: u64, bytes: &[u8]) -> io::Result<()> {
-        told(self.disk.write_at(at, bytes))
+        io_answer(self.disk.write_at(at, bytes))
     }
 
     /// Does nothing where the length is not the one that is synced.
@@ -141,7 +141,7 @@ impl RawFile for MemFile {
         if !self.entered || !self.disk.is_level() {
             return Ok(());
         }
-        told(self.disk.sync())
+        io_answer(self.disk.sync())
     }
 
     /// Does nothing where the folder may lack the file.
@@ -150,7 +150,7 @@ impl RawFile for MemFile {
         if !self.entered {
             return Ok(());
         }
-        told(self.disk.sync())
+        io_answer(self.disk.sync())
     }
 
     fn sync_folder(&mut self) -> io::Result<()> {

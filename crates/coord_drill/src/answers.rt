@@ -11,8 +11,8 @@ use crate::writing::fault_of;
 use std::io;
 use std::io::{ErrorKind, Read, Write};
 
-/// How many bytes came in a read, or `Read`.
-fn came(answer: io::Result<usize>) -> Result<usize, Fault>
+/// How many bytes a read gave, or `Read`.
+fn bytes_read(answer: io::Result<usize>) -> Result<usize, Fault>
     ensures { MatchResult answer (λ count. result ≡ Ok count) (λ _. result ≡ Err Fault.Read) }
 {
     match answer {
@@ -22,7 +22,7 @@ fn came(answer: io::Result<usize>) -> Result<usize, Fault>
 }
 
 /// How many bytes a write took, or its fault. An interrupted write took none.
-fn taken(answer: io::Result<usize>) -> Result<usize, Fault>
+fn bytes_written(answer: io::Result<usize>) -> Result<usize, Fault>
     ensures some { IfOk answer (λ count. count ≢ 0 → result ≡ Ok count) }
     ensures none { IfOk answer (λ count. count ≡ 0 → result ≡ Err Fault.Write) }
     ensures again { IfErr answer (λ error. error_kind error ≡ ErrorKind.Interrupted →
@@ -53,7 +53,7 @@ pub fn read_once<R: Read>(reader: &mut R, buf: &mut [u8]) -> Result<usize, Fault
     ensures bytes { ReadConsumes (R.remaining reader.old) (R.remaining reader.new) result buf.new }
     ensures fault { IfErr result (λ fault. fault ≡ Fault.Read) }
 {
-    came(reader.read(buf))
+    bytes_read(reader.read(buf))
 }
 
 /// Writes once.
@@ -62,5 +62,5 @@ pub fn write_once<W: Write>(writer: &mut W, text: &[u8]) -> Result<usize, Fault>
     ensures bytes { WriteAppends (W.contents writer.old) (W.contents writer.new) result text.now }
     ensures fault { IfErr result IsOfWriting }
 {
-    taken(writer.write(text))
+    bytes_written(writer.write(text))
 }

@@ -1,5 +1,6 @@
 -- A half, and where it stands in a text.
-use Rattle.std.proofs.Common.{◌≡◌, ℕ, ◌+◌, ◌-◌, ◌<◌, ◌≤◌, ◌^◌, List, [], ◌∷◌, ◌++◌, length, take, drop, get_or, refl, sym, ◌∙◌, ap, subst, arith, append_assoc, length-append}
+use Rattle.std.proofs.Common.{◌≡◌, ℕ, ◌+◌, ◌-◌, ◌<◌, ◌≤◌, ◌^◌, List, [], ◌∷◌, ◌++◌, length, take, drop, get_or, refl, sym, ◌∙◌, ap, arith, append_assoc, length-append}
+use Rattle.std.proofs.lemmas.Bool.Decides.{nat_tests}
 use Rattle.std.proofs.lemmas.List.{take-append-drop}
 use Rattle.std.proofs.Math.Seq.{take-append-add}
 use Rattle.coord_journal.specs.Facade.{BeginsWithBody, Content, IsHalf, IsOpened, ReadsAs, half_front, size_of, sized, used_by}
@@ -29,17 +30,14 @@ length_opened (b ∷ bs) opened is = omega (arith, ap length is.3.1, length-appe
 pub half_refused : (bytes snapshot rest : List ℕ) (version : ℕ) → BeginsWithBody MAX_SNAPSHOT version snapshot rest bytes → ((batches : List (List ℕ)) (size : ℕ) → ReadsAs batches size rest → ⊥) → (content : Content) (used : ℕ) → IsHalf bytes content used → ⊥
 half_refused bytes snapshot rest version body bad content used half =
     let behind = same_behind MAX_SNAPSHOT small_snapshot content.version version content.snapshot snapshot _ rest bytes (begins bytes content used half) body in
-    bad content.batches (length half.opened) (subst (λ (l : List ℕ). ReadsAs content.batches (length half.opened) l) behind (reads bytes content used half))
+    bad content.batches (length half.opened) (rw (sym behind) (reads bytes content used half))
 
 -- how much a half uses is told by its content
 pub half_used : (bytes : List ℕ) (content : Content) (used : ℕ) → IsHalf bytes content used → used ≡ used_by content
 half_used bytes content used half = omega (arith, half.used_is, length_front content.version content.snapshot half.opened, length_opened content.batches half.opened half.batches)
 
 content_same : (v w : ℕ) (s t : List ℕ) (bs cs : List (List ℕ)) → v ≡ w → s ≡ t → bs ≡ cs → ◌≡◌ {A = Content} (record { version = v; snapshot = s; batches = bs }) (record { version = w; snapshot = t; batches = cs })
-content_same v w s t bs cs version snapshot batches =
-    ap (λ (n : ℕ). let c : Content = record { version = n; snapshot = s; batches = bs } in c) version
-    ∙ ap (λ (l : List ℕ). let c : Content = record { version = w; snapshot = l; batches = bs } in c) snapshot
-    ∙ ap (λ (l : List (List ℕ)). let c : Content = record { version = w; snapshot = t; batches = l } in c) batches
+content_same v w s t bs cs h1 h2 h3 = grind (arith, nat_tests, h1, h2, h3)
 
 -- bytes hold one content at most
 pub half_same : (bytes : List ℕ) (c d : Content) (m n : ℕ) → IsHalf bytes c m → IsHalf bytes d n → c ≡ d
@@ -48,7 +46,7 @@ half_same bytes c d m n one other =
     let there = begins bytes d n other in
     let behind = same_behind MAX_SNAPSHOT small_snapshot c.version d.version c.snapshot d.snapshot _ _ bytes here there in
     let batches = reads_same c.batches d.batches (length one.opened) (length other.opened) (one.opened ++ 0 ∷ one.behind) (reads bytes c m one)
-    (subst (λ (l : List ℕ). ReadsAs d.batches (length other.opened) l) (sym behind) (reads bytes d n other)) in
+    (rw behind (reads bytes d n other)) in
     content_same c.version d.version c.snapshot d.snapshot c.batches d.batches
     (sym (ap (λ (l : List ℕ). get_or l 0 0) here.1) ∙ ap (λ (l : List ℕ). get_or l 0 0) there.1)
     (same_body MAX_SNAPSHOT small_snapshot c.version d.version c.snapshot d.snapshot _ _ bytes here there)

@@ -1,7 +1,7 @@
 -- How the batches are read, one after another.
-use Rattle.std.proofs.Common.{◌≡◌, ◌≢◌, ℕ, ◌+◌, ◌<◌, ◌^◌, List, [], ◌∷◌, ◌++◌, length, take, drop, get_or, refl, sym, ◌∙◌, ap, subst, arith, append_assoc, length-append, Vec, Global}
+use Rattle.std.proofs.Common.{◌≡◌, ◌≢◌, ℕ, ◌+◌, ◌<◌, ◌^◌, List, [], ◌∷◌, ◌++◌, length, take, drop, get_or, refl, sym, ◌∙◌, ap, arith, append_assoc, length-append, Vec, Global}
+use Rattle.std.proofs.lemmas.Bool.Decides.{nat_tests}
 use Rattle.std.specs.Int.{w32, to_be_bytes, from_be_bytes}
-use Rattle.std.proofs.lemmas.Nat.{from_be_bytes-to_be_bytes_4}
 use Rattle.std.proofs.lemmas.List.{take_at, drop_at, append-nil}
 use Rattle.coord_journal.specs.Facade.{BeginsWithBody, IsOpened, ReadsAs, bodies, sized}
 use Rattle.coord_journal.specs.declared.layout.TheConstants.{MAX_BODY}
@@ -14,17 +14,10 @@ empty (x ∷ l) none = absurd (omega (arith, none))
 module _ (limit : ℕ) (small : limit < 2 ^ 32) where
   -- the size that stands in front
   pub size_read : (first : ℕ) (body behind l : List ℕ) → BeginsWithBody limit first body behind l → from_be_bytes w32 (take 4 (drop 1 l)) ≡ length body
-  size_read first body behind l begins =
-      ap (λ (k : List ℕ). from_be_bytes w32 (take 4 (drop 1 k))) begins.1
-      ∙ ap (λ (k : List ℕ). from_be_bytes w32 (take 4 k)) (append_assoc (to_be_bytes w32 (length body)) body behind)
-      ∙ ap (λ (k : List ℕ). from_be_bytes w32 k) (take_at (to_be_bytes w32 (length body)) (body ++ behind) 4 refl)
-      ∙ from_be_bytes-to_be_bytes_4 (length body) (omega (arith, begins.0, small))
+  size_read first body behind l h1 = grind (arith, nat_tests, h1)
 
   after_read : (first : ℕ) (body behind l : List ℕ) → BeginsWithBody limit first body behind l → drop 5 l ≡ body ++ behind
-  after_read first body behind l begins =
-      ap (λ (k : List ℕ). drop 5 k) begins.1
-      ∙ ap (λ (k : List ℕ). drop 4 k) (append_assoc (to_be_bytes w32 (length body)) body behind)
-      ∙ drop_at (to_be_bytes w32 (length body)) (body ++ behind) 4 refl
+  after_read first body behind l h1 = grind (arith, nat_tests, h1)
 
   -- the body and what is behind it are the same, however they are read
   same_size : (first first' : ℕ) (body body' behind behind' l : List ℕ) → BeginsWithBody limit first body behind l → BeginsWithBody limit first' body' behind' l → length body ≡ length body'
@@ -111,7 +104,7 @@ reads_same (b ∷ bs) (c ∷ cs) m n l one other =
     let g = first c cs n l other in
     let body = same_body MAX_BODY small_body f.gate g.gate b c f.behind g.behind l f.begins g.begins in
     let behind = same_behind MAX_BODY small_body f.gate g.gate b c f.behind g.behind l f.begins g.begins in
-    let rest = reads_same bs cs f.more g.more f.behind f.reads (subst (λ (k : List ℕ). ReadsAs cs g.more k) (sym behind) g.reads) in
+    let rest = reads_same bs cs f.more g.more f.behind f.reads (rw behind g.reads) in
     (ap (λ (k : List ℕ). k ∷ bs) body ∙ ap (λ (k : List (List ℕ)). c ∷ k) rest.0, omega (arith, f.size_is, g.size_is, ap length body, rest.1))
 
 -- one batch more in front of the rest
@@ -120,7 +113,7 @@ pub opened_more : (batches : List (Vec ℕ Global)) (v : Vec ℕ Global) (opened
 opened_more batches v opened batch behind rest text gate split so_far is_open same begins = (
   opened ++ gate ∷ (sized batch ++ []),
   split ∙ ap (λ (k : List ℕ). opened ++ k) (begins.1 ∙ ap (λ (k : List ℕ). gate ∷ (k ++ behind)) (sym (append-nil (sized batch)))) ∙ sym (append_assoc opened (gate ∷ (sized batch ++ [])) behind),
-  subst (λ bs. IsOpened bs (opened ++ gate ∷ (sized batch ++ []))) (sym (bodies_push batches v)) (subst (λ (b : List ℕ). IsOpened (bodies batches ++ b ∷ []) (opened ++ gate ∷ (sized batch ++ []))) (sym same) (opened_push (bodies batches) batch opened gate so_far is_open begins.0)),
+  rw (bodies_push batches v) (rw same (opened_push (bodies batches) batch opened gate so_far is_open begins.0)),
 )
   where
     bodies_push : (vs : List (Vec ℕ Global)) (w : Vec ℕ Global) → bodies (vs ++ w ∷ []) ≡ bodies vs ++ w.items ∷ []

@@ -4,67 +4,36 @@ use Rattle.std.specs.Int.{w64, to_be_bytes}
 use Rattle.std.proofs.lemmas.List.{append-nil}
 use Rattle.std.proofs.lemmas.Bool.Decides.{nat_tests}
 use Rattle.coord_disk.specs.Model.Present.{Torn, is_within, overwritten, range_of}
-use Rattle.coord_disk.proofs.TornWrites.{begins_but_hole, length_padded, overwritten_behind, overwritten_inside, overwritten_torn, padded}
-use Rattle.coord_journal.specs.Facade.{Content, IsEitherText, IsTextAt, TornInTurn, half_front, half_start, lead, magic, sized, without_batch}
+use Rattle.coord_disk.proofs.TornWrites.{begins_but_hole, length_padded, overwritten_behind, overwritten_inside, overwritten_torn, padded, torn_byte}
+use Rattle.coord_journal.specs.Facade.{Content, IsEitherText, IsTextAt, TornInTurn, half_front, half_start, magic, sized, without_batch}
 use Rattle.coord_journal.specs.declared.layout.TheConstants.{MAX_SNAPSHOT}
-use Rattle.coord_journal.proofs.Appended.{lead_push, length_sized, single, torn_behind}
+use Rattle.coord_journal.proofs.Appended.{lead, lead_push, length_sized, respelled, torn_behind}
 
 -- a text is the same behind any selector that names its half
-reselected : (s x : ℕ) (tail more : List ℕ) (content : Content) (half_size half used : ℕ) → x % 2 ≡ half → IsTextAt (s ∷ tail) content half_size half used → IsTextAt (x ∷ (tail ++ more)) content half_size half used
-reselected s x tail more content half_size half used named text =
-    let front : List ℕ = half_front content.version content.snapshot text.opened in
-    let rest : List ℕ = magic ++ (to_be_bytes w64 half_size ++ (text.skipped ++ front)) in
-    record {
-      selector = x;
-      skipped = text.skipped;
-      opened = text.opened;
-      behind = text.behind ++ more;
-      spelled = ap (λ (l : List ℕ). x ∷ (drop 1 l ++ more)) text.spelled ∙ ap (λ (l : List ℕ). x ∷ l) (append_assoc rest (0 ∷ text.behind) more);
-      size = text.size;
-      selected = named;
-      skips = text.skips;
-      snapshot = text.snapshot;
-      batches = text.batches;
-      used_is = text.used_is;
-      fits = text.fits;
-    }
-
--- a half behind another selector, with more behind it
-spelled_new : (x half_size : ℕ) (skipped front behind more : List ℕ)
-    → x ∷ ((magic ++ (to_be_bytes w64 half_size ++ (skipped ++ ((front ++ 0 ∷ []) ++ behind)))) ++ more) ≡ lead x half_size skipped front ++ 0 ∷ (behind ++ more)
-spelled_new x half_size skipped front behind more =
-    let size : List ℕ = to_be_bytes w64 half_size in
-    let half : List ℕ = front ++ 0 ∷ [] in
-    ap (λ (l : List ℕ). x ∷ l) (append_assoc magic (size ++ (skipped ++ (half ++ behind))) more)
-    ∙ ap (λ (l : List ℕ). (x ∷ magic) ++ l) (append_assoc size (skipped ++ (half ++ behind)) more)
-    ∙ ap (λ (l : List ℕ). (x ∷ magic) ++ (size ++ l)) (append_assoc skipped (half ++ behind) more)
-    ∙ ap (λ (l : List ℕ). (x ∷ magic) ++ (size ++ (skipped ++ l))) (append_assoc half behind more ∙ append_assoc front (0 ∷ []) (behind ++ more))
-    ∙ lead_push x half_size skipped front (0 ∷ (behind ++ more))
+reselected : {s : ℕ} {tail : List ℕ} {content : Content} {half_size half used : ℕ} → IsTextAt (s ∷ tail) content half_size half used → (x : ℕ) (more : List ℕ) → x % 2 ≡ half → IsTextAt (x ∷ (tail ++ more)) content half_size half used
+reselected {tail = tail} {content = content} {half_size = half_size} text x more named =
+    let front : List ℕ = half_front content.version content.snapshot text.holds.opened in
+    respelled text (x ∷ (tail ++ more)) x text.skipped (text.holds.behind ++ more) named refl
+    (ap (λ (l : List ℕ). x ∷ (drop 1 l ++ more)) text.header.spelled
+    ∙ sym (lead_push x half_size text.skipped text.half_bytes more)
+    ∙ ap (λ (l : List ℕ). lead x half_size text.skipped l) (ap (λ (l : List ℕ). l ++ more) text.holds.spelled ∙ append_assoc front (0 ∷ text.holds.behind) more))
 
 -- there are two halves
 one_of_two : (p h : ℕ) → p < 2 → h < 2 → (p ≡ h) ⊎ (p ≡ 1 - h)
-one_of_two zero zero p h = inl refl
-one_of_two zero (suc zero) p h = inr refl
-one_of_two (suc zero) zero p h = inr refl
-one_of_two (suc zero) (suc zero) p h = inl refl
-one_of_two (suc (suc n)) k p h = absurd (omega (arith, p))
-one_of_two k (suc (suc n)) p h = absurd (omega (arith, h))
+one_of_two p h h1 h2 = grind (arith, nat_tests, h1, h2)
 
-module _ (bytes : List ℕ) (content : Content) (half_size half used : ℕ) (text : IsTextAt bytes content half_size half used) (version : ℕ) (snapshot : List ℕ) (short : length snapshot ≤ MAX_SNAPSHOT) where
+module _ {bytes : List ℕ} {content : Content} {half_size half used : ℕ} (text : IsTextAt bytes content half_size half used) (version : ℕ) (snapshot : List ℕ) (short : length snapshot ≤ MAX_SNAPSHOT) where
   abbrev head : List ℕ
   head = (text.selector ∷ magic) ++ to_be_bytes w64 half_size
 
   abbrev front : List ℕ
-  front = half_front content.version content.snapshot text.opened
+  front = half_front content.version content.snapshot text.holds.opened
 
   abbrev behind_header : List ℕ
-  behind_header = text.skipped ++ (front ++ 0 ∷ text.behind)
+  behind_header = text.skipped ++ text.half_bytes
 
   split : bytes ≡ head ++ behind_header
-  split =
-      text.spelled
-      ∙ sym (lead_push text.selector half_size text.skipped front (0 ∷ text.behind))
-      ∙ sym (append_assoc (text.selector ∷ magic) (to_be_bytes w64 half_size) behind_header)
+  split = text.header.spelled ∙ sym (append_assoc (text.selector ∷ magic) (to_be_bytes w64 half_size) behind_header)
 
   length_head : length head ≡ 17
   length_head = length-append (text.selector ∷ magic) (to_be_bytes w64 half_size)
@@ -81,29 +50,17 @@ module _ (bytes : List ℕ) (content : Content) (half_size half used : ℕ) (tex
   -- a write into what stands before the selected half leaves the text, however it is torn
   torn_before : (new c : List ℕ) → length new ≤ length text.skipped → Torn bytes 17 new c → IsTextAt c content half_size half used
   torn_before new c few image =
-      let whole : bytes ≡ head ++ (text.skipped ++ ((front ++ 0 ∷ []) ++ text.behind)) = split ∙ ap (λ (l : List ℕ). head ++ (text.skipped ++ l)) (sym (append_assoc front (0 ∷ []) text.behind)) in
-      let long : length bytes ≡ 17 + length text.skipped + length (front ++ 0 ∷ []) + length text.behind =
-      omega (arith, ap length whole, length_head, length-append head (text.skipped ++ ((front ++ 0 ∷ []) ++ text.behind)), length-append text.skipped ((front ++ 0 ∷ []) ++ text.behind), length-append (front ++ 0 ∷ []) text.behind) in
-      let found = begins_but_hole head text.skipped (front ++ 0 ∷ []) text.behind c
+      let behind : List ℕ = text.holds.behind in
+      let whole : bytes ≡ head ++ (text.skipped ++ ((front ++ 0 ∷ []) ++ behind)) = split ∙ ap (λ (l : List ℕ). head ++ (text.skipped ++ l)) (text.holds.spelled ∙ sym (append_assoc front (0 ∷ []) behind)) in
+      let long : length bytes ≡ 17 + length text.skipped + length (front ++ 0 ∷ []) + length behind =
+      omega (arith, ap length whole, length_head, length-append head (text.skipped ++ ((front ++ 0 ∷ []) ++ behind)), length-append text.skipped ((front ++ 0 ∷ []) ++ behind), length-append (front ++ 0 ∷ []) behind) in
+      let found = begins_but_hole head text.skipped (front ++ 0 ∷ []) behind c
       (λ i lt out. image.kept i (omega (arith, lt, long, length_head)) (outside i out) ∙ ap (λ (l : List ℕ). slice_get l i) whole)
       (omega (arith, long, length_head, image.no_shorter)) in
-      record {
-        selector = text.selector;
-        skipped = found.0;
-        opened = text.opened;
-        behind = found.1;
-        spelled = found.3
-            ∙ ap (λ (l : List ℕ). head ++ (found.0 ++ l)) (append_assoc front (0 ∷ []) found.1)
-            ∙ append_assoc (text.selector ∷ magic) (to_be_bytes w64 half_size) (found.0 ++ (front ++ 0 ∷ found.1))
-            ∙ lead_push text.selector half_size found.0 front (0 ∷ found.1);
-        size = text.size;
-        selected = text.selected;
-        skips = found.2 ∙ text.skips;
-        snapshot = text.snapshot;
-        batches = text.batches;
-        used_is = text.used_is;
-        fits = text.fits;
-      }
+      respelled text c text.selector found.0 found.1 text.selected found.2
+      (found.3
+      ∙ ap (λ (l : List ℕ). head ++ (found.0 ++ l)) (append_assoc front (0 ∷ []) found.1)
+      ∙ append_assoc (text.selector ∷ magic) (to_be_bytes w64 half_size) (found.0 ++ (front ++ 0 ∷ found.1)))
     where
       outside : (i : ℕ) → (i < length head) ⊎ (length head + length text.skipped ≤ i) → is_within (range_of 17 new ∷ []) i ≡ false
       outside i (inl lt) = let low : i < 17 = omega (arith, lt, length_head) in grind (arith, nat_tests)
@@ -118,11 +75,11 @@ module _ (bytes : List ℕ) (content : Content) (half_size half used : ℕ) (tex
         by_half zero is =
             let place : at ≡ 17 + half_size = at_is ∙ ap (λ (h : ℕ). 17 + half_start (1 - h) half_size) is ∙ omega arith in
             let none : half_start half half_size ≡ 0 = ap (λ (h : ℕ). half_start h half_size) is ∙ omega arith in
-            torn_behind bytes content half_size half used text block at (omega (arith, place, none, text.fits)) c torn
+            torn_behind text block at (omega (arith, place, none, text.fits)) c torn
         by_half (suc zero) is =
             let place : at ≡ 17 = at_is ∙ ap (λ (h : ℕ). 17 + half_start (1 - h) half_size) is ∙ omega arith in
             let all : length text.skipped ≡ half_size = text.skips ∙ ap (λ (h : ℕ). half_start h half_size) is ∙ omega arith in
-            torn_before block c (omega (arith, all, length_block, short, text.size.smallest)) (subst (λ (n : ℕ). Torn bytes n block c) place torn)
+            torn_before block c (omega (arith, all, length_block, short, text.header.size.smallest)) (rw (sym place) torn)
         by_half (suc (suc n)) is = absurd (omega (arith, is, text.selected))
 
     abbrev staged : List ℕ
@@ -145,16 +102,19 @@ module _ (bytes : List ℕ) (content : Content) (half_size half used : ℕ) (tex
     new_text x more named = record {
       selector = x;
       skipped = padded start behind_header;
-      opened = [];
-      behind = behind ++ more;
-      spelled = spelled_new x half_size (padded start behind_header) (half_front version snapshot []) behind more;
-      size = text.size;
+      half_bytes = block ++ (behind ++ more);
+      header = record { spelled = simp append_assoc; size = text.header.size };
       selected = named;
       skips = length_padded start behind_header;
-      snapshot = short;
-      batches = refl;
-      used_is = omega (arith, length-append (sized snapshot) [], length_sized snapshot);
-      fits = omega (arith, short, text.size.smallest);
+      holds = record {
+        opened = [];
+        behind = behind ++ more;
+        spelled = append_assoc (half_front version snapshot []) (0 ∷ []) (behind ++ more);
+        snapshot = short;
+        batches = refl;
+        used_is = omega (arith, length-append (sized snapshot) [], length_sized snapshot);
+      };
+      fits = omega (arith, short, text.header.size.smallest);
     }
 
     -- whatever the selector is, it names one of the two
@@ -165,27 +125,16 @@ module _ (bytes : List ℕ) (content : Content) (half_size half used : ℕ) (tex
       where
         either : (x % 2 ≡ half) ⊎ (x % 2 ≡ 1 - half) → IsTextAt (text.selector ∷ tail) content half_size half used → IsEitherText content (without_batch version snapshot) c
         either (inl even) old =
-            inl (half_size, half, used, subst (λ (l : List ℕ). IsTextAt l content half_size half used) (sym is) (reselected text.selector x tail more content half_size half used even old))
+            inl (half_size, half, used, rw is (reselected old x more even))
         either (inr odd) old =
-            inr (half_size, 1 - half, 6 + length snapshot, subst (λ (l : List ℕ). IsTextAt l (without_batch version snapshot) half_size (1 - half) (6 + length snapshot)) (sym is) (new_text x more odd))
-
-    torn_selector : (y : ℕ) (c : List ℕ) → Torn staged 0 (y ∷ []) c → IsEitherText content (without_batch version snapshot) c
-    torn_selector y c torn =
-        let image = subst (λ (l : List ℕ). Torn l 0 (y ∷ []) c) staged_is torn in
-        let found = begins_but_hole [] (text.selector ∷ []) tail [] c
-        (λ i lt out. image.kept i (omega (arith, lt)) (outside i out) ∙ ap (λ (l : List ℕ). slice_get (text.selector ∷ l) i) (sym (append-nil tail)))
-        (omega (arith, image.no_shorter)) in
-        let one = single found.0 found.2 in
-        named c found.1 one.0 (found.3 ∙ ap (λ (l : List ℕ). l ++ (tail ++ found.1)) one.1)
-      where
-        outside : (i : ℕ) → (i < 0) ⊎ (1 ≤ i) → is_within (range_of 0 (y ∷ []) ∷ []) i ≡ false
-        outside i (inl lt) = absurd (omega (arith, lt))
-        outside i (inr le) = grind (arith, nat_tests)
+            inr (half_size, 1 - half, 6 + length snapshot, rw is (new_text x more odd))
 
     -- what a crash leaves of a replace
     pub replace_torn : (y : ℕ) (c : List ℕ) → TornInTurn bytes at block 0 (y ∷ []) c → IsEitherText content (without_batch version snapshot) c
     replace_torn y c (inl one) = inl (half_size, half, used, kept c one)
-    replace_torn y c (inr other) = torn_selector y c other
+    replace_torn y c (inr other) =
+        let found = torn_byte [] tail text.selector y 0 refl c (subst (λ (l : List ℕ). Torn l 0 (y ∷ []) c) staged_is other) in
+        named c found.1 found.0 found.2
 
     -- what stands there once it is done
     pub replaced : (y other total : ℕ) (c : List ℕ) → other ≡ 1 - half → total ≡ 6 + length snapshot → y % 2 ≡ other → c ≡ overwritten staged 0 (y ∷ []) → IsTextAt c (without_batch version snapshot) half_size other total
@@ -196,6 +145,6 @@ module _ (bytes : List ℕ) (content : Content) (half_size half used : ℕ) (tex
         ∙ ap (λ (l : List ℕ). overwritten l 0 (y ∷ [])) staged_is
         ∙ overwritten_behind [] (text.selector ∷ tail) (y ∷ []) 0 refl (omega arith)
         ∙ ap (λ (l : List ℕ). y ∷ l) (sym (append-nil tail)) in
-        subst (λ (n : ℕ). IsTextAt c (without_batch version snapshot) half_size other n) (sym total_is)
-        (subst (λ (h : ℕ). IsTextAt c (without_batch version snapshot) half_size h (6 + length snapshot)) (sym other_is)
-        (subst (λ (l : List ℕ). IsTextAt l (without_batch version snapshot) half_size (1 - half) (6 + length snapshot)) (sym same) new))
+        rw total_is
+        (rw other_is
+        (rw same new))

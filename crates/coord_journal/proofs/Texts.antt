@@ -1,13 +1,14 @@
 -- A text is a header and a half.
-use Rattle.std.proofs.Common.{◌≡◌, inl, inr, ℕ, ◌+◌, ◌<◌, ◌≤◌, ◌^◌, List, [], ◌∷◌, ◌++◌, length, take, drop, get_or, refl, sym, ◌∙◌, ap, subst, arith, length-append, length-take, length-drop, ◌%◌, min}
+use Rattle.std.proofs.Common.{◌≡◌, inl, inr, ℕ, ◌+◌, ◌<◌, ◌≤◌, ◌^◌, List, [], ◌∷◌, ◌++◌, length, take, drop, get_or, refl, sym, ◌∙◌, ap, arith, length-append, length-take, length-drop, ◌%◌, min}
+use Rattle.std.proofs.lemmas.Bool.Decides.{nat_tests}
 use Rattle.std.specs.Int.{w64, to_be_bytes, from_be_bytes}
 use Rattle.std.proofs.lemmas.Nat.{from_be_bytes-to_be_bytes_8}
-use Rattle.std.proofs.lemmas.List.{take_at, drop_at, drop-drop, take-append-drop}
+use Rattle.std.proofs.lemmas.List.{take_at, drop_at, take-append-drop}
 use Rattle.coord_journal.specs.Facade.{BeginsWithHeader, Content, HasHeader, IsHalf, IsHalfSize, IsReadFault, IsText, IsTextAt, RefusesOpen, formatted, half_front, half_start, magic, sized, used_by, without_batch}
 use Rattle.coord_journal.specs.declared.layout.TheConstants.{MAX_SNAPSHOT}
 use Rattle.coord_journal.specs.declared.fault.JournalFault.{JournalFault}
 use Rattle.coord_journal.specs.declared.fault.JournalFault.TheVariants.{BadRecord}
-use Rattle.coord_journal.proofs.Appended.{lead_push, length_sized}
+use Rattle.coord_journal.proofs.Appended.{length_sized}
 use Rattle.coord_journal.proofs.Halves.{half_cut, half_long, half_same, half_used, half_whole}
 
 -- what a header says is told by the bytes
@@ -24,8 +25,7 @@ pub rest_read : (bytes : List ℕ) (selector half_size : ℕ) (rest : List ℕ) 
 rest_read bytes selector half_size rest is = ap (λ (l : List ℕ). drop 17 l) is ∙ drop_at (to_be_bytes w64 half_size) rest 8 refl
 
 same_half_size : (bytes : List ℕ) (s t m n : ℕ) (rest other : List ℕ) → HasHeader bytes s m rest → HasHeader bytes t n other → m ≡ n
-same_half_size bytes s t m n rest other here there =
-    sym (size_read bytes s m rest (omega (arith, here.size.greatest)) here.spelled) ∙ size_read bytes t n other (omega (arith, there.size.greatest)) there.spelled
+same_half_size bytes s t m n rest other h1 h2 = grind (arith, nat_tests, h1, h2)
 
 same_selector : (bytes : List ℕ) (s t m n : ℕ) (rest other : List ℕ) → HasHeader bytes s m rest → HasHeader bytes t n other → s ≡ t
 same_selector bytes s t m n rest other here there = sym (selector_read bytes s m rest here) ∙ selector_read bytes t n other there
@@ -34,24 +34,14 @@ same_rest : (bytes : List ℕ) (s t m n : ℕ) (rest other : List ℕ) → HasHe
 same_rest bytes s t m n rest other here there = sym (rest_read bytes s m rest here.spelled) ∙ rest_read bytes t n other there.spelled
 
 module _ (bytes : List ℕ) (content : Content) (half_size half used : ℕ) (text : IsTextAt bytes content half_size half used) where
-  abbrev front : List ℕ
-  front = half_front content.version content.snapshot text.opened
-
   abbrev pub behind_header : List ℕ
-  behind_header = text.skipped ++ (front ++ 0 ∷ text.behind)
+  behind_header = text.skipped ++ text.half_bytes
 
   pub text_header : HasHeader bytes text.selector half_size behind_header
-  text_header = record { spelled = text.spelled ∙ sym (lead_push text.selector half_size text.skipped front (0 ∷ text.behind)); size = text.size }
+  text_header = text.header
 
   pub text_half : IsHalf (drop (half_start half half_size) behind_header) content used
-  text_half = record {
-    opened = text.opened;
-    behind = text.behind;
-    spelled = drop_at text.skipped (front ++ 0 ∷ text.behind) (half_start half half_size) text.skips;
-    snapshot = text.snapshot;
-    batches = text.batches;
-    used_is = text.used_is;
-  }
+  text_half = rw (drop_at text.skipped text.half_bytes (half_start half half_size) text.skips) text.holds
 
   -- whatever header was read, it is that of the text
   pub half_in : (selector size other : ℕ) (rest : List ℕ) → selector % 2 ≡ other → HasHeader bytes selector size rest → IsHalf (drop (half_start other size) rest) content used
@@ -61,7 +51,7 @@ module _ (bytes : List ℕ) (content : Content) (half_size half used : ℕ) (tex
       let start : half_start half half_size ≡ half_start other size =
       ap (λ (h : ℕ). half_start h half_size) selected
       ∙ ap (λ (n : ℕ). half_start other n) (same_half_size bytes text.selector selector half_size size behind_header rest text_header header) in
-      subst (λ (l : List ℕ). IsHalf l content used) (ap (λ (l : List ℕ). drop (half_start half half_size) l) same ∙ ap (λ (n : ℕ). drop n rest) start) text_half
+      rw (sym (ap (λ (l : List ℕ). drop (half_start half half_size) l) same ∙ ap (λ (n : ℕ). drop n rest) start)) text_half
 
   pub fits_in : (selector size : ℕ) (rest : List ℕ) → HasHeader bytes selector size rest → used ≤ size
   fits_in selector size rest header = omega (arith, text.fits, same_half_size bytes text.selector selector half_size size behind_header rest text_header header)
@@ -93,13 +83,11 @@ module _ (bytes : List ℕ) (selector half_size half : ℕ) (rest : List ℕ) (h
 
   in_text : (content : Content) (text : IsText content bytes) → IsHalf half_bytes content text.2
   in_text content text =
-      subst (λ (n : ℕ). IsHalf (drop n rest) content text.2) (sym starts) (half_in bytes content text.0 text.1 text.2 text.3 selector half_size half rest named header)
+      rw starts (half_in bytes content text.0 text.1 text.2 text.3 selector half_size half rest named header)
 
   -- there is no text where the half does not begin, or is refused
   pub cut_short : length rest < start → (content : Content) → IsText content bytes → ⊥
-  cut_short short content text =
-      let h = in_text content text in
-      omega (arith, short, h.used_is, half_long half_bytes content text.2 h, length-drop start rest)
+  cut_short short content text = grind (arith, nat_tests, short, text, length-drop start rest, in_text content text)
 
   pub refused : (n : ℕ) → n ≡ min half_size (length half_bytes) → ((content : Content) (used : ℕ) → IsHalf (take n half_bytes) content used → ⊥) → (content : Content) → IsText content bytes → ⊥
   refused n n_is bad content text =
@@ -112,9 +100,6 @@ module _ (bytes : List ℕ) (selector half_size half : ℕ) (rest : List ℕ) (h
     whole : IsHalf half_bytes content used
     whole = half_whole half_bytes content used n read
 
-    abbrev front_of : List ℕ
-    front_of = half_front content.version content.snapshot whole.opened
-
     long : length (take start rest) ≡ start
     long = omega (arith, within, length-take start rest)
 
@@ -122,17 +107,11 @@ module _ (bytes : List ℕ) (selector half_size half : ℕ) (rest : List ℕ) (h
     made = record {
       selector = selector;
       skipped = take start rest;
-      opened = whole.opened;
-      behind = whole.behind;
-      spelled = header.spelled
-          ∙ ap (λ (l : List ℕ). (selector ∷ magic) ++ (to_be_bytes w64 half_size ++ l)) (sym (take-append-drop start rest) ∙ ap (λ (l : List ℕ). take start rest ++ l) whole.spelled)
-          ∙ lead_push selector half_size (take start rest) front_of (0 ∷ whole.behind);
-      size = header.size;
+      half_bytes = half_bytes;
+      header = record { spelled = header.spelled ∙ ap (λ (l : List ℕ). (selector ∷ magic) ++ (to_be_bytes w64 half_size ++ l)) (sym (take-append-drop start rest)); size = header.size };
       selected = named;
       skips = long ∙ starts;
-      snapshot = whole.snapshot;
-      batches = whole.batches;
-      used_is = whole.used_is;
+      holds = whole;
       fits = omega (arith, few, half_long (take n half_bytes) content used read, length-take n half_bytes);
     }
 
@@ -146,27 +125,20 @@ formatted_text half_size version snapshot bytes size short is =
       record {
         selector = 0;
         skipped = [];
-        opened = [];
-        behind = [];
-        spelled = is;
-        size = size;
+        half_bytes = front ++ 0 ∷ [];
+        header = record { spelled = is; size = size };
         selected = refl;
         skips = omega arith;
-        snapshot = short;
-        batches = refl;
-        used_is = refl;
+        holds = record { opened = []; behind = []; spelled = refl; snapshot = short; batches = refl; used_is = refl };
         fits = omega (arith, size.smallest, short, length-append (sized snapshot) [], length_sized snapshot);
       },
     )
 
 -- the parts of bytes that are long enough for a header
 pub header_parts : (bytes : List ℕ) → 17 ≤ length bytes → bytes ≡ get_or bytes 0 0 ∷ (take 8 (drop 1 bytes) ++ (take 8 (drop 9 bytes) ++ drop 17 bytes))
-header_parts [] long = absurd (omega (arith, long))
-header_parts (b ∷ bytes) long =
-    ap (λ (l : List ℕ). b ∷ l)
-    (sym (take-append-drop 8 bytes) ∙ ap (λ (l : List ℕ). take 8 bytes ++ l) (sym (take-append-drop 8 (drop 8 bytes)) ∙ ap (λ (l : List ℕ). take 8 (drop 8 bytes) ++ l) (drop-drop 8 8 bytes)))
+header_parts bytes h1 = grind (arith, nat_tests, h1)
 
 -- a fault of reading says why
 pub refuses : (bytes : List ℕ) (fault : JournalFault) → IsReadFault fault → (fault ≡ BadRecord → BeginsWithHeader bytes × ((content : Content) → IsText content bytes → ⊥)) → RefusesOpen bytes fault
-refuses bytes fault (inl memory) why = subst (λ (f : JournalFault). RefusesOpen bytes f) (sym memory) tt
-refuses bytes fault (inr record_is_bad) why = subst (λ (f : JournalFault). RefusesOpen bytes f) (sym record_is_bad) (why record_is_bad)
+refuses bytes fault (inl memory) why = rw memory tt
+refuses bytes fault (inr record_is_bad) why = rw record_is_bad (why record_is_bad)

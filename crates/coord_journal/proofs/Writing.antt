@@ -1,5 +1,5 @@
 -- A crash at any moment of an append or a replace.
-use Rattle.std.proofs.Common.{◌≡◌, ◌⊎◌, inl, ℕ, ◌+◌, ◌-◌, ◌≤◌, true, List, [], ◌∷◌, ◌++◌, length, sym, ◌∙◌, ap, subst, arith}
+use Rattle.std.proofs.Common.{◌≡◌, inl, ℕ, ◌+◌, ◌-◌, ◌≤◌, true, List, [], ◌∷◌, ◌++◌, length, sym, subst, arith}
 use Rattle.coord_disk.specs.Model.DiskModel.{DiskModel, IsModel}
 use Rattle.coord_disk.specs.Model.Moments.{LeavesOnly}
 use Rattle.coord_disk.specs.Model.Present.{whole}
@@ -28,12 +28,12 @@ module _ {D : Type 0} (m : DiskModel D) (j : Journal D) (content : Content) (rea
       → LeavesOnly m (disk_of j) new (IsEitherText content (with_batch content body))
   appending new body block gate short fits place block_is moments =
       weaker m (disk_of j) new _ _ (moments bytes ready.keeps ready.synced) (λ image torn.
-      append_torn bytes body content (half_size_of j) (half_of j) (used_of j) ready.text short fits (gate + 1) gate (omega (arith, place)) place image
+      append_torn ready.text body short fits (gate + 1) gate (omega (arith, place)) place image
       (subst (λ (b : List ℕ). TornInTurn bytes (gate + 1) b gate (1 ∷ []) image) block_is torn))
 
   pub replacing : (new : D) (version : ℕ) (snapshot half : List ℕ) (start selector : ℕ) → length snapshot ≤ MAX_SNAPSHOT → start ≡ 17 + half_start (1 - half_of j) (half_size_of j) → half ≡ half_front version snapshot [] ++ 0 ∷ [] → TornBy new start half 0 (selector ∷ [])
       → LeavesOnly m (disk_of j) new (IsEitherText content (without_batch version snapshot))
   replacing new version snapshot half start selector short start_is half_is moments =
       weaker m (disk_of j) new _ _ (moments bytes ready.keeps ready.synced) (λ image torn.
-      replace_torn bytes content (half_size_of j) (half_of j) (used_of j) ready.text version snapshot short start start_is selector image
+      replace_torn ready.text version snapshot short start start_is selector image
       (subst (λ (b : List ℕ). TornInTurn bytes start b 0 (selector ∷ []) image) half_is torn))

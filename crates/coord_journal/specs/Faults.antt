@@ -2,7 +2,7 @@
 use Rattle.std.specs.Prelude.{◌≡◌, ◌⊎◌, ℕ, ◌<◌, List, length, Result, Ok, Err}
 use Rattle.coord_journal.specs.Text.{Content, HasHeader, IsHalfSize, IsText}
 use Rattle.coord_journal.specs.declared.fault.JournalFault.{JournalFault}
-use Rattle.coord_journal.specs.declared.fault.JournalFault.TheVariants.{OutOfMemory, Device, NotEmpty, HalfSize, NoMagic, BadRecord, JournalFull, Stopped}
+use Rattle.coord_journal.specs.declared.fault.JournalFault.TheVariants.{OutOfMemory, Device, NotEmpty, HalfSize, NoMagic, BadRecord, Stopped}
 
 -- Formatting a device of these bytes, with halves of this size, is refused with this fault.
 abbrev pub RefusesFormat : List ℕ → ℕ → JournalFault → Type 0

@@ -30,6 +30,15 @@ ReadsAs batches size bytes = (opened : List ℕ) × (behind : List ℕ) × (byte
 abbrev pub half_front : ℕ → List ℕ → List ℕ → List ℕ
 half_front version snapshot opened = version ∷ (sized snapshot ++ opened)
 
+-- These bytes are a half that holds this content, and so many of them are used, its closed gate included. What stands behind the gate is not read.
+pub record IsHalf (bytes : List ℕ) (content : Content) (used : ℕ) : Type 0 where
+  pub opened : List ℕ
+  pub behind : List ℕ
+  pub spelled : bytes ≡ half_front content.version content.snapshot opened ++ 0 ∷ behind
+  pub snapshot : length content.snapshot ≤ MAX_SNAPSHOT
+  pub batches : IsOpened content.batches opened
+  pub used_is : length (half_front content.version content.snapshot opened) + 1 ≡ used
+
 -- ACRRESET
 abbrev pub magic : List ℕ
 magic = 65 ∷ 67 ∷ 82 ∷ 82 ∷ 69 ∷ 83 ∷ 69 ∷ 84 ∷ []
@@ -48,24 +57,15 @@ pub record HasHeader (bytes : List ℕ) (selector half_size : ℕ) (rest : List 
 abbrev pub half_start : ℕ → ℕ → ℕ
 half_start half half_size = half * half_size
 
--- All bytes in front of the first closed gate of the selected half: the header, what stands before
--- that half, and the half.
-abbrev pub lead : ℕ → ℕ → List ℕ → List ℕ → List ℕ
-lead selector half_size skipped front = (selector ∷ magic) ++ (to_be_bytes w64 half_size ++ (skipped ++ front))
-
--- These bytes are such a text: this half is selected, by an even or an odd selector, and so many bytes of it are used, its closed gate included. What stands behind the gate is not read.
+-- These bytes are the text of this content: a header, what stands in front of the selected half, and that half. An even or an odd selector names it, and so many bytes of it are used, its closed gate included.
 pub record IsTextAt (bytes : List ℕ) (content : Content) (half_size half used : ℕ) : Type 0 where
   pub selector : ℕ
   pub skipped : List ℕ
-  pub opened : List ℕ
-  pub behind : List ℕ
-  pub spelled : bytes ≡ lead selector half_size skipped (half_front content.version content.snapshot opened) ++ 0 ∷ behind
-  pub size : IsHalfSize half_size
+  pub half_bytes : List ℕ
+  pub header : HasHeader bytes selector half_size (skipped ++ half_bytes)
   pub selected : selector % 2 ≡ half
   pub skips : length skipped ≡ half_start half half_size
-  pub snapshot : length content.snapshot ≤ MAX_SNAPSHOT
-  pub batches : IsOpened content.batches opened
-  pub used_is : length (half_front content.version content.snapshot opened) + 1 ≡ used
+  pub holds : IsHalf half_bytes content used
   pub fits : used ≤ half_size
 
 -- the place of the closed gate
@@ -96,7 +96,7 @@ IsEitherText one other bytes = IsText one bytes ⊎ IsText other bytes
 
 -- a journal that was just made: half 0 is selected, and its gate is the last byte
 abbrev pub formatted : ℕ → ℕ → List ℕ → List ℕ
-formatted half_size version snapshot = lead 0 half_size [] (half_front version snapshot []) ++ 0 ∷ []
+formatted half_size version snapshot = (0 ∷ magic) ++ (to_be_bytes w64 half_size ++ (half_front version snapshot [] ++ 0 ∷ []))
 
 -- The bytes after an append at the closed gate at this place: a body and a closed gate were written
 -- behind it, and then it was opened by a 1.

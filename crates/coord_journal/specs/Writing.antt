@@ -1,5 +1,5 @@
 -- What an append and a replace promise alike.
-use Rattle.std.specs.Prelude.{◌≡◌, ◌≢◌, ◌↔◌, List, true, false, Result, IfErr, IsErrOf, OnOk}
+use Rattle.std.specs.Prelude.{◌≡◌, ◌≢◌, ◌↔◌, true, false, Result, IfErr, IsErrOf, OnOk}
 use Rattle.coord_disk.specs.Model.DiskModel.{DiskModel}
 use Rattle.coord_disk.specs.Model.Moments.{LeavesOnly, Runs}
 use Rattle.coord_journal.specs.Faults.{IsWriteFault, failures_in}

@@ -3,8 +3,7 @@
 ghost use Rattle.std.specs.Prelude.{◌≡◌, ◌<◌, ◌≤◌, ℕ, List, length, IfOk, IfErr, IfSome, None, get_or};
 ghost use Rattle.coord_journal.specs.Contents.{bodies, content_of};
 ghost use Rattle.coord_journal.specs.Faults.{IsReadFault};
-ghost use Rattle.coord_journal.specs.Half.{IsHalf};
-ghost use Rattle.coord_journal.specs.Text.{Content, ReadsAs, BeginsWithBody};
+ghost use Rattle.coord_journal.specs.Text.{Content, IsHalf, ReadsAs, BeginsWithBody};
 ghost use Rattle.coord_journal.specs.declared.fault.JournalFault.TheVariants.{BadRecord};
 
 use crate::layout::{MAX_BODY, MAX_SNAPSHOT};

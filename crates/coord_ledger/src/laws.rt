@@ -80,7 +80,6 @@ pub fn finish_keeps_kept()
 {}
 
 /// The headline, from what a store says of its images.
-#[tactic(auto, using(crate::proofs::machine::Safe::prefix_from_images))]
 pub fn prefix_from_images()
     ensures { PrefixFromImages }
 {}

@@ -1,15 +1,20 @@
 -- What was written of a commit or of a migration, as the store tells it.
-use Rattle.std.proofs.Common.{◌≡◌, ◌≢◌, ◌⊎◌, ◌↔◌, inl, inr, ◌+◌, ℕ, List, length, Bool, true, false, None, Option, is_some, Result, Ok, Err, IsErrOf, refl, sym, ◌∙◌, subst, arith}
-use Rattle.coord_disk.specs.Model.DiskModel.{DiskModel}
+use Rattle.std.proofs.Common.{◌≡◌, ◌≢◌, ◌⊎◌, ◌↔◌, ◌+◌, ◌≤◌, inl, inr, ⊎_elim, ℕ, List, length, true, false, None, Option, is_some, Result, Ok, Err, IfErr, IsErrOf, refl, sym, ap, ◌∙◌, subst, arith}
+use Rattle.coord_disk.specs.Model.DiskModel.{DiskModel, IsModel}
 use Rattle.coord_disk.specs.Model.Moments.{LeavesOnly, Runs}
 use Rattle.coord_journal.specs.Facade.{HasRoomFor, disk_of, half_of}
 use Rattle.coord_journal.specs.declared.journal.Journal.{Journal}
 use Rattle.coord_types.specs.declared.steps.Step.{Step}
-use Rattle.coord_world.specs.Facade.{World}
-use Rattle.coord_store.specs.Facade.{Changes, FitsIn, Holds, IsOnlyWorld, Kept, Takes}
+use Rattle.coord_world.specs.Facade.{Legal, World, fold}
+use Rattle.coord_store.specs.Faults.{failures_in}
+use Rattle.coord_store.specs.Facade.{Changes, Commits, Concludes, Ends, FitsIn, Follows, Holds, IsKept, IsOnlyWorld, Kept, Stays, Takes, with_world}
 use Rattle.coord_store.specs.declared.faults.CommitFault.{CommitFault}
 use Rattle.coord_store.specs.declared.faults.CommitFault.TheVariants.{OutOfMemory, Device, Stopped}
-use Rattle.coord_store.proofs.Holding.{as_long, has_room, only_is_either}
+use Rattle.coord_store.proofs.Holding.{as_long, has_room, in_half, kept_on, kept_torn, only_is_either}
+
+-- what a store is seen as
+abbrev pub kept : {D : Type 0} → Journal D → World → Option World → Kept D
+kept journal w torn = record { disk = disk_of journal; world = w; torn = torn }
 
 -- an answer is a fault or none, and one fault
 pub ok_not : {T E X : Type 0} (x : T) (e : E) → IsErrOf (Ok x) e → X
@@ -18,22 +23,23 @@ ok_not x e is = absurd cc
 pub err_is : {T E : Type 0} (a b : E) → IsErrOf {T = T} (Err a) b → a ≡ b
 err_is a b is = cc
 
-not_stopped : (fault : CommitFault) → (fault ≡ OutOfMemory) ⊎ (fault ≡ Device) → fault ≡ Stopped → ⊥
-not_stopped fault (inl memory) is = absurd cc
-not_stopped fault (inr device) is = absurd cc
-
-both : (b : Bool) → b ≡ false → b ≡ true → ⊥
-both b off on = absurd cc
-
 -- a store that goes on does not answer that it has stopped
-pub never_stopped : {T : Type 0} (fault : CommitFault) (torn : Option World) → (fault ≡ OutOfMemory) ⊎ (fault ≡ Device) → is_some torn ≡ false → IsErrOf {T = T} (Err fault) Stopped ↔ (is_some torn ≡ true)
-never_stopped fault torn passing none = (λ e. absurd (not_stopped fault passing (err_is fault Stopped e)), λ is. absurd (both (is_some torn) none is))
+pub not_stopped : {T X : Type 0} (r : Result T CommitFault) → IfErr r (λ fault. (fault ≡ OutOfMemory) ⊎ (fault ≡ Device)) → IsErrOf r Stopped → X
+not_stopped (Ok x) passing is = absurd cc
+not_stopped (Err fault) (inl memory) is = absurd cc
+not_stopped (Err fault) (inr device) is = absurd cc
 
-pub never_stopped_ok : {T : Type 0} (x : T) (torn : Option World) → is_some torn ≡ false → IsErrOf (Ok x) Stopped ↔ (is_some torn ≡ true)
-never_stopped_ok x torn none = (λ e. ok_not x Stopped e, λ is. absurd (both (is_some torn) none is))
+pub never_stopped : {T : Type 0} (r : Result T CommitFault) (torn : Option World) → IfErr r (λ fault. (fault ≡ OutOfMemory) ⊎ (fault ≡ Device)) → torn ≡ None → IsErrOf r Stopped ↔ (is_some torn ≡ true)
+never_stopped r torn passing none = (λ is. not_stopped r passing is, λ is. let off : is_some torn ≡ false = ap is_some none in absurd cc)
 
-pub unlike_stopped : {T X : Type 0} (fault : CommitFault) → (fault ≡ OutOfMemory) ⊎ (fault ≡ Device) → IsErrOf {T = T} (Err fault) Stopped → X
-unlike_stopped fault passing e = absurd (not_stopped fault passing (err_is fault Stopped e))
+-- an answer with a world fails as it does without
+pub fails_so : {T : Type 0} (w : World) (r : Result T CommitFault) (P : CommitFault → Type 0) → IfErr r P → IfErr (with_world w r) P
+fails_so w (Ok x) P refused = tt
+fails_so w (Err fault) P refused = refused
+
+pub same_failures : {T : Type 0} (w : World) (r : Result T CommitFault) → failures_in r ≡ failures_in (with_world w r)
+same_failures w (Ok x) = refl
+same_failures w (Err fault) = refl
 
 module _ {D : Type 0} (m : DiskModel D) where
   -- a call is refused, and nothing was written
@@ -51,8 +57,79 @@ module _ {D : Type 0} (m : DiskModel D) where
   none_run disk n = record { model = refl; failures = omega arith; calls = λ _. omega arith }
 
   -- the body of a batch fits where the contract's own body does
-  pub fits_in : (journal : Journal D) (w : World) (torn : Option World) (steps : List Step) (body : List ℕ) (half : ℕ) → (m.keeps_model (disk_of journal) ≡ true → torn ≡ None → Holds m journal w) → Takes w body steps → FitsIn m half steps (record { disk = disk_of journal; world = w; torn = torn })
+  pub fits_in : (journal : Journal D) (w : World) (torn : Option World) (steps : List Step) (body : List ℕ) (half : ℕ) → (m.keeps_model (disk_of journal) ≡ true → torn ≡ None → Holds m journal w) → Takes w body steps → FitsIn m half steps (kept journal w torn)
       → HasRoomFor journal (length body) × (half_of journal ≡ half)
   fits_in journal w torn steps body half holds takes fits =
       let room = has_room m journal w half (length fits.body) (holds fits.keeps fits.going) fits.place in
       (subst (λ n. HasRoomFor journal n) (as_long w fits.body body steps fits.spells takes.spells) room.0, room.1)
+
+  -- the same change, told with the faults of another type
+  pub retold : {T U E F : Type 0} (s n : Kept D) (next : World) (a : E) (b : F) (x : T) (y : U) → Changes m next a s n (Ok x) → Changes m next b s n (Ok y)
+  retold s n next a b x y changes = record { any_moment = changes.any_moment; any_moment_refused = λ k none. tt; world = changes.world; going = changes.going; torn = λ e. ok_not y b e; same_world = tt }
+
+  pub retold_refused : {T U E F : Type 0} (s n : Kept D) (next : World) (a : E) (b : F) (e : E) (f : F) → (f ≡ b → e ≡ a) → (f ≢ b → e ≢ a) → Changes {T = T} m next a s n (Err e) → Changes {T = U} m next b s n (Err f)
+  retold_refused s n next a b e f device other changes = record {
+    any_moment = changes.any_moment;
+    any_moment_refused = λ k none unlike. changes.any_moment_refused k none (other unlike);
+    world = tt;
+    going = tt;
+    torn = λ is. changes.torn (ap Err (device (err_is f b is)));
+    same_world = changes.same_world;
+  }
+
+-- What comes of writing another world in place of a store's, by its answer: `v` and `now` are what the store keeps then.
+module _ {D T : Type 0} (m : DiskModel D) (old new : Journal D) (w next v : World) (torn now : Option World) (none : torn ≡ None) (holds : m.keeps_model (disk_of old) ≡ true → torn ≡ None → Holds m old w) where
+  pub changed : (r : Result T CommitFault) → Concludes next w v torn now r → (Holds m old w → Follows m w next old new r) → (Holds m old w → Stays m w old new r) → Changes m next Device (kept old w torn) (kept new v now) (with_world w r)
+  changed (Ok x) keeps follows stays = record { any_moment = λ k same. (follows (holds k same)).any_moment; any_moment_refused = λ k same. tt; world = keeps.world; going = keeps.same_torn ∙ none; torn = λ e. ok_not w Device e; same_world = tt }
+  changed (Err fault) keeps follows stays = record {
+    any_moment = λ k same. (follows (holds k same)).any_moment;
+    any_moment_refused = λ k same. (stays (holds k same)).any_moment;
+    world = tt;
+    going = tt;
+    torn = λ e. keeps.torn (ap Err (err_is fault Device e));
+    same_world = keeps.same_world;
+  }
+
+  -- what the type of a store keeps
+  pub kept_after : IsModel m → Legal w → Legal next → (most : ℕ) (r : Result T CommitFault) → Concludes next w v torn now r → (Holds m old w → Follows m w next old new r) → (Holds m old w → Stays m w old new r) → Ends m most old new r → IsKept m new v now
+  kept_after laws legal legal_next most (Ok x) keeps follows stays ends =
+      subst (λ y. IsKept m new y now) (sym keeps.world) (kept_on m new next now (keeps.same_torn ∙ none) legal_next ends.going (λ k. (follows (holds (sym ends.runs.model ∙ k) none)).done))
+  kept_after laws legal legal_next most (Err fault) keeps follows stays ends =
+      subst (λ y. IsKept m new y now) (sym keeps.same_world)
+      (⊎_elim
+      (λ memory. let other : fault ≢ Device = λ is. absurd cc in kept_on m new w now (keeps.unchanged other ∙ none) legal (ends.still other) (λ k. (stays (holds (sym ends.runs.model ∙ k) none)).held other))
+      (λ device. subst (λ o. IsKept m new w o) (sym (keeps.torn (ap Err device))) (kept_torn m laws (disk_of old) new w next legal (ends.device (ap Err device)) (λ k. (follows (holds (sym ends.runs.model ∙ k) none)).any_moment)))
+      ends.fault)
+
+  -- where the device did not fail and nothing was written
+  pub untouched : (r : Result T CommitFault) → Concludes next w v torn now r → IfErr r (λ fault. fault ≢ Device → new ≡ old) → IfErr (with_world w r) (λ fault. fault ≢ Device → kept new v now ≡ kept old w torn)
+  untouched (Ok x) keeps same = tt
+  untouched (Err fault) keeps same = λ other. ap (λ j. kept j v now) (same other) ∙ ap (λ y. kept old y now) keeps.same_world ∙ ap (λ o. kept old w o) (keeps.unchanged other)
+
+-- and of a commit
+module _ {D T : Type 0} (m : DiskModel D) (old new : Journal D) (w v : World) (torn now : Option World) (none : torn ≡ None) (holds : m.keeps_model (disk_of old) ≡ true → torn ≡ None → Holds m old w) (steps : List Step) (body : List ℕ) (takes : Takes w body steps) where
+  pub committed : (r : Result T CommitFault) → Concludes (fold w steps) w v torn now r → (Holds m old w → Follows m w (fold w steps) old new r) → (Holds m old w → Stays m w old new r) → Ends m 8 old new r
+      → (m.keeps_model (disk_of old) ≡ true → HasRoomFor old (length body) → m.clock (disk_of new) ≤ m.clock (disk_of old) + 4) → (HasRoomFor old (length body) → half_of new ≡ half_of old)
+      → Commits m steps (kept old w torn) (kept new v now) (with_world w r)
+  committed (Ok x) keeps follows stays ends calls same_half = record {
+    changes = changed m old new w (fold w steps) v torn now none holds (Ok x) keeps follows stays;
+    runs = ends.runs;
+    calls_where_it_fits = λ half fits. calls fits.keeps (fits_in m old w torn steps body half holds takes fits).0;
+    half_where_it_fits = λ half fits.
+        let room = fits_in m old w torn steps body half holds takes fits in
+        in_half m new (fold w steps) half (follows (holds fits.keeps fits.going)).done (same_half room.0 ∙ room.1);
+    stopped = never_stopped {T = World} (Ok w) torn tt none;
+    fault = tt;
+    unchanged = tt;
+    untouched = λ e. ok_not w Stopped e;
+  }
+  committed (Err fault) keeps follows stays ends calls same_half = record {
+    changes = changed m old new w (fold w steps) v torn now none holds (Err fault) keeps follows stays;
+    runs = ends.runs;
+    calls_where_it_fits = λ half fits. calls fits.keeps (fits_in m old w torn steps body half holds takes fits).0;
+    half_where_it_fits = λ half fits. tt;
+    stopped = never_stopped {T = World} (Err fault) torn ends.fault none;
+    fault = inr ends.fault;
+    unchanged = keeps.unchanged;
+    untouched = λ e. not_stopped {T = World} (Err fault) ends.fault e;
+  }

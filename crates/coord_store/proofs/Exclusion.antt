@@ -4,13 +4,14 @@ use Rattle.coord_types.specs.declared.steps.Step.{Step}
 use Rattle.coord_check.specs.Faults.{faults, first}
 use Rattle.coord_check.specs.declared.violation.Violation.{Violation}
 use Rattle.coord_check.proofs.LegalWithoutFaults.{clear_or_not}
-use Rattle.coord_journal.specs.Facade.{BeginsWithHeader, Content, IsText}
+use Rattle.coord_journal.specs.Facade.{BeginsWithHeader, Content, IsText, RefusesOpen as JournalRefuses}
+use Rattle.coord_journal.specs.declared.fault.JournalFault.{JournalFault}
+use Rattle.coord_journal.specs.declared.fault.JournalFault.TheVariants as journal
 use Rattle.coord_journal.proofs.Texts.{text_header, text_same, behind_header}
 use Rattle.coord_world.specs.Facade.{InRange, Legal, World}
 use Rattle.coord_store.specs.Laws.{RecoveredIsOpened}
-use Rattle.coord_store.specs.Facade.{AllFresh, Gives, Recovered, RefusesBatch, RefusesBatches, RefusesContent, RefusesReplay, RefusesText, Replays, StopsAt, Takes}
+use Rattle.coord_store.specs.Facade.{AllFresh, Gives, HasSnapshot, IsPassing, Recovered, RefusesBatch, RefusesBatches, RefusesContent, RefusesReplay, RefusesSnapshot, RefusesText, Replays, StopsAt, Takes, store_fault_of}
 use Rattle.coord_store.specs.declared.faults.StoreFault.{StoreFault}
-use Rattle.coord_store.specs.declared.faults.StoreFault.TheVariants.{OutOfMemory, Device, NotEmpty, HalfSize, NoMagic, BadRecord, BadSnapshot, BadBatch, BadStep, Violated, NotQuiet, Stopped}
 use Rattle.coord_store.proofs.Freshness.{fresh_at}
 use Rattle.coord_store.proofs.OneWorld.{one_end, one_spelling, one_start}
 use Rattle.coord_store.proofs.Replaying.{reached}
@@ -25,19 +26,9 @@ unstopped w steps index stop all = stop.stops (fresh_at stop.front stop.rest w w
 
 -- a batch that is taken is not refused
 taken_unrefused : (w : World) (n : ℕ) (body : List ℕ) (steps : List Step) (fault : StoreFault) → Takes w body steps → RefusesBatch w n body fault → ⊥
-taken_unrefused w n body steps BadBatch takes refused = refused steps takes.spells
-taken_unrefused w n body steps (BadStep batch index) takes refused =
-    unstopped w refused.1.0 index refused.1.2 (subst (AllFresh w w) (one_spelling w body steps refused.1.0 takes.spells refused.1.1) takes.fresh)
-taken_unrefused w n body steps OutOfMemory takes refused = refused
-taken_unrefused w n body steps Device takes refused = refused
-taken_unrefused w n body steps NotEmpty takes refused = refused
-taken_unrefused w n body steps HalfSize takes refused = refused
-taken_unrefused w n body steps NoMagic takes refused = refused
-taken_unrefused w n body steps BadRecord takes refused = refused
-taken_unrefused w n body steps BadSnapshot takes refused = refused
-taken_unrefused w n body steps (Violated v) takes refused = refused
-taken_unrefused w n body steps (NotQuiet u) takes refused = refused
-taken_unrefused w n body steps Stopped takes refused = refused
+taken_unrefused w n body steps fault takes (inl spells_none) = spells_none.1 steps takes.spells
+taken_unrefused w n body steps fault takes (inr stop) =
+    unstopped w stop.1 stop.0 stop.4 (subst (AllFresh w w) (one_spelling w body steps stop.1 takes.spells stop.3) takes.fresh)
 
 -- nor is one of batches that lead to a world
 led_unrefused : (start w : World) (bodies : List (List ℕ)) (fault : StoreFault) → Replays start bodies w → RefusesReplay start bodies fault → ⊥
@@ -51,43 +42,40 @@ batches_unrefused : (content : Content) (w : World) (fault : StoreFault) → Giv
 batches_unrefused content w fault gives refused =
     led_unrefused gives.start w content.batches fault gives.replays (subst (λ x. RefusesReplay x content.batches fault) (one_start content refused.0 gives.start refused.1 gives.snapshot) refused.3)
 
--- nor is a content that gives a world
-content_unrefused : (content : Content) (w : World) (fault : StoreFault) → Gives content w → RefusesContent content fault → (fault ≡ OutOfMemory)
-content_unrefused content w OutOfMemory gives refused = refl
-content_unrefused content w BadSnapshot gives refused = absurd (refused gives.start gives.snapshot)
-content_unrefused content w (Violated v) gives refused =
-    let same = one_start content refused.0 gives.start refused.1 gives.snapshot in
-    absurd (legal_unfaulted refused.0 v refused.1.in_range (subst Legal (sym same) gives.legal) refused.2)
-content_unrefused content w BadBatch gives refused = absurd (batches_unrefused content w BadBatch gives refused)
-content_unrefused content w (BadStep batch index) gives refused = absurd (batches_unrefused content w (BadStep batch index) gives refused)
-content_unrefused content w Device gives refused = absurd refused
-content_unrefused content w NotEmpty gives refused = absurd refused
-content_unrefused content w HalfSize gives refused = absurd refused
-content_unrefused content w NoMagic gives refused = absurd refused
-content_unrefused content w BadRecord gives refused = absurd refused
-content_unrefused content w (NotQuiet u) gives refused = absurd refused
-content_unrefused content w Stopped gives refused = absurd refused
+-- nor is a snapshot that spells a legal world
+snapshot_unrefused : (content : Content) (start : World) (fault : StoreFault) → HasSnapshot content start → Legal start → RefusesSnapshot content fault → ⊥
+snapshot_unrefused content start fault snapshot legal (inl spells_none) = spells_none.1 start snapshot
+snapshot_unrefused content start fault snapshot legal (inr violated) =
+    legal_unfaulted violated.0 violated.1 violated.3.in_range (subst Legal (one_start content start violated.0 snapshot violated.3) legal) violated.4
 
-text_unrefused : (bytes : List ℕ) (w : World) (fault : StoreFault) → Recovered bytes w → RefusesText bytes fault → (fault ≡ OutOfMemory)
+-- nor is a text that gives a world
+content_unrefused : (content : Content) (w : World) (fault : StoreFault) → Gives content w → RefusesContent content fault → ⊥
+content_unrefused content w fault gives (inl snapshot) = snapshot_unrefused content gives.start fault gives.snapshot gives.legal snapshot
+content_unrefused content w fault gives (inr batches) = batches_unrefused content w fault gives batches
+
+text_unrefused : (bytes : List ℕ) (w : World) (fault : StoreFault) → Recovered bytes w → RefusesText bytes fault → ⊥
 text_unrefused bytes w fault recovered refused =
     let same = text_same bytes refused.0 recovered.content refused.1 recovered.text in
     content_unrefused recovered.content w fault recovered.gives (subst (λ (c : Content). RefusesContent c fault) same refused.2)
 
 -- a text begins with a header
-pub begins_with_header : (content : Content) (bytes : List ℕ) → IsText content bytes → BeginsWithHeader bytes
+begins_with_header : (content : Content) (bytes : List ℕ) → IsText content bytes → BeginsWithHeader bytes
 begins_with_header content bytes is =
     let text = is.3 in (text.selector, is.0, behind_header bytes content is.0 is.1 is.2 text, text_header bytes content is.0 is.1 is.2 text)
 
+-- so its journal is refused for want of memory or by the device alone
+pub journal_unrefused : (bytes : List ℕ) (content : Content) (why : JournalFault) → IsText content bytes → JournalRefuses bytes why → IsPassing (store_fault_of why)
+journal_unrefused bytes content journal.OutOfMemory text refused = inl refl
+journal_unrefused bytes content journal.Device text refused = inr refl
+journal_unrefused bytes content journal.NoMagic text refused = absurd (refused (begins_with_header content bytes text))
+journal_unrefused bytes content journal.BadRecord text refused = absurd (refused.1 content text)
+journal_unrefused bytes content journal.NotEmpty text refused = absurd refused
+journal_unrefused bytes content journal.HalfSize text refused = absurd refused
+journal_unrefused bytes content journal.JournalFull text refused = absurd refused
+journal_unrefused bytes content journal.Stopped text refused = absurd refused
+
 pub recovered_is_opened : RecoveredIsOpened
-recovered_is_opened bytes w OutOfMemory recovered refused = inl refl
-recovered_is_opened bytes w Device recovered refused = inr refl
-recovered_is_opened bytes w NoMagic recovered refused = absurd (refused (begins_with_header recovered.content bytes recovered.text))
-recovered_is_opened bytes w BadRecord recovered refused = absurd (refused.1 recovered.content recovered.text)
-recovered_is_opened bytes w BadSnapshot recovered refused = inl (text_unrefused bytes w BadSnapshot recovered refused)
-recovered_is_opened bytes w BadBatch recovered refused = inl (text_unrefused bytes w BadBatch recovered refused)
-recovered_is_opened bytes w (BadStep batch index) recovered refused = inl (text_unrefused bytes w (BadStep batch index) recovered refused)
-recovered_is_opened bytes w (Violated v) recovered refused = inl (text_unrefused bytes w (Violated v) recovered refused)
-recovered_is_opened bytes w NotEmpty recovered refused = inl (text_unrefused bytes w NotEmpty recovered refused)
-recovered_is_opened bytes w HalfSize recovered refused = inl (text_unrefused bytes w HalfSize recovered refused)
-recovered_is_opened bytes w (NotQuiet u) recovered refused = inl (text_unrefused bytes w (NotQuiet u) recovered refused)
-recovered_is_opened bytes w Stopped recovered refused = inl (text_unrefused bytes w Stopped recovered refused)
+recovered_is_opened bytes w fault recovered (inl passing) = passing
+recovered_is_opened bytes w fault recovered (inr (inl by_journal)) =
+    subst IsPassing (sym by_journal.1) (journal_unrefused bytes recovered.content by_journal.0 recovered.text by_journal.2)
+recovered_is_opened bytes w fault recovered (inr (inr by_text)) = absurd (text_unrefused bytes w fault recovered by_text)

@@ -1,5 +1,5 @@
 -- Steps that are fresh one after the other.
-use Rattle.std.proofs.Common.{◌≡◌, ℕ, ◌+◌, ◌<◌, ◌≤◌, ◌^◌, suc, List, [], ◌∷◌, ◌++◌, length, take, drop, get_or, refl, sym, ap, ◌∙◌, subst, add-one, arith}
+use Rattle.std.proofs.Common.{◌≡◌, ℕ, ◌+◌, ◌<◌, ◌≤◌, ◌^◌, suc, List, [], ◌∷◌, ◌++◌, length, take, drop, get_or, sym, ap, ◌∙◌, subst, add-one, arith}
 use Rattle.std.proofs.lemmas.List.{take-append-drop}
 use Rattle.std.proofs.Math.Seq.{drop-cons, take-length, take-suc}
 use Rattle.coord_types.specs.declared.steps.Step.{Step}
@@ -9,7 +9,7 @@ use Rattle.coord_types.specs.Messages.{carried}
 use Rattle.coord_types.specs.declared.steps.Step.TheVariants.{Order, Take, Clear}
 use Rattle.coord_batch.specs.Batches.{CarriesRightly, IsNumbered, IsWritable}
 use Rattle.coord_world.specs.laws.Trails.{IsSound}
-use Rattle.coord_world.proofs.Facade.{EachFresh, carried_within, fresh_count, itself, same_version, trail_keeps_worlds, trail_of}
+use Rattle.coord_world.proofs.Facade.{EachFresh, carried_within, fold-append, fresh_count, itself, same_version, trail_keeps_worlds, trail_of}
 use Rattle.coord_store.specs.Recovered.{AllFresh}
 
 -- the one that stands here is
@@ -23,8 +23,7 @@ fresh-push [] settled w s all fresh = (fresh, tt)
 fresh-push (f ∷ front) settled w s all fresh = (all.0, fresh-push front settled (next w f) s all.1 fresh)
 
 pub fold-push : (front : List Step) (w : World) (s : Step) → fold w (front ++ s ∷ []) ≡ next (fold w front) s
-fold-push [] w s = refl
-fold-push (f ∷ front) w s = fold-push front (next w f) s
+fold-push front w s = fold-append front (s ∷ []) w
 
 -- a list about one of its elements
 pub split_at : {A : Type 0} (xs : List A) (i : ℕ) (x : A) → i < length xs → x ≡ get_or xs i x → xs ≡ take i xs ++ x ∷ drop (i + 1) xs
@@ -50,16 +49,12 @@ first_number [] settled w some all = absurd (omega arith)
 first_number (s ∷ steps) settled w some all = fresh_count w settled s all.0
 
 -- in version 1 a fresh step carries no distance
-pub carries_rightly : (w settled : World) (s : Step) → InRange w → IsFresh w settled s → CarriesRightly w.version s
+carries_rightly : (w settled : World) (s : Step) → InRange w → IsFresh w settled s → CarriesRightly w.version s
 carries_rightly w settled (Order c n x) range fresh = tt
 carries_rightly w settled (Take p) range fresh = λ first. let near = subst (λ v. carried p.msg ≤ farthest v w.count) first (carried_within w settled (Take p) range fresh) in omega (arith, near)
 carries_rightly w settled (Clear r) range fresh = tt
 
--- no step changes the version
-pub fold_version : (steps : List Step) (w : World) → (fold w steps).version ≡ w.version
-fold_version [] w = refl
-fold_version (s ∷ steps) w = fold_version steps (next w s) ∙ same_version w s
-
+-- what holds of each element, and of one more
 pub all-push : {A : Type 0} (P : A → Type 0) (xs : List A) (x : A) → AllByRecursion P xs → P x → AllByRecursion P (xs ++ x ∷ [])
 all-push P [] x all last = (last, tt)
 all-push P (y ∷ xs) x all last = (all.0, all-push P xs x all.1 last)

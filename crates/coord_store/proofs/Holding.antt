@@ -8,11 +8,13 @@ use Rattle.coord_disk.specs.Model.Present.{IsImage}
 use Rattle.coord_disk.proofs.MomentLemmas.{and_then, started, weaker}
 use Rattle.coord_disk.proofs.TornWrites.{whole_image}
 use Rattle.coord_journal.specs.Facade.{Content, HasPlaceIn, HasRoomFor, IsEitherText, IsText, IsTextAt, IsTextIn, disk_of, half_of, half_size_of, has_stopped, used_of, with_batch, without_batch}
+use Rattle.coord_journal.specs.Writing.{Rewrites}
+use Rattle.coord_journal.specs.declared.fault.JournalFault.{JournalFault}
 use Rattle.coord_journal.specs.declared.journal.Journal.{Journal}
 use Rattle.coord_journal.proofs.Texts.{text_place}
 use Rattle.coord_types.specs.declared.steps.Step.{Step}
 use Rattle.coord_world.specs.Facade.{InRange, Legal, World, fold, rows_of}
-use Rattle.coord_store.specs.Facade.{AllFresh, Ends, Gives, GivesEither, Holds, ImagesGive, IsBody, IsKept, IsOnlyWorld, Kept, Recovered, Stays, Takes}
+use Rattle.coord_store.specs.Facade.{AllFresh, Ends, Follows, Gives, GivesEither, Holds, ImagesGive, IsBody, IsKept, IsOnlyWorld, Kept, Recovered, Stays, Takes}
 use Rattle.coord_store.specs.declared.faults.CommitFault.{CommitFault}
 use Rattle.coord_store.specs.declared.faults.CommitFault.TheVariants.{Device}
 use Rattle.coord_store.proofs.Replaying.{replays-push}
@@ -51,24 +53,14 @@ pub none_of : (o : Option World) (b : Bool) → b ≡ is_some o → b ≡ false 
 none_of None b is clear = refl
 none_of (Some w) b is clear = absurd cc
 
--- what holds in any case holds where a call is refused
-pub whenever : {T E : Type 0} (r : Result T E) (Q : E → Type 0) (P : Type 0) → P → IfErr r (λ e. Q e → P)
-whenever (Ok x) Q P holds = tt
-whenever (Err e) Q P holds = λ _. holds
-
 -- what follows where a call is refused for another reason than its device
 pub on_refusal : {T P Q : Type 0} (r : Result T CommitFault) → (P → Q) → IfErr r (λ fault. fault ≢ Device → P) → IfErr r (λ fault. fault ≢ Device → Q)
 on_refusal (Ok x) implies refused = tt
 on_refusal (Err fault) implies refused = λ other. implies (refused other)
 
--- during an append
-pub appending_gives : (content : Content) (w : World) (body : List ℕ) (steps : List Step) → Gives content w → Takes w body steps → (bytes : List ℕ) → IsEitherText content (with_batch content body) bytes → GivesEither w (fold w steps) bytes
-appending_gives content w body steps gives takes bytes either =
-    ⊎_elim (λ t. inl (text_gives content w bytes gives t)) (λ t. inr (text_gives (with_batch content body) (fold w steps) bytes (gives-push content w body steps gives takes) t)) either
-
--- while another world is put in place of one
-pub replacing_either : (content other : Content) (v w : World) → Gives content v → Gives other w → (bytes : List ℕ) → IsEitherText content other bytes → GivesEither v w bytes
-replacing_either content other v w gives too bytes either = ⊎_elim (λ t. inl (text_gives content v bytes gives t)) (λ t. inr (text_gives other w bytes too t)) either
+-- while another content is put in place of one
+either_gives : (content other : Content) (v w : World) → Gives content v → Gives other w → (bytes : List ℕ) → IsEitherText content other bytes → GivesEither v w bytes
+either_gives content other v w gives too bytes either = ⊎_elim (λ t. inl (text_gives content v bytes gives t)) (λ t. inr (text_gives other w bytes too t)) either
 
 module _ {D : Type 0} (m : DiskModel D) where
   -- a run that leaves one world, and then one that leaves it or another
@@ -99,6 +91,16 @@ module _ {D : Type 0} (m : DiskModel D) where
 
   pub in_half : (journal : Journal D) (w : World) (half : ℕ) → Holds m journal w → half_of journal ≡ half → IsTextIn half (m.present (disk_of journal)).read
   in_half journal w half holds same = (holds.content, half_size_of journal, used_of journal, subst (λ (h : ℕ). IsTextAt (m.present (disk_of journal)).read holds.content (half_size_of journal) h (used_of journal)) same holds.ready.text)
+
+  -- what a journal's writing of another content means for the worlds that the contents give
+  pub follows_done : {T U : Type 0} (old new : Journal D) (other : Content) (w next : World) (holds : Holds m old w) (x : T) (y : U) → Gives other next → Rewrites m holds.content other old new (Ok x) → Follows m w next old new (Ok y)
+  follows_done old new other w next holds x y gives writes = record {
+    any_moment = weaker m _ _ _ _ writes.any_moment (either_gives holds.content other w next holds.gives gives);
+    done = record { content = other; ready = writes.done; gives = gives };
+  }
+
+  pub follows_refused : {T U : Type 0} (old new : Journal D) (other : Content) (w next : World) (holds : Holds m old w) (why : JournalFault) (fault : CommitFault) → Gives other next → Rewrites {T = T} m holds.content other old new (Err why) → Follows {T = U} m w next old new (Err fault)
+  follows_refused old new other w next holds why fault gives writes = record { any_moment = weaker m _ _ _ _ writes.any_moment (either_gives holds.content other w next holds.gives gives); done = tt }
 
   -- before any call
   pub begun : IsModel m → (journal : Journal D) (w : World) → Holds m journal w → LeavesOnly m (disk_of journal) (disk_of journal) (IsOnlyWorld w)

@@ -2,9 +2,11 @@
 use Rattle.std.specs.Prelude.{◌≡◌, ◌⊎◌, ℕ, ◌<◌, List, ◌∷◌, ◌++◌, length, Some}
 use Rattle.coord_types.specs.declared.steps.Step.{Step}
 use Rattle.coord_check.specs.Faults.{faults, first}
+use Rattle.coord_check.specs.declared.violation.Violation.{Violation}
 use Rattle.coord_journal.specs.Facade.{Content, IsHalfSize, IsText, RefusesOpen as JournalRefuses}
-use Rattle.coord_journal.specs.declared.fault.JournalFault.TheVariants as journal
+use Rattle.coord_journal.specs.declared.fault.JournalFault.{JournalFault}
 use Rattle.coord_world.specs.Facade.{IsFresh, Legal, World, fold}
+use Rattle.coord_store.specs.Faults.{store_fault_of}
 use Rattle.coord_store.specs.Recovered.{AllFresh, HasSnapshot, IsBody, Replays}
 use Rattle.coord_store.specs.declared.faults.StoreFault.{StoreFault}
 use Rattle.coord_store.specs.declared.faults.StoreFault.TheVariants.{OutOfMemory, Device, NotEmpty, HalfSize, NoMagic, BadRecord, BadSnapshot, BadBatch, BadStep, Violated, NotQuiet, Stopped}
@@ -19,11 +21,12 @@ pub record StopsAt (w : World) (steps : List Step) (index : ℕ) : Type 0 where
   pub fresh : AllFresh w w front
   pub stops : ¬ IsFresh (fold w front) w refused
 
--- what the world refuses of a batch with this number
+-- What the world refuses of a batch with this number: its body spells no steps that are the world's next ones, or
+-- the world stops at one of them.
 abbrev pub RefusesBatch : World → ℕ → List ℕ → StoreFault → Type 0
-RefusesBatch w n body BadBatch = (steps : List Step) → IsBody w body steps → ⊥
-RefusesBatch w n body (BadStep batch index) = (batch ≡ n) × ((steps : List Step) × IsBody w body steps × StopsAt w steps index)
-RefusesBatch w n body fault = ⊥
+RefusesBatch w n body fault =
+    ((fault ≡ BadBatch) × ((steps : List Step) → IsBody w body steps → ⊥))
+    ⊎ ((index : ℕ) × (steps : List Step) × (fault ≡ BadStep n index) × IsBody w body steps × StopsAt w steps index)
 
 -- The first n batches lead from one world to another, and this body is the batch behind them.
 pub record Reaches (start : World) (bodies : List (List ℕ)) (n : ℕ) (body : List ℕ) (w : World) : Type 0 where
@@ -43,10 +46,9 @@ pub record RefusesReplay (start : World) (bodies : List (List ℕ)) (fault : Sto
 
 -- the snapshot spells no world, or one that is not legal
 abbrev pub RefusesSnapshot : Content → StoreFault → Type 0
-RefusesSnapshot content OutOfMemory = Unit {0}
-RefusesSnapshot content BadSnapshot = (w : World) → HasSnapshot content w → ⊥
-RefusesSnapshot content (Violated violation) = (w : World) × HasSnapshot content w × (first (faults w) ≡ Some violation)
-RefusesSnapshot content fault = ⊥
+RefusesSnapshot content fault =
+    ((fault ≡ BadSnapshot) × ((w : World) → HasSnapshot content w → ⊥))
+    ⊎ ((w : World) × (violation : Violation) × (fault ≡ Violated violation) × HasSnapshot content w × (first (faults w) ≡ Some violation))
 
 -- the snapshot spells a legal world, and then a batch is refused
 abbrev pub RefusesBatches : Content → StoreFault → Type 0
@@ -54,21 +56,23 @@ RefusesBatches content fault = (start : World) × HasSnapshot content start × L
 
 -- a journal of this content is refused so
 abbrev pub RefusesContent : Content → StoreFault → Type 0
-RefusesContent content BadBatch = RefusesBatches content BadBatch
-RefusesContent content (BadStep batch index) = RefusesBatches content (BadStep batch index)
-RefusesContent content fault = RefusesSnapshot content fault
+RefusesContent content fault = RefusesSnapshot content fault ⊎ RefusesBatches content fault
 
 abbrev pub RefusesText : List ℕ → StoreFault → Type 0
 RefusesText bytes fault = (content : Content) × IsText content bytes × RefusesContent content fault
 
--- Opening a device of these bytes is refused with this fault: by its journal, or for what the
--- journal holds. Memory and the device may fail at any time.
+-- want of memory, or a failure of the device
+abbrev pub IsPassing : StoreFault → Type 0
+IsPassing fault = (fault ≡ OutOfMemory) ⊎ (fault ≡ Device)
+
+-- a device of these bytes is refused by its journal, and so by its store
+abbrev pub RefusesJournal : List ℕ → StoreFault → Type 0
+RefusesJournal bytes fault = (why : JournalFault) × (fault ≡ store_fault_of why) × JournalRefuses bytes why
+
+-- Opening a device of these bytes is refused with this fault: memory and the device may fail at any time; else its
+-- journal is refused, or what the journal holds.
 abbrev pub RefusesOpen : List ℕ → StoreFault → Type 0
-RefusesOpen bytes OutOfMemory = Unit {0}
-RefusesOpen bytes Device = Unit {0}
-RefusesOpen bytes NoMagic = JournalRefuses bytes journal.NoMagic
-RefusesOpen bytes BadRecord = JournalRefuses bytes journal.BadRecord
-RefusesOpen bytes fault = RefusesText bytes fault
+RefusesOpen bytes fault = IsPassing fault ⊎ (RefusesJournal bytes fault ⊎ RefusesText bytes fault)
 
 -- Making a store on a device of these bytes, with halves of this size, is refused with this fault.
 abbrev pub RefusesCreate : List ℕ → ℕ → StoreFault → Type 0
@@ -77,10 +81,6 @@ RefusesCreate bytes half_size Device = Unit {0}
 RefusesCreate bytes half_size NotEmpty = 0 < length bytes
 RefusesCreate bytes half_size HalfSize = (length bytes ≡ 0) × ¬ IsHalfSize half_size
 RefusesCreate bytes half_size fault = ⊥
-
--- want of memory, or a failure of the device
-abbrev pub IsPassing : StoreFault → Type 0
-IsPassing fault = (fault ≡ OutOfMemory) ⊎ (fault ≡ Device)
 
 -- the faults that an opening may answer, whatever the device does
 abbrev pub IsOpenFault : StoreFault → Type 0

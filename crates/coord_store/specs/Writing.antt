@@ -1,5 +1,5 @@
 -- What the parts of a commit promise of the journal that holds its world.
-use Rattle.std.specs.Prelude.{◌≡◌, ◌≢◌, ◌⊎◌, true, false, ℕ, Result, IfErr, IsErrOf, OnOk}
+use Rattle.std.specs.Prelude.{◌≡◌, ◌≢◌, ◌⊎◌, true, false, ℕ, Option, Some, Result, Ok, Err, IfErr, IsErrOf, OnOk}
 use Rattle.coord_disk.specs.Model.DiskModel.{DiskModel}
 use Rattle.coord_disk.specs.Model.Moments.{LeavesOnly, Runs}
 use Rattle.coord_journal.specs.Facade.{disk_of, has_stopped}
@@ -28,3 +28,17 @@ pub record Ends {D T : Type 0} (m : DiskModel D) (most : ℕ) (old new : Journal
   pub going : OnOk result (has_stopped new ≡ false)
   pub still : IfErr result (λ fault. fault ≢ Device → has_stopped new ≡ false)
   pub device : IsErrOf result Device → has_stopped new ≡ true
+
+-- What a store keeps once another world was written in place of its own, or was not: its world from then on, and the one
+-- that a torn commit was to make.
+pub record Concludes {T : Type 0} (next w v : World) (was now : Option World) (written : Result T CommitFault) : Type 0 where
+  pub world : OnOk written (v ≡ next)
+  pub same_world : IfErr written (λ fault. v ≡ w)
+  pub torn : IsErrOf written Device → now ≡ Some next
+  pub same_torn : OnOk written (now ≡ was)
+  pub unchanged : IfErr written (λ fault. fault ≢ Device → now ≡ was)
+
+-- the same answer, with this world where nothing failed
+abbrev pub with_world : {T E : Type 0} → World → Result T E → Result World E
+with_world w (Ok value) = Ok w
+with_world w (Err fault) = Err fault

@@ -9,10 +9,11 @@ ghost use Rattle.coord_store.specs.Kept.{made};
 ghost use Rattle.coord_store.specs.Recovered.{Gives};
 ghost use Rattle.coord_store.specs.Refused.{IsCreateFault, RefusesCreate, failed_in};
 ghost use Rattle.coord_store.specs.declared.faults.StoreFault.TheVariants.{Device, HalfSize, NotEmpty, OutOfMemory};
+ghost use Rattle.coord_types.specs.declared.limits.TheConstants.{MAX_VERSIONS};
 ghost use Rattle.coord_world.specs.protocol.NumberedWorld.{no_world};
 ghost use Rattle.coord_world.specs.protocol.Rows.{rows_of};
 
-use crate::opening::told;
+use crate::opening::fault_of;
 use crate::{Store, StoreFault};
 use coord_codec::write_world;
 use coord_disk::Disk;
@@ -51,7 +52,7 @@ impl<D: Disk> Store<D> {
         half_size: u64,
         version: u8,
     ) -> Result<Self, (StoreFault, D)>
-        requires { (1 ≤ version) × (version ≤ 2) }
+        requires { (1 ≤ version) × (version ≤ MAX_VERSIONS) }
         ensures empty { D.model.keeps_model disk ≡ true →
             IfOk result (λ store. length (D.model.present disk).read ≡ 0) }
         ensures half_size { IfOk result (λ store. IsHalfSize half_size) }
@@ -84,11 +85,11 @@ impl<D: Disk> Store<D> {
         };
         match format(alloc, &mut disk, half_size, version, &snapshot) {
             Ok(()) => {}
-            Err(fault) => return Err((told(fault), disk)),
+            Err(fault) => return Err((fault_of(fault), disk)),
         }
         match coord_journal::open(alloc, disk) {
             Ok((journal, _)) => Ok(Store::over(alloc, journal, World::empty(alloc, known))),
-            Err((fault, disk)) => Err((told(fault), disk)),
+            Err((fault, disk)) => Err((fault_of(fault), disk)),
         }
     }
 }

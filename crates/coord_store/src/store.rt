@@ -3,16 +3,19 @@
 ghost use Rattle.std.specs.Prelude.{◌≡◌, true, false, None};
 ghost use Rattle.coord_disk.specs.Model.Moments.{LeavesOnly};
 ghost use Rattle.coord_journal.specs.Journal.{disk_of, has_stopped as journal_has_stopped};
+ghost use Rattle.coord_store.specs.Writing.{Concludes, with_world};
 ghost use Rattle.coord_world.specs.protocol.Legal.{Legal};
 
 mod commit;
 mod migrate;
 
+use crate::CommitFault;
 use coord_disk::Disk;
 use coord_journal::Journal;
 use coord_world::World;
 use std::alloc::Global;
 use std::marker::Model;
+use std::mem::replace;
 
 /// A world that outlives the program. Contracts see its disk, its world, and once a commit was
 /// torn by the device, the world that this one was to make (`specs/Kept.antt`). Its type keeps
@@ -89,5 +92,29 @@ impl<D: Disk> Store<D> {
             Recovered (D.model.present result).read self.world }
     {
         self.journal.into_disk()
+    }
+}
+
+/// Keeps what came of writing `next` in place of a store's world: it is the world from then on, or
+/// where the device failed, the one that a torn commit was to make. Gives the world from before.
+fn conclude(
+    world: &mut World,
+    torn: &mut Option<World>,
+    next: World,
+    written: Result<(), CommitFault>,
+) -> Result<World, CommitFault>
+    ensures answer { result ≡ with_world world.old written }
+    ensures keeps { Concludes next world.old world.new torn.old torn.new written }
+{
+    match written {
+        Ok(()) => Ok(replace(world, next)),
+        Err(CommitFault::Device) => {
+            drop(torn.replace(next));
+            Err(CommitFault::Device)
+        }
+        Err(fault) => {
+            drop(next);
+            Err(fault)
+        }
     }
 }

@@ -23,7 +23,7 @@ use coord_world::World;
 use std::alloc::Global;
 
 /// The fault of an append or a replace, as a commit tells it.
-fn told(fault: JournalFault) -> CommitFault
+fn fault_of(fault: JournalFault) -> CommitFault
     requires { IsWriteFault fault }
     ensures { result ≡ commit_fault_of fault }
 {
@@ -58,7 +58,7 @@ pub fn put_in_place<D: Disk>(
     };
     match journal.replace(other.version().number(), &snapshot) {
         Ok(()) => Ok(()),
-        Err(fault) => Err(told(fault)),
+        Err(fault) => Err(fault_of(fault)),
     }
 }
 
@@ -78,7 +78,7 @@ fn append<D: Disk>(journal: &mut Journal<D>, body: &[u8]) -> Result<(), CommitFa
 {
     match journal.append(body) {
         Ok(()) => Ok(()),
-        Err(fault) => Err(told(fault)),
+        Err(fault) => Err(fault_of(fault)),
     }
 }
 

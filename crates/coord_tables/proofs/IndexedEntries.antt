@@ -1,11 +1,11 @@
 -- A table of places is that of a list, and stays so where a value is put in place of another.
-use Rattle.std.proofs.Common.{◌≡◌, ◌≢◌, ℕ, zero, suc, ◌+◌, ◌<◌, ◌≤◌, true, false, not, T, List, [], ◌∷◌, ◌++◌, Option, Some, None, length, take, set, get_or, slice_get, slice_index, cond, eqb, refl, sym, ap, ◌∙◌, subst, arith, is_some, IsSome, get_or-set_same, get_or-set_other}
+use Rattle.std.proofs.Common.{◌≡◌, ◌≢◌, ℕ, zero, suc, ◌+◌, ◌<◌, true, false, List, [], ◌∷◌, ◌++◌, Option, Some, None, length, take, set, slice_get, slice_index, cond, eqb, refl, sym, ap, ◌∙◌, arith, IsSome, get_or-set_same, get_or-set_other}
 use Rattle.std.proofs.lemmas.Bool.Decides.{nat_tests}
 use Rattle.std.proofs.lemmas.List.{length-set, take_more}
 use Rattle.std.proofs.lemmas.Option.{slice_get_within, get_or_from_slice_get}
 use Rattle.std.specs.Ordering.{eq_by_cmp, is_lt, ordering_reverse}
 use Rattle.std.specs.Cmp.{tied_itself}
-use Rattle.std.specs.FinMap.Entries.{find, find-put, is_sorted, length-put, length_without, put, where_key}
+use Rattle.std.specs.FinMap.Entries.{find, find-put, is_sorted, put}
 use Rattle.coord_types.specs.Table.{get, from_sorted, insert}
 use Rattle.coord_types.proofs.Tables.{get-from_sorted}
 use Rattle.coord_types.specs.StepRanges.{IsNode}

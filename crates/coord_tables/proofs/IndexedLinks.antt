@@ -1,8 +1,9 @@
 -- Links in ascending order with a table of their places: what is found there, and that they stay so through each change.
-use Rattle.std.proofs.Common.{◌≡◌, ◌≢◌, ℕ, zero, suc, ◌+◌, ◌<◌, ◌≤◌, ◌-◌, Bool, true, false, ◌&&◌, not, List, [], ◌∷◌, ◌++◌, Option, Some, None, map, length, cond, eqb, refl, sym, ap, ◌∙◌, subst, arith, is_some, IsSome, nat_lt, set, get_or, slice_get, slice_index, take, drop, replicate}
+use Rattle.std.proofs.Common.{◌≡◌, ℕ, zero, suc, ◌+◌, ◌<◌, ◌≤◌, ◌-◌, Bool, true, false, ◌&&◌, not, List, [], ◌∷◌, ◌++◌, Option, Some, None, map, length, cond, eqb, refl, sym, ap, ◌∙◌, subst, arith, is_some, nat_lt, set, get_or, slice_get, slice_index, take, drop, replicate}
 use Rattle.std.proofs.lemmas.Bool.Decides.{nat_tests}
-use Rattle.std.proofs.lemmas.List.{drop-map, length-map, length-set, map-append, map-set, take-map}
-use Rattle.std.proofs.lemmas.Option.{get_or_from_slice_get, slice_get-get_or, slice_get-map, slice_get_within}
+use Rattle.std.proofs.lemmas.List.{drop-map, length-set, map-append, map-set, take-map}
+use Rattle.std.proofs.lemmas.Option.{get_or_from_slice_get, slice_get-map, slice_get_within}
+use Rattle.std.proofs.Math.Seq.{take-nil}
 use Rattle.std.specs.FinMap.Entries.{below_all, find, is_sorted, put, where_key}
 use Rattle.std.specs.List as list
 use Rattle.std.specs.List.{AllByRecursion}
@@ -10,11 +11,10 @@ use Rattle.std.specs.Option.{option_map}
 use Rattle.std.specs.Cmp.{eq_by_cmp_equiv, tied_itself}
 use Rattle.std.specs.Ordering.{eq_by_cmp, is_eq, is_lt}
 use Rattle.coord_types.specs.StepRanges.{IsNode}
-use Rattle.coord_types.specs.Table.{from_sorted, get, has, insert, remove}
-use Rattle.coord_types.proofs.Tables as tables
+use Rattle.coord_types.specs.Table.{from_sorted, get, insert, remove}
 use Rattle.coord_types.proofs.Tables.{get-change, get-from_sorted, get-insert}
 use Rattle.coord_link.specs.LaneMachine.{Lane}
-use Rattle.coord_tables.specs.Links.{AreIndexed, Lanes, Links, LinksRise, Turned, change_lane, ends, joined, lane_at, link_entry, links_of, parted, row_with, toward}
+use Rattle.coord_tables.specs.Links.{AreIndexed, Lanes, Links, LinksRise, Turned, change_lane, ends, lane_at, link_entry, link_place, links_of, parted, row_with, toward}
 use Rattle.coord_tables.specs.Pairs.{pair_cmp, pair_cmp_total}
 use Rattle.coord_tables.specs.Place.{IsGapFor}
 use Rattle.coord_tables.specs.Places.{HasKeyAt, IsIndexOf, IsIndexed, noted_place, pair_place}
@@ -23,7 +23,7 @@ use Rattle.coord_tables.proofs.Cases.{both, by_test}
 use Rattle.coord_tables.proofs.Found.{same_pair}
 use Rattle.coord_tables.proofs.IndexedEntries.{at_noted, is_put, nothing_noted, still_indexed}
 use Rattle.coord_tables.proofs.KeyedLists.{not_tied}
-use Rattle.coord_tables.proofs.LinkLanes.{same_links, turned_of}
+use Rattle.coord_tables.proofs.LinkLanes.{lane_none_is, same_links, turned_of}
 use Rattle.coord_tables.proofs.PutAtPlace.{put_between}
 use Rattle.coord_tables.proofs.SortedEntries.{below_each, found}
 use Rattle.coord_tables.proofs.TableEntries.{from_sorted-out, from_sorted-put, sorted-out, sorted-put}
@@ -53,33 +53,60 @@ module _ (rows : List LinkRow) (places : List ℕ) (are : AreIndexed rows places
   pub row_found : (i : ℕ) (r : LinkRow) → slice_get rows i ≡ Some r → get (links_of rows) (r.a, r.b) ≡ Some (lanes_in r)
   row_found i r here = get-from_sorted pair_cmp_total es (r.a, r.b) are.rise.rise ∙ found pair_cmp pair_cmp_total es i (link_entry r) are.rise.rise (slice_get-map link_entry rows i ∙ ap (option_map link_entry) here)
 
-  -- what stands at the ends of x and y
-  module _ (x y a b : ℕ) (is_a : IsNode a) (is_b : IsNode b) (are_ends : ◌≡◌ {A = ℕ × ℕ} (a, b) (ends x y)) where
-    pub lane_absent : noted_place (slice_index places (pair_place a b)) ≡ None → lane_at (links_of rows) x y ≡ None
-    unfolding lane_at
-    lane_absent none = ap (λ q. option_map (toward x y) (get (links_of rows) q)) (sym are_ends) ∙ ap (option_map (toward x y)) (nothing_noted es places indexed a b is_a is_b none)
+-- The link of x and y was looked for in a table of links, and this is the place that is noted for it.
+pub record LookedUp (t : Links) (rows : List LinkRow) (places : List ℕ) (x y : ℕ) (at : Option ℕ) : Type 0 where
+  pub are : AreIndexed rows places
+  pub stand : links_of rows ≡ t
+  pub first : IsNode (ends x y).0
+  pub second : IsNode (ends x y).1
+  pub noted : link_place places x y ≡ at
 
-    module _ (i : ℕ) (e : LinkRow) (noted : noted_place (slice_index places (pair_place a b)) ≡ Some i) (is : e ≡ get_or rows i e) where
-      pub row_is : slice_get rows i ≡ Some e
-      row_is = let there = row_there a b i is_a is_b noted in there.1.0 ∙ ap Some (sym (is ∙ get_or_from_slice_get rows i there.0 e there.1.0))
+-- as a body finds it, which reads the places as a slice
+pub looked_up : {t : Links} {rows : List LinkRow} {places slice : List ℕ} {found at : Option ℕ} (x y : ℕ) → AreIndexed rows places → links_of rows ≡ t → slice ≡ places →
+    found ≡ link_place slice x y → IsNode (ends x y).0 → IsNode (ends x y).1 → found ≡ at → LookedUp t rows places x y at
+looked_up x y are stand same value first second is =
+    record { are = are; stand = stand; first = first; second = second; noted = ap (λ ps. link_place ps x y) (sym same) ∙ sym value ∙ is }
 
-      pub row_ends : ◌≡◌ {A = ℕ × ℕ} (e.a, e.b) (ends x y)
+module _ {t : Links} {rows : List LinkRow} {places : List ℕ} {x y : ℕ} where
+  pub still_turned : {at : Option ℕ} → LookedUp t rows places x y at → Turned t
+  still_turned l = subst Turned l.stand (turned_of rows l.are.rise)
+
+  -- no lane is there
+  pub lane_absent : LookedUp t rows places x y None → lane_at t x y ≡ None
+  unfolding lane_at
+  lane_absent l = ap (λ s. option_map (toward x y) (get s (ends x y))) (sym l.stand)
+      ∙ ap (option_map (toward x y)) (nothing_noted (map link_entry rows) places (indexed rows places l.are) (ends x y).0 (ends x y).1 l.first l.second l.noted)
+
+  -- so a change of it is none
+  pub none_changed : LookedUp t rows places x y None → (f : Lane → Lane) → t ≡ change_lane t x y f
+  none_changed l f = lane_none_is t (still_turned l) x y f (lane_absent l)
+
+  module _ {i : ℕ} (l : LookedUp t rows places x y (Some i)) where
+    row_at : (r : LinkRow) × ((slice_get rows i ≡ Some r) × ((r.a ≡ (ends x y).0) × (r.b ≡ (ends x y).1)))
+    row_at = row_there rows places l.are (ends x y).0 (ends x y).1 i l.first l.second l.noted
+
+    pub within : i < length rows
+    within = slice_get_within rows i _ row_at.1.0
+
+    module _ (e : LinkRow) (is : e ≡ get_or rows i e) where
+      same_row : e ≡ row_at.0
+      same_row = is ∙ get_or_from_slice_get rows i row_at.0 e row_at.1.0
+
+      row_is : slice_get rows i ≡ Some e
+      row_is = row_at.1.0 ∙ ap Some (sym same_row)
+
+      row_ends : ◌≡◌ {A = ℕ × ℕ} (e.a, e.b) (ends x y)
       row_ends =
-          let there = row_there a b i is_a is_b noted in
-          let same : e ≡ there.0 = is ∙ get_or_from_slice_get rows i there.0 e there.1.0 in
-          let first : e.a ≡ a = ap (λ r. r.a) same ∙ there.1.1.0 in
-          let second : e.b ≡ b = ap (λ r. r.b) same ∙ there.1.1.1 in
-          (λ j. (first j, second j)) ∙ are_ends
+          let first : e.a ≡ (ends x y).0 = ap (λ r. r.a) same_row ∙ row_at.1.1.0 in
+          let second : e.b ≡ (ends x y).1 = ap (λ r. r.b) same_row ∙ row_at.1.1.1 in
+          λ j. (first j, second j)
 
-      pub link_there : get (links_of rows) (ends x y) ≡ Some (lanes_in e)
-      link_there = ap (get (links_of rows)) (sym row_ends) ∙ row_found i e row_is
+      link_there : get t (ends x y) ≡ Some (lanes_in e)
+      link_there = (λ j. get (sym l.stand j) (sym row_ends j)) ∙ row_found rows places l.are i e row_is
 
-      pub lane_there : lane_at (links_of rows) x y ≡ Some (toward x y (lanes_in e))
+      pub lane_there : lane_at t x y ≡ Some (toward x y (lanes_in e))
       unfolding lane_at
       lane_there = ap (option_map (toward x y)) link_there
-
-  pub within : (a b i : ℕ) → IsNode a → IsNode b → noted_place (slice_index places (pair_place a b)) ≡ Some i → i < length rows
-  within a b i is_a is_b noted = slice_get_within rows i _ (row_there a b i is_a is_b noted).1.0
 
 -- ---- a lane changed
 
@@ -93,8 +120,8 @@ module _ (t : Links) (turned : Turned t) (x y : ℕ) (f : Lane → Lane) where
 
   pub put_is_change : (r : LinkRow) → get t (ends x y) ≡ Some (lanes_in r) → insert t (ends x y) (lanes_in (row_changed x y f r)) ≡ change_lane t x y f
   put_is_change r there = same_links _ _ (λ k. get-insert t (ends x y) (lanes_in (row_changed x y f r)) k
-      ∙ by_test (eq_by_cmp pair_cmp k (ends x y)) (λ c. cond c (Some (lanes_in (row_changed x y f r))) (get t k) ≡ tables.option_map (changed k) (get t k))
-      (λ tied. sym (ap (λ q. tables.option_map (changed q) (get t q)) (same_pair k (ends x y) tied) ∙ ap (tables.option_map (changed (ends x y))) there ∙ ap Some here))
+      ∙ by_test (eq_by_cmp pair_cmp k (ends x y)) (λ c. cond c (Some (lanes_in (row_changed x y f r))) (get t k) ≡ option_map (changed k) (get t k))
+      (λ tied. sym (ap (λ q. option_map (changed q) (get t q)) (same_pair k (ends x y) tied) ∙ ap (option_map (changed (ends x y))) there ∙ ap Some here))
       (λ apart. untouched k (get t k) refl apart)
       ∙ sym (get-change pair_cmp changed same_pair t k))
     where
@@ -107,7 +134,7 @@ module _ (t : Links) (turned : Turned t) (x y : ℕ) (f : Lane → Lane) where
           let one : (eqb y x && eqb x y) ≡ false = grind (arith, nat_tests, less) in let two : (eqb x x && eqb y y) ≡ true = grind (arith, nat_tests) in
           λ i. record { forth = cond (one i) (f r.forth) r.forth; back = cond (two i) (f r.back) r.back }) refl there
 
-      untouched : (k : ℕ × ℕ) (o : Option Lanes) → get t k ≡ o → eq_by_cmp pair_cmp k (ends x y) ≡ false → o ≡ tables.option_map (changed k) o
+      untouched : (k : ℕ × ℕ) (o : Option Lanes) → get t k ≡ o → eq_by_cmp pair_cmp k (ends x y) ≡ false → o ≡ option_map (changed k) o
       untouched k None is apart = refl
       untouched k (Some l) is apart =
           let less : k.0 < k.1 = turned k.0 k.1 (ap is_some is) in
@@ -159,25 +186,16 @@ module _ (rows : List LinkRow) (places : List ℕ) (are : AreIndexed rows places
     links_put : links_of (set rows i r) ≡ insert (links_of rows) (e.a, e.b) (lanes_in r)
     links_put = ap from_sorted mapped ∙ is_put (map link_entry rows) places (indexed rows places are) (e.a, e.b) i (lanes_in r) at_ends
 
-  -- the lane from x to y is changed where it stands
-  module _ (x y a b : ℕ) (is_a : IsNode a) (is_b : IsNode b) (are_ends : ◌≡◌ {A = ℕ × ℕ} (a, b) (ends x y)) (i : ℕ) (e r : LinkRow) (f : Lane → Lane)
-      (noted : noted_place (slice_index places (pair_place a b)) ≡ Some i) (is : e ≡ get_or rows i e) (made : r ≡ row_changed x y f e) where
-    here : slice_get rows i ≡ Some e
-    here = row_is rows places are x y a b is_a is_b are_ends i e noted is
+-- the lane from x to y was lent, and is left as f makes it
+module _ {t : Links} {rows : List LinkRow} {places : List ℕ} {x y i : ℕ} (l : LookedUp t rows places x y (Some i)) (e : LinkRow) (is : e ≡ get_or rows i e)
+    {lent left : Lane} (f : Lane → Lane) (value : lent ≡ toward x y (lanes_in e)) (called : left ≡ f lent) where
+  pub lane_changed-indexed : AreIndexed (set rows i (row_with e x y left)) places
+  lane_changed-indexed = row_put rows places l.are i e (row_with e x y left) (row_is l e is) (put_keeps x y left e).0 (put_keeps x y left e).1
 
-    first : r.a ≡ e.a
-    first = ap (λ z. z.a) made ∙ (put_keeps x y (f (toward x y (lanes_in e))) e).0
-
-    second : r.b ≡ e.b
-    second = ap (λ z. z.b) made ∙ (put_keeps x y (f (toward x y (lanes_in e))) e).1
-
-    pub lane_changed-indexed : AreIndexed (set rows i r) places
-    lane_changed-indexed = row_put i e r here first second
-
-    pub lane_changed : links_of (set rows i r) ≡ change_lane (links_of rows) x y f
-    lane_changed = links_put i e r here first second
-        ∙ (λ j. insert (links_of rows) (row_ends rows places are x y a b is_a is_b are_ends i e noted is j) (lanes_in (made j)))
-        ∙ put_is_change (links_of rows) (turned_of rows are.rise) x y f e (link_there rows places are x y a b is_a is_b are_ends i e noted is)
+  pub lane_changed : links_of (set rows i (row_with e x y left)) ≡ change_lane t x y f
+  lane_changed = links_put rows places l.are i e (row_with e x y left) (row_is l e is) (put_keeps x y left e).0 (put_keeps x y left e).1
+      ∙ (λ j. insert (l.stand j) (row_ends l e is j) (lanes_in (row_with e x y ((called ∙ ap f value) j))))
+      ∙ put_is_change t (still_turned l) x y f e (link_there l e is)
 
 -- ---- a link more
 
@@ -272,6 +290,14 @@ module _ (rows : List LinkRow) (rise : LinksRise rows) (i : ℕ) (r : LinkRow) (
   pub links_left : links_of (list.remove rows i) ≡ remove (links_of rows) (r.a, r.b)
   links_left = ap from_sorted entries_left ∙ from_sorted-out pair_cmp_total (map link_entry rows) (r.a, r.b) rise.rise
 
+-- the link of x and y is taken out
+module _ {t : Links} {rows : List LinkRow} {places : List ℕ} {x y i : ℕ} (l : LookedUp t rows places x y (Some i)) where
+  pub rise_parted : LinksRise (list.remove rows i)
+  rise_parted = rise_left rows l.are.rise i (row_at l).0 (row_at l).1.0
+
+  pub links_parted : links_of (list.remove rows i) ≡ parted t x y
+  links_parted = links_left rows l.are.rise i (row_at l).0 (row_at l).1.0 ∙ (λ j. remove (l.stand j) ((row_at l).1.1.0 j, (row_at l).1.1.1 j))
+
 -- ---- places
 
 zeros : (m k : ℕ) → slice_index (replicate m 0) k ≡ 0
@@ -279,13 +305,9 @@ zeros zero k = refl
 zeros (suc m) zero = refl
 zeros (suc m) (suc k) = zeros m k
 
-nothing : (n : ℕ) → ◌≡◌ {A = List ℕ} (take n []) []
-nothing zero = refl
-nothing (suc n) = refl
-
 -- a table of places that grew has the same places
 pub kept_index : (old : List ℕ) (n k : ℕ) → length old ≤ n → slice_index (take n old ++ replicate (n - length old) 0) k ≡ slice_index old k
-kept_index [] n k few = ap (λ l. slice_index (l ++ replicate (n - 0) 0) k) (nothing n) ∙ zeros (n - 0) k
+kept_index [] n k few = ap (λ l. slice_index (l ++ replicate (n - 0) 0) k) (take-nil n) ∙ zeros (n - 0) k
 kept_index (x ∷ old) zero k few = absurd (omega (arith, few))
 kept_index (x ∷ old) (suc n) zero few = refl
 kept_index (x ∷ old) (suc n) (suc k) few =

@@ -1,15 +1,16 @@
 -- Which lane stands between two nodes, and what is left of it after each change of the links.
-use Rattle.std.proofs.Common.{◌≡◌, ◌≢◌, ℕ, zero, suc, ◌+◌, ◌<◌, ◌≤◌, Bool, true, false, ◌&&◌, ◌||◌, List, [], ◌∷◌, Option, Some, None, Ordering, map, length, cond, eqb, ltb, refl, sym, ap, ◌∙◌, subst, arith, is_some, nat_lt, drop, slice_get}
+use Rattle.std.proofs.Common.{◌≡◌, ◌≢◌, ℕ, suc, ◌+◌, ◌<◌, ◌≤◌, Bool, true, false, ◌&&◌, ◌||◌, List, [], ◌∷◌, Option, Some, None, map, length, cond, eqb, refl, sym, ap, ◌∙◌, subst, arith, is_some, nat_lt, drop, slice_get}
 use Rattle.std.proofs.lemmas.Bool.Decides.{nat_tests}
 use Rattle.std.proofs.lemmas.List.{length-map}
-use Rattle.std.proofs.lemmas.Option.{slice_get-map}
+use Rattle.std.proofs.lemmas.Option.{get_or_from_slice_get, slice_get-map, slice_get_within}
+use Rattle.std.proofs.Math.ListN.{drop_of_length-le}
+use Rattle.std.proofs.Math.Seq.{drop-cons}
 use Rattle.std.specs.FinMap.{IsAntisymmetric}
 use Rattle.std.specs.FinMap.Entries.{below_all, find, is_sorted, put}
 use Rattle.std.specs.List.{AllByRecursion}
 use Rattle.std.specs.Option.{option_map, option_or}
 use Rattle.std.specs.Ordering.{eq_by_cmp, is_eq}
-use Rattle.coord_types.specs.Table.{Table, change, empty, entries, from_sorted, get, has, insert, len, same_entries_table}
-use Rattle.coord_types.proofs.Tables as tables
+use Rattle.coord_types.specs.Table.{Table, empty, entries, from_sorted, get, has, insert, len, same_entries_table}
 use Rattle.coord_types.proofs.Tables.{entries-from_sorted, get-change, get-empty, get-entries, get-from_sorted, get-insert, get-remove, len-from_sorted, same_table}
 use Rattle.coord_link.specs.LaneMachine.{Lane}
 use Rattle.coord_tables.specs.Links.{Lanes, Links, LinksRise, Turned, change_lanes, ends, joined, lane_at, lanes_in_order, link_entry, link_row, link_rows, links_of, parted, toward, with_lanes}
@@ -35,20 +36,20 @@ same_ends a b x y = by_test (nat_lt x y) (λ t. nat_lt x y ≡ t → eq_by_cmp p
 
 module _ (t : Links) where
   -- each lane changed
-  pub lane-changed : (f : ℕ × ℕ → Lane → Lane) (x y : ℕ) → lane_at (change_lanes f t) x y ≡ tables.option_map (f (x, y)) (lane_at t x y)
+  pub lane-changed : (f : ℕ × ℕ → Lane → Lane) (x y : ℕ) → lane_at (change_lanes f t) x y ≡ option_map (f (x, y)) (lane_at t x y)
   unfolding lane_at
-  lane-changed f x y = by_test (nat_lt x y) (λ b. option_map (λ l. cond b l.forth l.back) (get (change_lanes f t) (cond b (x, y) (y, x))) ≡ tables.option_map (f (x, y)) (option_map (λ l. cond b l.forth l.back) (get t (cond b (x, y) (y, x)))))
+  lane-changed f x y = by_test (nat_lt x y) (λ b. option_map (λ l. cond b l.forth l.back) (get (change_lanes f t) (cond b (x, y) (y, x))) ≡ option_map (f (x, y)) (option_map (λ l. cond b l.forth l.back) (get t (cond b (x, y) (y, x)))))
       (λ _. ap (option_map (λ l. l.forth)) (get-change pair_cmp both same_pair t (x, y)) ∙ forth (get t (x, y)))
       (λ _. ap (option_map (λ l. l.back)) (get-change pair_cmp both same_pair t (y, x)) ∙ back (get t (y, x)))
     where
       both : ℕ × ℕ → Lanes → Lanes
       both k l = record { forth = f k l.forth; back = f (k.1, k.0) l.back }
 
-      forth : (o : Option Lanes) → option_map (λ l. l.forth) (tables.option_map (both (x, y)) o) ≡ tables.option_map (f (x, y)) (option_map (λ l. l.forth) o)
+      forth : (o : Option Lanes) → option_map (λ l. l.forth) (option_map (both (x, y)) o) ≡ option_map (f (x, y)) (option_map (λ l. l.forth) o)
       forth None = refl
       forth (Some l) = refl
 
-      back : (o : Option Lanes) → option_map (λ l. l.back) (tables.option_map (both (y, x)) o) ≡ tables.option_map (f (x, y)) (option_map (λ l. l.back) o)
+      back : (o : Option Lanes) → option_map (λ l. l.back) (option_map (both (y, x)) o) ≡ option_map (f (x, y)) (option_map (λ l. l.back) o)
       back None = refl
       back (Some l) = refl
 
@@ -157,16 +158,8 @@ module _ (t : Links) where
 
 -- ---- lanes put in order, link by link
 
-drop_past : {X : Type 0} (n : ℕ) (xs : List X) → length xs ≤ n → drop n xs ≡ []
-drop_past zero [] past = refl
-drop_past (suc n) [] past = refl
-drop_past zero (x ∷ xs) past = absurd (omega (arith, past))
-drop_past (suc n) (x ∷ xs) past = drop_past n xs (omega (arith, past))
-
 drop_here : {X : Type 0} (i : ℕ) (xs : List X) (x : X) → slice_get xs i ≡ Some x → drop i xs ≡ x ∷ drop (suc i) xs
-drop_here i [] x here = cc
-drop_here zero (y ∷ xs) x here = let same : y ≡ x = cc in ap (λ z. z ∷ xs) same
-drop_here (suc i) (y ∷ xs) x here = drop_here i xs x here
+drop_here i xs x here = drop-cons xs i x (slice_get_within xs i x here) ∙ ap (λ z. z ∷ drop (suc i) xs) (get_or_from_slice_get xs i x x here)
 
 -- the two lanes of the next link are put among those before
 pub lanes_step : (rows : List LinkRow) (i : ℕ) (before after : List ((ℕ × ℕ) × Lane)) (r : LinkRow) (all : Table pair_cmp_total Lane) → is_sorted pair_cmp before ≡ true → slice_get rows i ≡ Some r →
@@ -188,7 +181,7 @@ pub lanes_done : (rows : List LinkRow) (n : ℕ) (lanes : List ((ℕ × ℕ) × 
     with_lanes (from_sorted lanes) (drop n (map link_entry rows)) ≡ with_lanes empty (map link_entry rows) → lanes ≡ lanes_in_order (links_of rows)
 lanes_done rows n lanes rise sorted past all =
     sym (entries-from_sorted pair_cmp_total lanes sorted)
-    ∙ ap entries (sym (ap (with_lanes (from_sorted lanes)) (drop_past n (map link_entry rows) (omega (arith, past, length-map rows link_entry)))) ∙ all)
+    ∙ ap entries (sym (ap (with_lanes (from_sorted lanes)) (drop_of_length-le (map link_entry rows) (omega (arith, past, length-map rows link_entry)))) ∙ all)
     ∙ ap (λ es. entries (with_lanes empty es)) (sym (entries-from_sorted pair_cmp_total (map link_entry rows) rise.rise))
 
 -- ---- rows
@@ -284,22 +277,22 @@ module _ (f : ℕ × ℕ → Lane → Lane) where
   abbrev pub both_changed : ℕ × ℕ → Lanes → Lanes
   both_changed k l = record { forth = f k l.forth; back = f (k.1, k.0) l.back }
 
-  pub get-changed : (t : Links) (k : ℕ × ℕ) → get (change_lanes f t) k ≡ tables.option_map (both_changed k) (get t k)
+  pub get-changed : (t : Links) (k : ℕ × ℕ) → get (change_lanes f t) k ≡ option_map (both_changed k) (get t k)
   get-changed t k = get-change pair_cmp both_changed same_pair t k
 
   -- the links stay
   pub has-changed : (t : Links) (k : ℕ × ℕ) → has (change_lanes f t) k ≡ has t k
   has-changed t k = ap is_some (get-changed t k) ∙ stays (get t k)
     where
-      stays : (o : Option Lanes) → is_some (tables.option_map (both_changed k) o) ≡ is_some o
+      stays : (o : Option Lanes) → is_some (option_map (both_changed k) o) ≡ is_some o
       stays None = refl
       stays (Some l) = refl
 
 -- one change after another
 pub changed_twice : (f g : ℕ × ℕ → Lane → Lane) (t : Links) → change_lanes g (change_lanes f t) ≡ change_lanes (λ k l. g k (f k l)) t
-changed_twice f g t = same_links _ _ (λ k. get-changed g (change_lanes f t) k ∙ ap (tables.option_map (both_changed g k)) (get-changed f t k) ∙ twice k (get t k) ∙ sym (get-changed (λ k l. g k (f k l)) t k))
+changed_twice f g t = same_links _ _ (λ k. get-changed g (change_lanes f t) k ∙ ap (option_map (both_changed g k)) (get-changed f t k) ∙ twice k (get t k) ∙ sym (get-changed (λ k l. g k (f k l)) t k))
   where
-    twice : (k : ℕ × ℕ) (o : Option Lanes) → tables.option_map (both_changed g k) (tables.option_map (both_changed f k) o) ≡ tables.option_map (both_changed (λ k l. g k (f k l)) k) o
+    twice : (k : ℕ × ℕ) (o : Option Lanes) → option_map (both_changed g k) (option_map (both_changed f k) o) ≡ option_map (both_changed (λ k l. g k (f k l)) k) o
     twice k None = refl
     twice k (Some l) = refl
 
@@ -307,7 +300,7 @@ changed_twice f g t = same_links _ _ (λ k. get-changed g (change_lanes f t) k �
 pub changed_alike : (f g : ℕ × ℕ → Lane → Lane) (t : Links) → ((k : ℕ × ℕ) (l : Lane) → f k l ≡ g k l) → change_lanes f t ≡ change_lanes g t
 changed_alike f g t same = same_links _ _ (λ k. get-changed f t k ∙ alike k (get t k) ∙ sym (get-changed g t k))
   where
-    alike : (k : ℕ × ℕ) (o : Option Lanes) → tables.option_map (both_changed f k) o ≡ tables.option_map (both_changed g k) o
+    alike : (k : ℕ × ℕ) (o : Option Lanes) → option_map (both_changed f k) o ≡ option_map (both_changed g k) o
     alike k None = refl
     alike k (Some l) = λ i. Some (record { forth = same k l.forth i; back = same (k.1, k.0) l.back i })
 
@@ -315,7 +308,7 @@ changed_alike f g t same = same_links _ _ (λ k. get-changed f t k ∙ alike k (
 pub changed_nowhere : (f : ℕ × ℕ → Lane → Lane) (t : Links) → ((k : ℕ × ℕ) (l : Lane) → f k l ≡ l) → change_lanes f t ≡ t
 changed_nowhere f t none = same_links _ _ (λ k. get-changed f t k ∙ stays k (get t k))
   where
-    stays : (k : ℕ × ℕ) (o : Option Lanes) → tables.option_map (both_changed f k) o ≡ o
+    stays : (k : ℕ × ℕ) (o : Option Lanes) → option_map (both_changed f k) o ≡ o
     stays k None = refl
     stays k (Some l) = λ i. Some (record { forth = none k l.forth i; back = none (k.1, k.0) l.back i })
 
@@ -337,7 +330,7 @@ module _ (t : Links) (turned : Turned t) (x y : ℕ) (f : Lane → Lane) where
       other : (k : ℕ × ℕ) (m : Lane) → lane_at t k.0 k.1 ≡ Some m → m ≡ at_lane k m
       other k m there = by_test (eqb k.0 x && eqb k.1 y) (λ c. (eqb k.0 x && eqb k.1 y) ≡ c → m ≡ cond c (f m) m) (λ _ is. let some = is_lane_at k m there is in cc) (λ _ _. refl) refl
 
-      stays : (k : ℕ × ℕ) (o : Option Lanes) → get t k ≡ o → o ≡ tables.option_map (both_changed at_lane k) o
+      stays : (k : ℕ × ℕ) (o : Option Lanes) → get t k ≡ o → o ≡ option_map (both_changed at_lane k) o
       stays k None is = refl
       stays k (Some l) is = let two = lanes_at_key t turned k l is in λ i. Some (record { forth = other k l.forth two.0 i; back = other (k.1, k.0) l.back two.1 i })
 

@@ -1,5 +1,5 @@
 -- Links in one table, each under its two ends, the lesser first, with the lanes both ways.
-use Rattle.std.specs.Prelude.{◌≡◌, ℕ, ◌<◌, ◌^◌, ◌==◌, ◌&&◌, nat_lt, Bool, true, List, [], ◌∷◌, map, length, Option, is_some, if◌then◌else◌}
+use Rattle.std.specs.Prelude.{◌≡◌, ℕ, ◌<◌, ◌^◌, ◌==◌, ◌&&◌, nat_lt, Bool, true, List, [], ◌∷◌, map, length, slice_index, Option, if◌then◌else◌}
 use Rattle.std.proofs.Common.{refl}
 use Rattle.std.specs.Coded.{Coded, code_by, coded×, coded_ℕ}
 use Rattle.std.specs.FinMap.Entries.{is_sorted}
@@ -9,7 +9,7 @@ use Rattle.coord_types.specs.Table.{Table, change, code, empty, entries, from_so
 use Rattle.coord_link.specs.LaneMachine.{Lane, lane_code}
 use Rattle.coord_tables.specs.declared.links.LinkRow.{LinkRow}
 use Rattle.coord_tables.specs.Pairs.{pair_cmp, pair_cmp_total}
-use Rattle.coord_tables.specs.Places.{IsIndexOf}
+use Rattle.coord_tables.specs.Places.{IsIndexOf, noted_place, pair_place}
 
 -- the lane from the lesser end to the greater one, and the one back
 pub record Lanes : Type 0 where
@@ -22,6 +22,10 @@ Links = Table pair_cmp_total Lanes
 -- two nodes, the lesser first
 abbrev pub ends : ℕ → ℕ → ℕ × ℕ
 ends x y = if nat_lt x y then (x, y) else (y, x)
+
+-- the place that is noted for the link of x and y
+abbrev pub link_place : List ℕ → ℕ → ℕ → Option ℕ
+link_place places x y = noted_place (slice_index places (pair_place (ends x y).0 (ends x y).1))
 
 -- of the two lanes of a link the one from x to y
 abbrev pub toward : ℕ → ℕ → Lanes → Lane

@@ -6,9 +6,9 @@
 //! Contracts see each of them as a finite table (`Table` of coord_types), that of links as
 //! `specs/Links.antt` says, in the order of `specs/Pairs.antt`. How slots stand for a table is said
 //! in `specs/Slots.antt`, and when places are those of a list in `specs/Places.antt`. Two kinds of
-//! call matter: `get` and `lane` find what stands at a key, and `replace` and `set_lane` put another
-//! value there; none of them takes memory. The main theorem is the contracts of the two types: each
-//! call is the one of the finite table, or want of memory with the table unchanged.
+//! call matter: `get` and `lane` find what stands at a key, and `replace`, `send`, `take` and `clear`
+//! change it where it stands; none of them takes memory. The main theorem is the contracts of the two
+//! types: each call is the one of the finite table, or want of memory with the table unchanged.
 #![tactic(auto)]
 
 mod equality;

@@ -3,18 +3,25 @@
 ghost use Rattle.std.specs.Prelude.{◌≡◌, ◌≤◌, ◌<◌, ◌^◌, ℕ, None, map, length, slice_index, OnOk, OnErr};
 ghost use Rattle.std.specs.FinMap.Entries.{find};
 ghost use Rattle.coord_types.specs.StepRanges.{IsNode};
-ghost use Rattle.coord_tables.specs.Links.{link_entry};
+ghost use Rattle.coord_tables.specs.Links.{ends, link_entry, link_place};
 ghost use Rattle.coord_tables.specs.Pairs.{pair_cmp};
 ghost use Rattle.coord_tables.specs.Place.{IsGapFor};
-ghost use Rattle.coord_tables.specs.Places.{pair_place, noted_place, IsIndexOf};
+ghost use Rattle.coord_tables.specs.Places.{pair_place, IsIndexOf};
 
 use crate::links::LinkRow;
-use coord_types::{MAX_NODES, NodeId};
+use coord_types::{NODES, NodeId};
 use std::alloc::AllocError;
 use std::cmp::Ordering;
 
 /// How many ordered pairs of nodes there are.
-pub const PAIRS: usize = MAX_NODES as usize * MAX_NODES as usize;
+pub const PAIRS: usize = NODES * NODES;
+
+/// Two nodes, the lesser first.
+pub fn ends(x: NodeId, y: NodeId) -> (NodeId, NodeId)
+    ensures { result ≡ ends x y }
+{
+    if x < y { (x, y) } else { (y, x) }
+}
 
 /// Where a pair stands among all pairs.
 fn pair_place(a: NodeId, b: NodeId) -> usize
@@ -23,15 +30,16 @@ fn pair_place(a: NodeId, b: NodeId) -> usize
     ensures from { IsNode a }
     ensures to { IsNode b }
 {
-    (a.number() as usize - 1) * MAX_NODES as usize + (b.number() as usize - 1)
+    (a.number() as usize - 1) * NODES + (b.number() as usize - 1)
 }
 
-/// Where the link of two nodes stands, of which `a` is the lesser.
-pub fn place_of(places: &[u8], a: NodeId, b: NodeId) -> Option<usize>
-    ensures value { result ≡ noted_place (slice_index places.now (pair_place a b)) }
-    ensures from { IsNode a }
-    ensures to { IsNode b }
+/// Where the link of two nodes stands.
+pub fn place_of(places: &[u8], x: NodeId, y: NodeId) -> Option<usize>
+    ensures value { result ≡ link_place places.now x y }
+    ensures first { IsNode (ends x y).0 }
+    ensures second { IsNode (ends x y).1 }
 {
+    let (a, b) = ends(x, y);
     let pair = pair_place(a, b);
     if pair >= places.len() {
         return None;

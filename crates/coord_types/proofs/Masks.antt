@@ -10,7 +10,7 @@ use Rattle.std.proofs.lemmas.Nat.{and_le_l, ones_cat, or_lt}
 use Rattle.std.proofs.lemmas.Nat.Bits.{same_from_bits_below, bit_at_and, bit_at_not, bit_at-lt, bit_at-zero, bit_at_above, bit_at_lowest, bit_at_cat_low, bit_at_cat_high, bit_at_set_same, bit_at_set_other, bit_at_clear_same, bit_at_clear_other, shr_and_one, bit_at-trailing_zeros}
 use Rattle.coord_types.specs.NodeSet.{NodeSet, contains, empty, insert, remove, len, items, from_list, first, first_of, is_subset}
 use Rattle.coord_types.specs.NodeMask.{nodes_where, is_set, nodes_of, bits_where, mask_of, IsMaskable}
-use Rattle.coord_types.proofs.Sets.{contains-empty, contains-insert, contains-remove, same_nodes, empty_of_len, len-empty, len_of_items, items-empty, items-insert_back, items_least, contains-subset, is_subset_by, from_list-items}
+use Rattle.coord_types.proofs.Sets.{by_test, contains-empty, contains-insert, contains-remove, same_nodes, empty_of_len, len-empty, len_of_items, items-empty, items-insert_back, items_least, contains-subset, is_subset_by, from_list-items}
 
 one_more_node : (s : NodeSet) (test : ℕ → Bool) (n q : ℕ) (b : Bool) → test n ≡ b → contains s q ≡ (ltb 0 q && (leb q n && test (q - 1))) →
     contains (cond b (insert s (suc n)) s) q ≡ (ltb 0 q && (leb q (suc n) && test (q - 1)))
@@ -251,16 +251,10 @@ module _ (bits more : ℕ) (fits : bits < 2 ^ 64) (fits_too : more < 2 ^ 64) whe
   same_mask = (ap nodes_of, λ e. sym (mask_back bits fits) ∙ ap mask_of e ∙ mask_back more fits_too)
 
   pub same_mask_items : eqb bits more ≡ pointwise nat_eq (items (nodes_of bits)) (items (nodes_of more))
-  same_mask_items = by_test (pointwise nat_eq (items (nodes_of bits)) (items (nodes_of more))) refl
-    where
-      by_test : (b : Bool) → pointwise nat_eq (items (nodes_of bits)) (items (nodes_of more)) ≡ b → eqb bits more ≡ b
-      by_test true is =
-          let same = sym (from_list-items (nodes_of bits)) ∙ ap from_list (same_text _ _ (sym is)) ∙ from_list-items (nodes_of more) in
-          let e = same_mask.1 same in
-          grind (arith, nat_tests)
-      by_test false is =
-          let apart : bits ≡ more → ⊥ = λ e. other_text _ _ (sym is) (ap (λ b. items (nodes_of b)) e) in
-          grind (arith, nat_tests)
+  same_mask_items =
+      by_test (pointwise nat_eq (items (nodes_of bits)) (items (nodes_of more))) (λ b. eqb bits more ≡ b)
+      (λ is. let e = same_mask.1 (sym (from_list-items (nodes_of bits)) ∙ ap from_list (same_text _ _ (sym is)) ∙ from_list-items (nodes_of more)) in grind (arith, nat_tests, e))
+      (λ is. let apart : bits ≡ more → ⊥ = λ e. other_text _ _ (sym is) (ap (λ b. items (nodes_of b)) e) in grind (arith, nat_tests, apart))
 
 -- what the code of a set's mask rests on
 pub ruleset masks = (mask_back, maskable_nodes, contains-bit, nodes_of-with, nodes_of-without, mask_back_with, mask_back_without, nodes_of-zero, len-nodes_of-zero, len-nodes_of, is_subset-nodes_of, same_mask, same_mask_items)

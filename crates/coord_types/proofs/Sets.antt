@@ -12,6 +12,11 @@ use Rattle.std.proofs.lemmas.Bool.Decides.{nat_tests}
 use Rattle.std.proofs.lemmas.Map.Keys.{sorted_head}
 use Rattle.coord_types.specs.NodeSet.{NodeSet, contains, empty, insert, remove, len, items, from_list, first, first_of, is_subset}
 
+-- on a test, with its answer
+pub by_test : (b : Bool) (P : Bool → Type 0) → (b ≡ true → P true) → (b ≡ false → P false) → P b
+by_test true P t f = t refl
+by_test false P t f = f refl
+
 some_or : (b : Bool) (o : Option (Unit {0})) → is_some (cond b (Some tt) o) ≡ (b || is_some o)
 some_or true o = refl
 some_or false o = refl
@@ -171,11 +176,8 @@ items_least s k has least =
 -- a number below all that are listed is below each
 below_each : (k q : ℕ) (xs : List ℕ) → AllByRecursion (λ y. nat_cmp k y ≡ Less) xs → list_any (λ y. nat_eq y q) xs ≡ true → k < q
 below_each k q [] below any = cc
-below_each k q (x ∷ xs) below any = by_test (nat_eq x q) refl (below_each k q xs below.1)
-  where
-    by_test : (b : Bool) → nat_eq x q ≡ b → (list_any (λ y. nat_eq y q) xs ≡ true → k < q) → k < q
-    by_test true is further = grind (arith, nat_tests, below.0)
-    by_test false is further = further (ap (λ b. b || list_any (λ z. nat_eq z q) xs) (sym is) ∙ any)
+below_each k q (x ∷ xs) below any =
+    by_test (nat_eq x q) (λ b. (b || list_any (λ y. nat_eq y q) xs) ≡ true → k < q) (λ is _. grind (arith, nat_tests, below.0, is)) (λ _ further. below_each k q xs below.1 further) any
 
 -- a set's first member, and what stands behind it
 behind_first : (s : NodeSet) (k : ℕ) (xs : List ℕ) → items s ≡ xs → IsStrictlySortedBy nat_cmp xs → first_of xs ≡ Some k → items s ≡ k ∷ items (remove s k)
@@ -203,11 +205,10 @@ both false b e = cc
 -- a subset, member by member
 at_listed : (p : ℕ → Bool) (xs : List ℕ) (q : ℕ) → list_all p xs ≡ true → list_any (λ y. nat_eq y q) xs ≡ true → p q ≡ true
 at_listed p [] q all any = cc
-at_listed p (x ∷ xs) q all any = by_test (nat_eq x q) refl (at_listed p xs q (both (p x) (list_all p xs) all).1)
-  where
-    by_test : (b : Bool) → nat_eq x q ≡ b → (list_any (λ y. nat_eq y q) xs ≡ true → p q ≡ true) → p q ≡ true
-    by_test true is further = let e : x ≡ q = grind (arith, nat_tests) in ap p (sym e) ∙ (both (p x) (list_all p xs) all).0
-    by_test false is further = further (ap (λ b. b || list_any (λ y. nat_eq y q) xs) (sym is) ∙ any)
+at_listed p (x ∷ xs) q all any =
+    let parts = both (p x) (list_all p xs) all in
+    by_test (nat_eq x q) (λ b. (b || list_any (λ y. nat_eq y q) xs) ≡ true → p q ≡ true)
+    (λ is _. let e : x ≡ q = grind (arith, nat_tests, is) in ap p (sym e) ∙ parts.0) (λ _ further. at_listed p xs q parts.1 further) any
 
 list_all_by : (p : ℕ → Bool) (xs : List ℕ) → AllByRecursion (λ x. p x ≡ true) xs → list_all p xs ≡ true
 list_all_by p [] each = refl

@@ -1,19 +1,13 @@
 -- What a table's operations answer.
-use Rattle.std.proofs.Common.{◌≡◌, Bool, true, false, not, List, [], ◌∷◌, Option, Some, None, length, refl, sym, ap, ◌∙◌, cond, Ordering, arith, is_some}
+use Rattle.std.proofs.Common.{◌≡◌, Bool, true, false, not, List, [], ◌∷◌, Some, None, length, refl, sym, ap, ◌∙◌, cond, Ordering, is_some}
+use Rattle.std.proofs.lemmas.List.{nil_from_length}
 use Rattle.std.specs.List.{list_any}
+pub use Rattle.std.specs.Option.{option_map}
 use Rattle.std.specs.Ordering.{eq_by_cmp, is_eq}
 use Rattle.std.specs.Cmp.{IsTotalOrder, eq_by_cmp_equiv, alike_right}
 use Rattle.std.specs.FinMap.{IsAntisymmetric}
 use Rattle.std.specs.FinMap.Entries.{find, put, is_sorted, find-put, find-where_key, is_some-find, same_entries}
 use Rattle.coord_types.specs.Table.{Table, entries, get, insert, remove, len, keys, change, changed_by, checked, from_sorted, empty, same_entries_table}
-
-abbrev pub option_map : {X Y : Type 0} → (X → Y) → Option X → Option Y
-option_map f None = None
-option_map f (Some x) = Some (f x)
-
-no_length : {A : Type 0} (es : List A) → length es ≡ 0 → es ≡ []
-no_length [] e = refl
-no_length (x ∷ es) e = absurd (omega arith)
 
 turned : {A : Type 0} (b : Bool) (x y : A) → cond (not b) x y ≡ cond b y x
 turned true x y = refl
@@ -52,7 +46,7 @@ module _ {K X : Type 0} {R : K → K → Ordering} {o : IsTotalOrder R} where
 
   pub empty_of_len : (m : Table o X) → len m ≡ 0 → m ≡ empty
   unfolding len empty
-  empty_of_len m e = same_entries_table m empty (no_length m.list e)
+  empty_of_len m e = same_entries_table m empty (nil_from_length m.list e)
 
   pub contains_key-keys : (m : Table o X) (q : K) → is_some (get m q) ≡ list_any (eq_by_cmp R q) (keys m)
   unfolding get keys

@@ -7,3 +7,4 @@ pub use Rattle.coord_types.specs.Messages.{begins_with, behind_front, carried, i
 pub use Rattle.coord_types.specs.NodeState.{NodeState, mode_from, mode_number, new_node, no_node, state_code}
 pub use Rattle.coord_types.specs.StepRanges.{CommandInRange, IsNode}
 pub use Rattle.coord_types.specs.IdealWorld.{Ideal}
+pub use Rattle.coord_types.specs.Numbers.{numbers}

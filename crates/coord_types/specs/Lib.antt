@@ -7,4 +7,5 @@ pub mod Messages
 pub mod NodeState
 pub mod StepRanges
 pub mod IdealWorld
+pub mod Numbers
 pub mod Facade

@@ -6,6 +6,12 @@
 /// The most nodes, and the greatest number of one.
 pub const MAX_NODES: u8 = 64;
 
+/// How many places a list with one for each node has.
+pub const NODES: usize = MAX_NODES as usize;
+
+/// One more than the greatest number of a node, at which a count of them ends.
+pub const END_OF_NODES: u8 = MAX_NODES + 1;
+
 /// The most groups, and the greatest number of one.
 pub const MAX_GROUPS: u8 = 16;
 

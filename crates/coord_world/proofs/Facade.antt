@@ -3,6 +3,7 @@ pub use Rattle.coord_world.proofs.listings.RowsOfWorldFit.{rows_have_few_aborts,
 pub use Rattle.coord_world.proofs.listings.RowsGiveWorld.{rows_give_world}
 pub use Rattle.coord_tables.proofs.KeyedLists.{all_weaker}
 pub use Rattle.coord_tables.proofs.LinkLanes.{lane-apart, lane-mirrored}
+pub use Rattle.coord_tables.proofs.SortedEntries.{is_less}
 pub use Rattle.coord_world.proofs.legal.EmptyWorld.{no_lane}
 pub use Rattle.coord_world.proofs.acceptance.IsFresh.{fresh_count}
 pub use Rattle.coord_world.proofs.acceptance.FreshOverItself.{itself}
@@ -16,5 +17,5 @@ pub use Rattle.coord_world.proofs.release.ReleaseStays.{fresh_where_released, re
 pub use Rattle.coord_world.proofs.release.Trails.{EachFresh, fold-append, fold-take_drop, fold_counts, trail_each_fresh, trail_goes_on, trail_is_cut, trail_keeps_worlds, trail_of}
 pub use Rattle.coord_world.proofs.waves.SignalsOf.{signals_given}
 pub use Rattle.coord_world.proofs.legal.RaisedLegal.{raised_is_legal}
-pub use Rattle.coord_world.proofs.ranges.Carried.{carried_within}
+pub use Rattle.coord_world.proofs.ranges.Carried.{carried_within, farthest_le}
 pub use Rattle.coord_world.proofs.ranges.Distances.{same_version}

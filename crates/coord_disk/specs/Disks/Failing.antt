@@ -13,7 +13,11 @@ inner_of disk = disk.inner
 abbrev pub rule_of : {D R : Type 0} → FailingDisk D R → R
 rule_of disk = disk.rule
 
--- how many calls there were, up to the greatest u64
+-- one more, up to the greatest u64
+abbrev pub one_more : ℕ → ℕ
+one_more n = min (n + 1) (2 ^ 64 - 1)
+
+-- how many calls there were
 abbrev pub calls_of : {D R : Type 0} → FailingDisk D R → ℕ
 calls_of disk = disk.calls
 
@@ -25,26 +29,33 @@ failed_of disk = length disk.failed.items
 abbrev pub failures_of : {D R : Type 0} → DiskModel D → FailingDisk D R → ℕ
 failures_of m disk = m.failures (inner_of disk) + failed_of disk
 
+-- over this disk by this rule, and no call was made yet
+pub record IsOver {D R : Type 0} (inner : D) (rule : R) (disk : FailingDisk D R) : Type 0 where
+  pub inside : inner_of disk ≡ inner
+  pub follows : rule_of disk ≡ rule
+  pub calls : calls_of disk ≡ 0
+  pub failed : failed_of disk ≡ 0
+
 -- It means what the disk inside means.
 abbrev pub failing : {D R : Type 0} → DiskModel D → DiskModel (FailingDisk D R)
 failing m = seen_through m inner_of (failures_of m)
 
--- the disk inside stays as it is, and the failure is counted
-pub record IsUntouched {D R : Type 0} (old new : FailingDisk D R) : Type 0 where
+-- the call does not reach the disk inside, and its failure is counted
+pub record IsUnreached {D R : Type 0} (old new : FailingDisk D R) : Type 0 where
   pub same : inner_of new ≡ inner_of old
   pub counted : failed_of new ≡ failed_of old + 1
 
 -- What a write leaves that is to fail. Where the rule tears it, its first bytes are written, if the
 -- disk inside does not fail; else the disk inside stays as it is.
 abbrev pub IsTorn : {D R : Type 0} → DiskModel D → Option ℕ → ℕ → List ℕ → FailingDisk D R → FailingDisk D R → Type 0
-IsTorn m None at bytes old new = IsUntouched old new
+IsTorn m None at bytes old new = IsUnreached old new
 IsTorn m (Some kept) at bytes old new =
     m.keeps_model (inner_of old) ≡ true → m.failures (inner_of new) ≡ m.failures (inner_of old) → m.present (inner_of new) ≡ written_at at (take kept bytes) (m.present (inner_of old))
 
 -- A call through such a disk is counted, and the rule says whether it fails. If it is to fail, this
 -- is what it leaves. Else the call is passed on, and fails only where the disk inside fails.
 pub record IsCounted {D R T : Type 0} (m : DiskModel D) (says : R → Call → Bool → R → Type 0) (call : Call) (old new : FailingDisk D R) (result : Result T DiskFault) (leaves : Type 0) : Type 0 where
-  pub counted : calls_of new ≡ min (calls_of old + 1) (2 ^ 64 - 1)
+  pub counted : calls_of new ≡ one_more (calls_of old)
   pub fails : Bool
   pub said : says (rule_of old) call fails (rule_of new)
   pub failed : fails ≡ true → IsErr result × leaves

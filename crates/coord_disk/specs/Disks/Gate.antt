@@ -7,13 +7,9 @@ use Rattle.coord_disk.specs.declared.failing.Call.{Call}
 use Rattle.coord_disk.specs.declared.failing.Call.TheVariants.{Sync}
 use Rattle.coord_disk.specs.declared.gate.Gate.{Gate}
 
--- the flag that a sync sets
-abbrev pub entered_of : Gate → Arc AtomicBool Global
-entered_of gate = gate.entered
-
--- the flag that another thread sets, to let it go on
-abbrev pub answered_of : Gate → Arc AtomicBool Global
-answered_of gate = gate.answered
+-- with the flag that a sync sets, and the one that another thread sets, to let it go on
+abbrev pub gate_of : Arc AtomicBool Global → Arc AtomicBool Global → Gate
+gate_of entered answered = record { entered = entered; answered = answered }
 
 -- It fails syncs alone, where the gate stays closed, and its flags are the same ones.
 abbrev pub GateSays : Gate → Call → Bool → Gate → Type 0

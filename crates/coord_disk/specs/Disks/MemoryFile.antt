@@ -1,5 +1,6 @@
 -- A file in memory.
-use Rattle.std.specs.Prelude.{ℕ, ◌+◌, ◌-◌, ◌^◌, min, Bool}
+use Rattle.std.specs.Prelude.{Bool}
+use Rattle.coord_disk.specs.Disks.Failing.{one_more}
 use Rattle.coord_disk.specs.declared.memory.MemDisk.{MemDisk}
 use Rattle.coord_disk.specs.declared.memory_file.MemFile.{MemFile}
 use Rattle.coord_disk.specs.declared.memory_file.Syncs.{Syncs}
@@ -17,10 +18,6 @@ has_entry file = file.entered
 -- the syncs so far
 abbrev pub syncs_of : MemFile → Syncs
 syncs_of file = file.syncs
-
--- one more, up to the greatest u64
-abbrev pub one_more : ℕ → ℕ
-one_more n = min (n + 1) (2 ^ 64 - 1)
 
 -- a sync is counted by its kind
 abbrev pub counted : RawCall → Syncs → Syncs

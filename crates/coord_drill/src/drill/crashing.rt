@@ -38,7 +38,7 @@ impl<D: CrashDisk> Drill<D> {
             Ok(opened) => opened,
             Err((kind, disk)) => {
                 tickets.destroy_empty();
-                return Err((told_as(kind), disk));
+                return Err((fault_of(kind), disk));
             }
         };
         driver.lemma_survives();
@@ -57,7 +57,7 @@ impl<D: CrashDisk> Drill<D> {
 }
 
 /// The fault of a crash after which the disk could not be opened.
-fn told_as(kind: RunFaultKind) -> Fault
+fn fault_of(kind: RunFaultKind) -> Fault
     ensures told { result ≡ reopen_fault kind }
     ensures fault { IsOfDisk result }
 {

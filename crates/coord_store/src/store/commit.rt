@@ -10,8 +10,8 @@ ghost use Rattle.coord_store.specs.Recovered.{AllFresh, Takes};
 ghost use Rattle.coord_world.specs.protocol.Legal.{Legal};
 ghost use Rattle.coord_world.specs.protocol.Next.{fold};
 
-use super::Store;
-use crate::steps::{judge_all, led_to};
+use super::{Store, conclude};
+use crate::steps::{judge_all, led_to, lemma_in_ranges};
 use crate::writing::write;
 use crate::{CommitFault, StoreFault};
 use coord_batch::write_batch;
@@ -19,7 +19,6 @@ use coord_disk::Disk;
 use coord_types::Step;
 use coord_world::World;
 use std::alloc::{AllocError, Global};
-use std::mem::replace;
 
 /// The world after steps, each of them fresh, and the body of their batch.
 fn next_batch(
@@ -39,6 +38,7 @@ fn next_batch(
     ensures short { IfOk result (λ next. length next.1.items ≤ MAX_BODY) }
 {
     world.lemma_in_range();
+    lemma_in_ranges(steps);
     let next = led_to(world, steps, made)?;
     match write_batch(alloc, world.version(), world.count() + 1, steps) {
         Ok(body) => Ok((next, body)),
@@ -107,16 +107,7 @@ impl<D: Disk> Store<D> {
             Ok(batch) => batch,
             Err(_) => return Err(CommitFault::OutOfMemory),
         };
-        match write(self.alloc, &mut self.journal, &self.world, &body) {
-            Ok(()) => Ok(replace(&mut self.world, next)),
-            Err(fault) => {
-                if fault == CommitFault::Device {
-                    drop(self.torn.replace(next));
-                    return Err(CommitFault::Device);
-                }
-                drop(next);
-                Err(fault)
-            }
-        }
+        let written = write(self.alloc, &mut self.journal, &self.world, &body);
+        conclude(&mut self.world, &mut self.torn, next, written)
     }
 }

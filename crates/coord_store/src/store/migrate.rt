@@ -3,17 +3,18 @@
 ghost use Rattle.std.specs.Prelude.{◌≡◌, ◌≢◌, ◌⊎◌, ◌↔◌, true, false, OnOk, IfErr, IsErrOf};
 ghost use Rattle.coord_disk.specs.Model.Moments.{Runs};
 ghost use Rattle.coord_store.specs.Changing.{Changes};
+ghost use Rattle.coord_store.specs.Faults.{failures_in as put_failures};
 ghost use Rattle.coord_store.specs.Kept.{has_stopped};
 ghost use Rattle.coord_store.specs.Migrating.{RefusesMigration, failures_in, risen};
-ghost use Rattle.coord_store.specs.declared.faults.StoreFault.TheVariants.{OutOfMemory, Device, Stopped};
+ghost use Rattle.coord_store.specs.declared.faults.CommitFault.TheVariants as commit;
+ghost use Rattle.coord_store.specs.declared.faults.StoreFault.TheVariants.{Device, Stopped};
 ghost use Rattle.coord_world.specs.protocol.Legal.{Legal};
 
-use super::Store;
+use super::{Store, conclude};
 use crate::writing::put_in_place;
 use crate::{CommitFault, StoreFault};
 use coord_disk::Disk;
 use coord_world::World;
-use std::mem::replace;
 
 impl<D: Disk> Store<D> {
     /// Raises a store of version 1 to version 2. Its world stays as it is, and each distance is 0. Each
@@ -44,34 +45,28 @@ impl<D: Disk> Store<D> {
         if let Some(node) = world.first_busy() {
             return Err(StoreFault::NotQuiet(node));
         }
-        match world.raised() {
-            Ok(next) => self.put(next),
+        let next = match world.raised() {
+            Ok(next) => next,
+            Err(_) => return Err(StoreFault::OutOfMemory),
+        };
+        match self.put(next) {
+            Ok(_before) => Ok(()),
+            Err(CommitFault::Device) => Err(StoreFault::Device),
             Err(_) => Err(StoreFault::OutOfMemory),
         }
     }
 
-    // Puts another world in place of all that is stored.
-    fn put(&mut self, next: World) -> Result<(), StoreFault>
+    // Puts another world in place of all that is stored, and gives the one from before.
+    fn put(&mut self, next: World) -> Result<World, CommitFault>
         requires legal { Legal next }
         requires going { has_stopped self.old ≡ false }
-        ensures changes { Changes D.model next Device self.old self.new result }
-        ensures unchanged { IfErr result (λ fault. fault ≢ Device → self.new ≡ self.old) }
-        ensures fault { IfErr result (λ fault. (fault ≡ OutOfMemory) ⊎ (fault ≡ Device)) }
-        ensures runs { Runs D.model self.old.disk self.new.disk 4 (failures_in result) }
+        ensures changes { Changes D.model next commit.Device self.old self.new result }
+        ensures unchanged { IfErr result (λ fault. fault ≢ commit.Device → self.new ≡ self.old) }
+        ensures fault { IfErr result (λ fault. (fault ≡ commit.OutOfMemory) ⊎
+            (fault ≡ commit.Device)) }
+        ensures runs { Runs D.model self.old.disk self.new.disk 4 (put_failures result) }
     {
-        match put_in_place(self.alloc, &mut self.journal, &next) {
-            Ok(()) => {
-                drop(replace(&mut self.world, next));
-                Ok(())
-            }
-            Err(fault) => {
-                if fault == CommitFault::Device {
-                    drop(self.torn.replace(next));
-                    return Err(StoreFault::Device);
-                }
-                drop(next);
-                Err(StoreFault::OutOfMemory)
-            }
-        }
+        let written = put_in_place(self.alloc, &mut self.journal, &next);
+        conclude(&mut self.world, &mut self.torn, next, written)
     }
 }

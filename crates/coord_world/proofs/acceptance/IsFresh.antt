@@ -1,7 +1,7 @@
 -- What is known of a step that a world takes.
 use Rattle.std.proofs.Common.{◌≡◌, ℕ, ◌+◌, ◌^◌, ◌≤◌, true, false, ◌&&◌, List, [], ◌∷◌, Option, Some, None, Ok, Err, Result, refl, arith, cond, eqb}
 use Rattle.std.proofs.lemmas.Bool.Decides.{nat_tests}
-use Rattle.coord_types.specs.Facade.{begins_with, get, same_command, same_msg}
+use Rattle.coord_types.specs.Facade.{begins_with, same_command, same_msg}
 use Rattle.coord_types.specs.declared.messages.Msg.{Msg}
 use Rattle.coord_types.specs.declared.packets.DataPacket.{DataPacket}
 use Rattle.coord_types.specs.declared.packets.ReceiptPacket.{ReceiptPacket}

@@ -2,12 +2,13 @@
 use Rattle.std.proofs.Common.{◌≡◌, ℕ, ◌+◌, ◌<◌, ◌≤◌, true, List, [], ◌∷◌, ◌++◌, Option, Some, cond, eqb, length, refl, ◌∙◌, ap, arith}
 use Rattle.std.proofs.lemmas.Bool.Decides.{nat_tests}
 use Rattle.std.proofs.lemmas.List.{length-append}
-use Rattle.coord_types.specs.Facade.{contains, get}
+use Rattle.coord_types.specs.Facade.{contains}
 use Rattle.coord_types.specs.declared.packets.DataPacket.{DataPacket}
 use Rattle.coord_types.specs.declared.steps.Command.TheVariants.{Drop, Reset}
 use Rattle.coord_types.specs.declared.steps.Step.{Step}
 use Rattle.coord_types.specs.declared.steps.Step.TheVariants.{Order, Take}
 use Rattle.coord_types.proofs.Tables.{option_map}
+use Rattle.coord_link.specs.declared.lane.TheConstants.{PLACES}
 use Rattle.coord_link.specs.LaneMachine.{Lane, sent, took}
 use Rattle.coord_node.specs.Facade.{Transition, added, lost, request, transition, transitions}
 use Rattle.coord_world.specs.Facade.{InRange, IsFresh, Legal, World, lane_at, next, on_lane, prepared, state, with_command, with_transition, with_transitions}
@@ -58,7 +59,7 @@ lanes_done w s = grind (arith, nat_tests)
 module _ (w settled : World) (range : InRange w) (legal : Legal w) where
   -- whatever transitions were done before it, and are done after it
   pub room : (s : Step) (before after : List (ℕ × Transition)) (u : ℕ) (d : Transition) → IsFresh w settled s → transitions w.version (state w) s ≡ before ++ (u, d) ∷ after → (v : ℕ) (l : Lane) →
-      lane_at (with_transitions (prepared w s) before).links u v ≡ Some l → contains d.to v ≡ true → length l.queue < 4
+      lane_at (with_transitions (prepared w s) before).links u v ≡ Some l → contains d.to v ≡ true → length l.queue < PLACES
   room s before after u d fresh are v l there to =
       let p = with_transitions (prepared w s) before in
       let more = still (with_transition p u d) after u v (length l.queue + 1) (one_more p u d v l there to) in
@@ -69,19 +70,19 @@ module _ (w settled : World) (range : InRange w) (legal : Legal w) where
 
   -- the one transition of a Take
   pub room_take : (p : DataPacket) → IsFresh w settled (Take p) → (v : ℕ) (l : Lane) →
-      lane_at (on_lane w p.from p.to took).links p.to v ≡ Some l → contains (transition w.version p.msg (state w p.to) p.from).to v ≡ true → length l.queue < 4
+      lane_at (on_lane w p.from p.to took).links p.to v ≡ Some l → contains (transition w.version p.msg (state w p.to) p.from).to v ≡ true → length l.queue < PLACES
   room_take p fresh = room (Take p) [] [] p.to (transition w.version p.msg (state w p.to) p.from) fresh refl
 
   -- the one transition of a Reset
   pub room_reset : (c n u : ℕ) → IsFresh w settled (Order c n (Reset u)) → (v : ℕ) (l : Lane) →
-      lane_at w.links u v ≡ Some l → contains (request w.version (state w u)).to v ≡ true → length l.queue < 4
+      lane_at w.links u v ≡ Some l → contains (request w.version (state w u)).to v ≡ true → length l.queue < PLACES
   room_reset c n u fresh = room (Order c n (Reset u)) [] [] u (request w.version (state w u)) fresh refl
 
   -- the two transitions of a Drop
   pub room_drop_first : (c n a b : ℕ) → IsFresh w settled (Order c n (Drop a b)) → (v : ℕ) (l : Lane) →
-      lane_at (with_command w (Drop a b)).links a v ≡ Some l → contains (lost (state w a) b).to v ≡ true → length l.queue < 4
+      lane_at (with_command w (Drop a b)).links a v ≡ Some l → contains (lost (state w a) b).to v ≡ true → length l.queue < PLACES
   room_drop_first c n a b fresh = room (Order c n (Drop a b)) [] ((b, lost (state w b) a) ∷ []) a (lost (state w a) b) fresh refl
 
   pub room_drop_second : (c n a b : ℕ) → IsFresh w settled (Order c n (Drop a b)) → (v : ℕ) (l : Lane) →
-      lane_at (with_transition (with_command w (Drop a b)) a (lost (state w a) b)).links b v ≡ Some l → contains (lost (state w b) a).to v ≡ true → length l.queue < 4
+      lane_at (with_transition (with_command w (Drop a b)) a (lost (state w a) b)).links b v ≡ Some l → contains (lost (state w b) a).to v ≡ true → length l.queue < PLACES
   room_drop_second c n a b fresh = room (Order c n (Drop a b)) ((a, lost (state w a) b) ∷ []) [] b (lost (state w b) a) fresh refl

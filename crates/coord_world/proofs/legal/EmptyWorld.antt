@@ -2,6 +2,7 @@
 use Rattle.std.proofs.Common.{◌≡◌, ℕ, ◌≤◌, false, None, sym, ◌∙◌, ap, arith, is_some}
 use Rattle.std.specs.Cmp.{nat_cmp_total}
 use Rattle.coord_types.specs.Facade.{contains, get}
+use Rattle.coord_types.specs.declared.limits.TheConstants.{MAX_VERSIONS}
 use Rattle.coord_types.proofs.Sets.{contains-empty}
 use Rattle.coord_types.proofs.Tables.{get-empty, len-empty}
 use Rattle.std.specs.Option.{option_map}
@@ -28,7 +29,7 @@ module _ (version : ℕ) where
   no_link u v = ap is_some (no_lane u v)
 
   -- nothing is out of range
-  pub no_world_in_range : 1 ≤ version → version ≤ 2 → InRange (no_world version)
+  pub no_world_in_range : 1 ≤ version → version ≤ MAX_VERSIONS → InRange (no_world version)
   no_world_in_range first last = record {
     first = first;
     last = last;

@@ -1,9 +1,10 @@
 -- Along parents distances rise by one, so no chain of them comes back.
-use Rattle.std.proofs.Common.{◌≡◌, ℕ, ◌+◌, true, false, List, [], ◌∷◌, Some, length, cond, eqb, refl, sym, ap, ◌∙◌, arith}
+use Rattle.std.proofs.Common.{◌≡◌, ℕ, ◌+◌, true, List, [], ◌∷◌, Some, length, cond, eqb, sym, ap, ◌∙◌, arith}
 use Rattle.std.proofs.lemmas.Bool.Decides.{nat_tests}
+use Rattle.std.proofs.lemmas.List.{nil_from_length}
 use Rattle.coord_types.specs.Facade.{contains}
 use Rattle.coord_node.specs.Rules.{is_parent}
-use Rattle.coord_world.specs.Facade.{InRange, Legal, World, is_ready, state, view}
+use Rattle.coord_world.specs.Facade.{InRange, Legal, World, state, view}
 use Rattle.coord_world.specs.laws.Cycles.{IsAbove, IsChain, NoParentCycle}
 use Rattle.coord_world.proofs.legal.Sound.{Sound}
 use Rattle.coord_world.proofs.legal.SoundView.{sound_view}
@@ -29,11 +30,7 @@ module _ (w : World) (range : InRange w) (legal : Legal w) (second : w.version �
   further u v (x ∷ path) chain = omega (arith, further x v path chain.1, one_further u x chain.0)
 
   none_back : (u : ℕ) (path : List ℕ) → IsChain w u path u → path ≡ []
-  none_back u path chain = empty path (omega (arith, further u u path chain))
-    where
-      empty : (xs : List ℕ) → length xs ≡ 0 → xs ≡ []
-      empty [] none = refl
-      empty (x ∷ xs) none = absurd (omega (arith, none))
+  none_back u path chain = nil_from_length path (omega (arith, further u u path chain))
 
 pub no_parent_cycle : NoParentCycle
 no_parent_cycle w u path range legal second chain = none_back w range legal second u path chain

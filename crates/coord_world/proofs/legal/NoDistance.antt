@@ -37,12 +37,12 @@ has_neighbour Converge (Some p) pend near busy awaits right close within = (p, (
 -- ---- all distances are 0
 
 module _ (w : World) (range : InRange w) (first : w.version ≡ 1) where
-  none : (d : ℕ) → d ≤ farthest w.version w.count → d ≡ 0
-  none d within = omega (arith, subst (λ v. d ≤ farthest v w.count) first within)
+  pub no_distance : (d : ℕ) → d ≤ farthest w.version w.count → d ≡ 0
+  no_distance d within = omega (arith, subst (λ v. d ≤ farthest v w.count) first within)
 
   -- of a node, there or not
   at_none : (u : ℕ) → (state w u).distance ≡ 0
-  at_none = at_each w (λ r. r.distance ≡ 0) refl (λ u r is. none r.distance (range.distances u r is).within)
+  at_none = at_each w (λ r. r.distance ≡ 0) refl (λ u r is. no_distance r.distance (range.distances u r is).within)
 
   carries_none : (u : ℕ) → carries w.version (state w u) ≡ 0
   carries_none u = ap (λ v. kept v ((state w u).distance + 1)) first
@@ -50,7 +50,7 @@ module _ (w : World) (range : InRange w) (first : w.version ≡ 1) where
   -- of the messages on the way
   no_strays : (ms : List Msg) → CarryWithin (farthest w.version w.count) ms → strays 0 ms ≡ 0
   no_strays [] within = refl
-  no_strays (msg.Abort k ∷ ms) within = let zero = none k within.0 in let rest = no_strays ms within.1 in grind (arith, nat_tests, zero, rest)
+  no_strays (msg.Abort k ∷ ms) within = let zero = no_distance k within.0 in let rest = no_strays ms within.1 in grind (arith, nat_tests, zero, rest)
   no_strays (msg.Ack ∷ ms) within = no_strays ms within.1
   no_strays (msg.Ready ∷ ms) within = no_strays ms within.1
 

@@ -1,12 +1,13 @@
 -- A quiet world of version 1 stays legal and in its ranges as one of version 2.
-use Rattle.std.proofs.Common.{◌≡◌, ℕ, ◌≤◌, true, false, Option, Some, None, refl, sym, ap, ◌∙◌, subst, arith, is_some, nat_cmp}
+use Rattle.std.proofs.Common.{◌≡◌, ℕ, true, false, refl, sym, ap, ◌∙◌, arith}
 use Rattle.coord_types.specs.Facade.{contains}
 use Rattle.coord_world.specs.laws.Raised.{RaisedIsLegal, raised}
 use Rattle.coord_world.specs.laws.Waves.{AllReady}
-use Rattle.coord_world.specs.Facade.{InRange, IsDistant, Legal, NodeInRange, World, aborts, farthest, is_abort, is_converge, is_legal_node, is_linked, is_ready, link, state, state_or_none, view}
+use Rattle.coord_world.specs.Facade.{InRange, Legal, World, aborts, farthest, is_abort, is_linked, is_ready, link, state, view}
 use Rattle.coord_world.proofs.legal.Sound.{Sound}
 use Rattle.coord_world.proofs.legal.SoundLink.{SoundLink, legal_link}
 use Rattle.coord_world.proofs.legal.SoundView.{sound_view}
+use Rattle.coord_world.proofs.legal.NoDistance.{no_distance}
 use Rattle.coord_world.proofs.lanes.MessageCounts.{ways}
 use Rattle.coord_world.proofs.lists.NodeSets.{empty_has}
 use Rattle.coord_world.proofs.ranges.Distances.{within_more}
@@ -15,17 +16,13 @@ module _ (w : World) (range : InRange w) (legal : Legal w) (first : w.version �
   sound : Sound (view w)
   sound = sound_view w range legal
 
-  -- in version 1 there is no distance
-  no_distance : (d : ℕ) → d ≤ farthest w.version w.count → d ≡ 0
-  no_distance d within = omega (arith, subst (λ v. d ≤ farthest v w.count) first within)
-
   in_range : InRange (raised w)
   in_range = record {
     first = omega arith;
     last = omega arith;
     count = range.count;
     nodes = range.nodes;
-    distances = λ u s is. let far = range.distances u s is in record { within = omega (arith, no_distance s.distance far.within); ready = far.ready };
+    distances = λ u s is. let far = range.distances u s is in record { within = omega (arith, no_distance w range first s.distance far.within); ready = far.ready };
     lanes = range.lanes;
     short = range.short;
     carried = λ u v l is. within_more _ w.count l.queue (omega (arith, ap (λ v. farthest v w.count) first)) (range.carried u v l is);

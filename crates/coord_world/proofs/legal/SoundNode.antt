@@ -1,14 +1,12 @@
 -- What the tests of a node say, as facts: the form in which the rules are proved to keep them.
-use Rattle.std.proofs.Common.{◌≡◌, ℕ, ◌<◌, ◌≤◌, Bool, true, false, ◌||◌, List, [], ◌∷◌, Option, Some, None, refl, sym, ap, ◌∙◌, arith, nat_eq}
+use Rattle.std.proofs.Common.{◌≡◌, ℕ, ◌<◌, ◌≤◌, true, false, Option, Some, None, refl, arith}
 use Rattle.coord_types.proofs.Sets.{contains-subset, is_subset_by}
-use Rattle.std.specs.List.{list_all, list_any}
 use Rattle.std.proofs.lemmas.Bool.Decides.{nat_tests}
 use Rattle.coord_types.specs.NodeSet as set
 use Rattle.coord_types.specs.Facade.{NodeSet, NodeState}
 use Rattle.coord_types.specs.declared.messages.Mode.TheVariants.{Ready, Converge}
 use Rattle.coord_node.specs.Rules.{is_empty, is_parent}
 use Rattle.coord_world.specs.Facade.{is_abort, is_legal_node, is_parent_near, is_ready}
-use Rattle.coord_tables.proofs.Cases.{both, by_test}
 
 -- N by itself: what the rules keep of a node
 pub record SoundNode (r : NodeState) : Type 0 where

@@ -8,6 +8,7 @@ use Rattle.coord_types.specs.NodeSet as set
 use Rattle.coord_types.specs.Table.{get}
 use Rattle.coord_types.proofs.Sets.{contains-empty, len-empty}
 use Rattle.coord_types.proofs.Tables.{entries-from_sorted, get-from_sorted, option_map}
+use Rattle.coord_link.specs.declared.lane.TheConstants.{PLACES}
 use Rattle.coord_link.specs.LaneMachine.{Lane}
 use Rattle.coord_tables.specs.Links.{LinksRise, ends, link_entry}
 use Rattle.coord_tables.specs.declared.links.LinkRow.{LinkRow}
@@ -138,7 +139,7 @@ module _ (rows : Rows) (fit : RowsFit rows) where
         })
         r (sym (get-node u) ∙ is);
     lanes = lane_of_row (LaneInRange rows.count) (λ q r there. let fits = (link_fits q r there).0 in (fits.forth, fits.back));
-    short = lane_of_row (λ k. length k.queue ≤ 4) (λ q r there. let fits = (link_fits q r there).0 in (fits.forth_short, fits.back_short));
+    short = lane_of_row (λ k. length k.queue ≤ PLACES) (λ q r there. let fits = (link_fits q r there).0 in (fits.forth_short, fits.back_short));
     awaited = each_node (λ r. IsMaskable r.pend) (λ k has. let none = contains-empty k in cc) (λ s fits. fits.pend);
     parents = each_node (λ r. (p : ℕ) → r.parent ≡ Some p → IsNode p) (λ p is. cc) (λ s fits. fits.parent);
     sessions = λ c s is. each_value (λ r. r.session) (SessionInRange rows.count c) (find nat_cmp c (by_client rows.clients)) (λ r there.

@@ -1,5 +1,5 @@
 -- The rows of a world in its ranges fit together.
-use Rattle.std.proofs.Common.{◌≡◌, ℕ, ◌≤◌, Bool, true, List, [], ◌∷◌, Option, Some, None, map, cond, eqb, length, refl, sym, ap, ◌∙◌, subst, arith, Ordering, is_some, nat_cmp}
+use Rattle.std.proofs.Common.{◌≡◌, ℕ, ◌≤◌, true, List, [], ◌∷◌, Some, map, cond, eqb, length, refl, sym, ap, ◌∙◌, subst, arith, Ordering, is_some, nat_cmp}
 use Rattle.std.specs.Cmp.{nat_cmp_total}
 use Rattle.std.specs.List.{AllByRecursion}
 use Rattle.std.specs.FinMap.Entries.{find, is_sorted}
@@ -12,7 +12,7 @@ use Rattle.std.proofs.lemmas.List.{length-map}
 use Rattle.coord_tables.specs.Links.{Lanes, link_row, link_rows}
 use Rattle.coord_tables.proofs.LinkLanes.{lanes_at_key}
 use Rattle.coord_world.specs.laws.Laws.{HasFewAborts, RowsHaveFewAborts, RowsOfWorldFit}
-use Rattle.coord_world.specs.Facade.{CarryWithin, InRange, LaneInRange, LanesCarryWithin, LinkRowFits, NodeRowFits, RowIsDistant, SessionInRange, World, aborts, by_ends, client_row, degree, farthest, group_in, group_of, is_linked, lane_at, node_row, pair_cmp, pair_cmp_total, state, state_or_none}
+use Rattle.coord_world.specs.Facade.{InRange, LanesCarryWithin, LinkRowFits, NodeRowFits, RowIsDistant, SessionInRange, World, by_ends, client_row, degree, farthest, group_in, group_of, is_linked, lane_at, node_row, pair_cmp, pair_cmp_total, state, state_or_none}
 use Rattle.coord_world.proofs.lanes.IsShort.{lane_short}
 use Rattle.coord_tables.specs.declared.links.LinkRow.{LinkRow}
 use Rattle.coord_tables.proofs.Cases.{by_test}

@@ -1,7 +1,7 @@
 -- Sets of nodes.
-use Rattle.std.proofs.Common.{◌≡◌, ℕ, true, false, ◌&&◌, not, ap, ◌∙◌, arith, eqb}
+use Rattle.std.proofs.Common.{◌≡◌, ℕ, true, false, ap, ◌∙◌, arith, eqb}
 use Rattle.std.proofs.lemmas.Bool.Decides.{nat_tests}
-use Rattle.coord_types.specs.NodeSet.{NodeSet, contains, remove, len}
+use Rattle.coord_types.specs.NodeSet.{NodeSet, contains, len}
 use Rattle.coord_types.proofs.Sets.{contains-empty, contains-insert, empty_of_len}
 use Rattle.coord_node.specs.Rules.{is_empty, only}
 

@@ -1,8 +1,8 @@
 -- Distances stay in their ranges through a step, those of nodes and those that lanes carry.
-use Rattle.std.proofs.Common.{◌≡◌, ℕ, ◌+◌, ◌≤◌, true, List, [], ◌∷◌, ◌++◌, cond, eqb, refl, sym, ap, ◌∙◌, subst, arith, is_some}
+use Rattle.std.proofs.Common.{◌≡◌, ℕ, ◌+◌, ◌≤◌, List, [], ◌∷◌, ◌++◌, cond, refl, sym, ap, ◌∙◌, arith, is_some}
 use Rattle.std.proofs.lemmas.Bool.Decides.{nat_tests}
 use Rattle.coord_types.specs.NodeSet as set
-use Rattle.coord_types.specs.Facade.{NodeState, behind_front, has}
+use Rattle.coord_types.specs.Facade.{NodeState, behind_front}
 use Rattle.coord_types.specs.declared.messages.Msg.{Msg}
 use Rattle.coord_types.specs.declared.messages.Msg.TheVariants as msg
 use Rattle.coord_types.specs.declared.steps.Command.{Command}
@@ -16,7 +16,7 @@ use Rattle.coord_world.proofs.acceptance.FreshOrder.{Passes, fresh_order}
 use Rattle.coord_world.proofs.acceptance.IsFresh.{fresh_take}
 use Rattle.coord_world.proofs.lanes.EveryLane.{AllLanes, AllSend, LaneCarries, Makes, lanes_next}
 use Rattle.coord_world.proofs.ranges.Carried.{carried_within, one_further_within, farthest_grows}
-use Rattle.coord_world.proofs.ranges.EveryNode.{Adds, AllRows, Carries, carried_by, rows_next, there_is}
+use Rattle.coord_world.proofs.ranges.EveryNode.{Adds, AllRows, Carries, carried_by, rows_next}
 use Rattle.coord_world.proofs.transitions.RuleCases.{abort_cases, ack_cases, lost_cases, ready_cases, request_cases}
 use Rattle.coord_tables.proofs.Cases.{by_test}
 

@@ -11,7 +11,7 @@ use Rattle.coord_types.specs.declared.steps.Step.{Step}
 use Rattle.coord_types.specs.declared.steps.Step.TheVariants.{Order, Take, Clear}
 use Rattle.coord_node.specs.Rules.{with_neighbour}
 use Rattle.coord_tables.proofs.LinkLanes.{lane-mirrored}
-use Rattle.coord_world.specs.Facade.{InRange, IsFresh, World, carried, next, state, state_or_none}
+use Rattle.coord_world.specs.Facade.{InRange, IsFresh, World, carried, next, state}
 use Rattle.coord_world.proofs.transitions.NodeGoesOn.{Goes, goes_transition, goes_lost, goes_request}
 use Rattle.coord_world.proofs.acceptance.IsFresh.{fresh_take}
 use Rattle.coord_tables.proofs.Found.{get-set, get-unset}

@@ -3,6 +3,7 @@ use Rattle.std.proofs.Common.{◌≡◌, ℕ, ◌+◌, ◌≤◌, true, List, []
 use Rattle.coord_types.specs.Facade.{NodeState, contains}
 use Rattle.std.proofs.lemmas.Bool.Decides.{nat_tests}
 use Rattle.coord_types.specs.Table.{get, has, len}
+use Rattle.coord_types.specs.declared.limits.TheConstants.{MAX_VERSIONS}
 use Rattle.coord_types.specs.declared.steps.Command.TheVariants.{Add, Remove, Join, Drop, Reset, Confirm}
 use Rattle.coord_types.specs.declared.steps.Step.{Step}
 use Rattle.coord_types.specs.declared.steps.Step.TheVariants.{Order, Take, Clear}
@@ -93,7 +94,7 @@ ranges_next w settled s within range legal fresh =
     let nodes = nodes_next w settled s within range fresh in
     record {
       first = subst (λ v. 1 ≤ v) (sym (same_version w s)) range.first;
-      last = subst (λ v. v ≤ 2) (sym (same_version w s)) range.last;
+      last = subst (λ v. v ≤ MAX_VERSIONS) (sym (same_version w s)) range.last;
       count = fresh_count w settled s fresh;
       nodes = nodes;
       distances = λ u r is. subst (λ v. IsDistant v (w.count + 1) r) (sym (same_version w s)) (distances_next w settled s range fresh u r is);

@@ -10,7 +10,7 @@ use Rattle.coord_types.proofs.Tables.{option_map}
 use Rattle.coord_types.specs.declared.messages.Msg.{Msg}
 use Rattle.coord_link.specs.LaneMachine.{Lane, sent, took}
 use Rattle.coord_node.specs.Facade.{Transition, added, sends_of}
-use Rattle.coord_world.specs.Facade.{Links, all_sent, had_front, lane_at, lanes_in_order, pair_cmp, sent_by}
+use Rattle.coord_world.specs.Facade.{Links, all_sent, lane_at, lanes_in_order, pair_cmp, sent_by}
 use Rattle.coord_world.specs.code.Fronts.{front_sent, fronts_sent}
 use Rattle.coord_tables.proofs.Cases.{by_test}
 use Rattle.coord_world.proofs.release.LaneAfterStep.{sent_none}

@@ -8,6 +8,7 @@ use Rattle.coord_types.specs.Table.{insert}
 use Rattle.coord_types.proofs.Sets.{contains-items, items-sorted}
 use Rattle.coord_types.proofs.Tables.{option_map}
 use Rattle.coord_types.specs.declared.messages.Msg.{Msg}
+use Rattle.coord_link.specs.declared.lane.TheConstants.{PLACES}
 use Rattle.coord_link.specs.LaneMachine.{Lane, sent}
 use Rattle.coord_node.specs.Facade.{Transition, added, sends_of}
 use Rattle.coord_world.specs.declared.step.node_transition.NodeTransition.{NodeTransition}
@@ -74,13 +75,13 @@ pub act_done : (w : World) (node_transition : NodeTransition) (u : ℕ) (d : Tra
 act_done w node_transition u d is = (λ i. node_changed w (is.id i) (is.state i) (is.sends i)) ∙ (λ i. record w { nodes = insert w.nodes u d.state; links = lanes_are u d w.links i })
 
 module _ (u : ℕ) (m : Msg) where
-  can_send_each : (xs : List ℕ) (links : Links) → IsStrictlySortedBy nat_cmp xs → ((v : ℕ) (l : Lane) → lane_at links u v ≡ Some l → list_any (λ x. nat_eq x v) xs ≡ true → length l.queue < 4) →
+  can_send_each : (xs : List ℕ) (links : Links) → IsStrictlySortedBy nat_cmp xs → ((v : ℕ) (l : Lane) → lane_at links u v ≡ Some l → list_any (λ x. nat_eq x v) xs ≡ true → length l.queue < PLACES) →
       CanSend u (map (λ x. (x, m)) xs) links
   unfolding IsStrictlySortedBy
   can_send_each [] links sorted room = tt
   can_send_each (x ∷ xs) links sorted room = (λ l there. room x l there (grind (arith, nat_tests)), can_send_each xs (sent_lane u (x, m) links) sorted.1 later)
     where
-      later : (v : ℕ) (l : Lane) → lane_at (sent_lane u (x, m) links) u v ≡ Some l → list_any (λ y. nat_eq y v) xs ≡ true → length l.queue < 4
+      later : (v : ℕ) (l : Lane) → lane_at (sent_lane u (x, m) links) u v ≡ Some l → list_any (λ y. nat_eq y v) xs ≡ true → length l.queue < PLACES
       later v l there among =
           let away : eqb v x ≡ false = by_test (eqb v x) (λ b. b ≡ false)
           (λ is. let same : v ≡ x = grind (arith, nat_tests) in let none = ap (λ q. list_any (λ z. nat_eq z q) xs) same ∙ not_among x xs sorted.0 in cc) (λ _. refl) in
@@ -93,7 +94,7 @@ module _ (u : ℕ) (m : Msg) where
 
 -- the room that a transition has is room for the node step
 pub act_room : (node_transition : NodeTransition) (u : ℕ) (d : Transition) (links : Links) → IsTransitionOf node_transition u d →
-    ((v : ℕ) (l : Lane) → lane_at links u v ≡ Some l → set.contains d.to v ≡ true → length l.queue < 4) → CanSend node_transition.id node_transition.effects.sends.items links
+    ((v : ℕ) (l : Lane) → lane_at links u v ≡ Some l → set.contains d.to v ≡ true → length l.queue < PLACES) → CanSend node_transition.id node_transition.effects.sends.items links
 act_room node_transition u d links is room =
     subst (λ x. CanSend x node_transition.effects.sends.items links) (sym is.id) (subst (λ ss. CanSend u ss links) (sym is.sends)
     (can_send_each u d.message (set.items d.to) links (items-sorted d.to) (λ v l there among. room v l there (contains-items d.to v ∙ among))))

@@ -2,7 +2,7 @@
 use Rattle.std.proofs.Common.{◌≡◌, ◌≢◌, ℕ, ◌+◌, Bool, true, false, List, [], ◌∷◌, ◌++◌, Option, Some, None, cond, eqb, refl, sym, ap, ◌∙◌, subst, arith, append-nil, nat_lt, is_some}
 use Rattle.std.proofs.lemmas.Bool.Decides.{nat_tests}
 use Rattle.coord_types.specs.NodeSet as set
-use Rattle.coord_types.specs.Facade.{NodeState, behind_front}
+use Rattle.coord_types.specs.Facade.{NodeState}
 use Rattle.coord_types.proofs.Sets.{contains-empty, contains-remove, items-sorted}
 use Rattle.coord_types.proofs.Tables.{option_map}
 use Rattle.coord_types.specs.declared.messages.Msg.{Msg}
@@ -12,8 +12,8 @@ use Rattle.coord_types.specs.declared.steps.Step.TheVariants.{Order, Take, Clear
 use Rattle.coord_link.specs.LaneMachine.{Lane, cleared, new_lane, sent, took}
 use Rattle.coord_node.specs.Facade.{Transition, added, is_link, lost, request, sends_of, transition, without, without_parent}
 use Rattle.coord_tables.proofs.LinkLanes.{lane-apart}
-use Rattle.coord_world.specs.Facade.{Links, World, all_sent, had_front, is_lane, lane_at, lanes_in_order, next, on_lane, sent_by, state, with_command, with_transition}
-use Rattle.coord_world.specs.code.Fronts.{by_lesser, front_behind, fronts_sent, new_fronts, packets_of}
+use Rattle.coord_world.specs.Facade.{Links, World, all_sent, is_lane, lane_at, lanes_in_order, next, on_lane, sent_by, state, with_command, with_transition}
+use Rattle.coord_world.specs.code.Fronts.{by_lesser, front_behind, fronts_sent, new_fronts}
 use Rattle.coord_world.specs.code.Ready.{IsReadyFor}
 use Rattle.coord_tables.proofs.Cases.{by_test}
 use Rattle.coord_world.proofs.acceptance.FreshOrder.{fresh_order}
@@ -66,10 +66,6 @@ clear_fronts w a b turned =
 
     here : is_lane (a, b) a b ≡ true
     here = grind (arith, nat_tests)
-
-    next_front : (i n g h : ℕ) (q rest : List Msg) → sent_by (Some (record { inc = i; base = n; got = g; queue = q })) (a, b) (record { inc = i; base = n + 1; got = h; queue = rest }) rest ≡ packets_of (a, b) (record { inc = i; base = n + 1; got = h; queue = rest }) rest
-    next_front i n g h q [] = refl
-    next_front i n g h q (m ∷ ms) = grind (arith, nat_tests)
 
     behind : (o : Option Lane) → lane_at w.links a b ≡ o → front_now w.links (a, b) (option_map (λ l. cond (is_lane (a, b) a b) (cleared l) l) o) ≡ front_behind o (a, b)
     behind None was = refl

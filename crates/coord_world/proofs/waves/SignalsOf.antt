@@ -11,7 +11,7 @@ use Rattle.coord_types.specs.declared.steps.Kind.TheVariants.{Finished}
 use Rattle.coord_types.specs.declared.steps.Step.{Step}
 use Rattle.coord_node.specs.Steps.{transitions}
 use Rattle.coord_link.specs.LaneMachine.{Lane}
-use Rattle.coord_world.specs.Facade.{Links, StepOutcome, World, all_sent, front_packet, had_front, lane_at, lanes_in_order, next, outputs, outs, receipts, reply, sent_by, signals, state}
+use Rattle.coord_world.specs.Facade.{Links, StepOutcome, World, all_sent, lane_at, lanes_in_order, next, outputs, outs, receipts, reply, sent_by, signals, state}
 use Rattle.coord_world.specs.laws.Waves.{Connected, IsExplained, is_signal_of, signals_of}
 use Rattle.coord_world.proofs.waves.StepEffect.{signals_in}
 

@@ -1,5 +1,5 @@
 -- What a node sends: a list of messages, each with the node that it goes to.
-use Rattle.std.specs.Prelude.{◌≡◌, ℕ, ◌<◌, List, [], ◌∷◌, length, Some, if◌then◌else◌}
+use Rattle.std.specs.Prelude.{◌≡◌, ℕ, ◌<◌, List, [], ◌∷◌, length, Some}
 use Rattle.coord_link.specs.declared.lane.TheConstants.{PLACES}
 use Rattle.coord_tables.specs.Links.{Links, change_lane, lane_at}
 use Rattle.coord_types.specs.declared.messages.Msg.{Msg}

@@ -1,5 +1,5 @@
 -- A world of version 1 in which every node is Ready, as one of version 2.
-use Rattle.std.specs.Prelude.{◌≡◌, ℕ}
+use Rattle.std.specs.Prelude.{◌≡◌}
 use Rattle.coord_world.specs.laws.Waves.{AllReady}
 use Rattle.coord_world.specs.protocol.Legal.{Legal}
 use Rattle.coord_world.specs.protocol.NumberedWorld.{World}

@@ -6,10 +6,7 @@ ghost use Rattle.coord_types.specs.StepRanges.{IsNode};
 ghost use Rattle.coord_world.specs.code.Assembly.{AreNear, near_in};
 
 use coord_tables::LinkRow;
-use coord_types::{MAX_NODES, NodeId, NodeSet};
-
-/// One place for each node.
-const NODES: usize = MAX_NODES as usize;
+use coord_types::{NODES, NodeId, NodeSet};
 
 /// Each node's neighbours: those of node k stand at place k - 1.
 #[derive(Drop)]

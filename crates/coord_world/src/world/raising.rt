@@ -10,11 +10,8 @@ ghost use Rattle.coord_world.specs.protocol.NumberedWorld.{state};
 
 use super::World;
 use crate::tables::Tables;
-use coord_types::{MAX_NODES, Mode, NodeId, Version};
+use coord_types::{END_OF_NODES, Mode, NodeId, Version};
 use std::alloc::AllocError;
-
-/// One more than the greatest number of a node.
-const END: u8 = MAX_NODES + 1;
 
 impl World {
     /// The least node that is not Ready; None where every node is.
@@ -24,7 +21,7 @@ impl World {
             ((v : ℕ) → v < u → (state self.now v).mode ≡ Ready)) }
     {
         self.lemma_in_range();
-        for number in 1..END {
+        for number in 1..END_OF_NODES {
             if let Some(id) = NodeId::new(number)
                 && is_busy(self, id)
             {

@@ -1,4 +1,4 @@
-use Rattle.std.proofs.Common.{◌≡◌, ◌∙◌, ℕ, ◌+◌, ◌-◌, ◌≤◌, Bool, List, ◌++◌, refl, sym, ap, arith, rules, length, take, drop, ◌||◌, min, false, slice_get}
+use Rattle.std.proofs.Common.{◌≡◌, ◌∙◌, ℕ, ◌+◌, ◌-◌, ◌≤◌, Bool, List, ◌++◌, refl, sym, ap, arith, rules, length, take, drop, ◌||◌, min, slice_get}
 use Rattle.std.proofs.lemmas.List.{take_all}
 use Rattle.coord_disk.specs.declared.history.Entry.{Entry}
 use Rattle.coord_disk.specs.Disks.History.{replayed}

@@ -1,11 +1,10 @@
-use Rattle.std.proofs.Common.{◌∙◌, List, ℕ, subst, sym}
-use Rattle.coord_journal.specs.Facade.{IsText, RefusesOpen}
+use Rattle.std.proofs.Common.{◌∙◌, sym}
 use Rattle.coord_journal.proofs.opening.open.Goals as goal
 
 pub returns-in-Ok-read_text-clause-only : goal.returns-in-Ok-read_text-clause-only
 returns-in-Ok-read_text-clause-only g c content k text =
-    c.in-Ok-read_text.ensures.only content (subst (λ (l : List ℕ). IsText content l) (sym (c.deref.ensures.value ∙ c.in-Ok.ensures.bytes k)) text)
+    c.in-Ok-read_text.ensures.only content (rw (c.deref.ensures.value ∙ c.in-Ok.ensures.bytes k) text)
 
 pub returns-clause-fault : goal.returns-clause-fault
 returns-clause-fault g c k =
-    subst (λ (l : List ℕ). RefusesOpen l c.in-Err-read_text.fault) (c.deref.ensures.value ∙ c.in-Ok.ensures.bytes k) c.in-Err-read_text.ensures.fault
+    rw (sym (c.deref.ensures.value ∙ c.in-Ok.ensures.bytes k)) c.in-Err-read_text.ensures.fault

@@ -18,7 +18,7 @@ returns-in-Err-clause-fault c =
     refuses bytes c.in-Err.fault c.in-Err.ensures.fault (λ is. (
       (header.selector, header.half_size, rest, c.in-Some.ensures.some),
       refused bytes header.selector header.half_size (half_number c.named_by-half.result) rest c.in-Some.ensures.some (sym c.named_by-half.ensures) start c.start-start.ensures.start c.min.result n_is
-          (λ content used half. c.in-Err.ensures.bad is content used (subst (λ (l : List ℕ). IsHalf (take c.min.result l) content used) (sym (take_rest rest start)) half)),
+          (λ content used half. c.in-Err.ensures.bad is content used (rw (take_rest rest start) half)),
     ))
 
 pub returns-clause-text : goal.returns-clause-text

@@ -1,12 +1,12 @@
-use Rattle.std.proofs.Common.{◌≡◌, ◌≢◌, List, ℕ, [], ◌++◌, refl, sym, subst, get_or, arith, rules}
-use Rattle.coord_journal.specs.Facade.{BeginsWithBody, IsOpened, ReadsAs, bodies}
+use Rattle.std.proofs.Common.{◌≡◌, ◌≢◌, [], refl, sym, get_or, arith, rules}
+use Rattle.coord_journal.specs.Facade.{BeginsWithBody}
 use Rattle.coord_journal.specs.declared.layout.TheConstants.{MAX_BODY}
 use Rattle.coord_journal.proofs.Reading.{some, nothing, opened_more, same_behind, empty, small_body}
 use Rattle.coord_journal.proofs.read.read_batches.Goals as goal
 
 pub loop-rest-init : goal.loop-rest-init
 loop-rest-init c = record {
-  so_far = ([], refl, subst (λ vs. IsOpened (bodies vs) []) (sym c.new-batches.ensures.items) refl);
+  so_far = ([], refl, rw c.new-batches.ensures.items refl);
   others = λ batches size reads. (batches, size, reads);
 }
 
@@ -25,12 +25,12 @@ loop-rest-preserved c =
     let begins : BeginsWithBody MAX_BODY (get_or now 0 0) c.in-Some.batch.now c.in-Some.behind.now now = c.in-Some.ensures.some in
     let same : c.in_ok-to_vec.field-0.items ≡ c.in-Some.batch.now = search rules in
     record {
-      so_far = subst (λ vs. (front : List ℕ) × (c.args.text.now ≡ front ++ c.in-Some.behind.now) × IsOpened (bodies vs) front) (sym c.in_ok-push.ensures.items)
+      so_far = rw c.in_ok-push.ensures.items
           (opened_more c.loop-rest.batches.items c.in_ok-to_vec.field-0 so_far.0 c.in-Some.batch.now c.in-Some.behind.now now c.args.text.now (get_or now 0 0) so_far.1 so_far.2 is_open same begins);
       others = λ batches size reads.
           let rest = c.loop-rest.invariant.others batches size reads in
           let s = some now is_open rest.0 rest.1 rest.2 in
-          (s.batches, s.first.more, subst (λ (b : List ℕ). ReadsAs s.batches s.first.more b) (same_behind MAX_BODY small_body s.first.gate (get_or now 0 0) s.batch c.in-Some.batch.now s.first.behind c.in-Some.behind.now now s.first.begins begins) s.first.reads);
+          (s.batches, s.first.more, rw (sym (same_behind MAX_BODY small_body s.first.gate (get_or now 0 0) s.batch c.in-Some.batch.now s.first.behind c.in-Some.behind.now now s.first.begins begins)) s.first.reads);
     }
 
 pub returns-clause-bad : goal.returns-clause-bad
@@ -38,4 +38,4 @@ returns-clause-bad c _ batches size reads =
     let rest = c.loop-rest.invariant.others batches size reads in
     let test = c.loop-rest-test.ensures in
     let none : c.loop-rest.rest.now ≡ [] = empty c.loop-rest.rest.now (grind (arith, test)) in
-    nothing rest.0 rest.1 (subst (λ (b : List ℕ). ReadsAs rest.0 rest.1 b) none rest.2)
+    nothing rest.0 rest.1 (rw (sym none) rest.2)

@@ -1,8 +1,6 @@
 use Rattle.std.proofs.Common.{◌≡◌, take}
-use Rattle.std.specs.List.{AllByRecursion}
-use Rattle.coord_batch.specs.Batches.{CarriesRightly}
 use Rattle.coord_world.specs.Facade.{Legal, fold}
 use Rattle.coord_store.proofs.steps.take_all.Given as goal
 
 abbrev pub invariant-loop-step : goal.invariant-loop-step
-invariant-loop-step l = (l.world ≡ fold l.initial.world (take l.step-index l.steps)) × Legal l.world × AllByRecursion (CarriesRightly l.initial.world.version) (take l.step-index l.steps)
+invariant-loop-step l = (l.world ≡ fold l.initial.world (take l.step-index l.steps)) × Legal l.world

@@ -1,4 +1,4 @@
-use Rattle.std.proofs.Common.{arith, ◌∙◌}
+use Rattle.std.proofs.Common.{arith}
 use Rattle.coord_store.proofs.Holding.{either_is_only, ends_within, on_refusal, only_is_either, only_then_either, only_twice}
 use Rattle.coord_store.proofs.writing.write.Goals as goal
 

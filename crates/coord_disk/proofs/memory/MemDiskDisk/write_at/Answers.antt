@@ -1,6 +1,5 @@
-use Rattle.std.proofs.Common.{refl, subst, sym}
+use Rattle.std.proofs.Common.{refl}
 use Rattle.coord_disk.specs.Disks.Memory.{past_of, present_of}
-use Rattle.coord_disk.specs.Model.Present.{WritesWithin}
 use Rattle.coord_disk.proofs.Overwritten.{wrote}
 use Rattle.coord_disk.proofs.Replays.{adds_time}
 use Rattle.coord_disk.proofs.memory.MemDiskDisk.write_at.Goals as goal
@@ -13,6 +12,6 @@ returns-in-Ok-clause-call c =
       time = λ _. adds_time (past_of c.args.self.now) (past_of c.record_write.new.self) _ c.in-Ok.ensures.ok;
       change = λ _. record {
         written = written;
-        crash = subst (λ p. WritesWithin c.args.at c.args.bytes.now (present_of c.args.self.now) p) (sym written) (wrote c.args.at c.args.bytes.now (present_of c.args.self.now));
+        crash = rw written (wrote c.args.at c.args.bytes.now (present_of c.args.self.now));
       };
     }

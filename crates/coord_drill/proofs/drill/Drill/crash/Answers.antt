@@ -13,7 +13,7 @@ use Rattle.coord_drill.proofs.drill.Drill.crash.Goals as goal
 
 pub returns-in-Err-clause-cut : goal.returns-in-Err-clause-cut
 returns-in-Err-clause-cut g c promised =
-    let told = c.told_as.ensures.told in
+    let told = c.fault_of.ensures.told in
     inr (record {
       moments = λ s is represents old there keeps. (c.in-Err.ensures.disk s is represents old there keeps).reopens;
       cause = λ on. subst IsPassing (sym told) (crash_cause _ c.in-Err.kind c.in-Err.ensures.cause on);

@@ -1,6 +1,6 @@
 use Rattle.std.proofs.Common.{◌≡◌, ◌+◌, List, ℕ, [], ◌∷◌, length, sym, ◌∙◌, ap, arith, rules}
 use Rattle.coord_disk.specs.Model.Present.{overwritten, whole}
-use Rattle.coord_journal.specs.Facade.{half_number, with_batch}
+use Rattle.coord_journal.specs.Facade.{with_batch}
 use Rattle.coord_journal.proofs.Appended.{appended, length_block, size_push}
 use Rattle.coord_journal.proofs.Writing.{appending, nothing_written}
 use Rattle.coord_journal.proofs.journal.Journal.append.Goals as goal
@@ -34,7 +34,7 @@ returns-clause-writes g c content ready =
           record {
             keeps = c.write_in_turn-written.ensures.runs.model ∙ ready.keeps;
             synced = done ∙ ap (λ p. whole p.read) (sym done);
-            text = appended bytes body content j.half_size (half_number j.half) j.used ready.text c.requires.short c.requires.fits (gate + 1) gate (omega (arith, c.gate-gate.ensures.place)) c.gate-gate.ensures.place
+            text = appended ready.text body c.requires.short c.requires.fits (gate + 1) gate (omega (arith, c.gate-gate.ensures.place)) c.gate-gate.ensures.place
                 (m.present c.write_in_turn-written.new.disk).read (j.used + c.len.result) size
                 (ap (λ p. p.read) done ∙ ap (λ (b : List ℕ). overwritten (overwritten bytes (gate + 1) b) gate (1 ∷ [])) block_is);
             used = omega (arith, size, ready.used, size_push content.batches body);

@@ -35,11 +35,11 @@ returns-clause-writes g c content ready =
       any_moment = replacing m j content ready c.write_in_turn-written.new.disk c.args.version snapshot c.deref.result.now start c.selector.result c.requires start_is block_is c.write_in_turn-written.ensures.any_moment;
       done =
           let done = rw c.in_ok-written.was at (c.write_in_turn-written.ensures.done ready.keeps) in
-          let size : c.len.result ≡ 6 + length snapshot = omega (arith, c.len.ensures, ap length c.in_ok-bytes.ensures, length_block bytes content j.half_size (half_number j.half) j.used ready.text c.args.version snapshot c.requires) in
+          let size : c.len.result ≡ 6 + length snapshot = omega (arith, c.len.ensures, ap length c.in_ok-bytes.ensures, length_block ready.text c.args.version snapshot c.requires) in
           record {
             keeps = c.write_in_turn-written.ensures.runs.model ∙ ready.keeps;
             synced = done ∙ ap (λ p. whole p.read) (sym done);
-            text = replaced bytes content j.half_size (half_number j.half) j.used ready.text c.args.version snapshot c.requires start start_is c.selector.result (half_number c.other-half.result) c.len.result
+            text = replaced ready.text c.args.version snapshot c.requires start start_is c.selector.result (half_number c.other-half.result) c.len.result
                 (m.present c.write_in_turn-written.new.disk).read c.other-half.ensures size c.selector.ensures.names
                 (ap (λ p. p.read) done ∙ ap (λ (b : List ℕ). overwritten (overwritten bytes start b) 0 (c.selector.result ∷ [])) block_is);
             used = omega (arith, size);

@@ -27,8 +27,8 @@ over-requires-clause-holds g c k =
 pub returns-clause-fault : goal.returns-clause-fault
 returns-clause-fault g c k0 =
     let k1 = c.format.ensures.runs.model ∙ k0 in
-    made_refused (g.D.Disk.model.present c.args.disk).read (g.D.Disk.model.present c.format.new.disk).read c.args.half_size (without_batch c.args.version c.deref.result.now) c.in-Err-open.fault c.told-in-Err-open.result
-    c.told-in-Err-open.ensures (c.in-Ok-format.ensures.text k0) (c.in-Err-open.ensures.fault k1)
+    made_refused (g.D.Disk.model.present c.args.disk).read (g.D.Disk.model.present c.format.new.disk).read c.args.half_size (without_batch c.args.version c.deref.result.now) c.in-Err-open.fault c.fault_of-in-Err-open.result
+    c.fault_of-in-Err-open.ensures (c.in-Ok-format.ensures.text k0) (c.in-Err-open.ensures.fault k1)
 
 -- a disk that was not empty
 
@@ -37,7 +37,7 @@ not_device why fault is other device = other (is ∙ ap store_fault_of device)
 
 pub returns-in-Err-format-clause-taken : goal.returns-in-Err-format-clause-taken
 returns-in-Err-format-clause-taken g c k some other =
-    c.in-Err-format.ensures.unchanged k (not_device c.in-Err-format.fault c.told.result c.told.ensures other)
+    c.in-Err-format.ensures.unchanged k (not_device c.in-Err-format.fault c.fault_of.result c.fault_of.ensures other)
 
 pub returns-clause-taken : goal.returns-clause-taken
 returns-clause-taken g c k some other = let no : ⊥ = omega (arith, some, c.in-Ok-format.ensures.empty k) in absurd no

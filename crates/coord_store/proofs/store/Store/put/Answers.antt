@@ -1,89 +1,49 @@
-use Rattle.std.proofs.Common.{◌≡◌, ◌≢◌, ⊎_elim, Err, is_some, rules, refl, sym, ap, ◌∙◌, subst}
+use Rattle.std.proofs.Common.{◌≡◌, ◌≢◌, ◌⊎◌, IfErr, is_some, refl, sym, ap, ◌∙◌, subst}
 use Rattle.coord_disk.specs.Model.Moments.{Runs}
-use Rattle.coord_store.specs.Faults.{failed_in}
-use Rattle.coord_store.specs.Kept.{IsKept, Kept}
-use Rattle.coord_journal.specs.declared.journal.Journal.{Journal}
-use Rattle.coord_store.specs.declared.faults.CommitFault.TheVariants.{Device}
-use Rattle.coord_store.specs.declared.faults.StoreFault.TheVariants as fault
-use Rattle.coord_store.proofs.Changing.{err_is, ok_not}
-use Rattle.coord_store.proofs.Holding.{kept_on, kept_torn, none_of}
+use Rattle.coord_store.specs.Faults.{failures_in}
+use Rattle.coord_store.specs.Facade.{Changes, Kept}
+use Rattle.coord_store.specs.declared.faults.CommitFault.TheVariants.{OutOfMemory, Device}
+use Rattle.coord_store.proofs.Changing.{changed, fails_so, kept, kept_after, same_failures, untouched}
+use Rattle.coord_store.proofs.Holding.{none_of}
 use Rattle.coord_store.proofs.store.Store.put.Goals as goal
 
--- ---- what the type keeps
+pub put_in_place-written-requires-clause-going : goal.put_in_place-written-requires-clause-going
+put_in_place-written-requires-clause-going g c = c.self.invariant.stopped ∙ ap (λ (k : Kept g.row.D.Denot). is_some k.torn) c.self.view_is ∙ c.requires.going
 
-pub put_in_place-requires-clause-going : goal.put_in_place-requires-clause-going
-put_in_place-requires-clause-going g c = c.self.invariant.stopped ∙ ap (λ (k : Kept g.row.D.Denot). is_some k.torn) c.self.view_is ∙ c.requires.going
-
+-- what the type keeps
 pub invariant_of-self : goal.invariant_of-self
 invariant_of-self g c =
     let none = none_of c.self.inside.torn (is_some c.self.inside.torn) refl (ap (λ (k : Kept g.row.D.Denot). is_some k.torn) c.self.view_is ∙ c.requires.going) in
-    subst (λ x. IsKept g.D.Disk.model c.put_in_place.new.journal x c.self.inside.torn) (sym c.replace.ensures.after)
-    (kept_on g.D.Disk.model c.put_in_place.new.journal c.args.next c.self.inside.torn none c.requires.legal c.in-Ok.ensures.ends.going
-    (λ k. (c.in-Ok.ensures.follows c.self.inside.world (c.self.invariant.holds (sym c.put_in_place.ensures.ends.runs.model ∙ k) none)).done))
+    kept_after g.D.Disk.model c.self.inside.journal c.put_in_place-written.new.journal c.self.inside.world c.args.next c.conclude.new.world c.self.inside.torn c.conclude.new.torn none c.self.invariant.holds
+    g.met.D.Disk.laws c.self.invariant.legal c.requires.legal 4 c.put_in_place-written.result c.conclude.ensures.keeps (c.put_in_place-written.ensures.follows c.self.inside.world) (c.put_in_place-written.ensures.stays c.self.inside.world) c.put_in_place-written.ensures.ends
 
-pub invariant_of-self-then-eq : goal.invariant_of-self-then-eq
-invariant_of-self-then-eq g c =
+-- what is promised: as the writing says
+pub returns-clause-changes : goal.returns-clause-changes
+returns-clause-changes g c =
+    let journal = c.self.inside.journal in
     let w = c.self.inside.world in
-    let none = none_of c.self.inside.torn (is_some c.self.inside.torn) refl (ap (λ (k : Kept g.row.D.Denot). is_some k.torn) c.self.view_is ∙ c.requires.going) in
-    let device : c.in-Err.fault ≡ Device = search rules in
-    subst (λ o. IsKept g.D.Disk.model c.put_in_place.new.journal w o) (sym c.replace-then-eq.ensures.after)
-    (kept_torn g.D.Disk.model g.met.D.Disk.laws c.self.inside.journal.disk c.put_in_place.new.journal w c.args.next c.self.invariant.legal (c.in-Err.ensures.ends.device (ap Err device))
-    (λ k. (c.put_in_place.ensures.follows w (c.self.invariant.holds (sym c.put_in_place.ensures.ends.runs.model ∙ k) none)).any_moment))
+    let torn = c.self.inside.torn in
+    let none = none_of torn (is_some torn) refl (ap (λ (k : Kept g.row.D.Denot). is_some k.torn) c.self.view_is ∙ c.requires.going) in
+    rw (← c.self.view_is)
+    (subst (Changes g.D.Disk.model c.args.next Device (kept journal w torn) (kept c.put_in_place-written.new.journal c.conclude.new.world c.conclude.new.torn)) (sym c.conclude.ensures.answer)
+    (changed g.D.Disk.model journal c.put_in_place-written.new.journal w c.args.next c.conclude.new.world torn c.conclude.new.torn none c.self.invariant.holds c.put_in_place-written.result
+    c.conclude.ensures.keeps (c.put_in_place-written.ensures.follows w) (c.put_in_place-written.ensures.stays w)))
 
--- ---- what is promised: as the writing says
+pub returns-clause-unchanged : goal.returns-clause-unchanged
+returns-clause-unchanged g c =
+    let journal = c.self.inside.journal in
+    let w = c.self.inside.world in
+    let torn = c.self.inside.torn in
+    let none = none_of torn (is_some torn) refl (ap (λ (k : Kept g.row.D.Denot). is_some k.torn) c.self.view_is ∙ c.requires.going) in
+    rw (← c.self.view_is)
+    (subst (λ r. IfErr r (λ fault. fault ≢ Device → kept c.put_in_place-written.new.journal c.conclude.new.world c.conclude.new.torn ≡ kept journal w torn)) (sym c.conclude.ensures.answer)
+    (untouched g.D.Disk.model journal c.put_in_place-written.new.journal w c.args.next c.conclude.new.world torn c.conclude.new.torn none c.self.invariant.holds c.put_in_place-written.result c.conclude.ensures.keeps c.put_in_place-written.ensures.unchanged))
 
-unlike : fault.OutOfMemory ≡ fault.Device → ⊥
-unlike e = absurd cc
+pub returns-clause-fault : goal.returns-clause-fault
+returns-clause-fault g c =
+    subst (λ r. IfErr r (λ fault. (fault ≡ OutOfMemory) ⊎ (fault ≡ Device))) (sym c.conclude.ensures.answer) (fails_so c.self.inside.world c.put_in_place-written.result _ c.put_in_place-written.ensures.ends.fault)
 
-pub returns-in-Ok-clause-changes : goal.returns-in-Ok-clause-changes
-returns-in-Ok-clause-changes g c =
-    let none = none_of c.self.inside.torn (is_some c.self.inside.torn) refl (ap (λ (k : Kept g.row.D.Denot). is_some k.torn) c.self.view_is ∙ c.requires.going) in
-    rw (← c.self.view_is) (record {
-      any_moment = λ k none. (c.in-Ok.ensures.follows c.self.inside.world (c.self.invariant.holds k none)).any_moment;
-      any_moment_refused = λ k none. tt;
-      world = search rules;
-      going = none;
-      torn = λ e. ok_not _ _ e;
-      same_world = tt;
-    })
-
-pub returns-then-eq-clause-changes : goal.returns-then-eq-clause-changes
-returns-then-eq-clause-changes g c = rw (← c.self.view_is) (record {
-  any_moment = λ k none. (c.in-Err.ensures.follows c.self.inside.world (c.self.invariant.holds k none)).any_moment;
-  any_moment_refused = λ k none other. absurd (other refl);
-  world = tt;
-  going = tt;
-  torn = λ _. search rules;
-  same_world = refl;
-})
-
-pub returns-else-eq-clause-changes : goal.returns-else-eq-clause-changes
-returns-else-eq-clause-changes g c =
-    let other : c.in-Err.fault ≢ Device = search rules in
-    rw (← c.self.view_is) (record {
-      any_moment = λ k none. (c.in-Err.ensures.follows c.self.inside.world (c.self.invariant.holds k none)).any_moment;
-      any_moment_refused = λ k none _. (c.in-Err.ensures.stays c.self.inside.world (c.self.invariant.holds k none)).any_moment other;
-      world = tt;
-      going = tt;
-      torn = λ e. absurd (unlike (err_is fault.OutOfMemory fault.Device e));
-      same_world = refl;
-    })
-
-pub returns-in-Ok-clause-runs : goal.returns-in-Ok-clause-runs
-returns-in-Ok-clause-runs g c = rw (← c.self.view_is) c.in-Ok.ensures.ends.runs
-
-pub returns-then-eq-clause-runs : goal.returns-then-eq-clause-runs
-returns-then-eq-clause-runs g c =
-    let device : c.in-Err.fault ≡ Device = search rules in
-    rw (← c.self.view_is) (subst (λ f. Runs g.D.Disk.model c.self.inside.journal.disk c.put_in_place.new.journal.disk 4 (failed_in f)) device c.in-Err.ensures.ends.runs)
-
-pub returns-else-eq-clause-runs : goal.returns-else-eq-clause-runs
-returns-else-eq-clause-runs g c =
-    let other : c.in-Err.fault ≢ Device = search rules in
-    let none : failed_in c.in-Err.fault ≡ 0 = ⊎_elim (λ memory. ap failed_in memory) (λ device. absurd (other device)) c.in-Err.ensures.ends.fault in
-    rw (← c.self.view_is) (subst (λ n. Runs g.D.Disk.model c.self.inside.journal.disk c.put_in_place.new.journal.disk 4 n) none c.in-Err.ensures.ends.runs)
-
-pub returns-else-eq-clause-unchanged : goal.returns-else-eq-clause-unchanged
-returns-else-eq-clause-unchanged g c _ =
-    let other : c.in-Err.fault ≢ Device = search rules in
-    ap (λ (j : Journal g.row.D.Denot). record { disk = j.disk; world = c.self.inside.world; torn = c.self.inside.torn }) (c.in-Err.ensures.unchanged other) ∙ c.self.view_is
+pub returns-clause-runs : goal.returns-clause-runs
+returns-clause-runs g c =
+    rw (← c.self.view_is)
+    (subst (Runs g.D.Disk.model c.self.inside.journal.disk c.put_in_place-written.new.journal.disk 4) (same_failures c.self.inside.world c.put_in_place-written.result ∙ ap failures_in (sym c.conclude.ensures.answer)) c.put_in_place-written.ensures.ends.runs)

@@ -2,6 +2,7 @@ use Rattle.std.proofs.Common.{◌≡◌, ◌<◌, ℕ, Some, IsSome, true, lengt
 use Rattle.coord_types.specs.NodeSet as set
 use Rattle.coord_types.specs.Table.{get}
 use Rattle.coord_types.specs.declared.steps.Command.TheVariants.{Drop}
+use Rattle.coord_link.specs.declared.lane.TheConstants.{PLACES}
 use Rattle.coord_link.specs.LaneMachine.{Lane}
 use Rattle.coord_node.specs.Rules.{Transition, lost}
 use Rattle.coord_world.specs.Facade.{World, lane_at, state, with_command, with_transition}
@@ -14,7 +15,7 @@ carry_out-requires-clause-room c =
     let d : Transition = lost (state c.args.self.now c.args.a) c.args.b in
     let after : World = c.drop_lanes.new.self in
     act_room c.in_ok-first.first c.args.a d after.links c.in_ok-first.ensures
-    (subst (λ (w : World). (v : ℕ) (l : Lane) → lane_at w.links c.args.a v ≡ Some l → set.contains d.to v ≡ true → length l.queue < 4) (sym c.drop_lanes.ensures) c.requires.first.room)
+    (subst (λ (w : World). (v : ℕ) (l : Lane) → lane_at w.links c.args.a v ≡ Some l → set.contains d.to v ≡ true → length l.queue < PLACES) (sym c.drop_lanes.ensures) c.requires.first.room)
 
 pub carry_out-requires-2-clause-there : goal.carry_out-requires-2-clause-there
 carry_out-requires-2-clause-there c =
@@ -33,7 +34,7 @@ carry_out-requires-2-clause-room c =
     let between : c.carry_out.new.self ≡ with_transition (with_command c.args.self.now (Drop c.args.a c.args.b)) c.args.a one =
     c.carry_out.ensures ∙ act_done c.drop_lanes.new.self c.in_ok-first.first c.args.a one c.in_ok-first.ensures ∙ ap (λ w. with_transition w c.args.a one) c.drop_lanes.ensures in
     act_room c.in_ok-second.second c.args.b d after.links c.in_ok-second.ensures
-    (subst (λ (w : World). (v : ℕ) (l : Lane) → lane_at w.links c.args.b v ≡ Some l → set.contains d.to v ≡ true → length l.queue < 4) (sym between) c.requires.second.room)
+    (subst (λ (w : World). (v : ℕ) (l : Lane) → lane_at w.links c.args.b v ≡ Some l → set.contains d.to v ≡ true → length l.queue < PLACES) (sym between) c.requires.second.room)
 
 pub returns-clause-world : goal.returns-clause-world
 returns-clause-world c =

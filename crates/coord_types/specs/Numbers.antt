@@ -1,0 +1,7 @@
+-- Numbers in ascending order.
+use Rattle.std.specs.Prelude.{ℕ, ◌+◌, ◌-◌, List}
+use Rattle.std.specs.List.{range_with_len}
+
+-- the numbers from one on, up to the greatest
+unfoldable pub numbers : ℕ → ℕ → List ℕ
+numbers most u = range_with_len u (most + 1 - u)
