@@ -24,7 +24,7 @@ returns-then-has_closed-clause-closed g c = λ _.
     let now = c.serve-ended.ensures.served in
     let last : Connection = record { talk = record { bytes_read = now.0; bytes_written = now.1 }; ended = c.serve-ended.result } in
     let begun = (subst (λ o. IfSome o (λ line. g.C.Callers.begins line × HasKeptFewer g.D.Desk.keeps c.loop.desk c.args.most)) c.in-Some-2.is c.in_ok-line.ensures.begun).0 in
-    closed_on g.D.Desk.answers g.C.Callers.talked g.met.C.Callers.in_turn _ _ _ _ _ _ _ last c.loop.invariant.2 c.next_in_life.ensures.none_ended (c.end.ensures.met _ now.0 now.1 begun now.2) now.3 (sym c.has_closed.ensures ∙ c.if-has_closed.true)
+    closed_on g.D.Desk.answers g.C.Callers.talked g.met.C.Callers.in_turn _ _ _ _ _ _ _ last c.loop.invariant.2 c.next_in_life.ensures.none_ended (c.end.ensures.talked _ now.0 now.1 begun now.2) now.3 (sym c.has_closed.ensures ∙ c.if-has_closed.true)
 
 pub loop-preserved : goal.loop-preserved
 loop-preserved g c =
@@ -33,5 +33,5 @@ loop-preserved g c =
     let begun = (subst (λ o. IfSome o (λ line. g.C.Callers.begins line × HasKeptFewer g.D.Desk.keeps c.loop.desk c.args.most)) c.in-Some-2.is c.in_ok-line.ensures.begun).0 in (
       tt,
       tt,
-      open_on g.D.Desk.answers g.C.Callers.talked g.met.C.Callers.in_turn _ _ _ _ _ _ _ last c.loop.invariant.2 c.next_in_life.ensures.none_ended (c.end.ensures.met _ now.0 now.1 begun now.2) now.3 (sym c.has_closed.ensures ∙ c.if-has_closed.false),
+      open_on g.D.Desk.answers g.C.Callers.talked g.met.C.Callers.in_turn _ _ _ _ _ _ _ last c.loop.invariant.2 c.next_in_life.ensures.none_ended (c.end.ensures.talked _ now.0 now.1 begun now.2) now.3 (sym c.has_closed.ensures ∙ c.if-has_closed.false),
     )
