@@ -48,7 +48,7 @@ gave keeps_model present bytes after is = (gives_some bytes is.began is.opened, 
 pub of_serving : (bytes : Option (List ℕ)) (fault : ServerFault) → GivesWorld bytes → IsOfServing bytes (fault_of_server fault)
 of_serving bytes of_server.OutOfMemory gives = gives
 of_serving bytes of_server.Socket gives = gives
-of_serving bytes of_server.Device gives = tt
+of_serving bytes of_server.Device gives = inl refl
 of_serving bytes of_server.Write gives = gives
 of_serving bytes (of_server.NotClosed fault) gives = gives
 
@@ -104,7 +104,7 @@ module _ {D : Type 0} (model : DiskModel D) where
   ended before after store fault is ends = inr (inr (record { began = store.world; opened = is.world; fault = fault; ends = ends; named = refl }))
 
   of_unopened : (before after : Option Present) (fault : StoreFault) → ((fault ≡ Device) × (after ≡ before)) ⊎ (IsOfOpening (reads before) (Store fault) × IsPutBack model (failed_in fault) before after) → IsOfServing (reads before) (Store fault)
-  of_unopened before after fault (inl none) = subst (λ (f : StoreFault). IsOfServing (reads before) (Store f)) (sym none.0) tt
+  of_unopened before after fault (inl none) = inl none.0
   of_unopened before after fault (inr refuses) = refuses.0
 
   -- as far as the bytes tell

@@ -8,7 +8,7 @@ use Rattle.coord_commands.proofs.serving.serve_at.Goals as goal
 pub returns-in_err-closed-in-Ok-clause-fault : goal.returns-in_err-closed-in-Ok-clause-fault
 returns-in_err-closed-in-Ok-clause-fault g c =
     let before = g.F.Folder.holds c.args.folder.now c.args.file.now in
-    let after = g.F.Folder.holds c.opened-store.new.folder c.args.file.now in
+    let after = g.F.Folder.holds c.opened.new.folder c.args.file.now in
     let fault = c.in_err-closed-in-Ok.field-0.0 in
     let told : c.from_residual-in_err-closed-in-Ok.result ≡ Err (fault_of_server fault) = search rules in
     err_last (EndsServing g.F.Disk.Disk.model before after) c.from_residual-in_err-closed-in-Ok.result (fault_of_server fault) told (ended g.F.Disk.Disk.model before after c.in_ok-store.store fault c.in_ok-store.ensures.opened c.in_err-closed-in-Ok.ensures.fault)
