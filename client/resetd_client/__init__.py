@@ -19,7 +19,7 @@ from .signals import Clock, Follower, Stream, Wake, Wakes
 from .starts import Due, Shelf, Starts
 from .view import Link, Node, View
 
-__version__ = "0.14.0"  # that of the first heading of CHANGELOG.md
+__version__ = "0.15.0"  # that of the first heading of CHANGELOG.md
 
 __all__ = [
     "Away", "CLIENTS", "Clock", "CountLost", "CountNotFound", "Due", "Fault", "Faulted", "Follower", "Garbled",

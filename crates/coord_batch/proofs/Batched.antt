@@ -43,8 +43,7 @@ command_fits (Confirm u e) range = ((5, Confirm u e), ((omega arith, refl), ((u,
 data_in_range : (version : ℕ) (p : DataPacket) → (data_packet version).Fits p → StepFits version (Take p)
 unfolding data_packet
 data_in_range version p fits =
-    subst (λ q. StepFits version (Take q)) (sym fits.2)
-    (node_in_range fits.0.0 fits.1.0, node_in_range fits.0.1.0 fits.1.1.0, fits.1.1.1.0, fits.1.1.1.1.0, message_in_range version (2 ^ 64 - 1) fits.0.1.1.1.1 (omega arith) fits.1.1.1.1.1)
+    rw fits.2 (node_in_range fits.0.0 fits.1.0, node_in_range fits.0.1.0 fits.1.1.0, fits.1.1.1.0, fits.1.1.1.1.0, message_in_range version (2 ^ 64 - 1) fits.0.1.1.1.1 (omega arith) fits.1.1.1.1.1)
 
 data_fits : (version : ℕ) (p : DataPacket) → StepFits version (Take p) → (data_packet version).Fits p
 unfolding data_packet
@@ -52,7 +51,7 @@ data_fits version p range = ((p.from, (p.to, (p.inc, (p.number, p.msg)))), (node
 
 receipt_in_range : (version : ℕ) (r : ReceiptPacket) → receipt_packet.Fits r → StepFits version (Clear r)
 unfolding receipt_packet
-receipt_in_range version r fits = subst (λ q. StepFits version (Clear q)) (sym fits.2) (node_in_range fits.0.0 fits.1.0, node_in_range fits.0.1.0 fits.1.1.0, fits.1.1.1.0, fits.1.1.1.1)
+receipt_in_range version r fits = rw fits.2 (node_in_range fits.0.0 fits.1.0, node_in_range fits.0.1.0 fits.1.1.0, fits.1.1.1.0, fits.1.1.1.1)
 
 receipt_fits : (version : ℕ) (r : ReceiptPacket) → StepFits version (Clear r) → receipt_packet.Fits r
 unfolding receipt_packet

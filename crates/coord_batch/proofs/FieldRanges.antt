@@ -1,5 +1,5 @@
 -- Which values the fields can spell: those in their ranges.
-use Rattle.std.proofs.Common.{ℕ, zero, suc, ◌<◌, ◌≤◌, ◌^◌, Bool, true, false, eqb, refl, sym, subst, arith}
+use Rattle.std.proofs.Common.{ℕ, zero, suc, ◌<◌, ◌≤◌, ◌^◌, Bool, true, false, eqb, refl, arith}
 use Rattle.coord_types.specs.Facade.{IsNode, carried}
 use Rattle.std.proofs.lemmas.Bool.Decides.{nat_tests}
 use Rattle.coord_types.specs.declared.messages.Msg.{Msg}
@@ -55,13 +55,13 @@ no_distance_fits version most small = by_version (eqb version 1)
 
 case_in_range : (version most t : ℕ) (m : Msg) → most < 2 ^ 64 → (message_case version most t).Fits m → (distance version most).Fits (carried m)
 unfolding message_case
-case_in_range version most zero m small fits = subst (λ n. (distance version most).Fits (carried n)) (sym fits.2) fits.1
-case_in_range version most (suc zero) m small fits = subst (λ n. (distance version most).Fits (carried n)) (sym fits.2) (no_distance_fits version most small)
-case_in_range version most (suc (suc n)) m small fits = subst (λ n. (distance version most).Fits (carried n)) (sym fits.2) (no_distance_fits version most small)
+case_in_range version most zero m small fits = rw fits.2 fits.1
+case_in_range version most (suc zero) m small fits = rw fits.2 (no_distance_fits version most small)
+case_in_range version most (suc (suc n)) m small fits = rw fits.2 (no_distance_fits version most small)
 
 pub message_in_range : (version most : ℕ) (m : Msg) → most < 2 ^ 64 → (message version most).Fits m → (distance version most).Fits (carried m)
 unfolding message
-message_in_range version most m small fits = subst (λ n. (distance version most).Fits (carried n)) (sym fits.2) (case_in_range version most fits.0.0 fits.0.1 small fits.1.1)
+message_in_range version most m small fits = rw fits.2 (case_in_range version most fits.0.0 fits.0.1 small fits.1.1)
 
 pub at_most_in_range : (most n : ℕ) → (at_most most).Fits n → n ≤ most
 unfolding at_most

@@ -337,7 +337,7 @@ module _ {A : Type 0} (f : Format A) (grammar : IsGrammar f) where
       let g = held_ok (eqb (length a.0.1) 0) (Extra (length a.0.1)) a.0.0 x a.2 in
       let t = grammar.takes bytes a.0.0 a.0.1 fits a.1 in
       let nothing : a.0.1 ≡ [] = nil_from_length a.0.1 (eqb-true _ _ g.0) in
-      subst (λ y. (bytes ≡ f.text y) × f.Fits y) g.1 (t.parts ∙ ap (λ (l : List ℕ). f.text a.0.0 ++ l) nothing ∙ append-nil (f.text a.0.0), t.fits)
+      rw (sym g.1) (t.parts ∙ ap (λ (l : List ℕ). f.text a.0.0 ++ l) nothing ∙ append-nil (f.text a.0.0), t.fits)
 
   -- what spells a value is read as that value
   pub whole_again : (x : A) → f.Fits x → whole f (f.text x) ≡ Ok x

@@ -3,7 +3,7 @@
 ghost use Rattle.std.specs.Prelude.{◌≡◌, ℕ, ◌-◌, ◌^◌, ◌++◌, [], ◌∷◌, OnOk};
 ghost use Rattle.std.specs.Int.{w64, to_be_bytes};
 ghost use Rattle.coord_types.specs.Messages.{carried};
-ghost use Rattle.coord_batch.specs.Fields.{distance, message};
+ghost use Rattle.coord_batch.specs.Fields.{distance, message, message_tag};
 ghost use Rattle.coord_types.specs.StepRanges.{CommandInRange, IsNode};
 ghost use Rattle.coord_batch.specs.Steps.{command, data_packet, receipt_packet, step};
 ghost use Rattle.coord_batch.specs.Batches.{StepFits, IsWritable};
@@ -67,8 +67,19 @@ fn put_address(
     Ok(())
 }
 
-/// Puts a message's spelling at the end: 0 Abort, in version 2 with its distance, 1 Ack, 2 Ready. In
-/// version 1 an Abort carries no distance.
+/// The byte of a message.
+fn message_byte(msg: Msg) -> u8
+    ensures { result ≡ message_tag msg }
+{
+    match msg {
+        Msg::Abort(_) => 0,
+        Msg::Ack => 1,
+        Msg::Ready => 2,
+    }
+}
+
+/// Puts a message's spelling at the end: its byte, and in version 2 an Abort's distance. In version 1
+/// an Abort carries none.
 #[tactic(auto, unfolding(crate::specs::Fields::message, crate::specs::Fields::message_case, crate::specs::Fields::distance, crate::specs::Fields::unless, crate::specs::Fields::at_most))]
 pub fn put_message(out: &mut Vec<u8>, version: Version, msg: Msg) -> Result<(), AllocError>
     ensures spelled { (most : ℕ) →
@@ -76,15 +87,14 @@ pub fn put_message(out: &mut Vec<u8>, version: Version, msg: Msg) -> Result<(), 
     ensures fits { (version ≡ 1 → carried msg ≡ 0) →
         OnOk result ((distance version (2 ^ 64 - 1)).Fits (carried msg)) }
 {
+    out.push(message_byte(msg))?;
     match msg {
         Msg::Abort(distance) => {
-            out.push(0)?;
             if version.number() != 1 {
                 out.extend_from_slice(&distance.to_be_bytes())?;
             }
         }
-        Msg::Ack => out.push(1)?,
-        Msg::Ready => out.push(2)?,
+        Msg::Ack | Msg::Ready => {}
     }
     Ok(())
 }

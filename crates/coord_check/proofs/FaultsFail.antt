@@ -1,5 +1,5 @@
 -- Each fault that is told fails where it says, and so does the first.
-use Rattle.std.proofs.Common.{◌≡◌, ℕ, ◌+◌, true, false, Bool, List, [], ◌∷◌, ◌++◌, Option, refl, sym, ◌∙◌, subst, IfSome, if◌then◌else◌}
+use Rattle.std.proofs.Common.{◌≡◌, ℕ, ◌+◌, true, false, Bool, List, [], ◌∷◌, ◌++◌, Option, refl, sym, ◌∙◌, IfSome, if◌then◌else◌}
 use Rattle.std.specs.List.{AllByRecursion, flat_map}
 use Rattle.coord_types.specs.Table.{has}
 use Rattle.coord_world.specs.Facade.{InRange, World, is_linked}
@@ -62,4 +62,4 @@ module _ (w : World) (range : InRange w) where
 
   -- the first fault names what fails
   pub first_fails : (o : Option Violation) → o ≡ first (faults w) → IfSome o (Fails w)
-  first_fails o is = subst (λ (p : Option Violation). IfSome p (Fails w)) (sym is) (of_first (Fails w) (faults w) all_fail)
+  first_fails o is = rw is (of_first (Fails w) (faults w) all_fail)

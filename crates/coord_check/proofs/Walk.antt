@@ -1,5 +1,5 @@
 -- A walk over the neighbours of a node meets each of its links to a node with a greater number.
-use Rattle.std.proofs.Common.{◌≡◌, ℕ, zero, suc, ◌+◌, ◌-◌, ◌<◌, ◌≤◌, Bool, true, false, ◌||◌, List, [], ◌∷◌, ◌++◌, Some, None, refl, sym, ap, ap₂, subst, ◌∙◌, inl, inr, arith, if◌then◌else◌, nat_eq, nat_lt, nat_cmp, Less}
+use Rattle.std.proofs.Common.{◌≡◌, ℕ, zero, suc, ◌+◌, ◌-◌, ◌<◌, ◌≤◌, Bool, true, false, ◌||◌, List, [], ◌∷◌, ◌++◌, Some, None, refl, sym, ap, ap₂, ◌∙◌, inl, inr, arith, if◌then◌else◌, nat_eq, nat_lt, nat_cmp, Less}
 use Rattle.std.specs.List.{AllByRecursion, flat_map, list_any, range_with_len}
 use Rattle.std.specs.List.Sorted.{IsStrictlySortedBy}
 use Rattle.std.proofs.lemmas.Bool.Decides.{nat_tests}
@@ -47,7 +47,7 @@ module _ {X : Type 0} (f : ℕ → List X) where
       ap₂ (λ l k. l ++ k) (none u (omega arith) (omega arith) refl) (sparse m (u + 1) n [] (omega arith) tt tt (λ v le lt out. none v (omega arith) lt out))
   sparse m u (suc n) (x ∷ xs) e rise below none =
       elim (lesser_or_same u x rise.0) [
-        | inl same ↦ ap₂ (λ v l. f v ++ l) same (sparse m (u + 1) n xs (omega arith) (subst (λ k. RiseFrom (k + 1) xs) (sym same) rise.1) below.1 (λ v le lt out. none v (omega arith) lt (other x v _ (omega arith) out)))
+        | inl same ↦ ap₂ (λ v l. f v ++ l) same (sparse m (u + 1) n xs (omega arith) (rw same rise.1) below.1 (λ v le lt out. none v (omega arith) lt (other x v _ (omega arith) out)))
         | inr less ↦
             let here : f u ≡ [] = none u (omega arith) (let most = below.0 in omega arith) (not_listed x u (x ∷ xs) (omega arith, rise.1) less) in
             ap (λ l. l ++ flat_map f (range_with_len (u + 1) n)) here ∙ sparse m (u + 1) n (x ∷ xs) (omega arith) (omega arith, rise.1) below (λ v le lt out. none v (omega arith) lt out)

@@ -1,5 +1,5 @@
 -- The laws of the spellings of worlds, from those of any grammar.
-use Rattle.std.proofs.Common.{◌≡◌, true, sym, subst, arith}
+use Rattle.std.proofs.Common.{◌≡◌, true, arith}
 use Rattle.std.proofs.lemmas.Bool.Decides.{nat_tests}
 use Rattle.coord_batch.specs.Decoding.{is_version}
 use Rattle.coord_world.specs.Facade.{InRange, World, rows_of}
@@ -21,7 +21,7 @@ known w range = grind (arith, nat_tests, range.first, range.last)
 
 pub worlds_prefix_free : WorldsArePrefixFree
 worlds_prefix_free v w rest more first second one same =
-    let both = prefix_free (world v.version) (world_grammar v.version) (rows_of v) (rows_of w) rest more (world_fits v first) (subst (λ version. (world version).Fits (rows_of w)) (sym one) (world_fits w second)) same in
+    let both = prefix_free (world v.version) (world_grammar v.version) (rows_of v) (rows_of w) rest more (world_fits v first) (rw one (world_fits w second)) same in
     (rows_give_world v w first second both.0, both.1)
 
 pub cut_worlds_short : CutWorldsAreShort

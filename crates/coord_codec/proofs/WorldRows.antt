@@ -102,14 +102,14 @@ module _ {Row : Type 0} (key : Row → ℕ) (row : List Row → Format Row) (IsR
   all_in one_in front (r ∷ rs) fits =
       let one = one_in front r fits.0 in
       let rest = all_in one_in (front ++ r ∷ []) rs fits.1 in
-      ((one.0, rest.0), (one.1, subst (λ last. RiseFrom key nat_cmp_total last rs) (last_push key 0 front r) rest.1))
+      ((one.0, rest.0), (one.1, rw (sym (last_push key 0 front r)) rest.1))
 
   all_fit : ((front : List Row) (r : Row) → IsRow r → IsAbove front r → (row front).Fits r) → (front rs : List Row) → AllByRecursion IsRow rs → RiseFrom key nat_cmp_total (last_by key 0 front) rs → FitBehind row front rs
   unfolding FitBehind
   all_fit one_fits front [] all rise = tt
   all_fit one_fits front (r ∷ rs) all rise = (
     one_fits front r all.0 rise.0,
-    all_fit one_fits (front ++ r ∷ []) rs all.1 (subst (λ last. RiseFrom key nat_cmp_total last rs) (sym (last_push key 0 front r)) rise.1),
+    all_fit one_fits (front ++ r ∷ []) rs all.1 (rw (last_push key 0 front r) rise.1),
   )
 
 -- ---- nodes
@@ -127,7 +127,7 @@ module _ (version count : ℕ) where
       let p = fits.0.0 in
       let f = fits.1.0 in
       let d = node_distance_in version count fits.0.1 p.1.1.0 fits.1.1 in
-      subst (λ s. IsRow s × (is_lt (nat_cmp (last_by node_key 0 front) s.id) ≡ true)) (sym fits.2) (
+      rw fits.2 (
         (
           record {
             least = (node_in_range p.0 f.0.0).0;
@@ -308,8 +308,8 @@ module _ (version count : ℕ) (listed : List NodeRow) (small : count < 2 ^ 64) 
   -- a node of the last link has room for one more
   room_more : (front : List LinkRow) (r : LinkRow) → LinkedRow front r → ((u : ℕ) → degree u front ≤ 16) → (u : ℕ) → degree u (front ++ r ∷ []) ≤ 16
   room_more front r row few u =
-      let at_first : eqb u r.a ≡ true → degree u front < 16 = λ t. let same : u ≡ r.a = grind (arith, nat_tests) in subst (λ z. degree z front < 16) (sym same) row.first_room in
-      let at_second : eqb u r.b ≡ true → degree u front < 16 = λ t. let same : u ≡ r.b = grind (arith, nat_tests) in subst (λ z. degree z front < 16) (sym same) row.second_room in
+      let at_first : eqb u r.a ≡ true → degree u front < 16 = λ t. let same : u ≡ r.a = grind (arith, nat_tests) in rw same row.first_room in
+      let at_second : eqb u r.b ≡ true → degree u front < 16 = λ t. let same : u ≡ r.b = grind (arith, nat_tests) in rw same row.second_room in
       grind (arith, nat_tests, degree-push u front r, few u, at_first, at_second)
 
   record LinkedRows (front rs : List LinkRow) : Type 0 where
@@ -320,15 +320,15 @@ module _ (version count : ℕ) (listed : List NodeRow) (small : count < 2 ^ 64) 
 
   links_in : (front rs : List LinkRow) → ((u : ℕ) → degree u front ≤ 16) → FitBehind (link_row version count listed) front rs → LinkedRows front rs
   unfolding FitBehind
-  links_in front [] few fits = record { ranges = tt; carried = tt; rise = tt; degrees = λ u. subst (λ l. degree u l ≤ 16) (sym (append-nil front)) (few u) }
+  links_in front [] few fits = record { ranges = tt; carried = tt; rise = tt; degrees = λ u. rw (append-nil front) (few u) }
   links_in front (r ∷ rs) few fits =
       let row = link_row_in front r fits.0 in
       let rest = links_in (front ++ r ∷ []) rs (room_more front r row few) fits.1 in
       record {
         ranges = (row.range, rest.ranges);
         carried = (row.carried, rest.carried);
-        rise = (row.rises, subst (λ last. RiseFrom link_key pair_cmp_total last rs) (last_push link_key (0, 0) front r) rest.rise);
-        degrees = λ u. subst (λ l. degree u l ≤ 16) (append_assoc front (r ∷ []) rs) (rest.degrees u);
+        rise = (row.rises, rw (sym (last_push link_key (0, 0) front r)) rest.rise);
+        degrees = λ u. rw (sym (append_assoc front (r ∷ []) rs)) (rest.degrees u);
       }
 
   module _ (all : AllByRecursion (NodeRowFits count) listed) where
@@ -350,8 +350,8 @@ module _ (version count : ℕ) (listed : List NodeRow) (small : count < 2 ^ 64) 
       links_fit (front ++ r ∷ []) rs (record {
         ranges = rows.ranges.1;
         carried = rows.carried.1;
-        rise = subst (λ last. RiseFrom link_key pair_cmp_total last rs) (sym (last_push link_key (0, 0) front r)) rows.rise.1;
-        degrees = λ u. subst (λ l. degree u l ≤ 16) (sym (append_assoc front (r ∷ []) rs)) (rows.degrees u);
+        rise = rw (last_push link_key (0, 0) front r) rows.rise.1;
+        degrees = λ u. rw (append_assoc front (r ∷ []) rs) (rows.degrees u);
       }),
     )
 
@@ -391,7 +391,7 @@ module _ (count : ℕ) where
       let id = client_in_range p.0 f.0.0 in
       let number = from_one_to_in_range count p.1.0 f.1.0 in
       let step = from_one_to_in_range count p.1.1.1.0 f.1.1.1.0 in
-      subst (λ s. ClientRowFits count s × (is_lt (nat_cmp (last_by client_key 0 front) s.client) ≡ true)) (sym fits.2) (
+      rw fits.2 (
         record {
           least = id.0;
           greatest = id.1;

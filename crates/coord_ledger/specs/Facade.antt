@@ -20,7 +20,7 @@ pub use Rattle.coord_ledger.specs.declared.trace.RunFaultKind.{RunFaultKind}
 pub use Rattle.coord_ledger.specs.machine.Log.{Log, accepted_count, cut_to, front_world, has_stopped, log_over, rebased, pending, settled_count, settled_steps, settled_world, with_doubt, with_settled, with_step, world_after}
 pub use Rattle.coord_ledger.specs.machine.Submits.{is_full, unless_full, verdict}
 pub use Rattle.coord_ledger.specs.machine.Machine.{FlightOut, Machine, adopted, machine_over}
-pub use Rattle.coord_ledger.specs.machine.Answers.{IsOneOf, answers, kept, kept_by, kept_with, next_size, stays_home, ticket, to_begin, to_collect, to_commit, to_finish, to_show, to_submit, with_flight}
+pub use Rattle.coord_ledger.specs.machine.Answers.{IsOneOf, answers, kept, kept_by, kept_with, next_size, cannot_flush, ticket, to_begin, to_collect, to_commit, to_finish, to_show, to_submit, with_flight}
 pub use Rattle.coord_ledger.specs.machine.After.{after, after_finish, after_submit, crashed, finished, log_back, marked, release_of, released_back, releases_of, resent, settling_releases, spent, with_ticket}
 pub use Rattle.coord_ledger.specs.machine.Runs.{Answered, run}
 pub use Rattle.coord_ledger.specs.machine.Consistent.{DoubtFits, EventInRange, FitsOut, FlightFits, IsConsistent, IsConsistentLog, IsTold, TicketFits}

@@ -1,5 +1,5 @@
 -- What was written of a commit or of a migration, as the store tells it.
-use Rattle.std.proofs.Common.{◌≡◌, ◌≢◌, ◌⊎◌, ◌↔◌, ◌+◌, ◌≤◌, inl, inr, ⊎_elim, ℕ, List, length, true, false, None, Option, is_some, Result, Ok, Err, IfErr, IsErrOf, refl, sym, ap, ◌∙◌, subst, arith}
+use Rattle.std.proofs.Common.{◌≡◌, ◌≢◌, ◌⊎◌, ◌↔◌, ◌+◌, ◌≤◌, inl, inr, ⊎_elim, ℕ, List, length, true, false, None, Option, is_some, Result, Ok, Err, IfErr, IsErrOf, refl, sym, ap, ◌∙◌, arith}
 use Rattle.coord_disk.specs.Model.DiskModel.{DiskModel, IsModel}
 use Rattle.coord_disk.specs.Model.Moments.{LeavesOnly, Runs}
 use Rattle.coord_journal.specs.Facade.{HasRoomFor, disk_of, half_of}
@@ -37,7 +37,7 @@ pub fails_so : {T : Type 0} (w : World) (r : Result T CommitFault) (P : CommitFa
 fails_so w (Ok x) P refused = tt
 fails_so w (Err fault) P refused = refused
 
-pub same_failures : {T : Type 0} (w : World) (r : Result T CommitFault) → failures_in r ≡ failures_in (with_world w r)
+pub same_failures : {T : Type 0} (w : World) (r : Result T CommitFault) → failures_in (with_world w r) ≡ failures_in r
 same_failures w (Ok x) = refl
 same_failures w (Err fault) = refl
 
@@ -61,7 +61,7 @@ module _ {D : Type 0} (m : DiskModel D) where
       → HasRoomFor journal (length body) × (half_of journal ≡ half)
   fits_in journal w torn steps body half holds takes fits =
       let room = has_room m journal w half (length fits.body) (holds fits.keeps fits.going) fits.place in
-      (subst (λ n. HasRoomFor journal n) (as_long w fits.body body steps fits.spells takes.spells) room.0, room.1)
+      (rw (sym (as_long w fits.body body steps fits.spells takes.spells)) room.0, room.1)
 
   -- the same change, told with the faults of another type
   pub retold : {T U E F : Type 0} (s n : Kept D) (next : World) (a : E) (b : F) (x : T) (y : U) → Changes m next a s n (Ok x) → Changes m next b s n (Ok y)
@@ -93,12 +93,12 @@ module _ {D T : Type 0} (m : DiskModel D) (old new : Journal D) (w next v : Worl
   -- what the type of a store keeps
   pub kept_after : IsModel m → Legal w → Legal next → (most : ℕ) (r : Result T CommitFault) → Concludes next w v torn now r → (Holds m old w → Follows m w next old new r) → (Holds m old w → Stays m w old new r) → Ends m most old new r → IsKept m new v now
   kept_after laws legal legal_next most (Ok x) keeps follows stays ends =
-      subst (λ y. IsKept m new y now) (sym keeps.world) (kept_on m new next now (keeps.same_torn ∙ none) legal_next ends.going (λ k. (follows (holds (sym ends.runs.model ∙ k) none)).done))
+      rw keeps.world (kept_on m new next now (keeps.same_torn ∙ none) legal_next ends.going (λ k. (follows (holds (sym ends.runs.model ∙ k) none)).done))
   kept_after laws legal legal_next most (Err fault) keeps follows stays ends =
-      subst (λ y. IsKept m new y now) (sym keeps.same_world)
+      rw keeps.same_world
       (⊎_elim
       (λ memory. let other : fault ≢ Device = λ is. absurd cc in kept_on m new w now (keeps.unchanged other ∙ none) legal (ends.still other) (λ k. (stays (holds (sym ends.runs.model ∙ k) none)).held other))
-      (λ device. subst (λ o. IsKept m new w o) (sym (keeps.torn (ap Err device))) (kept_torn m laws (disk_of old) new w next legal (ends.device (ap Err device)) (λ k. (follows (holds (sym ends.runs.model ∙ k) none)).any_moment)))
+      (λ device. rw (keeps.torn (ap Err device)) (kept_torn m laws (disk_of old) new w next legal (ends.device (ap Err device)) (λ k. (follows (holds (sym ends.runs.model ∙ k) none)).any_moment)))
       ends.fault)
 
   -- where the device did not fail and nothing was written

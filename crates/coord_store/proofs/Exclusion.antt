@@ -34,13 +34,13 @@ taken_unrefused w n body steps fault takes (inr stop) =
 led_unrefused : (start w : World) (bodies : List (List ℕ)) (fault : StoreFault) → Replays start bodies w → RefusesReplay start bodies fault → ⊥
 led_unrefused start w bodies fault led refused =
     let here = refused.reaches in
-    let there = reached here.front here.rest refused.body start w (subst (λ l. Replays start l w) here.split led) in
+    let there = reached here.front here.rest refused.body start w (rw (sym here.split) led) in
     let same = one_end here.front start refused.reached there.0 here.replays there.1 in
-    taken_unrefused there.0 refused.number refused.body there.2.0 fault there.2.1 (subst (λ x. RefusesBatch x refused.number refused.body fault) same refused.refuses)
+    taken_unrefused there.0 refused.number refused.body there.2.0 fault there.2.1 (rw (sym same) refused.refuses)
 
 batches_unrefused : (content : Content) (w : World) (fault : StoreFault) → Gives content w → RefusesBatches content fault → ⊥
 batches_unrefused content w fault gives refused =
-    led_unrefused gives.start w content.batches fault gives.replays (subst (λ x. RefusesReplay x content.batches fault) (one_start content refused.0 gives.start refused.1 gives.snapshot) refused.3)
+    led_unrefused gives.start w content.batches fault gives.replays (rw (sym (one_start content refused.0 gives.start refused.1 gives.snapshot)) refused.3)
 
 -- nor is a snapshot that spells a legal world
 snapshot_unrefused : (content : Content) (start : World) (fault : StoreFault) → HasSnapshot content start → Legal start → RefusesSnapshot content fault → ⊥
@@ -56,7 +56,7 @@ content_unrefused content w fault gives (inr batches) = batches_unrefused conten
 text_unrefused : (bytes : List ℕ) (w : World) (fault : StoreFault) → Recovered bytes w → RefusesText bytes fault → ⊥
 text_unrefused bytes w fault recovered refused =
     let same = text_same bytes refused.0 recovered.content refused.1 recovered.text in
-    content_unrefused recovered.content w fault recovered.gives (subst (λ (c : Content). RefusesContent c fault) same refused.2)
+    content_unrefused recovered.content w fault recovered.gives (rw (sym same) refused.2)
 
 -- a text begins with a header
 begins_with_header : (content : Content) (bytes : List ℕ) → IsText content bytes → BeginsWithHeader bytes
@@ -77,5 +77,5 @@ journal_unrefused bytes content journal.Stopped text refused = absurd refused
 pub recovered_is_opened : RecoveredIsOpened
 recovered_is_opened bytes w fault recovered (inl passing) = passing
 recovered_is_opened bytes w fault recovered (inr (inl by_journal)) =
-    subst IsPassing (sym by_journal.1) (journal_unrefused bytes recovered.content by_journal.0 recovered.text by_journal.2)
+    rw by_journal.1 (journal_unrefused bytes recovered.content by_journal.0 recovered.text by_journal.2)
 recovered_is_opened bytes w fault recovered (inr (inr by_text)) = absurd (text_unrefused bytes w fault recovered by_text)

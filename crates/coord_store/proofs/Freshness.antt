@@ -78,7 +78,7 @@ each_fresh (s ∷ steps) settled w named fresh = ((itself w settled s fresh.0, n
 
 -- they lead to a legal world within its ranges
 pub led_soundly : (steps : List Step) (w : World) → IsSound w → EachFresh w steps → IsSound (fold w steps)
-led_soundly steps w sound each = subst (λ l. IsSound (fold w l)) (take-length steps) (trail_keeps_worlds w steps (length steps) (trail_of steps w sound each))
+led_soundly steps w sound each = rw (sym (take-length steps)) (trail_keeps_worlds w steps (length steps) (trail_of steps w sound each))
 
 -- and in version 1 none of them carries a distance
 pub all_carried : (steps : List Step) (w : World) → IsSound w → EachFresh w steps → AllByRecursion (CarriesRightly w.version) steps

@@ -1,5 +1,6 @@
 -- What the images of a journal's disk give.
 use Rattle.std.proofs.Common.{◌≡◌, ◌≢◌, ℕ, ◌+◌, ◌≤◌, Bool, true, false, List, length, None, Some, Option, is_some, Result, Ok, Err, IfErr, inl, inr, ⊎_elim, refl, sym, ap, ◌∙◌, subst, arith}
+use Rattle.std.proofs.lemmas.Bool.Decides.{nat_tests}
 use Rattle.coord_batch.specs.Facade.{IsBatch, batch, pair}
 use Rattle.coord_codec.specs.Worlds.{world}
 use Rattle.coord_disk.specs.Model.DiskModel.{DiskModel, IsModel}
@@ -7,7 +8,7 @@ use Rattle.coord_disk.specs.Model.Moments.{LeavesOnly}
 use Rattle.coord_disk.specs.Model.Present.{IsImage}
 use Rattle.coord_disk.proofs.MomentLemmas.{and_then, started, weaker}
 use Rattle.coord_disk.proofs.TornWrites.{whole_image}
-use Rattle.coord_journal.specs.Facade.{Content, HasPlaceIn, HasRoomFor, IsEitherText, IsText, IsTextAt, IsTextIn, disk_of, half_of, half_size_of, has_stopped, used_of, with_batch, without_batch}
+use Rattle.coord_journal.specs.Facade.{Content, HasPlaceIn, HasRoomFor, IsEitherText, IsText, IsTextIn, disk_of, half_of, half_size_of, has_stopped, used_of, with_batch, without_batch}
 use Rattle.coord_journal.specs.Writing.{Rewrites}
 use Rattle.coord_journal.specs.declared.fault.JournalFault.{JournalFault}
 use Rattle.coord_journal.specs.declared.journal.Journal.{Journal}
@@ -39,7 +40,7 @@ snapshot_gives version snapshot w known range legal spelled = record { start = w
 pub taken : (w : World) (version n : ℕ) (body items : List ℕ) (steps : List Step) → version ≡ w.version → n ≡ w.count → body ≡ items → items ≡ (batch version).text (pair (n + 1) steps) → IsBatch version (n + 1) steps → AllFresh w w steps → Takes w body steps
 taken w version n body items steps one counts is spelled fits fresh = record {
   spells = record {
-    numbered = subst (λ v. IsBatch v (w.count + 1) steps) one (subst (λ m. IsBatch version (m + 1) steps) counts fits);
+    numbered = rw (sym one) (rw (sym counts) fits);
     spelled = is ∙ spelled ∙ (λ i. (batch (one i)).text (pair (counts i + 1) steps));
   };
   fresh = fresh;
@@ -50,8 +51,7 @@ pub as_long : (w : World) (one other : List ℕ) (steps : List Step) → IsBody 
 as_long w one other steps spells too = ap length (spells.spelled ∙ sym too.spelled)
 
 pub none_of : (o : Option World) (b : Bool) → b ≡ is_some o → b ≡ false → o ≡ None
-none_of None b is clear = refl
-none_of (Some w) b is clear = absurd cc
+none_of o b is clear = grind (arith, nat_tests, is, clear)
 
 -- what follows where a call is refused for another reason than its device
 pub on_refusal : {T P Q : Type 0} (r : Result T CommitFault) → (P → Q) → IfErr r (λ fault. fault ≢ Device → P) → IfErr r (λ fault. fault ≢ Device → Q)
@@ -90,7 +90,7 @@ module _ {D : Type 0} (m : DiskModel D) where
       (omega (arith, same.0, same.2, place.4), same.1)
 
   pub in_half : (journal : Journal D) (w : World) (half : ℕ) → Holds m journal w → half_of journal ≡ half → IsTextIn half (m.present (disk_of journal)).read
-  in_half journal w half holds same = (holds.content, half_size_of journal, used_of journal, subst (λ (h : ℕ). IsTextAt (m.present (disk_of journal)).read holds.content (half_size_of journal) h (used_of journal)) same holds.ready.text)
+  in_half journal w half holds same = (holds.content, half_size_of journal, used_of journal, rw (sym same) holds.ready.text)
 
   -- what a journal's writing of another content means for the worlds that the contents give
   pub follows_done : {T U : Type 0} (old new : Journal D) (other : Content) (w next : World) (holds : Holds m old w) (x : T) (y : U) → Gives other next → Rewrites m holds.content other old new (Ok x) → Follows m w next old new (Ok y)
@@ -113,8 +113,7 @@ module _ {D : Type 0} (m : DiskModel D) where
 
   -- where nothing was written
   pub unwritten : IsModel m → (old new : Journal D) (w : World) → Holds m old w → new ≡ old → LeavesOnly m (disk_of old) (disk_of new) (IsOnlyWorld w) × Holds m new w
-  unwritten laws old new w holds same =
-      let P : Journal D → Type 0 = λ j. LeavesOnly m (disk_of old) (disk_of j) (IsOnlyWorld w) × Holds m j w in subst P (sym same) (begun laws old w holds, holds)
+  unwritten laws old new w holds same = rw same (begun laws old w holds, holds)
 
   pub stays_by : {T : Type 0} → IsModel m → (old new : Journal D) (w : World) (fault : CommitFault) → Holds m old w → (fault ≢ Device → new ≡ old) → Stays {T = T} m w old new (Err fault)
   stays_by laws old new w fault holds same = record { any_moment = λ other. (unwritten laws old new w holds (same other)).0; held = λ other. (unwritten laws old new w holds (same other)).1 }

@@ -1,5 +1,5 @@
 -- Bytes give one world at most.
-use Rattle.std.proofs.Common.{◌≡◌, ℕ, ◌+◌, List, [], ◌∷◌, ◌++◌, sym, ap, ◌∙◌, subst}
+use Rattle.std.proofs.Common.{◌≡◌, ℕ, ◌+◌, List, [], ◌∷◌, ◌++◌, sym, ap, ◌∙◌}
 use Rattle.coord_types.specs.declared.steps.Step.{Step}
 use Rattle.coord_batch.specs.Facade.{batch, pair}
 use Rattle.coord_batch.proofs.SpellingLaws.{batches_prefix_free}
@@ -29,15 +29,15 @@ pub one_end : (bodies : List (List ℕ)) (w u v : World) → Replays w bodies u 
 one_end [] w u v here there = sym here ∙ there
 one_end (body ∷ bodies) w u v here there =
     let same = one_spelling w body here.0 there.0 here.1.spells there.1.spells in
-    one_end bodies (fold w there.0) u v (subst (λ ss. Replays (fold w ss) bodies u) same here.2) there.2
+    one_end bodies (fold w there.0) u v (rw (sym same) here.2) there.2
 
 -- a content gives one world
 pub one_given : (content : Content) (v w : World) → Gives content v → Gives content w → v ≡ w
 one_given content v w here there =
     let start = one_start content here.start there.start here.snapshot there.snapshot in
-    one_end content.batches there.start v w (subst (λ x. Replays x content.batches v) start here.replays) there.replays
+    one_end content.batches there.start v w (rw (sym start) here.replays) there.replays
 
 pub recovered_is_one : RecoveredIsOne
 recovered_is_one bytes v w here there =
     let same : here.content ≡ there.content = text_same bytes here.content there.content here.text there.text in
-    one_given there.content v w (subst (λ (c : Content). Gives c v) same here.gives) there.gives
+    one_given there.content v w (rw (sym same) here.gives) there.gives

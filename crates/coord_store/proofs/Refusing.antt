@@ -1,5 +1,5 @@
 -- What is refused, told of the whole device.
-use Rattle.std.proofs.Common.{◌≡◌, ◌⊎◌, ℕ, List, ⊎_elim, inl, inr, subst, sym}
+use Rattle.std.proofs.Common.{◌≡◌, ◌⊎◌, ℕ, List, ⊎_elim, inl, inr}
 use Rattle.coord_journal.specs.Facade.{Content, IsText, RefusesOpen as JournalRefuses}
 use Rattle.coord_journal.specs.declared.fault.JournalFault.{JournalFault}
 use Rattle.coord_store.specs.Facade.{RefusesContent, RefusesCreate, RefusesOpen, store_fault_of}
@@ -14,5 +14,4 @@ content_refused bytes content fault text refused = ⊎_elim (λ memory. inl (inl
 -- a journal that was just made is refused for want of memory or by the device alone
 pub made_refused : (bytes made : List ℕ) (half_size : ℕ) (content : Content) (why : JournalFault) (fault : StoreFault) → fault ≡ store_fault_of why → IsText content made → JournalRefuses made why → RefusesCreate bytes half_size fault
 made_refused bytes made half_size content why fault is text refused =
-    subst (RefusesCreate bytes half_size) (sym is)
-    (⊎_elim (λ memory. subst (RefusesCreate bytes half_size) (sym memory) tt) (λ device. subst (RefusesCreate bytes half_size) (sym device) tt) (journal_unrefused made content why text refused))
+    rw is (⊎_elim (λ memory. rw memory tt) (λ device. rw device tt) (journal_unrefused made content why text refused))

@@ -44,11 +44,11 @@ module _ (batches : List (Vec ℕ Global)) (i : ℕ) (v : Vec ℕ Global) (below
       number = length-bodies (take i batches) ∙ length-take-le i batches (omega arith);
       replays = led;
     };
-    refuses = subst (λ l. RefusesBatch w i l fault) same refuses;
+    refuses = rw (sym same) refuses;
   }
 
   -- once it is taken, the one behind it is reached
   pub replays_on : (body : List ℕ) (steps : List Step) → body ≡ v.items → Takes w body steps → Replays start (bodies (take (i + 1) batches)) (fold w steps)
   replays_on body steps same takes =
       let P : List (List ℕ) → Type 0 = λ l. Replays start l (fold w steps) in
-      subst P (sym (ap bodies (take-push batches i v below is) ∙ bodies-append (take i batches) (v ∷ []))) (replays-push (bodies (take i batches)) v.items steps start w led (subst (λ l. Takes w l steps) same takes))
+      subst P (sym (ap bodies (take-push batches i v below is) ∙ bodies-append (take i batches) (v ∷ []))) (replays-push (bodies (take i batches)) v.items steps start w led (rw (sym same) takes))

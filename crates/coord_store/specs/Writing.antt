@@ -1,4 +1,4 @@
--- What the parts of a commit promise of the journal that holds its world.
+-- What the parts of a commit promise: of the journal that holds its world, and of what the store keeps.
 use Rattle.std.specs.Prelude.{◌≡◌, ◌≢◌, ◌⊎◌, true, false, ℕ, Option, Some, Result, Ok, Err, IfErr, IsErrOf, OnOk}
 use Rattle.coord_disk.specs.Model.DiskModel.{DiskModel}
 use Rattle.coord_disk.specs.Model.Moments.{LeavesOnly, Runs}

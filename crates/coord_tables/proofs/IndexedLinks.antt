@@ -17,7 +17,7 @@ use Rattle.coord_link.specs.LaneMachine.{Lane}
 use Rattle.coord_tables.specs.Links.{AreIndexed, Lanes, Links, LinksRise, Turned, change_lane, ends, lane_at, link_entry, link_place, links_of, parted, row_with, toward}
 use Rattle.coord_tables.specs.Pairs.{pair_cmp, pair_cmp_total}
 use Rattle.coord_tables.specs.Place.{IsGapFor}
-use Rattle.coord_tables.specs.Places.{HasKeyAt, IsIndexOf, IsIndexed, noted_place, pair_place}
+use Rattle.coord_tables.specs.Places.{HasKeyAt, IsIndexed, noted_place, pair_place}
 use Rattle.coord_tables.specs.declared.links.LinkRow.{LinkRow}
 use Rattle.coord_tables.proofs.Cases.{both, by_test}
 use Rattle.coord_tables.proofs.Found.{same_pair}
@@ -180,7 +180,7 @@ module _ (rows : List LinkRow) (places : List ℕ) (are : AreIndexed rows places
         record {
           rise = record { turned = all_set (λ z. z.a < z.b) rows i r (omega (arith, less, first, second)) are.rise.turned; rise = ap (is_sorted pair_cmp) mapped ∙ still.sorted };
           few = omega (arith, are.few, length-set rows i r);
-          index = subst (λ es. IsIndexOf places es) (sym mapped) still.index;
+          index = rw mapped still.index;
         }
 
     links_put : links_of (set rows i r) ≡ insert (links_of rows) (e.a, e.b) (lanes_in r)

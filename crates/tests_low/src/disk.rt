@@ -58,9 +58,10 @@ fn a_synced_write_outlives_a_crash(rt: HostRuntime) {
     let mut read = [0; 2];
     disk.read(1, &mut read).expect(&rt, "not read");
     assert_eq!(rt; (read, disk.len()), ([5, 3], Ok(4)));
+    disk.write_at(3, &[6]).expect(&rt, "not written");
     let disk = disk.crash();
-    assert_eq!(rt; disk.bytes(), [1, 7, 3, 4].as_slice());
-    assert_eq!(rt; disk.crash().bytes(), [1, 7, 3, 4].as_slice());
+    assert_eq!(rt; disk.bytes(), [1, 7, 3, 7].as_slice());
+    assert_eq!(rt; disk.crash().bytes(), [1, 7, 3, 7].as_slice());
 }
 
 // A sync says that it came, passes where the gate is open, and else fails and changes nothing.

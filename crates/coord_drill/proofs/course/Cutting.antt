@@ -41,10 +41,10 @@ module _ {D : Type 0} (disk : DiskModel D) (crashes : D → D → Type 0) (d : D
         cause = of_memory (opens_disk a) why memory;
         given = given;
         mid = there.new;
-        moments = subst (λ (s : DrillState). Passes disk crashes p.machine p.told (take (length given) (line_events s.holds a given)) given p.disk there.new) (sym at.state)
+        moments = rw at.state
             (passes disk crashes p.machine p.told (take (length given) (line_events d.holds a given)) given p.disk there.new led.in_range at.consistent led.answered at.told there.moments);
         left = left_as a (run p.machine (so_far a given) given) there.new lost other same;
-        failed = subst (λ (s : DrillState). disk.failures lost ≡ disk.failures p.disk + (failed_until (take (length given) (line_events s.holds a given)) given + failed_by why)) (sym at.state) all;
+        failed = rw at.state all;
       }
 
   -- behind no event

@@ -87,9 +87,9 @@ module _ (s t : DrillState) (given : List Answer) (told : List ℕ) (empty : s.h
       same_log (ap (λ (r : DrillState). r.log) answered.goes_on ∙ step_leaves s x given answered.answered before) (never_begun s.has_begun x given before)
   stays_empty ask.Flush answered =
       by_world (λ log. (run (machine_over log) (flight_events given) given).log) (ap (λ (r : DrillState). r.log) answered.goes_on) (sym (ap (λ (r : DrillState). r.has_begun) answered.goes_on) ∙ begun)
-      (λ w one. empty_flight w given (subst (λ log. Answered (machine_over log) (flight_events given) given) one answered.answered))
+      (λ w one. empty_flight w given (rw (sym one) answered.answered))
   stays_empty ask.Crash answered =
       by_world (λ log. rebased (run (machine_over log) (event.Crash ∷ []) given).log (run (machine_over log) (event.Crash ∷ []) given).log.settled) (ap (λ (r : DrillState). r.log) answered.goes_on) (sym (ap (λ (r : DrillState). r.has_begun) answered.goes_on) ∙ begun)
-      (λ w one. empty_crash w given (subst (λ log. Answered (machine_over log) (event.Crash ∷ []) given) one answered.answered))
+      (λ w one. empty_crash w given (rw (sym one) answered.answered))
   stays_empty ask.Version2 answered = inr (ap (λ (r : DrillState). r.log) answered.goes_on)
   stays_empty a answered = same_log (ap (λ (r : DrillState). r.log) answered.goes_on) (sym (ap (λ (r : DrillState). r.has_begun) answered.goes_on) ∙ begun)

@@ -58,9 +58,9 @@ module _ {D : Type 0} (disk : DiskModel D) (crashes : D → D → Type 0) where
         let e = ap (λ b. cond b None (option_map (asked (front_world p.state.log)) (asked_by p.state line))) skipped in
         record {
           given = [];
-          responds = subst (λ b. UnlessSkipped b p.state [] [] p.state (Responds p.state n (asked_by p.state line) [] [] p.state)) (sym skipped) (refl, refl, refl);
-          told = subst (λ o. p.told ≡ p.told ++ told_in p.state o []) (sym e) (sym (append-nil p.told));
-          moments = subst (λ o. Moves disk crashes o [] p p) (sym e) (refl, refl);
+          responds = rw skipped (refl, refl, refl);
+          told = rw e (sym (append-nil p.told));
+          moments = rw e (refl, refl);
         }
 
     pub goes_over : LineGoes disk crashes p n None (bad_line n) p
@@ -72,10 +72,9 @@ module _ {D : Type 0} (disk : DiskModel D) (crashes : D → D → Type 0) where
         let e = asked_is p.state line None kept own in
         record {
           given = [];
-          responds = subst (λ b. UnlessSkipped b p.state [] (bad_line n) p.state (Responds p.state n (asked_by p.state line) [] (bad_line n) p.state)) (sym kept)
-              (subst (λ o. Responds p.state n o [] (bad_line n) p.state) (sym own) (refl, refl, refl));
-          told = subst (λ o. p.told ≡ p.told ++ told_in p.state o []) (sym e) (sym (append-nil p.told));
-          moments = subst (λ o. Moves disk crashes o [] p p) (sym e) (refl, refl);
+          responds = rw kept (rw own (refl, refl, refl));
+          told = rw e (sym (append-nil p.told));
+          moments = rw e (refl, refl);
         }
 
     -- what it asks for is promised
@@ -116,7 +115,7 @@ module _ {D : Type 0} (disk : DiskModel D) (crashes : D → D → Type 0) where
         let own : asked_by p.state line ≡ Some r = ap (λ (s : DrillState). asked_by s line) at.state ∙ is in
         let asks : asked_in p.state (Some line) ≡ Some a = asked_is p.state line (Some r) kept own ∙ ap (λ (s : DrillState). Some (asked (front_world s.log) r)) at.state in
         let on = promised line r is in
-        subst (λ o. LineCutShort disk crashes p o why lost) (sym asks) (cut_by disk crashes d p at a why lost on (cuts on))
+        rw asks (cut_by disk crashes d p at a why lost on (cuts on))
 
     -- a bad line asks for nothing
     pub asks_nothing : (line : List ℕ) → is_skipped line ≡ false → asked_by (state_of d) line ≡ None → asked_in p.state (Some line) ≡ None
@@ -125,12 +124,12 @@ module _ {D : Type 0} (disk : DiskModel D) (crashes : D → D → Type 0) where
   -- a line that is told as bad
   pub tells_bad : (d : Drill D) (n : ℕ) (old text : List ℕ) (r : Result (Drill D) (Fault × D)) (line : Line) → IfOk r (λ x. x ≡ d) → OnOk r (text ≡ old ++ bad_line n) → ((p : Place D) → Stands disk d p → LineGoes disk crashes p n line (bad_line n) p) →
       IfOk r (λ x. Tells old text (λ told. CarriesLine disk crashes d n line told x))
-  tells_bad d n old text (Ok x) line same told goes = (bad_line n, (told, λ p at. (p, (subst (λ y. Stands disk y p) (sym same) at, goes p at))))
+  tells_bad d n old text (Ok x) line same told goes = (bad_line n, (told, λ p at. (p, (rw same at, goes p at))))
   tells_bad d n old text (Err e) line same told goes = tt
 
   -- it could not be told
   pub told_lost : (d : Drill D) (p : Place D) → Stands disk d p → (line : Line) (fault : Fault) (lost : D) → asked_in p.state line ≡ None → IsOfMemory fault → disk_held d.driver ≡ Some lost → FirstCutShort disk crashes p (line ∷ []) fault lost
-  told_lost d p at line fault lost none memory there = subst (λ o. LineCutShort disk crashes p o fault lost) (sym none) (memory, cc (there, at.holds))
+  told_lost d p at line fault lost none memory there = rw none (memory, cc (there, at.holds))
 
   -- ---- lines
 
@@ -140,7 +139,7 @@ module _ {D : Type 0} (disk : DiskModel D) (crashes : D → D → Type 0) where
   pub goes_both : (p q r : Place D) (n m : ℕ) (ls ks : List Line) (t u : List ℕ) → m ≡ n + length ls → Goes disk crashes p n ls t q → Goes disk crashes q m ks u r → Goes disk crashes p n (ls ++ ks) (t ++ u) r
   goes_both p q r n m [] ks t u at first more =
       let here : m ≡ n = omega (arith, at) in
-      subst (λ x. Goes disk crashes p n ks (x ++ u) r) (sym first.0) (subst (λ k. Goes disk crashes p k ks u r) here (subst (λ x. Goes disk crashes x m ks u r) first.1 more))
+      rw first.0 (rw (sym here) (rw (sym first.1) more))
   goes_both p q r n m (l ∷ ls) ks t u at first more =
       record {
         told = first.told;
@@ -155,7 +154,7 @@ module _ {D : Type 0} (disk : DiskModel D) (crashes : D → D → Type 0) where
   pub goes_prints : (p q : Place D) (n m : ℕ) (ls ks : List Line) (t u : List ℕ) → m ≡ n + length ls → Goes disk crashes p n ls t q → Prints q.state m ks u → Prints p.state n (ls ++ ks) (t ++ u)
   goes_prints p q n m [] ks t u at first more =
       let here : m ≡ n = omega (arith, at) in
-      subst (λ x. Prints p.state n ks (x ++ u)) (sym first.0) (subst (λ k. Prints p.state k ks u) here (subst (λ (x : Place D). Prints x.state m ks u) first.1 more))
+      rw first.0 (rw (sym here) (rw (sym first.1) more))
   goes_prints p q n m (l ∷ ls) ks t u at first more =
       record {
         given = first.line.given;

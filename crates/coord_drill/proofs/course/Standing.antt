@@ -34,8 +34,7 @@ module _ {D : Type 0} (disk : DiskModel D) (crashes : D → D → Type 0) where
       let so_far = may.so_far in
       let last : so_far.disk ≡ here = cc (so_far.holds, there) in
       let first : may.first ≡ here = sym so_far.moments.0 ∙ last in
-      subst (λ (k : Machine). CrashPrefix k true (disk.present here)) same
-      (λ _ image is. so_far.moments.1 (ap disk.keeps_model first ∙ on) image (subst (λ x. IsImage (disk.present x) image) (sym last) is))
+      rw (sym same) (λ _ image is. so_far.moments.1 (ap disk.keeps_model first ∙ on) image (rw last is))
 
   -- whatever the disk of a driver may hold is kept, where nothing was told of yet
   pub first_kept : (d : DriverState D) (here : D) → MayBegin disk crashes d → disk_held d ≡ Some here → disk.keeps_model here ≡ true → AllKept (started d.ledger) [] (disk.present here)
@@ -52,7 +51,7 @@ module _ {D : Type 0} (disk : DiskModel D) (crashes : D → D → Type 0) where
         represents = subst (Represents d.driver) same may.so_far.represents;
         told = tt;
         empty = λ _. inl refl;
-        kept = subst (λ m. AllKept m [] (disk.present begun)) same (first_kept d.driver begun may there on);
+        kept = rw (sym same) (first_kept d.driver begun may there on);
       }
 
   -- ---- what is asked
@@ -174,7 +173,7 @@ module _ {D : Type 0} (disk : DiskModel D) (crashes : D → D → Type 0) where
     raises empty old lost there moments =
         let same : old ≡ p.disk = cc (there, at.holds) in
         let leaves = moments (none_stopped d.driver.ledger.log empty) (ap disk.keeps_model same ∙ at.keeps) in
-        subst (λ x. LeavesOnly disk x lost (λ bytes. IsKept p.machine p.told bytes ⊎ IsKept (adopted (no_world 2)) p.told bytes)) same
+        rw (sym same)
         (weaker disk old lost (GivesRaised d.driver) (λ bytes. IsKept p.machine p.told bytes ⊎ IsKept (adopted (no_world 2)) p.told bytes) leaves (raising_kept empty))
 
     -- so is the line `version 2`

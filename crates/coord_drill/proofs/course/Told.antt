@@ -74,21 +74,21 @@ module _ (s : DrillState) (x : Step) where
 
   step_settled : (holds : Bool) (given : List Answer) → s.holds ≡ holds → Answered (machine_of s) (step_events holds x given) given → HaveMemory given → AllByRecursion (λ k. k ≤ settled_count (run (machine_of s) (step_events holds x given) given).log) (step_told s x given)
   step_settled true (Accepted n ∷ given) is answered memory =
-      subst (λ b. AllByRecursion (λ k. k ≤ settled_count (run (machine_of s) (step_events true x (Accepted n ∷ given)) (Accepted n ∷ given)).log) (cond b [] (flight_told (with_step s.log x) given))) (sym is) tt
+      rw is tt
   step_settled false (Accepted n ∷ given) is answered memory =
       let mid = after_submit (machine_of s) x (verdict s.log x) (Accepted n) in
-      subst (λ b. AllByRecursion (λ k. k ≤ settled_count (run mid (flight_events given) given).log) (cond b [] (flight_told (with_step s.log x) given))) (sym is)
-      (subst (λ (g : Log). AllByRecursion (λ k. k ≤ settled_count (run mid (flight_events given) given).log) (flight_told g given)) (accepted_log (verdict s.log x) n answered.0) (flight_settled mid given answered.1 memory.1))
+      rw is
+      (rw (sym (accepted_log (verdict s.log x) n answered.0)) (flight_settled mid given answered.1 memory.1))
   step_settled holds (Repeated n ∷ given) is answered memory =
       let log = repeated_log (verdict s.log x) n in
-      subst (λ (g : Log). AllByRecursion (λ k. k ≤ settled_count g) (repeat_told (settled_count s.log) (verdict s.log x))) (sym log) (repeat_settled (verdict s.log x) (settled_count s.log))
+      rw log (repeat_settled (verdict s.log x) (settled_count s.log))
   step_settled holds given is answered memory = tt
 
 -- ---- a line
 
 pub told_settled : (s t : DrillState) (a : Asked) (given : List Answer) (told : List ℕ) → IsAnswered s a given told t → AllByRecursion (λ k. k ≤ settled_count t.log) (told_by s a given)
 unfolding told_by after_asked
-told_settled s t (ask.Submit x) given told answered = subst (λ (r : DrillState). AllByRecursion (λ k. k ≤ settled_count r.log) (step_told s x given)) (sym answered.goes_on) (step_settled s x s.holds given refl answered.answered answered.with_memory)
-told_settled s t ask.Flush given told answered = subst (λ (r : DrillState). AllByRecursion (λ k. k ≤ settled_count r.log) (flight_told s.log given)) (sym answered.goes_on) (flight_settled (machine_of s) given answered.answered answered.with_memory)
+told_settled s t (ask.Submit x) given told answered = rw answered.goes_on (step_settled s x s.holds given refl answered.answered answered.with_memory)
+told_settled s t ask.Flush given told answered = rw answered.goes_on (flight_settled (machine_of s) given answered.answered answered.with_memory)
 told_settled s t ask.Resend given told answered = (omega (arith, ap (λ (r : DrillState). settled_count r.log) answered.goes_on), tt)
 told_settled s t a given told answered = tt

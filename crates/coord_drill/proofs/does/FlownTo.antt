@@ -10,7 +10,7 @@ use Rattle.coord_world.specs.Facade.{World, fold, outs}
 use Rattle.coord_ledger.proofs.follows.Follows.{flight_is, log_is}
 use Rattle.coord_ledger.proofs.machine.Logs.{world-add}
 use Rattle.coord_ledger.specs.declared.events.Event.TheVariants.{Begin}
-use Rattle.coord_ledger.specs.Facade.{Claim, DriverState, IsGranted, IsOneOf, Log, Machine, flight_out, next_size, pending, run as after_run, settled_count, settled_world, settling_releases, started, stays_home, to_begin, with_doubt, with_settled}
+use Rattle.coord_ledger.specs.Facade.{Claim, DriverState, IsGranted, IsOneOf, Log, Machine, flight_out, next_size, pending, run as after_run, settled_count, settled_world, settling_releases, started, cannot_flush, to_begin, with_doubt, with_settled}
 use Rattle.coord_drill.specs.Facade.{AreGranted, Begins, Begun, Drill, Flies, Flown, FlownTo, GoesBy, Lands, IsHeld, IsReadyWith, IsRun, Leads, LeadsPart, Nothing, Refused, Release, Reply, claims_of, collected_lines, drill_of, flight_events, flight_lines, flown_answers, flown_lines, landed_answers, landing_events, left_by, machine_of, seen_as, settled_lines, waiting}
 use Rattle.coord_drill.specs.declared.drill.flying.Flown.TheVariants as flown
 use Rattle.coord_drill.proofs.does.Moments.{leads_then}
@@ -21,7 +21,7 @@ use Rattle.coord_drill.proofs.does.Verdicts.{no_refusal}
 
 -- as many steps are out as the machine sends
 pub begun_size : (m : Machine) (b : ℕ) → IsOneOf (Begun b) (to_begin m) → b ≡ next_size m.log
-begun_size m b one = by_home (stays_home (is_some m.flight) m.log) one
+begun_size m b one = by_home (cannot_flush (is_some m.flight) m.log) one
   where
     by_home : (home : Bool) → IsOneOf (Begun b) (cond home (Nothing ∷ []) (Begun (next_size m.log) ∷ Refused OutOfMemory ∷ [])) → b ≡ next_size m.log
     by_home true (inl same) = cc
@@ -32,8 +32,8 @@ begun_size m b one = by_home (stays_home (is_some m.flight) m.log) one
 
 pub flown_to : (old mid new : Log) (r : Flown) → mid ≡ old → Lands mid r new → FlownTo old r new
 flown_to old mid new flown.Nothing same back = absurd back
-flown_to old mid new (flown.Settled rs) same back = subst (λ g. Lands g (flown.Settled rs) new) same back
-flown_to old mid new (flown.Failed fault) same back = subst (λ g. Lands g (flown.Failed fault) new) same back
+flown_to old mid new (flown.Settled rs) same back = rw (sym same) back
+flown_to old mid new (flown.Failed fault) same back = rw (sym same) back
 
 -- the departure of a flight, and then its commit and its return
 pub flown_by : {D : Type 0} (disk : DiskModel D) (crashes : D → D → Type 0) (v out new : DriverState D) (r : Flown) (b count : ℕ) → Lands out.ledger.log r new.ledger.log → Leads disk crashes v (Begin ∷ []) (Begun b ∷ []) out → Leads disk crashes out landing_events (landed_answers r count) new →
@@ -125,8 +125,7 @@ module _ {D : Type 0} (disk : DiskModel D) (crashes : D → D → Type 0) (v w :
 
     granted : AllByRecursion (IsGranted w.ledger.log) claims
     granted =
-        subst (λ cs. AllByRecursion (IsGranted w.ledger.log) cs) (sym all)
-        (subst (λ g. AllByRecursion (IsGranted g) (claims_of (settled_world log) (pending log))) (sym settled)
+        rw all (rw settled
         (granted_from (with_settled log b) (take log.settled log.trail) (drop log.settled log.trail) (sym (take-append-drop log.settled log.trail))))
 
     lines : collected_lines (settled_world w.ledger.log).version (settled_world w.ledger.log).count claims rs ≡ settled_lines (settled_world log).version (outs (settled_world log) (take b (pending log)))

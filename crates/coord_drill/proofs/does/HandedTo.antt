@@ -48,7 +48,7 @@ accepted_held {D} l new claims x t within held to =
 
 pub repeated_granted : {D : Type 0} (l new : LedgerState D) (x : Step) (t : Claim) → HandedTo l x (Ok (Repeated t)) new → IsGranted new.log t
 repeated_granted {D} l new x t to =
-    subst (λ (m : LedgerState D). IsGranted m.log t) (sym to.now) (subst (IsGranted l.log) (sym to.claims) (granted_repeat l.log x to.kept to.judged))
+    rw to.now (subst (IsGranted l.log) (sym to.claims) (granted_repeat l.log x to.kept to.judged))
 
 -- ---- the drill then, and what is printed
 
@@ -82,7 +82,7 @@ module _ {D : Type 0} (disk : DiskModel D) (crashes : D → D → Type 0) (d : D
       carries_pending t hands begun held =
           let to = hands.handed in
           carried (answer.Accepted t.step ∷ []) (pending_line t.step)
-          (subst (λ b. Leads disk crashes v (event.Submit x ∷ cond b [] (flight_events [])) (answer.Accepted t.step ∷ []) w) (sym held) hands.moments) (no_refusal _ refl, tt) (sym (held_line s x t.step held))
+          (rw held hands.moments) (no_refusal _ refl, tt) (sym (held_line s x t.step held))
           ((λ i. drill_of (to.now i) (holds i) (begun i)) ∙ sym (held_after s x to.kind t.step to.judged held))
 
       pub carries_repeat : (t : Claim) → Hands disk crashes v x (Ok (Repeated t)) w → new.has_begun ≡ d.has_begun → Carries disk crashes d (Submit x) (kept_line (settled_count w.ledger.log) (reply_of t)) new
@@ -109,7 +109,7 @@ module _ {D : Type 0} (disk : DiskModel D) (crashes : D → D → Type 0) (d : D
         let hand : Leads disk crashes v (event.Submit x ∷ []) (answer.Accepted t.step ∷ []) mid.driver = subst (Leads disk crashes v (event.Submit x ∷ []) (answer.Accepted t.step ∷ [])) (sym there) hands.moments in
         let all = leads_then disk crashes v mid.driver new.driver (event.Submit x ∷ []) (flight_events given) (answer.Accepted t.step ∷ []) given hand flown.moments in
         carries disk crashes d new (Submit x) (answer.Accepted t.step ∷ given) told refl begins
-        (subst (λ b. Leads disk crashes v (event.Submit x ∷ cond b [] (flight_events given)) (answer.Accepted t.step ∷ given) new.driver) (sym free) all) (no_refusal _ refl, flown.with_memory)
+        (rw free all) (no_refusal _ refl, flown.with_memory)
         (flown.printed ∙ ap (λ (r : DrillState). flight_lines r.log given) mid_is ∙ sym (flown_line s x t.step given free))
         (flown.goes_on tickets ∙ (λ i. seen_as (run (record (machine_of (mid_is i)) { tickets = tickets }) (flight_events given) given) (holds i) (begun i))
         ∙ sym (flown_after s x to.kind t.step given to.judged free))
@@ -122,7 +122,7 @@ module _ {D : Type 0} (disk : DiskModel D) (crashes : D → D → Type 0) (d : D
         record {
           given = answer.Accepted t.step ∷ part.given;
           mid = part.mid;
-          moments = subst (λ b. Leads disk crashes v (take (length (answer.Accepted t.step ∷ part.given)) (step_events b x (answer.Accepted t.step ∷ part.given))) (answer.Accepted t.step ∷ part.given) part.mid) (sym free) all;
+          moments = rw free all;
           left = part.left;
         }
 

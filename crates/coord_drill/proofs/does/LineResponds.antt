@@ -4,7 +4,7 @@ use Rattle.std.specs.List.{AllByRecursion}
 use Rattle.coord_lines.specs.Lines.{Line}
 use Rattle.coord_types.specs.declared.refusals.Refusal.TheVariants.{OutOfMemory}
 use Rattle.coord_ledger.specs.declared.events.Event.TheVariants as event
-use Rattle.coord_ledger.specs.Facade.{Answered, IsOneOf, Machine, accepted_count, after_submit, front_world, kept_by, next_size, settled_count, stays_home, to_submit, verdict, with_step}
+use Rattle.coord_ledger.specs.Facade.{Answered, IsOneOf, Machine, accepted_count, after_submit, front_world, kept_by, next_size, settled_count, cannot_flush, to_submit, verdict, with_step}
 use Rattle.coord_drill.specs.declared.asked.Asked.TheVariants as ask
 use Rattle.coord_drill.specs.Facade.{Accepted, Answer, Asked, Begun, Committed, DrillState, Event, Finished, Fresh, LineResponds, Nothing, Opened, Prints, Refusal, Refused, Repeat, Repeated, Reply, Request, Responds, Step, UnlessSkipped, Verdict, after_asked, asked, asked_by, asked_lines, bad_line, flight_events, is_skipped, line_events, machine_of, step_events}
 use Rattle.coord_drill.proofs.does.Verdicts.{never_memory, no_refusal, other_refusal}
@@ -26,22 +26,22 @@ none s = record { given = []; answered = tt; with_memory = tt }
 
 -- a flight stays home, or goes out and is committed
 may_fly : (s : DrillState) (tickets : List (Option Reply)) → May (record (machine_of s) { tickets = tickets }) flight_events
-may_fly s tickets = by_home (stays_home false s.log) refl
+may_fly s tickets = by_home (cannot_flush false s.log) refl
   where
     m : Machine
     m = record (machine_of s) { tickets = tickets }
 
-    by_home : (home : Bool) → stays_home false s.log ≡ home → May m flight_events
+    by_home : (home : Bool) → cannot_flush false s.log ≡ home → May m flight_events
     by_home true is = record {
       given = Nothing ∷ [];
-      answered = (subst (λ b. IsOneOf Nothing (cond b (Nothing ∷ []) (Begun (next_size s.log) ∷ Refused OutOfMemory ∷ []))) (sym is) (inl refl), tt);
+      answered = (rw is (inl refl), tt);
       with_memory = (no_refusal _ refl, tt);
     }
     by_home false is =
         let b = next_size s.log in
         record {
           given = Begun b ∷ Committed ∷ Finished (settled_count s.log + b) ∷ [];
-          answered = (subst (λ h. IsOneOf (Begun b) (cond h (Nothing ∷ []) (Begun b ∷ Refused OutOfMemory ∷ []))) (sym is) (inl refl), (inl refl, (inl refl, tt)));
+          answered = (rw is (inl refl), (inl refl, (inl refl, tt)));
           with_memory = (no_refusal _ refl, (no_refusal _ refl, (no_refusal _ refl, tt)));
         }
 
@@ -49,7 +49,7 @@ module _ (s : DrillState) (x : Step) where
   -- what the machine may answer to the step and to the events behind it, by what it says to the step
   may_say : (v : Result Verdict Refusal) (a : Answer) → verdict s.log x ≡ v → IsOneOf a (to_submit (accepted_count s.log + 1) v) → (es : List Event) (given : List Answer) → Answered (after_submit (machine_of s) x v a) es given → Answered (machine_of s) (event.Submit x ∷ es) (a ∷ given)
   may_say v a is one es given rest =
-      subst (λ w. IsOneOf a (to_submit (accepted_count s.log + 1) w) × Answered (after_submit (machine_of s) x w a) es given) (sym is) (one, rest)
+      rw is (one, rest)
 
   may_step : (holds : Bool) (v : Result Verdict Refusal) → verdict s.log x ≡ v → May (machine_of s) (step_events holds x)
   may_step true (Ok (Fresh k)) is =

@@ -68,7 +68,7 @@ begins_by disk crashes d may = record { consistent = may.so_far.consistent; repr
 module _ {D : Type 0} (disk : DiskModel D) (crashes : D → D → Type 0) where
   moments_both : (s : Machine) (es fs : List Event) (gs hs : List Answer) (old mid new : D) → EachMoment disk crashes true s es gs old mid → EachMoment disk crashes true (run s es gs) fs hs mid new →
       EachMoment disk crashes true s (es ++ fs) (gs ++ hs) old new
-  moments_both s [] fs [] hs old mid new first more = subst (λ d. EachMoment disk crashes true s fs hs d new) first.0 more
+  moments_both s [] fs [] hs old mid new first more = rw (sym first.0) more
   moments_both s [] fs (g ∷ gs) hs old mid new first more = absurd first
   moments_both s (e ∷ es) fs [] hs old mid new first more = absurd first
   moments_both s (e ∷ es) fs (g ∷ gs) hs old mid new first more = (first.0, (first.1.0, (first.1.1.0, moments_both (after s e g) es fs gs hs first.1.0 mid new first.1.1.1 more)))
@@ -114,7 +114,7 @@ module _ {D : Type 0} (disk : DiskModel D) (crashes : D → D → Type 0) where
                   (
                     effect.new,
                     (
-                      subst (λ k. Touches disk crashes k (found_by_crash s e a) (touches_disk e a) e old effect.new) keeps effect.touched,
+                      rw (sym keeps) effect.touched,
                       (refl, λ _. later (after s e a) then later_shown effect.new effect.holds on),
                     ),
                   ),
@@ -163,7 +163,7 @@ module _ {D : Type 0} (disk : DiskModel D) (crashes : D → D → Type 0) where
       record {
         given = gs;
         mid = mid;
-        moments = subst (λ l. Leads disk crashes d l gs mid) (sym (as_many (started d.ledger) (es gs) gs run.answered)) leads;
+        moments = rw (as_many (started d.ledger) (es gs) gs run.answered) leads;
         left = there;
       }
 

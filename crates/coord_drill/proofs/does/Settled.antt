@@ -113,7 +113,7 @@ granted_from log before (s ∷ after) is =
         there = ap (λ l. slice_get l (length before)) is ∙ at_middle before after s;
         answered = ap (λ l. reply (fold log.base l) s) first;
       }),
-      subst (λ w. AllByRecursion (IsGranted log) (claims_of w after)) one (granted_from log (before ++ s ∷ []) after (is ∙ sym (append_assoc before (s ∷ []) after))),
+      rw (sym one) (granted_from log (before ++ s ∷ []) after (is ∙ sym (append_assoc before (s ∷ []) after))),
     )
 
 -- what is granted may be collected once its step is settled

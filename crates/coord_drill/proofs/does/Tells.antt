@@ -16,8 +16,8 @@ module _ {D : Type 0} (disk : DiskModel D) (crashes : D → D → Type 0) where
   still d new a told survives driver other none printed same =
       record {
         given = [];
-        answered = record { answered = subst (λ es. Answered (started d.driver.ledger) es []) (sym none) tt; with_memory = tt; printed = printed; goes_on = same };
-        moments = by_asked disk crashes d new [] a other (subst (λ es. Leads disk crashes d.driver es [] new.driver) (sym none) (subst (λ v. Leads disk crashes d.driver [] [] v) (sym driver) (leads_none disk crashes d.driver survives)));
+        answered = record { answered = rw none tt; with_memory = tt; printed = printed; goes_on = same };
+        moments = by_asked disk crashes d new [] a other (rw none (rw driver (leads_none disk crashes d.driver survives)));
       }
 
   pub tells_refusal : (d : Drill D) (old text : List ℕ) (refusal : Refusal) → Survive disk crashes d.driver → text ≡ old ++ refusal_line refusal → Tells old text (λ told. CarriesIf disk crashes d (ask.Refuse refusal) told d)

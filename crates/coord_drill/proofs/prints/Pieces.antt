@@ -131,10 +131,10 @@ module _ {D : Type 0} (disk : DiskModel D) (crashes : D → D → Type 0) where
   last_line line within = ap (λ l. l ∷ []) (extended-nothing line within)
 
   pub last_breaks : (d : Drill D) (n : ℕ) (line : Line) (Why : Place D → List Line → List ℕ → Type 0) → IsWithin line → Breaks disk crashes d n (line ∷ []) Why → Breaks disk crashes d n (lines_on line []) Why
-  last_breaks d n line Why within breaks = subst (λ ls. Breaks disk crashes d n ls Why) (sym (last_line line within)) breaks
+  last_breaks d n line Why within breaks = rw (last_line line within) breaks
 
   pub last_ends : (d new : Drill D) (n : ℕ) (line : Line) (a b : Option (List ℕ)) (last : D) → IsWithin line → CarriesOut disk crashes d n (line ∷ []) a b new → disk_held new.driver ≡ Some last → EndsWith disk crashes d n (lines_on line []) a b last
-  last_ends d new n line a b last within out there = subst (λ ls. EndsWith disk crashes d n ls a b last) (sym (last_line line within)) (record {
+  last_ends d new n line a b last within out there = rw (last_line line within) (record {
     text = out.text;
     wrote = out.wrote;
     goes = λ p stands. let one = out.goes p stands in (one.0, (cc (there, one.1.0.holds), one.1.1));
@@ -192,7 +192,7 @@ module _ {D : Type 0} (disk : DiskModel D) (crashes : D → D → Type 0) where
 
     pub takes_ends : (c : Option (List ℕ)) (last : D) → EndsWith disk crashes now (reached + 1) (lines_on so_far []) b c last → EndsWith disk crashes d (number + 1) (lines_on line piece) a c last
     takes_ends c last ends =
-        subst (λ ls. EndsWith disk crashes d (number + 1) ls a c last) (sym (whole d number line piece [] a b now reached so_far taken))
+        rw (whole d number line piece [] a b now reached so_far taken)
         (ends_after d now (number + 1) (reached + 1) taken.ended (lines_on so_far []) a b c (next_number d number line piece [] a b now reached so_far taken) taken.out last ends)
 
     -- the next piece

@@ -29,7 +29,7 @@ module _ {D : Type 0} (disk : DiskModel D) (crashes : D → D → Type 0) (given
   ended_prints text last ended =
       let lines = lines_of input in
       let prints = goes_prints disk crashes _ ended.place 1 (1 + length lines) lines [] text [] refl ended.course.goes refl in
-      subst (λ t. Prints (drill_over (no_world 1)) 1 lines t) (append-nil text) (subst (λ ls. Prints (drill_over (no_world 1)) 1 ls (text ++ [])) (append-nil lines) prints)
+      rw (sym (append-nil text)) (rw (sym (append-nil lines)) prints)
 
   -- a first part was written, whatever stopped it
   stops_written : (a b : Option (List ℕ)) (fault : Fault) (lost : D) (q : Place D) (others : List Line) (text : List ℕ) → Stops disk crashes a b fault lost q others text → WritesFirstPart a b text
@@ -43,7 +43,7 @@ module _ {D : Type 0} (disk : DiskModel D) (crashes : D → D → Type 0) (given
   broke_prints a b fault lost broke =
       let more = prints_somehow broke.place.state (1 + length broke.lines) broke.others in
       let prints = goes_prints disk crashes _ broke.place 1 (1 + length broke.lines) broke.lines broke.others broke.text more.0 refl broke.course.goes more.1 in
-      (broke.text ++ more.0, subst (λ ls. Prints (drill_over (no_world 1)) 1 ls (broke.text ++ more.0)) (sym broke.split) prints, first_part-longer a b broke.text more.0 (stops_written a b fault lost broke.place broke.others broke.text broke.why))
+      (broke.text ++ more.0, rw broke.split prints, first_part-longer a b broke.text more.0 (stops_written a b fault lost broke.place broke.others broke.text broke.why))
 
   -- from what the code's functions say of it
   module _ (d : Drill D) (begun : IsBegun disk given d) (line : Line) (empty : line ≡ Some []) (a b : Option (List ℕ)) where
@@ -56,7 +56,7 @@ module _ {D : Type 0} (disk : DiskModel D) (crashes : D → D → Type 0) (given
           ends.text,
           record {
             place = one.0;
-            course = record { begun = begun.begun; made = begun.made; unfailed = begun.unfailed; goes = subst (λ ls. Goes disk crashes (start begun.begun) 1 ls ends.text one.0) lines_are one.1.1 };
+            course = record { begun = begun.begun; made = begun.made; unfailed = begun.unfailed; goes = rw (sym lines_are) one.1.1 };
             given_back = one.1.0;
           },
           ends.wrote,
@@ -82,10 +82,10 @@ never_reads why same = let no : ⊥ = cc in no
 
 -- nothing was read
 pub nothing_seen : (a b : Option (List ℕ)) → b ≡ a → Consumes a b []
-nothing_seen a b same = subst (λ x. Consumes a x []) (sym same) (Consumes-nil a)
+nothing_seen a b same = rw same (Consumes-nil a)
 
 -- and nothing written of what may be printed then
 pub nothing_written : (a b : Option (List ℕ)) → b ≡ a → (text : List ℕ) × IsDrilled [] text × WritesFirstPart a b text
 nothing_written a b same =
     let some = prints_somehow (drill_over (no_world 1)) 1 (lines_of []) in
-    (some.0, some.1, subst (λ x. WritesFirstPart a x some.0) (sym same) (first_part-none a some.0))
+    (some.0, some.1, rw same (first_part-none a some.0))

@@ -46,7 +46,7 @@ module _ {A : Type 0} (word_of : A → Option Word) (of_word : Word → Option A
   field_again x ws rest None e f = absurd (none-some ws f)
   field_again x ws rest (Some w) e f =
       let same : w ∷ [] ≡ ws = cc in
-      subst (λ v. read_word of_word (v ++ rest) ≡ Some (x, rest)) same (ap (λ o. o >>= λ y. Some (y, rest)) (h x w e).0)
+      rw (sym same) (ap (λ o. o >>= λ y. Some (y, rest)) (h x w e).0)
 
   field_plain : (x : A) (ws : List Word) (o : Option Word) → word_of x ≡ o → (o >>= λ w. Some (w ∷ [])) ≡ Some ws → ArePlain ws
   field_plain x ws None e f = absurd (none-some ws f)
@@ -58,7 +58,7 @@ module _ {A : Type 0} (word_of : A → Option Word) (of_word : Word → Option A
 -- no word
 pub nothing_format : IsFormat nothing
 nothing_format = record {
-  again = λ x ws rest e. let none : [] ≡ ws = cc in subst (λ v. nothing.read (v ++ rest) ≡ Some (x, rest)) none refl;
+  again = λ x ws rest e. let none : [] ≡ ws = cc in rw (sym none) refl;
   plain = λ x ws e. let none : [] ≡ ws = cc in subst ArePlain none tt;
 }
 
@@ -69,7 +69,7 @@ module _ {A B : Type 0} (f : Format A) (g : Format B) (first : IsFormat f) (seco
   and_again p ws rest (Some us) None e1 e2 e = absurd (none-some ws e)
   and_again p ws rest (Some us) (Some vs) e1 e2 e =
       let same : us ++ vs ≡ ws = cc in
-      subst (λ v. (f & g).read (v ++ rest) ≡ Some (p, rest)) same (
+      rw (sym same) (
       ap (λ v. (f & g).read v) (append_assoc us vs rest)
       ∙ ap (λ r. r >>= λ x. g.read x.1 >>= λ y. Some ((x.0, y.0), y.1)) (first.again p.0 us (vs ++ rest) e1)
       ∙ ap (λ r. r >>= λ y. Some ((p.0, y.0), y.1)) (second.again p.1 vs rest e2)

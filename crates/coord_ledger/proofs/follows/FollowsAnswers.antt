@@ -27,7 +27,7 @@ module _ {D : Type 0} (h : Run D) (s : Machine) (is : IsConsistent s) (follows :
 
   -- where the log stays
   same : (log : Log) → log ≡ d.ledger.log → Keeps log h.tickets.items h.seen h.released.items s
-  same log now = (subst (λ g. HoldsTickets g h.tickets.items s.tickets) (sym now) follows.tickets, (follows.seen, follows.released))
+  same log now = (rw now follows.tickets, (follows.seen, follows.released))
 
   -- ---- a flight goes out, or none does
 
@@ -62,12 +62,12 @@ module _ {D : Type 0} (h : Run D) (s : Machine) (is : IsConsistent s) (follows :
     said : (v : Result Verdict Refusal) (a : Answer) (tickets : Vec (Option Claim) Global) → verdict d.ledger.log x ≡ v → Simulates d (Submit x) a new → Keeps new.ledger.log tickets.items h.seen h.released.items (after_submit s x v a) → FollowsTo s (Submit x) a (record h { driver = new; tickets = tickets })
     said v a tickets judged simulates keeps =
         follows_by (record h { driver = new; tickets = tickets }) (Submit x) a simulates
-        (subst (λ u. Keeps new.ledger.log tickets.items h.seen h.released.items (after_submit s x u a)) (sym (sym (verdict_is d s is follows.represents x) ∙ judged)) keeps)
+        (rw (sym (verdict_is d s is follows.represents x) ∙ judged) keeps)
 
     -- a ticket was given
     module _ (t : Claim) (tickets : Vec (Option Claim) Global) (pushed : tickets.items ≡ h.tickets.items ++ Some t ∷ []) where
       given : (log : Log) (reply : Reply) → new.ledger.log ≡ log → HoldsTickets log (h.tickets.items ++ Some t ∷ []) (s.tickets ++ Some reply ∷ []) → HoldsTickets new.ledger.log tickets.items (s.tickets ++ Some reply ∷ [])
-      given log reply now holds = subst (λ cs. HoldsTickets new.ledger.log cs (s.tickets ++ Some reply ∷ [])) (sym pushed) (subst (λ g. HoldsTickets g (h.tickets.items ++ Some t ∷ []) (s.tickets ++ Some reply ∷ [])) (sym now) holds)
+      given log reply now holds = rw pushed (rw now holds)
 
       pub follows_accepted : HandedTo d.ledger x (Ok (Accepted t)) new.ledger → Simulates d (Submit x) (answer.Accepted t.step) new → FollowsTo s (Submit x) (answer.Accepted t.step) (record h { driver = new; tickets = tickets })
       follows_accepted to simulates =
@@ -78,7 +78,7 @@ module _ {D : Type 0} (h : Run D) (s : Machine) (is : IsConsistent s) (follows :
           let holds = holds_push more h.tickets.items s.tickets claim (reply_of claim) refl (granted_new log x to.kind to.judged) (holds_later log more h.tickets.items s.tickets (granted_later log x) follows.tickets) in
           said (Ok (Fresh to.kind)) (answer.Accepted t.step) tickets to.judged simulates (
             given more (record { step = t.step; kind = to.kind }) (ap (λ (l : LedgerState D). l.log) to.now)
-                (subst (λ (c : Claim). HoldsTickets more (h.tickets.items ++ Some c ∷ []) (s.tickets ++ Some (record { step = c.step; kind = to.kind }) ∷ [])) (sym one) holds),
+                (rw one holds),
             (follows.seen, follows.released),
           )
 
@@ -87,13 +87,13 @@ module _ {D : Type 0} (h : Run D) (s : Machine) (is : IsConsistent s) (follows :
           let log = d.ledger.log in
           let holds = holds_push log h.tickets.items s.tickets (claimed x to.kept) to.kept refl (granted_repeat log x to.kept to.judged) follows.tickets in
           said (Ok (Repeat to.kept)) (answer.Repeated t.step) tickets to.judged simulates (
-            given log to.kept (ap (λ (l : LedgerState D). l.log) to.now) (subst (λ (c : Claim). HoldsTickets log (h.tickets.items ++ Some c ∷ []) (s.tickets ++ Some to.kept ∷ [])) (sym to.claims) holds),
+            given log to.kept (ap (λ (l : LedgerState D). l.log) to.now) (rw to.claims holds),
             (follows.seen, follows.released),
           )
 
     pub follows_refused : (e : Refusal) (tickets : Vec (Option Claim) Global) → tickets.items ≡ h.tickets.items → HandedTo d.ledger x (Err e) new.ledger → Simulates d (Submit x) (answer.Refused e) new → FollowsTo s (Submit x) (answer.Refused e) (record h { driver = new; tickets = tickets })
     follows_refused e tickets stays to simulates =
-        said (verdict d.ledger.log x) (answer.Refused e) tickets refl simulates (subst (λ cs. Keeps new.ledger.log cs h.seen h.released.items (after_submit s x (verdict d.ledger.log x) (answer.Refused e))) (sym stays) (by_verdict (verdict d.ledger.log x)))
+        said (verdict d.ledger.log x) (answer.Refused e) tickets refl simulates (rw stays (by_verdict (verdict d.ledger.log x)))
       where
         by_verdict : (v : Result Verdict Refusal) → Keeps new.ledger.log h.tickets.items h.seen h.released.items (after_submit s x v (answer.Refused e))
         by_verdict (Ok (Fresh k)) = same new.ledger.log (ap (λ (l : LedgerState D). l.log) to.now)
@@ -110,7 +110,7 @@ module _ {D : Type 0} (h : Run D) (s : Machine) (is : IsConsistent s) (follows :
         (tickets, (follows.seen, ap (λ rs. h.released.items ++ rs) (given ∙ ap (settling_releases d.ledger.log) none) ∙ append-nil h.released.items ∙ follows.released))
 
     by_mark : (size : ℕ) (k : Mark) → new.ledger.log ≡ log_back d.ledger.log size k → Keeps new.ledger.log h.tickets.items h.seen (h.released.items ++ releases) (after_finish s size k)
-    by_mark size k now = of_mark k now (subst (λ g. HoldsTickets g h.tickets.items s.tickets) (sym now) (holds_later d.ledger.log (log_back d.ledger.log size k) h.tickets.items s.tickets (granted_back d.ledger.log size k) follows.tickets))
+    by_mark size k now = of_mark k now (rw now (holds_later d.ledger.log (log_back d.ledger.log size k) h.tickets.items s.tickets (granted_back d.ledger.log size k) follows.tickets))
       where
         of_mark : (k : Mark) → new.ledger.log ≡ log_back d.ledger.log size k → HoldsTickets new.ledger.log h.tickets.items s.tickets → Keeps new.ledger.log h.tickets.items h.seen (h.released.items ++ releases) (after_finish s size k)
         of_mark New now tickets = unsettled tickets (ap (λ (g : Log). g.settled) now)
@@ -149,4 +149,4 @@ module _ {D : Type 0} (h : Run D) (s : Machine) (is : IsConsistent s) (follows :
 
   pub follows_opened : (new : Run D) (count : ℕ) → new.tickets.items ≡ [] → new.seen ≡ 0 → new.released ≡ h.released → Simulates d Crash (Opened count) new.driver → FollowsTo s Crash (Opened count) new
   follows_opened new count none unseen same simulates =
-      follows_by new Crash (Opened count) simulates (subst (λ cs. HoldsTickets new.driver.ledger.log cs []) (sym none) tt, (unseen, ap (λ (v : Vec Release Global). v.items) same ∙ follows.released))
+      follows_by new Crash (Opened count) simulates (rw none tt, (unseen, ap (λ (v : Vec Release Global). v.items) same ∙ follows.released))

@@ -20,7 +20,7 @@ given_follows d s image represents given =
     let there : by + (s.log.settled - by) ≡ s.log.settled = omega (arith, represents.within) in
     record {
       steps = by + n;
-      allowed = subst (λ k. IsOneOf (by + n) (kept_by k s.flight s.log.doubt)) there (subst (IsOneOf (by + n)) (sym (kept_later by (s.log.settled - by) s.flight s.log.doubt)) (one_mapped (λ k. by + k) n (kept_by (s.log.settled - by) s.flight s.log.doubt) (subst (IsOneOf n) same given.allowed)));
+      allowed = rw (sym there) (subst (IsOneOf (by + n)) (sym (kept_later by (s.log.settled - by) s.flight s.log.doubt)) (one_mapped (λ k. by + k) n (kept_by (s.log.settled - by) s.flight s.log.doubt) (subst (IsOneOf n) same given.allowed)));
       recovered = subst (Recovered image) (ap (λ g. world_after g n) (log_rebased d s represents) ∙ sym (world-add s.log by n)) given.recovered;
     }
 

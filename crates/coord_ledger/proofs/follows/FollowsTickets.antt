@@ -27,13 +27,13 @@ module _ {D : Type 0} (h : Run D) (s : Machine) (is : IsConsistent s) (follows :
   stays : (claims : Vec (Option Claim) Global) → claims.items ≡ h.tickets.items → (e : Event) (a : Answer) → IsOneOf a (answers s e) → after s e a ≡ s → FollowsTo s e a (record h { tickets = claims })
   stays claims same e a allowed left = record {
     allowed = allowed;
-    follows = subst (Follows (record h { tickets = claims })) (sym left) (record { represents = follows.represents; tickets = subst (λ cs. HoldsTickets log cs s.tickets) (sym same) follows.tickets; seen = follows.seen; released = follows.released });
+    follows = subst (Follows (record h { tickets = claims })) (sym left) (record { represents = follows.represents; tickets = rw same follows.tickets; seen = follows.seen; released = follows.released });
   }
 
   -- ---- collect
 
   pub follows_no_ticket : (claims : Vec (Option Claim) Global) → claims.items ≡ h.tickets.items → (i : ℕ) → ticket h.tickets.items i ≡ None → FollowsTo s (Collect i) NoTicket (record h { tickets = claims })
-  follows_no_ticket claims same i none = stays claims same (Collect i) NoTicket (by_ticket (ticket s.tickets i) (subst (λ c. HoldsTicket log c (ticket s.tickets i)) none (holds_at log h.tickets.items s.tickets i follows.tickets))) refl
+  follows_no_ticket claims same i none = stays claims same (Collect i) NoTicket (by_ticket (ticket s.tickets i) (rw (sym none) (holds_at log h.tickets.items s.tickets i follows.tickets))) refl
     where
       by_ticket : (t : Option Reply) → HoldsTicket log None t → IsOneOf NoTicket (to_collect (settled_count s.log) t)
       by_ticket None holds = inl refl
@@ -42,23 +42,22 @@ module _ {D : Type 0} (h : Run D) (s : Machine) (is : IsConsistent s) (follows :
   module _ (i : ℕ) (claim : Claim) (there : ticket h.tickets.items i ≡ Some claim) where
     -- the machine's ticket is this claim's
     ticket_is : (ticket s.tickets i ≡ Some (reply_of claim)) × IsGranted log claim
-    ticket_is = by_ticket (ticket s.tickets i) (subst (λ c. HoldsTicket log c (ticket s.tickets i)) there (holds_at log h.tickets.items s.tickets i follows.tickets))
+    ticket_is = by_ticket (ticket s.tickets i) (rw (sym there) (holds_at log h.tickets.items s.tickets i follows.tickets))
       where
         by_ticket : (t : Option Reply) → HoldsTicket log (Some claim) t → (t ≡ Some (reply_of claim)) × IsGranted log claim
         by_ticket None holds = absurd holds
         by_ticket (Some r) holds = (ap Some (sym holds.0), holds.1)
 
     may_collect : (a : Answer) → IsOneOf a (cond (nat_le claim.step (settled_count s.log)) (Collected (reply_of claim)) Waiting ∷ []) → IsOneOf a (answers s (Collect i))
-    may_collect a one = subst (λ t. IsOneOf a (to_collect (settled_count s.log) t)) (sym ticket_is.0) one
+    may_collect a one = rw ticket_is.0 one
 
     pub follows_collected : (claims : Vec (Option Claim) Global) → claims.items ≡ spent h.tickets.items i → (reply : Reply) → reply ≡ reply_of claim → IsCollectable log claim → FollowsTo s (Collect i) (Collected reply) (record h { tickets = claims })
     follows_collected claims is_spent reply its settled =
-        let here : claim.step ≤ settled_count s.log = subst (λ n. claim.step ≤ n) (count_is h.driver s is follows.represents) settled.settled in
+        let here : claim.step ≤ settled_count s.log = rw (sym (count_is h.driver s is follows.represents)) settled.settled in
         let low : nat_le claim.step (settled_count s.log) ≡ true = grind (arith, nat_tests, here) in
-        subst (λ r. FollowsTo s (Collect i) (Collected r) (record h { tickets = claims })) (sym its)
-        (record {
-          allowed = may_collect (Collected (reply_of claim)) (subst (λ b. IsOneOf (Collected (reply_of claim)) (cond b (Collected (reply_of claim)) Waiting ∷ [])) (sym low) (inl refl));
-          follows = aside claims h.seen h.released (spent s.tickets i) s.seen s.released (s.replied ++ reply_of claim ∷ []) (subst (λ cs. HoldsTickets log cs (spent s.tickets i)) (sym is_spent) (holds_spent log h.tickets.items s.tickets i follows.tickets)) follows.seen follows.released;
+        rw its (record {
+          allowed = may_collect (Collected (reply_of claim)) (rw low (inl refl));
+          follows = aside claims h.seen h.released (spent s.tickets i) s.seen s.released (s.replied ++ reply_of claim ∷ []) (rw is_spent (holds_spent log h.tickets.items s.tickets i follows.tickets)) follows.seen follows.released;
         })
 
     pub follows_waiting : (claims : Vec (Option Claim) Global) → claims.items ≡ h.tickets.items → (IsCollectable log claim → ⊥) → FollowsTo s (Collect i) Waiting (record h { tickets = claims })
@@ -67,7 +66,7 @@ module _ {D : Type 0} (h : Run D) (s : Machine) (is : IsConsistent s) (follows :
         by_count : (b : Bool) → nat_le claim.step (settled_count s.log) ≡ b → IsOneOf Waiting (cond b (Collected (reply_of claim)) Waiting ∷ [])
         by_count true low =
             let here : claim.step ≤ settled_count s.log = grind (arith, nat_tests, low) in
-            absurd (never (record { settled = subst (λ n. claim.step ≤ n) (sym (count_is h.driver s is follows.represents)) here; granted = ticket_is.1 }))
+            absurd (never (record { settled = rw (count_is h.driver s is follows.represents) here; granted = ticket_is.1 }))
         by_count false high = inl refl
 
   -- ---- resend and show

@@ -20,25 +20,24 @@ module _ {D : Type 0} where
   -- a ledger of which a flight is out
   away_of : (log : Log) (kinds : List Kind) (given : List (List Output)) (front settled : World) (out n : ℕ) (store : Option (Kept D)) → IsLedger log kinds given front settled out store → out_of store out ≡ Some n
       → IsLedger {D = D} log kinds given front settled n None
-  away_of log kinds given front settled out n None is flown = let same : out ≡ n = cc in subst (λ m. IsLedger {D = D} log kinds given front settled m None) same is
+  away_of log kinds given front settled out n None is flown = let same : out ≡ n = cc in rw (sym same) is
   away_of log kinds given front settled out n (Some kept) is flown = cc
 
   module _ (log : Log) (kinds : List Kind) (given : List (List Output)) (front settled : World) (out : ℕ) (store : Option (Kept D)) (l : LedgerState D) (seen : ledger_of log out store ≡ l) (is : IsLedger log kinds given front settled out store) (f : FlightState D) (kept : Kept D) (later : Option (Kept D)) (carried : IsCarried f kept) (own : IsOut l f) (home : later ≡ Some kept) where
     parts : IsOut (ledger_of log out store) f
-    parts = subst (λ x. IsOut x f) (sym seen) own
+    parts = rw seen own
 
     away : IsLedger {D = D} log kinds given front settled (length f.steps) None
     away = away_of log kinds given front settled out (length f.steps) store is parts.size
 
     pub took_torn : (n : ℕ) → n ≡ length f.steps → f.mark ≡ Torn → IsLedger (with_doubt log n) kinds given front settled out later
     took_torn n size torn =
-        subst (λ o. IsLedger (with_doubt log n) kinds given front settled out o) (sym home)
-        (subst (λ m. IsLedger (with_doubt log m) kinds given front settled out (Some kept)) (sym size) (back_torn log kinds given front settled (length f.steps) out kept f away carried torn parts.world refl parts.steps))
+        rw home
+        (rw size (back_torn log kinds given front settled (length f.steps) out kept f away carried torn parts.world refl parts.steps))
 
     pub took_good : (n : ℕ) (left : List (List Output)) (led : World) → n ≡ length f.steps → f.mark ≡ Good → left ≡ drop n given → led ≡ fold f.world f.steps → IsLedger (with_settled log n) kinds left front led out later
     took_good n left led size good rest folded =
-        subst (λ o. IsLedger (with_settled log n) kinds left front led out o) (sym home)
-        (subst (λ m. IsLedger (with_settled log m) kinds left front led out (Some kept)) (sym size)
+        rw home (rw size
         (back_good log kinds given left front settled led (length f.steps) out kept f away carried good parts.world refl parts.steps (rest ∙ ap (λ m. drop m given) size) folded))
 
   -- ---- whether it is the own one

@@ -80,7 +80,7 @@ module _ {D : Type 0} where
           given_is = given_with log s given front le is.consistent is.given_is is.front_is;
           front_is = ap (λ w. next w s) is.front_is ∙ sym (fold-push log.trail log.base s);
           settled_is = is.settled_is ∙ sym (ap (fold log.base) (take-append-le log.settled log.trail (s ∷ []) le));
-          doubt_within = subst (λ o. IfSome o (λ b. (1 ≤ b) × (log.settled + b ≤ length (with_step log s).trail))) (sym going) tt;
+          doubt_within = rw going tt;
           home = if_home_with store le is.home;
           away = if_away_with store out is.away;
         }
@@ -95,7 +95,7 @@ module _ {D : Type 0} where
       let world = kept.world in
       let here : world ≡ w = is.home.world_is in
       let fresh : AllFresh w w (take MAX_BATCH_STEPS (pending log)) = fresh_first MAX_BATCH_STEPS (pending log) w w is.consistent.fresh in
-      let flown : AllFresh world world steps = subst (λ l. AllFresh world world l) (sym same) (subst (λ v. AllFresh v v (take MAX_BATCH_STEPS (pending log))) (sym here) fresh) in
+      let flown : AllFresh world world steps = rw same (rw here fresh) in
       record {
         some = some;
         most = omega (arith, ap length same, length_next (pending log));
@@ -115,7 +115,7 @@ module _ {D : Type 0} where
         most = omega (arith, size, ap length same, length_next (pending log));
         within = omega (arith, size, ap length same, length-take MAX_BATCH_STEPS (pending log), length-drop log.settled log.trail, is.consistent.within);
       } in
-      subst (λ o. IsLedger log kinds given front settled n o) (sym gone) (record {
+      rw gone (record {
         consistent = is.consistent;
         kinds_are = is.kinds_are;
         given_is = is.given_is;
@@ -159,7 +159,7 @@ module _ {D : Type 0} where
         given_is = rest ∙ given_behind log n given is.given_is;
         front_is = is.front_is;
         settled_is = led ∙ flown;
-        doubt_within = subst (λ o. IfSome o (λ b. (1 ≤ b) × (log.settled + n + b ≤ length log.trail))) (sym none) tt;
+        doubt_within = rw none tt;
         home = record {
           world_is = carried.world_is ∙ ap (λ m. carried_world m f.world f.steps) good ∙ flown;
           torn_is = carried.torn_is ∙ ap (λ m. carried_torn m f.world f.steps) good ∙ sym (ap (doubted (with_settled log n)) none);
@@ -181,14 +181,14 @@ module _ {D : Type 0} where
       → verdict log s ≡ Ok (Fresh k) → IsFresh front front s
   fresh_front log kinds given front settled out store s k is said =
       let fresh = verdict_fresh (front_world log) (settled_world log) s k (verdict_accepts log s k said).fresh in
-      subst (λ w. IsFresh w w s) (sym is.front_is) (itself (front_world log) (settled_world log) s fresh)
+      rw is.front_is (itself (front_world log) (settled_world log) s fresh)
 
   -- the next steps are fresh over the settled world
   pub fresh_next : (log : Log) (kinds : List Kind) (given : List (List Output)) (front settled : World) (out : ℕ) (store : Option (Kept D)) (steps : List Step) → IsLedger log kinds given front settled out store → steps ≡ take (length steps) (pending log)
       → AllFresh settled settled steps
   fresh_next log kinds given front settled out store steps is same =
       let w = settled_world log in
-      subst (AllFresh settled settled) (sym same) (subst (λ v. AllFresh v v (take (length steps) (pending log))) (sym is.settled_is) (fresh_first (length steps) (pending log) w w is.consistent.fresh))
+      subst (AllFresh settled settled) (sym same) (rw is.settled_is (fresh_first (length steps) (pending log) w w is.consistent.fresh))
 
   -- and where no others are behind them, they lead to the front
   pub front_behind : (log : Log) (kinds : List Kind) (given : List (List Output)) (front settled : World) (out : ℕ) (store : Option (Kept D)) (steps : List Step) → IsLedger log kinds given front settled out store → steps ≡ take (length steps) (pending log)
@@ -205,10 +205,7 @@ module _ {D : Type 0} where
       let log : Log = record { base = base; trail = trail; settled = done; doubt = None } in
       let kind_is : k ≡ kind (state front) s = verdict_kind (front_world log) (settled_world log) s k (verdict_accepts log s k said).fresh ∙ ap (λ v. kind (state v) s) (sym is.front_is) in
       let now = accepted log s refl kinds given front settled out store k is (accepted_stays log s k is.consistent named said) kind_is in
-      subst (λ l. IsLedger (record log { trail = l }) more also later settled out store) (sym t)
-      (subst (λ l. IsLedger (with_step log s) l also later settled out store) (sym m)
-      (subst (λ l. IsLedger (with_step log s) (kinds ++ k ∷ []) l later settled out store) (sym g)
-      (subst (λ v. IsLedger (with_step log s) (kinds ++ k ∷ []) (given ++ outputs front s ∷ []) v settled out store) (sym w) now)))
+      rw t (rw m (rw g (rw w now)))
 
   -- ---- counts
 

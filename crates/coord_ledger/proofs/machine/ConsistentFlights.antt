@@ -5,7 +5,7 @@ use Rattle.std.proofs.lemmas.Bool.Decides.{nat_tests}
 use Rattle.std.proofs.lemmas.List.{length-drop, take-take}
 use Rattle.coord_types.specs.declared.refusals.Refusal.TheVariants.{OutOfMemory}
 use Rattle.coord_world.proofs.Facade.{by_test}
-use Rattle.coord_ledger.specs.Facade.{Begin, Begun, Commit, Crash, DoubtFits, Finish, FlightFits, FlightOut, Good, IsConsistent, IsOneOf, Log, Machine, Mark, New, Nothing, Opened, Refused, Torn, after, after_finish, crashed, cut_to, finished, kept, kept_by, kept_with, marked, next_size, pending, settled_count, stays_home, to_begin, to_commit, to_finish, with_doubt, with_flight, with_settled}
+use Rattle.coord_ledger.specs.Facade.{Begin, Begun, Commit, Crash, DoubtFits, Finish, FlightFits, FlightOut, Good, IsConsistent, IsOneOf, Log, Machine, Mark, New, Nothing, Opened, Refused, Torn, after, after_finish, crashed, cut_to, finished, kept, kept_by, kept_with, marked, next_size, pending, settled_count, cannot_flush, to_begin, to_commit, to_finish, with_doubt, with_flight, with_settled}
 use Rattle.coord_ledger.proofs.machine.Lists.{each_one}
 use Rattle.coord_ledger.proofs.machine.Logs.{doubted_stays, log_stays}
 use Rattle.coord_ledger.proofs.machine.ConsistentTold.{told_releasing, told_same, told_settled}
@@ -17,7 +17,7 @@ stays_flight s f is fits doubt = record { log = is.log; flight = fits; doubt = d
 
 pub all_begin : (s : Machine) → IsConsistent s → AllByRecursion (λ a. IsConsistent (after s Begin a)) (to_begin s)
 all_begin s is =
-    by_test (stays_home (is_some s.flight) s.log)
+    by_test (cannot_flush (is_some s.flight) s.log)
     (λ b. AllByRecursion (λ a. IsConsistent (after s Begin a)) (cond b (Nothing ∷ []) (Begun (next_size s.log) ∷ Refused OutOfMemory ∷ [])))
     (λ _. (is, tt))
     (λ free.
@@ -86,10 +86,10 @@ all_finish s (Some f) is out = by_mark f.mark refl
     fits = subst (FlightFits s.log) out is.flight
 
     none : s.log.doubt ≡ None
-    none = no_doubt s.log f s.log.doubt (subst (λ o. DoubtFits s.log o s.log.doubt) out is.doubt)
+    none = no_doubt s.log f s.log.doubt (rw (sym out) is.doubt)
 
     back : (m : Mark) → f.mark ≡ m → IsConsistent (after_finish s f.size m) → IsConsistent (finished s s.flight)
-    back m e is = subst (λ o. IsConsistent (finished s o)) (sym out) (subst (λ x. IsConsistent (after_finish s f.size x)) (sym e) is)
+    back m e is = rw out (rw e is)
 
     by_mark : (m : Mark) → f.mark ≡ m → AllByRecursion (λ a. IsConsistent (after s Finish a)) (to_finish (settled_count s.log) f.size m)
     by_mark New e = (back New e (stays_flight s None is tt (subst (DoubtFits s.log None) (sym none) tt)), tt)
@@ -138,7 +138,7 @@ stays_crashed s k is le =
 crash_stays : (s : Machine) (n : ℕ) → IsConsistent s → KeepsMore s n → IsConsistent (after s Crash (Opened (s.log.base.count + n)))
 crash_stays s n is keeps =
     let same : s.log.base.count + n - s.log.base.count ≡ s.log.settled + keeps.more = omega (arith, keeps.is) in
-    subst (λ m. IsConsistent (crashed s m)) (sym same) (stays_crashed s keeps.more is keeps.within)
+    rw same (stays_crashed s keeps.more is keeps.within)
 
 pub all_crash : (s : Machine) (ns : List ℕ) → IsConsistent s → AllByRecursion (KeepsMore s) ns → AllByRecursion (λ a. IsConsistent (after s Crash a)) (map (λ n. Opened (s.log.base.count + n)) ns)
 all_crash s [] is all = tt

@@ -16,7 +16,7 @@ use Rattle.coord_ledger.proofs.machine.Replies.{reply_first, reply_later}
 -- more steps are settled, and nothing more is released
 once_later : (w : World) (trail : List Step) (d b : ℕ) (given : List Release) → IsPartOf (released_first given) (releases_of (outs w (take d trail))) → IsPartOf (released_first given) (releases_of (outs w (take (d + b) trail)))
 once_later w trail d b given part =
-    subst (λ l. IsPartOf (released_first given) (releases_of (outs w l))) (sym (take-add d b trail))
+    rw (take-add d b trail)
     (subst (IsPartOf (released_first given)) (sym (released_both w (take d trail) (take b (drop d trail))))
     (part_before (released_first given) (releases_of (outs w (take d trail))) (releases_of (outs (fold w (take d trail)) (take b (drop d trail)))) part))
 
@@ -25,15 +25,15 @@ once_settled : (w : World) (trail : List Step) (d b : ℕ) (given : List Release
     IsPartOf (released_first (given ++ releases_of (outs (fold w (take d trail)) (take b (drop d trail))))) (releases_of (outs w (take (d + b) trail)))
 once_settled w trail d b given part =
     let more = releases_of (outs (fold w (take d trail)) (take b (drop d trail))) in
-    subst (λ l. IsPartOf (released_first (given ++ more)) (releases_of (outs w l))) (sym (take-add d b trail))
+    rw (take-add d b trail)
     (subst (IsPartOf (released_first (given ++ more))) (sym (released_both w (take d trail) (take b (drop d trail))))
-    (subst (λ l. IsPartOf l (releases_of (outs w (take d trail)) ++ more)) (sym (filter-append (λ (r : Release). not (r.step == 0)) given more ∙ ap (λ l. released_first given ++ l) (all_numbered (fold w (take d trail)) (take b (drop d trail)))))
+    (rw (filter-append (λ (r : Release). not (r.step == 0)) given more ∙ ap (λ l. released_first given ++ l) (all_numbered (fold w (take d trail)) (take b (drop d trail))))
     (part_both (released_first given) (releases_of (outs w (take d trail))) more more part (part_self more))))
 
 -- packets are sent again
 once_again : (given more : List Release) (all : List Release) → released_first more ≡ [] → IsPartOf (released_first given) all → IsPartOf (released_first (given ++ more)) all
 once_again given more all none part =
-    subst (λ l. IsPartOf l all) (sym (filter-append (λ (r : Release). not (r.step == 0)) given more ∙ ap (λ l. released_first given ++ l) none ∙ append-nil (released_first given))) part
+    rw (filter-append (λ (r : Release). not (r.step == 0)) given more ∙ ap (λ l. released_first given ++ l) none ∙ append-nil (released_first given)) part
 
 -- what was sent again stays true as more steps are settled
 pub again_later : (w : World) (trail : List Step) (d e : ℕ) (rs : List Release) → d ≤ e →
@@ -59,7 +59,7 @@ again_all P (o ∷ os) all = ((λ _. All-head P o os all), again_all P os (All-t
 -- replies
 truly_later : (w : World) (trail : List Step) (d b : ℕ) (rs : List Reply) → AllByRecursion (IsReplyOf w (take d trail)) rs → AllByRecursion (IsReplyOf w (take (d + b) trail)) rs
 truly_later w trail d b [] all = tt
-truly_later w trail d b (r ∷ rs) all = (subst (λ l. IsReplyOf w l r) (sym (take-add d b trail)) (reply_later w (take d trail) (take b (drop d trail)) r all.0), truly_later w trail d b rs all.1)
+truly_later w trail d b (r ∷ rs) all = (rw (take-add d b trail) (reply_later w (take d trail) (take b (drop d trail)) r all.0), truly_later w trail d b rs all.1)
 
 -- what was told of a log is true of a longer one with the same settled steps
 pub told_same : (log new : Log) (released : List Release) (replied : List Reply) → new.base ≡ log.base → new.settled ≡ log.settled → settled_steps new ≡ settled_steps log → IsTold log released replied → IsTold new released replied

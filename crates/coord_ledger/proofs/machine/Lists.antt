@@ -46,4 +46,4 @@ part_both (x ∷ xs) (y ∷ ys) us vs (inr part) more = inr (part_both (x ∷ xs
 
 -- with more behind
 pub part_before : {A : Type 0} (xs ys vs : List A) → IsPartOf xs ys → IsPartOf xs (ys ++ vs)
-part_before xs ys vs part = subst (λ l. IsPartOf l (ys ++ vs)) (append-nil xs) (part_both xs ys [] vs part tt)
+part_before xs ys vs part = rw (sym (append-nil xs)) (part_both xs ys [] vs part tt)

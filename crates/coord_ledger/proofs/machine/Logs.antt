@@ -83,9 +83,8 @@ module _ (log : Log) (s : Step) (is : IsConsistentLog log) where
         trail = trail_goes_on log.base log.trail log.settled s is.trail named fresh;
         within = omega (arith, is.within, longer);
         few = omega (arith, more, few, count);
-        fresh = subst (λ w. AllFresh w w (pending (with_step log s))) (sym settled_with)
-            (subst (AllFresh (settled_world log) (settled_world log)) (sym pending_with)
-            (fresh-push (pending log) (settled_world log) (settled_world log) s is.fresh (subst (λ w. IsFresh w (settled_world log) s) (sym (front_is log is)) fresh)));
+        fresh = rw settled_with (subst (AllFresh (settled_world log) (settled_world log)) (sym pending_with)
+            (fresh-push (pending log) (settled_world log) (settled_world log) s is.fresh (rw (front_is log is) fresh)));
       }
 
 -- ---- more steps settled
@@ -177,5 +176,5 @@ rebased_is_consistent log n is le =
       trail = (trail_is_cut log.base log.trail n is.trail).others;
       within = rebased_within log n le is;
       few = omega (arith, ap length (rebased_pending log n le), is.few);
-      fresh = subst (λ w. AllFresh w w (pending (rebased log n))) (sym (rebased_settled log n le)) (subst (AllFresh (settled_world log) (settled_world log)) (sym (rebased_pending log n le)) is.fresh);
+      fresh = rw (rebased_settled log n le) (subst (AllFresh (settled_world log) (settled_world log)) (sym (rebased_pending log n le)) is.fresh);
     }

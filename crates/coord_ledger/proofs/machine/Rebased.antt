@@ -4,7 +4,7 @@ use Rattle.std.specs.List.{AllByRecursion}
 use Rattle.std.proofs.lemmas.Simd.{map-map}
 use Rattle.std.proofs.lemmas.List.{drop-append-le, take-append-le, take-take}
 use Rattle.coord_types.specs.declared.limits.TheConstants.{MAX_BATCH_STEPS, MAX_PENDING}
-use Rattle.coord_ledger.specs.Facade.{Answer, Begin, Begun, Collect, Collected, Commit, Crash, Event, Finish, FlightOut, Fresh, Good, IsConsistent, IsConsistentLog, Log, Machine, Mark, New, NoFlight, Nothing, Opened, Refusal, Refused, Repeat, Reply, Resend, Resent, Show, Shown, Step, Submit, Torn, Verdict, Waiting, accepted_count, after, after_finish, after_submit, answers, crashed, finished, has_stopped, is_crash, kept_by, kept_with, log_back, next_size, pending, rebased, releases_of, resent, settled_count, settled_world, stays_home, ticket, to_collect, to_commit, to_finish, to_submit, unless_full, verdict, with_flight, with_settled, with_step, world_after}
+use Rattle.coord_ledger.specs.Facade.{Answer, Begin, Begun, Collect, Collected, Commit, Crash, Event, Finish, FlightOut, Fresh, Good, IsConsistent, IsConsistentLog, Log, Machine, Mark, New, NoFlight, Nothing, Opened, Refusal, Refused, Repeat, Reply, Resend, Resent, Show, Shown, Step, Submit, Torn, Verdict, Waiting, accepted_count, after, after_finish, after_submit, answers, crashed, finished, has_stopped, is_crash, kept_by, kept_with, log_back, next_size, pending, rebased, releases_of, resent, settled_count, settled_world, cannot_flush, ticket, to_collect, to_commit, to_finish, to_submit, unless_full, verdict, with_flight, with_settled, with_step, world_after}
 use Rattle.coord_types.specs.declared.refusals.Refusal.TheVariants.{OutOfMemory, Stopped}
 use Rattle.coord_world.proofs.Facade.{by_test}
 use Rattle.coord_world.specs.Facade.{accepts, again, fold, outs}
@@ -117,9 +117,9 @@ module _ (s : Machine) (n : ℕ) (is : IsConsistent s) (le : n ≤ s.log.settled
 
   on_event : (e : Event) → is_crash e ≡ false → AllByRecursion (λ a. after (rebased_machine s n) e a ≡ rebased_machine (after s e a) n) (answers s e)
   on_event (Submit x) calm =
-      subst (λ u. AllByRecursion (λ a. after_submit (rebased_machine s n) x u a ≡ rebased_machine (after_submit s x (verdict s.log x) a) n) (to_submit (accepted_count s.log + 1) (verdict s.log x))) (sym (judged x)) (on_submit x (verdict s.log x))
+      rw (judged x) (on_submit x (verdict s.log x))
   on_event Begin calm =
-      by_test (stays_home (is_some s.flight) s.log)
+      by_test (cannot_flush (is_some s.flight) s.log)
       (λ b. AllByRecursion (λ a. after (rebased_machine s n) Begin a ≡ rebased_machine (after s Begin a) n) (cond b (Nothing ∷ []) (Begun (next_size s.log) ∷ Refused OutOfMemory ∷ [])))
       (λ _. (refl, tt)) (λ _. (refl, (refl, tt)))
   on_event Commit calm = on_flight Commit s.flight (λ f. to_commit f.mark) refl (λ f. on_committed f.mark)

@@ -2,7 +2,7 @@
 use Rattle.std.proofs.Common.{◌≡◌, ℕ, ◌+◌, ◌-◌, ◌≤◌, List, [], ◌∷◌, map, length, Option, Some, None, Ok, Err, refl, sym, subst, arith, cond, is_some, nat_le, Result}
 use Rattle.std.specs.List.{AllByRecursion}
 use Rattle.std.proofs.lemmas.List.{take-append-le, take-take}
-use Rattle.coord_ledger.specs.Facade.{Answer, Begin, Begun, Collect, Collected, Commit, Crash, Event, Finish, FlightOut, Fresh, Good, IsConsistent, Machine, Mark, New, NoFlight, Nothing, Opened, Refusal, Refused, Repeat, Reply, Resend, Show, Shown, Step, Submit, Torn, Verdict, Waiting, accepted_count, after, after_finish, after_submit, answers, crashed, finished, has_stopped, kept, next_size, settled_count, settled_world, stays_home, ticket, to_collect, to_commit, to_finish, to_submit, verdict, with_flight}
+use Rattle.coord_ledger.specs.Facade.{Answer, Begin, Begun, Collect, Collected, Commit, Crash, Event, Finish, FlightOut, Fresh, Good, IsConsistent, Machine, Mark, New, NoFlight, Nothing, Opened, Refusal, Refused, Repeat, Reply, Resend, Show, Shown, Step, Submit, Torn, Verdict, Waiting, accepted_count, after, after_finish, after_submit, answers, crashed, finished, has_stopped, kept, next_size, settled_count, settled_world, cannot_flush, ticket, to_collect, to_commit, to_finish, to_submit, verdict, with_flight}
 use Rattle.coord_types.specs.declared.refusals.Refusal.TheVariants.{OutOfMemory, Stopped}
 use Rattle.coord_world.proofs.Facade.{by_test}
 use Rattle.coord_ledger.specs.laws.Laws.{KeepsSettled, SettledStays}
@@ -53,7 +53,7 @@ crash_keeps : (s : Machine) (n : ℕ) → KeepsMore s n → KeepsSettled s (afte
 crash_keeps s n keeps =
     let more = keeps.more in
     let is : s.log.base.count + n - s.log.base.count ≡ s.log.settled + more = omega (arith, keeps.is) in
-    subst (λ m. KeepsSettled s (crashed s m)) (sym is) (record { base = refl; settled = omega arith; steps = take-take s.log.settled (s.log.settled + more) s.log.trail (omega arith) })
+    rw is (record { base = refl; settled = omega arith; steps = take-take s.log.settled (s.log.settled + more) s.log.trail (omega arith) })
 
 keeps_crash : (s : Machine) (ns : List ℕ) → AllByRecursion (KeepsMore s) ns → AllByRecursion (λ a. KeepsSettled s (after s Crash a)) (map (λ n. Opened (s.log.base.count + n)) ns)
 keeps_crash s [] all = tt
@@ -62,7 +62,7 @@ keeps_crash s (n ∷ ns) all = (crash_keeps s n all.0, keeps_crash s ns all.1)
 all_keep : (s : Machine) (e : Event) → IsConsistent s → AllByRecursion (λ a. KeepsSettled s (after s e a)) (answers s e)
 all_keep s (Submit x) is = keeps_submit s x (verdict s.log x) is.log.within
 all_keep s Begin is =
-    by_test (stays_home (is_some s.flight) s.log)
+    by_test (cannot_flush (is_some s.flight) s.log)
     (λ b. AllByRecursion (λ a. KeepsSettled s (after s Begin a)) (cond b (Nothing ∷ []) (Begun (next_size s.log) ∷ Refused OutOfMemory ∷ [])))
     (λ _. (same s, tt)) (λ _. (record { base = refl; settled = omega arith; steps = refl }, (same s, tt)))
 all_keep s Commit is = keeps_flight s Commit s.flight (λ f. to_commit f.mark) (same s) (λ f. keeps_commit s f.mark)

@@ -1,6 +1,6 @@
 -- Each event has an answer, and one that releases nothing.
 use Rattle.std.proofs.Common.{◌≡◌, ℕ, ◌+◌, List, [], ◌∷◌, map, Option, Some, None, Result, Ok, Err, refl, ap, ◌∙◌, cond, inl, inr, is_some, nat_le}
-use Rattle.coord_ledger.specs.Facade.{Answer, Begin, Begun, Collect, Collected, Commit, Crash, Event, Failed, Finish, Finished, FlightOut, Fresh, Good, IsOneOf, Machine, Mark, New, NoFlight, NoTicket, Nothing, Opened, Refusal, Refused, Repeat, Repeated, Reply, Resend, Show, Shown, Step, Submit, Torn, Verdict, Waiting, accepted_count, after, after_finish, after_submit, answers, finished, has_stopped, kept_by, kept_with, next_size, settled_count, settled_world, stays_home, ticket, to_collect, to_commit, to_finish, to_submit, verdict, with_flight}
+use Rattle.coord_ledger.specs.Facade.{Answer, Begin, Begun, Collect, Collected, Commit, Crash, Event, Failed, Finish, Finished, FlightOut, Fresh, Good, IsOneOf, Machine, Mark, New, NoFlight, NoTicket, Nothing, Opened, Refusal, Refused, Repeat, Repeated, Reply, Resend, Show, Shown, Step, Submit, Torn, Verdict, Waiting, accepted_count, after, after_finish, after_submit, answers, finished, has_stopped, kept_by, kept_with, next_size, settled_count, settled_world, cannot_flush, ticket, to_collect, to_commit, to_finish, to_submit, verdict, with_flight}
 use Rattle.coord_types.specs.declared.refusals.Refusal.TheVariants.{OutOfMemory, Stopped}
 use Rattle.coord_store.specs.declared.faults.CommitFault.TheVariants as fault
 use Rattle.coord_world.proofs.Facade.{by_test}
@@ -59,7 +59,7 @@ module _ (s : Machine) where
   pub silent : (e : Event) → Any (answers s e) (Keeps e)
   silent (Submit x) = silent_submit x (verdict s.log x)
   silent Begin =
-      by_test (stays_home (is_some s.flight) s.log) (λ b. Any (cond b (Nothing ∷ []) (Begun (next_size s.log) ∷ Refused OutOfMemory ∷ [])) (Keeps Begin)) (λ _. (Nothing, inl refl, refl)) (λ _. (Refused OutOfMemory, inr (inl refl), refl))
+      by_test (cannot_flush (is_some s.flight) s.log) (λ b. Any (cond b (Nothing ∷ []) (Begun (next_size s.log) ∷ Refused OutOfMemory ∷ [])) (Keeps Begin)) (λ _. (Nothing, inl refl, refl)) (λ _. (Refused OutOfMemory, inr (inl refl), refl))
   silent Commit = silent_commit s.flight
   silent Finish = silent_finish s.flight refl
   silent (Collect i) = silent_collect i (ticket s.tickets i)

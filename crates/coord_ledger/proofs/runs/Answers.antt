@@ -24,18 +24,15 @@ module _ {D : Type 0} (h : Run D) (s : Machine) (is : IsConsistent s) (follows :
           OnErr r (seen ≡ h.seen) → a ≡ shown_as r → FollowsTo s Show a (record h { seen = seen })
       by_result (Ok v) going given unseen says =
           let answer = says ∙ ap Shown given.0 in
-          subst (λ b. FollowsTo s Show b (record h { seen = seen })) (sym answer)
-          (subst (λ n. FollowsTo s Show (Shown (view.shown (accepted_count h.driver.ledger.log) (settled_world h.driver.ledger.log))) (record h { seen = n })) (sym given.1) (follows_shown h s is follows going))
+          rw answer (rw given.1 (follows_shown h s is follows going))
       by_result (Err e) going given unseen says =
           let answer = says ∙ ap Refused given in
-          subst (λ b. FollowsTo s Show b (record h { seen = seen })) (sym answer)
-          (subst (λ n. FollowsTo s Show (Refused OutOfMemory) (record h { seen = n })) (sym unseen) (follows_unshown h s is follows going))
+          rw answer (rw unseen (follows_unshown h s is follows going))
 
       by_doubt : (b : Bool) → is_some h.driver.ledger.log.doubt ≡ b → FollowsTo s Show a (record h { seen = seen })
       by_doubt true on =
           let same = subst (λ q. OnErr q (seen ≡ h.seen)) (stopped on) unseen in
-          subst (λ b. FollowsTo s Show b (record h { seen = seen })) (sym (says ∙ ap shown_as (stopped on)))
-          (subst (λ n. FollowsTo s Show (Refused Stopped) (record h { seen = n })) (sym same) (follows_not_shown h s is follows on))
+          rw (says ∙ ap shown_as (stopped on)) (rw same (follows_not_shown h s is follows on))
       by_doubt false going = by_result r going (shows going (never_behind h s is follows)) unseen says
 
 -- ---- resend

@@ -38,10 +38,9 @@ module _ {D : Type 0} (model : DiskModel D) (crashes : D → D → Type 0) where
           answered = so_far.answered;
           disk = so_far.disk;
           moments = so_far.moments;
-          why = inr (subst (λ o. EndsAt model crashes (model.keeps_model before) s o kind released so_far.disk lost) (sym past) ends);
+          why = inr (rw past ends);
         } in
-        subst (λ n. EndedEarly model crashes (started start) events n given2 released kind (model.keeps_model before) before lost) (sym here)
-        (subst (λ l. EndedEarly model crashes (started start) events at l released kind (model.keeps_model before) before lost) (sym same) one)
+        rw here (rw same one)
 
     module _ (e : Event) (below : at < length events) (is : e ≡ get_or events at e) where
       -- an event was cut short
@@ -63,13 +62,12 @@ module _ {D : Type 0} (model : DiskModel D) (crashes : D → D → Type 0) where
             answered = so_far.answered;
             disk = so_far.disk;
             moments = so_far.moments;
-            why = inr (subst (λ o. EndsAt model crashes (model.keeps_model before) s o kind released so_far.disk lost) (sym there) ends);
+            why = inr (rw there ends);
           } in
-          subst (λ n. EndedEarly model crashes (started start) events n given2 released kind (model.keeps_model before) before lost) (sym here)
-          (subst (λ l. EndedEarly model crashes (started start) events at l released kind (model.keeps_model before) before lost) (sym same) one)
+          rw here (rw same one)
 
       pub caused : (at2 : ℕ) (kind : RunFaultKind) (released : List Release) → at2 ≡ at → IsEventFault (model_held model.keeps_model h.driver) e kind → (before : D) → start.disk ≡ Some before → HasCause (model.keeps_model before) events at2 released kind
-      caused at2 kind released here cause before disk = subst (λ n. HasCause (model.keeps_model before) events n released kind) (sym here) (by_kind kind cause)
+      caused at2 kind released here cause before disk = rw here (by_kind kind cause)
         where
           there : slice_get events at ≡ Some e
           there = event_there model crashes start events at given h loop e below is
@@ -93,5 +91,4 @@ module _ {D : Type 0} (model : DiskModel D) (crashes : D → D → Type 0) where
         moments = so_far.moments;
         why = inl (refl, given_up (model.keeps_model before) before lost start [] [] h kind released all memory kept there);
       } in
-      subst (λ n. EndedEarly model crashes (started start) events n given2 released kind (model.keeps_model before) before lost) (sym here)
-      (subst (λ l. EndedEarly model crashes (started start) events 0 l released kind (model.keeps_model before) before lost) (sym same) one)
+      rw here (rw same one)

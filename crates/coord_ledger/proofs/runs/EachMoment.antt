@@ -22,7 +22,7 @@ use Rattle.coord_ledger.proofs.machine.Safe.{given_survives, kept_is_safe}
 -- while a new flight is committed, the machine is consistent as it is once the device has failed
 torn_is_consistent : (s : Machine) (b : ℕ) → IsConsistent s → s.flight ≡ Some (record { size = b; mark = New }) → IsConsistent (after s Commit (Failed fault.Device))
 torn_is_consistent s b is out =
-    let allowed : IsOneOf (Failed fault.Device) (answers s Commit) = subst (λ o. IsOneOf (Failed fault.Device) (with_flight o (λ (f : FlightOut). to_commit f.mark))) (sym out) (inr (inl refl)) in
+    let allowed : IsOneOf (Failed fault.Device) (answers s Commit) = rw out (inr (inl refl)) in
     stays_consistent s Commit (Failed fault.Device) tt is allowed
 
 pub commit_is_safe : CommitIsSafe
@@ -30,7 +30,7 @@ commit_is_safe s b is out = (safe s.log.settled (inl refl), safe (s.log.settled 
   where
     safe : (n : ℕ) → IsOneOf n (s.log.settled ∷ (s.log.settled + b) ∷ []) → IsSafe s n
     safe n one =
-        let may : IsOneOf n (kept (after s Commit (Failed fault.Device))) = subst (λ o. IsOneOf n (kept_by s.log.settled (marked Torn o) s.log.doubt)) (sym out) one in
+        let may : IsOneOf n (kept (after s Commit (Failed fault.Device))) = rw out one in
         let of_torn = kept_is_safe (after s Commit (Failed fault.Device)) n (torn_is_consistent s b is out) may in
         record { legal = of_torn.legal; released = of_torn.released; again = of_torn.again; replied = of_torn.replied; accepted = of_torn.accepted }
 
@@ -57,8 +57,7 @@ module _ {D : Type 0} (d : DriverState D) (s : Machine) (f : FlightState D) (is 
   only_survives new bytes gives =
       given_survives s bytes is
       (given_follows d s bytes represents
-      (subst (λ o. GivesOneOf d.ledger.log (kept_by d.ledger.log.settled (option_map flight_out o) d.ledger.log.doubt) bytes) (sym holds)
-      (flight_gives d.ledger f bytes own (subst (λ m. GivesFlown m f.world f.steps bytes) (sym new) gives))))
+      (rw holds (flight_gives d.ledger f bytes own (rw new gives))))
 
 -- ---- between two events
 
@@ -67,11 +66,10 @@ module _ {D : Type 0} (keeps_model : D → Bool) (present : D → Present) (d : 
   pub flight_survives : (f : FlightState D) → d.flight ≡ Some f → (keeps_model f.disk ≡ true → FlightGives present f) → DiskSurvives keeps_model present (disk_held d) s
   flight_survives f holds gives disk there on image here =
       let same : f.disk ≡ disk = cc (ap (disk_with d.ledger.disk) holds, there) in
-      let given = gives (ap keeps_model same ∙ on) image (subst (λ x. IsImage (present x) image) (sym same) here) in
+      let given = gives (ap keeps_model same ∙ on) image (rw same here) in
       given_survives s image is
       (given_follows d s image represents
-      (subst (λ o. GivesOneOf d.ledger.log (kept_by d.ledger.log.settled (option_map flight_out o) d.ledger.log.doubt) image) (sym holds)
-      (flight_gives d.ledger f image (subst (HoldsFlight d.ledger) holds represents.own) given)))
+      (rw holds (flight_gives d.ledger f image (subst (HoldsFlight d.ledger) holds represents.own) given)))
 
   -- with the store at home
   pub home_survives : d.flight ≡ None → IfSome d.ledger.disk (λ x. keeps_model x ≡ true → LedgerGives present d.ledger x) → DiskSurvives keeps_model present (disk_held d) s
@@ -80,8 +78,7 @@ module _ {D : Type 0} (keeps_model : D → Bool) (present : D → Present) (d : 
       let each = subst (λ o. IfSome o (λ x. keeps_model x ≡ true → LedgerGives present d.ledger x)) at_home gives in
       given_survives s image is
       (given_follows d s image represents
-      (subst (λ o. GivesOneOf d.ledger.log (kept_by d.ledger.log.settled (option_map flight_out o) d.ledger.log.doubt) image) (sym none)
-      (ledger_images d.ledger disk (keeps_model disk) present each on image here)))
+      (rw none (ledger_images d.ledger disk (keeps_model disk) present each on image here)))
 
 -- ---- an event
 
@@ -121,8 +118,7 @@ module _ {D : Type 0} (model : DiskModel D) (crashes : D → D → Type 0) where
     pub answered_without_disk : (s : Machine) (e what : Event) (a : Answer) (was now : Option D) → e ≡ what → is_crash what ≡ false → found_by_crash s what a ≡ s → now ≡ was → DiskSurvives model.keeps_model model.present was s →
         DiskEffect model crashes (found_by_crash s e a) (touches_disk e a) e was now
     answered_without_disk s e what a was now event other found same survives =
-        subst (λ x. DiskEffect model crashes (found_by_crash s x a) (touches_disk x a) x was now) (sym event)
-        (subst (λ t. DiskEffect model crashes t (touches_disk what a) what was now) (sym found) (kept_untouched s (touches_disk what a) what was now other same survives))
+        rw event (rw found (kept_untouched s (touches_disk what a) what was now other same survives))
 
     -- a flight was committed, or not
     module _ (d : DriverState D) (s : Machine) (f g : FlightState D) (is : IsConsistent s) (represents : Represents d s) (holds : d.flight ≡ Some f) (survives : DiskSurvives model.keeps_model model.present (disk_held d) s) (new : DriverState D) (now : disk_held new ≡ Some g.disk) where
@@ -138,7 +134,7 @@ module _ {D : Type 0} (model : DiskModel D) (crashes : D → D → Type 0) where
             holds = now;
             touched = record {
               untouched = λ no. let never : ⊥ = cc in absurd never;
-              inside = λ on. subst (λ x. LeavesOnly model x g.disk (Survives found)) same (weaker model f.disk g.disk P (Survives found) (moments (ap model.keeps_model same ∙ on)) each);
+              inside = λ on. rw (sym same) (weaker model f.disk g.disk P (Survives found) (moments (ap model.keeps_model same ∙ on)) each);
             };
           }
 
@@ -163,10 +159,10 @@ module _ {D : Type 0} (model : DiskModel D) (crashes : D → D → Type 0) where
           by_result new (Err why) same =
               elim (subst (λ q. MatchResult q (λ _. g.mark ≡ Good) (λ why. ((why ≡ fault.Device) × (g.mark ≡ Torn)) ⊎ ((why ≡ fault.OutOfMemory) × (g.mark ≡ New)))) same (tried new)) [
                 | inl device ↦
-                    subst (λ x. Goal (Err x)) (sym device.0)
+                    rw device.0
                     (leaves (after s Commit (Failed fault.Device)) (GivesEither f.world (fold f.world f.steps)) (λ on. either on new) (either_survives d s f is represents holds new))
                 | inr memory ↦
-                    subst (λ x. Goal (Err x)) (sym memory.0)
+                    rw memory.0
                     (leaves s (IsOnlyWorld f.world) (λ on. refused on new (same ∙ ap Err memory.0)) (only_survives d s f is represents holds new))
               ]
 
@@ -179,9 +175,9 @@ module _ {D : Type 0} (model : DiskModel D) (crashes : D → D → Type 0) where
       DiskEffect model crashes (found_by_crash s Commit said) (touches_disk Commit said) Commit was new → DiskEffect model crashes (found_by_crash s e a) (touches_disk e a) e was now
   answered_commit s e said answer a was now new event says ok is touches =
       let same : said ≡ a = cc (says, ok) in
-      subst (λ x. DiskEffect model crashes (found_by_crash s x a) (touches_disk x a) x was now) (sym event)
+      rw event
       (subst (DiskEffect model crashes (found_by_crash s Commit a) (touches_disk Commit a) Commit was) (sym is)
-      (subst (λ b. DiskEffect model crashes (found_by_crash s Commit b) (touches_disk Commit b) Commit was new) same touches))
+      (rw (sym same) touches))
 
   -- the disk is given back as it was held
   pub lost_as_it_was : (s : Machine) (e : Event) (kind : RunFaultKind) (was : Option D) (lost : D) → is_crash e ≡ false → was ≡ Some lost → IsLost model crashes s e kind was lost
@@ -207,7 +203,7 @@ module _ {D : Type 0} (model : DiskModel D) (crashes : D → D → Type 0) where
     survives_each : (old new : D) → was ≡ Some old → (model.keeps_model d ≡ true → Reopens model crashes (IsImage (model.present d)) d new) → model.keeps_model old ≡ true → Reopens model crashes (Survives s) old new
     survives_each old new there moments on =
         let same : d ≡ old = cc (held, there) in
-        subst (λ x. Reopens model crashes (Survives s) x new) same
+        rw (sym same)
         (reopens_more (IsImage (model.present d)) (Survives s) d new (moments (ap model.keeps_model same ∙ on)) (λ bytes here. survives d held (ap model.keeps_model same ∙ on) bytes here))
 
     pub crash_touches : (l : LedgerState D) (now : Option D) → IsReopened model crashes d l → now ≡ l.disk → DiskEffect model crashes s true Crash was now
@@ -233,8 +229,8 @@ module _ {D : Type 0} (model : DiskModel D) (crashes : D → D → Type 0) where
       Touches model crashes keeps_model (found_by_crash (run s events given) e a) (touches_disk e a) e mid last → CrashPrefix (after (run s events given) e a) keeps_model (model.present last) →
       EachMoment model crashes keeps_model s (events ++ e ∷ []) (given ++ a ∷ []) first last
   moments_on keeps_model s [] [] e a first mid last moments touches prefix = (
-    subst (λ d. CrashPrefix s keeps_model (model.present d)) moments.0 moments.1,
-    (last, (subst (λ d. Touches model crashes keeps_model (found_by_crash s e a) (touches_disk e a) e d last) moments.0 touches, (refl, prefix))),
+    rw (sym moments.0) moments.1,
+    (last, (rw (sym moments.0) touches, (refl, prefix))),
   )
   moments_on keeps_model s [] (b ∷ given) e a first mid last moments touches prefix = absurd moments
   moments_on keeps_model s (x ∷ events) [] e a first mid last moments touches prefix = absurd moments

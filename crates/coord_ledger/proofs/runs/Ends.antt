@@ -95,4 +95,4 @@ module _ {D : Type 0} (model : DiskModel D) (crashes : D → D → Type 0) where
       let all : take at events ≡ events = ap (λ n. take n events) last ∙ take-length events in
       let same = same_model model crashes start events at given h loop before after disk there in
       let all_held = subst (λ l. Holds model crashes (model.keeps_model before) before start l given h) all (loop.holds before disk promised) in
-      gives before (subst (λ b. RunSoFar model crashes b before start events given h.driver) (sym same) all_held.so_far) all_held.follows
+      gives before (rw same all_held.so_far) all_held.follows

@@ -16,7 +16,7 @@ pub departs_own : {D : Type 0} (l left : LedgerState D) (f : FlightState D) → 
 departs_own l left f departs =
     let steps : f.steps ≡ take MAX_BATCH_STEPS (pending l.log) = ap (λ (g : FlightState _). g.steps) departs.is in
     let same : left ≡ with_out l (length (take MAX_BATCH_STEPS (pending l.log))) = departs.now ∙ ap (λ k. with_out l (length k)) steps in
-    subst (λ m. IsOut m f) (sym same) (subst (IsOut (with_out l (length (take MAX_BATCH_STEPS (pending l.log))))) (sym departs.is) (next_is_out l f.disk))
+    rw same (subst (IsOut (with_out l (length (take MAX_BATCH_STEPS (pending l.log))))) (sym departs.is) (next_is_out l f.disk))
 
 -- as the call says it
 abbrev IsBegun : {D : Type 0} → LedgerState D → LedgerState D → Option (FlightState D) → Type 0

@@ -26,8 +26,8 @@ pub record Submitted {D : Type 0} (l new : LedgerState D) (f : Option (FlightSta
 pub submitted : {D : Type 0} (l new : LedgerState D) (f : Option (FlightState D)) (x : Step) (r : Result Handed Refusal) → IsConsistentLog l.log → HoldsFlight l f → HandedTo l x r new → Submitted l new f
 submitted {D} l new f x (Ok (Accepted t)) is own to =
     let now = to.now in
-    record { own = subst (λ n. HoldsFlight n f) (sym now) (own_later l x f is own); disk = ap (λ (n : LedgerState D). n.disk) now }
+    record { own = rw now (own_later l x f is own); disk = ap (λ (n : LedgerState D). n.disk) now }
 submitted {D} l new f x (Ok (Repeated t)) is own to =
     let now = to.now in
-    record { own = subst (λ n. HoldsFlight n f) (sym now) own; disk = ap (λ (n : LedgerState D). n.disk) now }
-submitted {D} l new f x (Err e) is own to = record { own = subst (λ n. HoldsFlight n f) (sym to.now) own; disk = ap (λ (n : LedgerState D). n.disk) to.now }
+    record { own = rw now own; disk = ap (λ (n : LedgerState D). n.disk) now }
+submitted {D} l new f x (Err e) is own to = record { own = rw to.now own; disk = ap (λ (n : LedgerState D). n.disk) to.now }

@@ -45,7 +45,7 @@ module _ {D : Type 0} (model : DiskModel D) (crashes : D → D → Type 0) where
         disk = effect.new;
         holds = effect.holds;
         moments = moments_on model crashes on (started start) events given e a first so_far.disk effect.new so_far.moments
-            (subst (λ b. Touches model crashes b (found_by_crash s e a) (touches_disk e a) e so_far.disk effect.new) same effect.touched)
+            (rw (sym same) effect.touched)
             (survives (after s e a) consistent represents effect.new effect.holds);
       }
 
@@ -70,12 +70,11 @@ module _ {D : Type 0} (model : DiskModel D) (crashes : D → D → Type 0) where
             let there : begins.first ≡ before = let is = sym begins.home ∙ ap (λ (x : DriverState D). x.ledger.disk) over ∙ disk in cc in
             let first = subst (λ x. RunSoFar model crashes (model.keeps_model x) x d.ledger [] [] d) there begins.so_far in
             let so_far = subst (λ (l : LedgerState D). RunSoFar model crashes (model.keeps_model before) before l [] [] d) (ap (λ (x : DriverState D). x.ledger) over) first in
-            subst (λ l. Holds (model.keeps_model before) before start [] l h) (sym unanswered)
-            (record {
+            rw unanswered (record {
               so_far = so_far;
               follows = record {
                 represents = so_far.represents;
-                tickets = subst (λ cs. HoldsTickets d.ledger.log cs []) (sym no_tickets) tt;
+                tickets = rw no_tickets tt;
                 seen = unseen;
                 released = unreleased;
               };
@@ -115,9 +114,9 @@ module _ {D : Type 0} (model : DiskModel D) (crashes : D → D → Type 0) where
                 let to = answered s so_far.consistent all.follows (event_promised before disk promised) in
                 let later = λ (now : D) (there : disk_held new.driver ≡ Some now). new_model new same before now disk there in
                 let on = so_far_on (model.keeps_model before) before start (take at events) given h.driver new.driver e a so_far (same_model before so_far.disk disk so_far.holds) named to.allowed to.follows.represents (touches s so_far.consistent all.follows)
-                (λ t consistent represents now there. subst (λ b. CrashPrefix t b (model.present now)) (later now there) (survives t consistent represents now there)) in
+                (λ t consistent represents now there. rw (sym (later now there)) (survives t consistent represents now there)) in
                 let more = run_goes_on (started start) (take at events) given e a so_far.answered to.allowed in
-                subst (λ l. Holds (model.keeps_model before) before start l (given ++ a ∷ []) new) (sym (take-push events at e below is))
+                rw (take-push events at e below is)
                 (record { so_far = on; follows = subst (Follows new) (sym more.1) to.follows });
           }
         where

@@ -4,7 +4,7 @@ use Rattle.std.proofs.lemmas.List.{length-take}
 use Rattle.std.specs.Option.{option_map}
 use Rattle.coord_types.specs.declared.limits.TheConstants.{MAX_BATCH_STEPS}
 use Rattle.coord_types.specs.declared.refusals.Refusal.TheVariants.{OutOfMemory}
-use Rattle.coord_ledger.specs.Facade.{Answer, Begin, Begun, DriverState, FlightState, HoldsFlight, IsOneOf, LedgerState, Machine, Nothing, Refused, Simulates, answers, flight_out, keeps_store, machine_of, next_size, pending, stays_home}
+use Rattle.coord_ledger.specs.Facade.{Answer, Begin, Begun, DriverState, FlightState, HoldsFlight, IsOneOf, LedgerState, Machine, Nothing, Refused, Simulates, answers, flight_out, keeps_store, machine_of, next_size, pending, cannot_flush}
 use Rattle.coord_ledger.proofs.runs.Flights.{Departs, departs_own}
 
 module _ {D : Type 0} (d : DriverState D) (own : HoldsFlight d.ledger d.flight) where
@@ -12,8 +12,8 @@ module _ {D : Type 0} (d : DriverState D) (own : HoldsFlight d.ledger d.flight) 
   out_is None none = ap is_some none
   out_is (Some f) own = ap is_some own.size
 
-  home_is : keeps_store d.ledger ≡ stays_home (is_some (option_map flight_out d.flight)) d.ledger.log
-  home_is = ap (λ b. stays_home b d.ledger.log) (out_is d.flight own)
+  home_is : keeps_store d.ledger ≡ cannot_flush (is_some (option_map flight_out d.flight)) d.ledger.log
+  home_is = ap (λ b. cannot_flush b d.ledger.log) (out_is d.flight own)
 
   -- an answer that the ledger may give
   may : (home : Bool) → keeps_store d.ledger ≡ home → (a : Answer) → IsOneOf a (cond home (Nothing ∷ []) (Begun (next_size d.ledger.log) ∷ Refused OutOfMemory ∷ [])) → (m : Machine) → IsOneOf a (answers (machine_of d m) Begin)

@@ -21,9 +21,8 @@ simulates_opened {D} d l model crashes before is images keeps opened =
     let le : n ≤ length log.trail = omega (arith, more.is, more.within) in
     let count : opened.world.count ≡ log.base.count + n = ap (λ (w : World). w.count) world ∙ count_after log n le in
     let back : opened.world.count - log.base.count ≡ n = omega (arith, count) in
-    subst (λ (m : LedgerState D). Simulates d Crash (Opened (settled_world m.log).count) (at_home m)) (sym opened.is)
-    (record {
-      allowed = λ m. subst (λ c. IsOneOf (Opened c) (answers (machine_of d m) Crash)) (sym count) (one_mapped (λ k. Opened (log.base.count + k)) n (kept (machine_of d m)) one.allowed);
+    rw opened.is (record {
+      allowed = λ m. rw count (one_mapped (λ k. Opened (log.base.count + k)) n (kept (machine_of d m)) one.allowed);
       leaves = λ m. ap (λ w. record (adopted w) { released = m.released; replied = m.replied }) (world ∙ ap (world_after log) (sym back));
       own = refl;
     })

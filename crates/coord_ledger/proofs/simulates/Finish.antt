@@ -5,7 +5,7 @@ use Rattle.coord_ledger.specs.Facade.{Answer, DriverState, Finish, Finished, Fli
 
 module _ {D : Type 0} (d : DriverState D) (f : FlightState D) (holds : d.flight ≡ Some f) where
   may : (a : Answer) → IsOneOf a (to_finish (settled_count d.ledger.log) (length f.steps) f.mark) → (m : Machine) → IsOneOf a (answers (machine_of d m) Finish)
-  may a one m = subst (λ o. IsOneOf a (with_flight (option_map flight_out o) (λ x. to_finish (settled_count d.ledger.log) x.size x.mark))) (sym holds) one
+  may a one m = rw holds one
 
   counted : (log : Log) (b : ℕ) (k : Mark) → IsOneOf (Finished (settled_count (log_back log b k))) (to_finish (settled_count log) b k)
   counted log b New = inl refl
@@ -17,7 +17,7 @@ module _ {D : Type 0} (d : DriverState D) (f : FlightState D) (holds : d.flight 
   simulates_back back taken =
       let same = ap (λ (l : LedgerState D). l.log) taken in
       record {
-        allowed = may (Finished (settled_count back.log)) (subst (λ g. IsOneOf (Finished (settled_count g)) (to_finish (settled_count d.ledger.log) (length f.steps) f.mark)) (sym same) (counted d.ledger.log (length f.steps) f.mark));
-        leaves = λ m. subst (λ o. machine_of (at_home back) (finished (machine_of d m) (option_map flight_out o)) ≡ finished (machine_of d m) (option_map flight_out o)) (sym holds) (λ i. record (after_finish (machine_of d m) (length f.steps) f.mark) { log = same i });
+        allowed = may (Finished (settled_count back.log)) (rw same (counted d.ledger.log (length f.steps) f.mark));
+        leaves = λ m. rw holds (λ i. record (after_finish (machine_of d m) (length f.steps) f.mark) { log = same i });
         own = ap (λ (l : LedgerState D). l.out) taken;
       }

@@ -24,7 +24,7 @@ module _ {D : Type 0} (d new : DriverState D) (s : Machine) (is : IsConsistent s
 
   -- where the machine goes
   goes : (e : Event) (a : Answer) (t : Machine) → Simulates d e a new → goes_to (rebased_machine s represents.by) e a ≡ t → machine_of new t ≡ t
-  goes e a t simulates to = subst (λ m. machine_of new m ≡ m) (ap (λ m. goes_to m e a) represents.is ∙ to) (simulates.leaves s)
+  goes e a t simulates to = rw (sym (ap (λ m. goes_to m e a) represents.is ∙ to)) (simulates.leaves s)
 
   represents_on : (e : Event) (a : Answer) → is_crash e ≡ false → Simulates d e a new → Represents new (after s e a)
   represents_on e a calm simulates = record {
@@ -46,7 +46,7 @@ module _ {D : Type 0} (d new : DriverState D) (s : Machine) (is : IsConsistent s
       let to : goes_to (rebased_machine s represents.by) Crash a ≡ rebased_machine (crashed s n) n =
       ap (goes_to (rebased_machine s represents.by) Crash) one.2 ∙ ap (λ w. record (adopted w) { released = s.released; replied = s.replied }) world ∙ sym (crash_reopens s n) in
       let reopened : Represents new (crashed s n) = record { by = n; within = omega arith; is = goes Crash a (rebased_machine (crashed s n) n) simulates to; own = simulates.own } in
-      subst (λ b. Represents new (after s Crash b)) (sym one.2) (subst (λ k. Represents new (crashed s k)) (sym back) reopened)
+      rw one.2 (rw back reopened)
 
   pub represents_to : (e : Event) (a : Answer) → Simulates d e a new → Represents new (after s e a)
   represents_to Crash a simulates = represents_opened a simulates

@@ -14,8 +14,8 @@ module _ {D : Type 0} (d : DriverState D) (new : LedgerState D) (x : Step) (own 
   said : (v : Result Verdict Refusal) (a : Answer) → verdict d.ledger.log x ≡ v → IsOneOf a (to_submit (accepted_count d.ledger.log + 1) v) →
       ((m : Machine) → machine_of later (after_submit (machine_of d m) x v a) ≡ after_submit (machine_of d m) x v a) → Simulates d (Submit x) a later
   said v a judged one leaves = record {
-    allowed = λ m. subst (λ u. IsOneOf a (to_submit (accepted_count d.ledger.log + 1) u)) (sym judged) one;
-    leaves = λ m. subst (λ u. machine_of later (after_submit (machine_of d m) x u a) ≡ after_submit (machine_of d m) x u a) (sym judged) (leaves m);
+    allowed = λ m. rw judged one;
+    leaves = λ m. rw judged (leaves m);
     own = own;
   }
 

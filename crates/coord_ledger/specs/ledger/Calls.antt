@@ -19,7 +19,7 @@ use Rattle.coord_ledger.specs.declared.release.Release.{Release}
 use Rattle.coord_ledger.specs.ledger.Flights.{IsOut}
 use Rattle.coord_ledger.specs.ledger.State.{Claim, FlightState, LedgerState}
 use Rattle.coord_ledger.specs.machine.After.{log_back, releases_of}
-use Rattle.coord_ledger.specs.machine.Answers.{stays_home}
+use Rattle.coord_ledger.specs.machine.Answers.{cannot_flush}
 use Rattle.coord_ledger.specs.machine.Log.{Log, front_world, pending, settled_count, settled_world, with_step, world_after}
 use Rattle.coord_ledger.specs.machine.Submits.{verdict}
 
@@ -69,7 +69,7 @@ HandedTo l s (Err refusal) new = IsRefused l s refusal new
 
 -- no flight goes out of it
 abbrev pub keeps_store : {D : Type 0} → LedgerState D → Bool
-keeps_store l = stays_home (is_some l.out) l.log
+keeps_store l = cannot_flush (is_some l.out) l.log
 
 -- the flight that goes out next, with this disk
 abbrev pub next_flight : {D : Type 0} → Log → D → FlightState D

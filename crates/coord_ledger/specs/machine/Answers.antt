@@ -34,11 +34,11 @@ abbrev pub next_size : Log → ℕ
 next_size log = min MAX_BATCH_STEPS (length (pending log))
 
 -- no flight goes out: it has stopped, one is out, or nothing is pending
-abbrev pub stays_home : Bool → Log → Bool
-stays_home is_out log = has_stopped log || is_out || (length (pending log) == 0)
+abbrev pub cannot_flush : Bool → Log → Bool
+cannot_flush is_out log = has_stopped log || is_out || (length (pending log) == 0)
 
 abbrev pub to_begin : Machine → List Answer
-to_begin s = if stays_home (is_some s.flight) s.log then Nothing ∷ [] else Begun (next_size s.log) ∷ Refused OutOfMemory ∷ []
+to_begin s = if cannot_flush (is_some s.flight) s.log then Nothing ∷ [] else Begun (next_size s.log) ∷ Refused OutOfMemory ∷ []
 
 abbrev pub to_commit : Mark → List Answer
 to_commit New = Committed ∷ Failed fault.Device ∷ Failed fault.OutOfMemory ∷ []

@@ -1,5 +1,5 @@
 -- Lanes whose numbers fit their queues, through each change of a world.
-use Rattle.std.proofs.Common.{◌≡◌, ◌≢◌, ℕ, ◌+◌, ◌≤◌, true, List, [], ◌∷◌, Some, sym, ◌∙◌, cond, eqb, refl, inl, arith, subst}
+use Rattle.std.proofs.Common.{◌≡◌, ◌≢◌, ℕ, ◌+◌, ◌≤◌, true, List, [], ◌∷◌, Some, sym, ◌∙◌, cond, eqb, refl, inl, arith}
 use Rattle.std.proofs.lemmas.Bool.Decides.{nat_tests}
 use Rattle.coord_types.specs.declared.messages.Msg.{Msg}
 use Rattle.coord_types.specs.declared.steps.Command.TheVariants.{Drop, Join}
@@ -43,12 +43,12 @@ module _ (w : World) (counts : AllCount w) where
       AllCount (on_lane w v u took)
   counts_took v u k front rest there idle is_front x y m e = each_changed (lane_at w.links x y) (λ l. cond (is_lane (x, y) v u) (took l) l) Counts
       (λ l is. by_test (is_lane (x, y) v u) (λ b. Counts (cond b (took l) l))
-      (λ t. subst (λ z. Counts (took z)) (sym (it_is w v u x y k l there is t)) (counts-took k front rest idle is_front)) (λ _. counts x y l is))
+      (λ t. rw (it_is w v u x y k l there is t) (counts-took k front rest idle is_front)) (λ _. counts x y l is))
       m (sym (lane_on w v u took x y) ∙ e)
 
   -- the front that is cleared was taken
   pub counts_cleared : (u v : ℕ) (k : Lane) → lane_at w.links u v ≡ Some k → k.base + 1 ≤ k.got → AllCount (on_lane w u v cleared)
   counts_cleared u v k there more x y m e = each_changed (lane_at w.links x y) (λ l. cond (is_lane (x, y) u v) (cleared l) l) Counts
       (λ l is. by_test (is_lane (x, y) u v) (λ b. Counts (cond b (cleared l) l))
-      (λ t. subst (λ z. Counts (cleared z)) (sym (it_is w u v x y k l there is t)) (counts_from (cleared k) (inl (was_taken k (counts u v k there) more).0))) (λ _. counts x y l is))
+      (λ t. rw (it_is w u v x y k l there is t) (counts_from (cleared k) (inl (was_taken k (counts u v k there) more).0))) (λ _. counts x y l is))
       m (sym (lane_on w u v cleared x y) ∙ e)

@@ -63,11 +63,9 @@ module _ (w : Ideal) (v u : ℕ) (rest : List Msg) (near : contains (w.state u).
   -- an Abort that is taken
   abort_taken : (n : ℕ) → kept w.version n ≡ n → w.in_transit v u ≡ msg.Abort n ∷ rest → Sound (after_take w v u (on_abort w.version taker v n))
   abort_taken n same front = abort_cases w.version taker v (λ d. Sound (after_take w v u d)) n
-      (λ ready none. subst (λ k. Sound (after_take w v u (wave_back taker v k))) (sym same)
-      (take_kept w v u (msg.Abort n) rest front near sound (wave_back taker v n) refl (keeps_wave_back w.version taker v (sound.nodes u) n ready none near)
+      (λ ready none. rw same (take_kept w v u (msg.Abort n) rest front near sound (wave_back taker v n) refl (keeps_wave_back w.version taker v (sound.nodes u) n ready none near)
       (wave_ends (link w u v) _ n refl ready refl (contains-empty v) (grind (arith, nat_tests)) refl (grind (arith, nat_tests, has_only v v)) front before)))
-      (λ ready some. subst (λ k. Sound (after_take w v u (wave_on w.version taker (Some v) (set.remove taker.neighbours v) k))) (sym same)
-      (take_kept w v u (msg.Abort n) rest front near sound (wave_on w.version taker (Some v) (set.remove taker.neighbours v) n) refl
+      (λ ready some. rw same (take_kept w v u (msg.Abort n) rest front near sound (wave_on w.version taker (Some v) (set.remove taker.neighbours v) n) refl
       (keeps_wave_on w.version taker v (sound.nodes u) (Some v) (set.remove taker.neighbours v) n ready some (λ y e. grind (arith, nat_tests)) (λ y. grind (arith, nat_tests, contains-remove taker.neighbours v y)) (λ _. near))
       (wave_reaches (link w u v) _ n refl ready refl (grind (arith, nat_tests, contains-remove taker.neighbours v v)) (grind (arith, nat_tests)) refl
       (grind (arith, nat_tests, contains-remove taker.neighbours v v, append-nil (w.in_transit u v))) front before)))

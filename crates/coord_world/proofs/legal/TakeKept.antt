@@ -58,6 +58,6 @@ module _ (w : Ideal) (v u : ℕ) (m : Msg) (rest : List Msg) (front : w.in_trans
         each y with_y =
             let near_y : contains (w.state u).neighbours y ≡ true = sym (sound.linked u y) ∙ with_y in
             elim (same_or_apart y v) [
-              | inl here ↦ subst (λ z. LegalBoth (far_after (headed w v u) u d z)) (sym here) (subst LegalBoth (sym (near_is (not_self w u sound v near))) at_sender)
+              | inl here ↦ rw here (subst LegalBoth (sym (near_is (not_self w u sound v near))) at_sender)
               | inr far ↦ subst LegalBoth (sym (far_is y (not_self w u sound y near_y) far)) (keeps.elsewhere (link w u y) y far near_y refl (both_before w u sound y near_y))
             ]

@@ -1,5 +1,5 @@
 -- The world that fitting rows make is in its ranges, and has those rows.
-use Rattle.std.proofs.Common.{◌≡◌, ℕ, ◌≤◌, true, ◌||◌, List, [], ◌∷◌, Option, Some, None, map, cond, length, refl, sym, ap, ◌∙◌, subst, arith, is_some, nat_cmp, nat_lt}
+use Rattle.std.proofs.Common.{◌≡◌, ℕ, ◌≤◌, true, ◌||◌, List, [], ◌∷◌, Option, Some, None, map, cond, length, refl, sym, ap, ◌∙◌, arith, is_some, nat_cmp, nat_lt}
 use Rattle.std.specs.Cmp.{nat_cmp_total}
 use Rattle.std.specs.List.{AllByRecursion}
 use Rattle.std.specs.FinMap.Entries.{find, is_sorted}
@@ -144,7 +144,7 @@ module _ (rows : Rows) (fit : RowsFit rows) where
     parents = each_node (λ r. (p : ℕ) → r.parent ≡ Some p → IsNode p) (λ p is. cc) (λ s fits. fits.parent);
     sessions = λ c s is. each_value (λ r. r.session) (SessionInRange rows.count c) (find nat_cmp c (by_client rows.clients)) (λ r there.
         let at = client_fits c r there in
-        subst (λ d. SessionInRange rows.count d r.session) (sym at.1) at.0)
+        rw at.1 at.0)
         s (sym (get-client c) ∙ is);
     links = omega (arith, links-len rows.links links_in_order, fit.most_links);
     linked = λ u v. is_linked-lane u v ∙ near_lanes u v (row_at u) refl ∙ ap (λ o. contains (state_or_none o).neighbours v) (sym (get-node u));

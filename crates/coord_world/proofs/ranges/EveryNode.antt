@@ -1,5 +1,5 @@
 -- What every node keeps through a step, it keeps through each change of a node.
-use Rattle.std.proofs.Common.{◌≡◌, ℕ, ◌≤◌, true, Some, sym, ◌∙◌, ap, eqb, arith, subst, is_some}
+use Rattle.std.proofs.Common.{◌≡◌, ℕ, ◌≤◌, true, Some, sym, ◌∙◌, ap, eqb, arith, is_some}
 use Rattle.std.specs.Cmp.{nat_cmp_total}
 use Rattle.std.proofs.lemmas.Bool.Decides.{nat_tests}
 use Rattle.coord_types.specs.NodeSet as set
@@ -43,7 +43,7 @@ Adds Q s = Unit {0}
 
 -- a node is put
 all_set : (Q : ℕ → NodeState → Type 0) (rows : Table nat_cmp_total NodeState) (u : ℕ) (s : NodeState) → AllRows Q rows → Q u s → AllRows Q (insert rows u s)
-all_set Q rows u s all here x r e = each_made (get rows x) (eqb x u) s (Q x) (λ t. let same : x ≡ u = grind (arith, nat_tests) in subst (λ z. Q z s) (sym same) here) (λ _ r is. all x r is)
+all_set Q rows u s all here x r e = each_made (get rows x) (eqb x u) s (Q x) (λ t. let same : x ≡ u = grind (arith, nat_tests) in rw same here) (λ _ r is. all x r is)
     r (sym (get-set rows u s x) ∙ e)
 
 -- a node is removed

@@ -3,14 +3,13 @@ use Rattle.std.proofs.Common.{◌≡◌, ℕ, ◌+◌, ◌≤◌, true, List, []
 use Rattle.coord_types.specs.Facade.{NodeState, contains}
 use Rattle.std.proofs.lemmas.Bool.Decides.{nat_tests}
 use Rattle.coord_types.specs.Table.{get, has, len}
-use Rattle.coord_types.specs.declared.limits.TheConstants.{MAX_VERSIONS}
 use Rattle.coord_types.specs.declared.steps.Command.TheVariants.{Add, Remove, Join, Drop, Reset, Confirm}
 use Rattle.coord_types.specs.declared.steps.Step.{Step}
 use Rattle.coord_types.specs.declared.steps.Step.TheVariants.{Order, Take, Clear}
 use Rattle.coord_types.proofs.Sets.{contains-empty}
 use Rattle.coord_link.specs.LaneMachine.{new_lane, took}
 use Rattle.coord_node.specs.Facade.{Transition, is_parent, transitions, transitions_ordered}
-use Rattle.coord_world.specs.Facade.{CarryWithin, InRange, IsDistant, IsFresh, IsNode, NodeInRange, World, farthest, is_linked, next, on_lane, state, state_or_none, view, with_command, with_transition, with_transitions}
+use Rattle.coord_world.specs.Facade.{InRange, IsFresh, IsNode, NodeInRange, World, is_linked, next, on_lane, state, state_or_none, view, with_command, with_transition, with_transitions}
 use Rattle.coord_world.specs.laws.Laws.{NextKeepsRanges}
 use Rattle.coord_world.proofs.acceptance.IsFresh.{fresh_count}
 use Rattle.coord_world.proofs.ranges.OneGroup.{OneGroup, group_next}
@@ -64,11 +63,11 @@ links_next w settled (Order c n (Join a b)) range fresh =
     omega (arith, room, one)
 links_next w settled (Order c n (Drop a b)) range fresh =
     let fewer : len (with_command w (Drop a b)).links ≤ 128 = omega (arith, range.links, len-remove w.links (ends a b)) in
-    subst (λ k. k ≤ 128) (sym (len-all_do (with_command w (Drop a b)) (transitions_ordered w.version (state w) (Drop a b)))) fewer
-links_next w settled (Order c n (Reset u)) range fresh = subst (λ k. k ≤ 128) (sym (len-all_do w (transitions_ordered w.version (state w) (Reset u)))) range.links
+    rw (len-all_do (with_command w (Drop a b)) (transitions_ordered w.version (state w) (Drop a b))) fewer
+links_next w settled (Order c n (Reset u)) range fresh = rw (len-all_do w (transitions_ordered w.version (state w) (Reset u))) range.links
 links_next w settled (Order c n (Confirm u e)) range fresh = range.links
-links_next w settled (Take p) range fresh = subst (λ k. k ≤ 128) (sym (len-all_do (on_lane w p.from p.to took) (transitions w.version (state w) (Take p)) ∙ len-change _ w.links)) range.links
-links_next w settled (Clear p) range fresh = subst (λ k. k ≤ 128) (sym (len-change _ w.links)) range.links
+links_next w settled (Take p) range fresh = rw (len-all_do (on_lane w p.from p.to took) (transitions w.version (state w) (Take p)) ∙ len-change _ w.links) range.links
+links_next w settled (Clear p) range fresh = rw (len-change _ w.links) range.links
 
 -- transitions leave the links turned
 turned-all_do : (w : World) (ds : List (ℕ × Transition)) → Turned w.links → Turned (with_transitions w ds).links
@@ -93,12 +92,12 @@ ranges_next w settled s within range legal fresh =
     let groups : OneGroup (view (next w s)) = subst OneGroup (sym (view_next w settled s legal.lanes fresh)) (group_next w settled (sound_view w range legal) range.one_group s fresh) in
     let nodes = nodes_next w settled s within range fresh in
     record {
-      first = subst (λ v. 1 ≤ v) (sym (same_version w s)) range.first;
-      last = subst (λ v. v ≤ MAX_VERSIONS) (sym (same_version w s)) range.last;
+      first = rw (same_version w s) range.first;
+      last = rw (same_version w s) range.last;
       count = fresh_count w settled s fresh;
       nodes = nodes;
-      distances = λ u r is. subst (λ v. IsDistant v (w.count + 1) r) (sym (same_version w s)) (distances_next w settled s range fresh u r is);
-      carried = λ u v l is. subst (λ z. CarryWithin (farthest z (w.count + 1)) l.queue) (sym (same_version w s)) (carried_next w settled s range fresh u v l is);
+      distances = λ u r is. rw (same_version w s) (distances_next w settled s range fresh u r is);
+      carried = λ u v l is. rw (same_version w s) (carried_next w settled s range fresh u v l is);
       lanes = lane_ranges_next w s range;
       short = λ u v l is. (lane_short (next w s) u v l sound is).queued;
       awaited = λ u k awaits. near_known (next w s) (w.count + 1) sound nodes u k ((sound.nodes u).within k awaits);

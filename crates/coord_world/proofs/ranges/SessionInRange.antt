@@ -1,5 +1,5 @@
 -- Sessions stay in their ranges through a step.
-use Rattle.std.proofs.Common.{◌≡◌, ℕ, ◌+◌, ◌≤◌, true, Option, Some, None, eqb, refl, sym, ◌∙◌, ap, subst, arith}
+use Rattle.std.proofs.Common.{◌≡◌, ℕ, ◌+◌, ◌≤◌, true, Option, Some, None, eqb, refl, sym, ◌∙◌, ap, arith}
 use Rattle.std.proofs.lemmas.Bool.Decides.{nat_tests}
 use Rattle.coord_types.specs.NodeState.{NodeState}
 use Rattle.coord_types.specs.Table.{get, insert}
@@ -53,7 +53,7 @@ module _ (w : World) (range : InRange w) where
   sessions_next settled (Order c n x) within fresh d o e =
       each_made (get w.sessions d) (eqb d c) (record { number = n; command = x; reply = reply w (Order c n x) }) (SessionInRange (w.count + 1) d)
       (λ t. let same : d ≡ c = grind (arith, nat_tests) in
-      subst (λ z. SessionInRange (w.count + 1) z (record { number = n; command = x; reply = reply w (Order c n x) })) (sym same) (noted settled c n x within fresh))
+      rw same (noted settled c n x within fresh))
       (λ _ p is. later d p is)
       o (sym (get-set w.sessions c (record { number = n; command = x; reply = reply w (Order c n x) }) d) ∙ ap (λ m. get m d) (sym (sessions_noted w c n x)) ∙ e)
   sessions_next settled (Take p) within fresh d o e = later d o e

@@ -49,11 +49,11 @@ past_next w s x y inc number gone = record { made = let old = gone.made in omega
     by_step : LaneStep w s x y (lane_at (next w s).links x y) → (l : Lane) → lane_at (next w s).links x y ≡ Some l → l.inc ≡ inc → number ≤ l.base
     by_step (LaneStep.is_none e) l there is = cc
     by_step (LaneStep.is_made e) l there is = let old = gone.made in let same = one_lane _ (new_lane (w.count + 1)) l e there in absurd (let count = ap (λ k. k.inc) same in omega arith)
-    by_step (LaneStep.is_kept k ms was e) l there is = let same = one_lane _ (sent ms k) l e there in subst (λ b. number ≤ b) (ap (λ z. z.base) same) (gone.past k was (ap (λ z. z.inc) same ∙ is))
-    by_step (LaneStep.is_taken k ms p t ends was e) l there is = let same = one_lane _ (sent ms (took k)) l e there in subst (λ b. number ≤ b) (ap (λ z. z.base) same) (gone.past k was (ap (λ z. z.inc) same ∙ is))
+    by_step (LaneStep.is_kept k ms was e) l there is = let same = one_lane _ (sent ms k) l e there in rw (sym (ap (λ z. z.base) same)) (gone.past k was (ap (λ z. z.inc) same ∙ is))
+    by_step (LaneStep.is_taken k ms p t ends was e) l there is = let same = one_lane _ (sent ms (took k)) l e there in rw (sym (ap (λ z. z.base) same)) (gone.past k was (ap (λ z. z.inc) same ∙ is))
     by_step (LaneStep.is_cleared k p t ends was e) l there is =
         let same = one_lane _ (cleared k) l e there in
-        subst (λ b. number ≤ b) (ap (λ z. z.base) same) (let less = gone.past k was (ap (λ z. z.inc) same ∙ is) in omega arith)
+        rw (sym (ap (λ z. z.base) same)) (let less = gone.past k was (ap (λ z. z.inc) same ∙ is) in omega arith)
 
 pub past_fold : (ss : List Step) (w : World) (x y inc number : ℕ) → IsPast w x y inc number → IsPast (fold w ss) x y inc number
 past_fold [] w x y inc number gone = gone
@@ -62,7 +62,7 @@ past_fold (s ∷ ss) w x y inc number gone = past_fold ss (next w s) x y inc num
 module _ (w : World) (s : Step) (sound : IsSound w) where
   -- a lane's incarnation is at most the count
   inc_within_count : (x y inc number : ℕ) → IsNumbered w x y inc number → inc ≤ w.count
-  inc_within_count x y inc number at = subst (λ i. i ≤ w.count) at.inc (sound.in_range.lanes x y at.lane at.there).inc
+  inc_within_count x y inc number at = rw (sym at.inc) (sound.in_range.lanes x y at.lane at.there).inc
 
   -- where a step removes the lane, its front's number is past
   past_none : (x y inc number : ℕ) → IsNumbered w x y inc number → lane_at (next w s).links x y ≡ None → IsPast (next w s) x y inc number
@@ -78,7 +78,7 @@ module _ (w : World) (s : Step) (sound : IsSound w) where
   past_cleared : (x y inc number : ℕ) (at : IsNumbered w x y inc number) → lane_at (next w s).links x y ≡ Some (cleared at.lane) → IsPast (next w s) x y inc number
   past_cleared x y inc number at e =
       let old = inc_within_count x y inc number at in
-      record { made = omega arith; past = λ l there is. let same = one_lane _ (cleared at.lane) l e there in subst (λ b. number ≤ b) (ap (λ z. z.base) same) (omega (arith, at.number)) }
+      record { made = omega arith; past = λ l there is. let same = one_lane _ (cleared at.lane) l e there in rw (sym (ap (λ z. z.base) same)) (omega (arith, at.number)) }
 
   -- a step keeps a front, or its number is past
   pub front_next : (p : DataPacket) → IsFront w p → IsFront (next w s) p ⊎ IsPast (next w s) p.from p.to p.inc p.number

@@ -1,5 +1,5 @@
 -- The release law and the resend law: what is released, over all settled steps.
-use Rattle.std.proofs.Common.{◌≡◌, ◌⊎◌, ◌≤◌, true, false, List, [], ◌∷◌, Option, Some, None, take, drop, leb, refl, sym, ap, ◌∙◌, subst, inl, inr, Contains, arith}
+use Rattle.std.proofs.Common.{◌≡◌, ◌⊎◌, ◌≤◌, true, false, List, [], ◌∷◌, Option, Some, None, take, drop, leb, refl, sym, ap, ◌∙◌, inl, inr, Contains, arith}
 use Rattle.std.proofs.lemmas.Bool.Decides.{nat_tests}
 use Rattle.std.proofs.lemmas.List.Elements.{All-contains_itself, All-weaker, Contains-append_cases, Contains-append_left, Contains-append_right}
 use Rattle.coord_types.specs.Messages.{is_nil}
@@ -130,8 +130,8 @@ module _ (settled : World) (ss : List Step) (sound : IsSound settled) (each : Ea
             by_test (leb p.number l.base) (λ b. leb p.number l.base ≡ b → IsFrontReceipt settled p)
             (λ less _. front_not_past (fold settled ss) p.from p.to p.inc p.number is.at (past_fold ss settled p.from p.to p.inc p.number
             (record {
-              made = subst (λ i. i ≤ settled.count) known.1 (sound.in_range.lanes p.from p.to l known.0).inc;
-              past = λ k there same. let one = one_lane _ l k known.0 there in subst (λ z. p.number ≤ z.base) one (grind (arith, nat_tests, less));
+              made = rw (sym known.1) (sound.in_range.lanes p.from p.to l known.0).inc;
+              past = λ k there same. let one = one_lane _ l k known.0 there in rw (sym one) (grind (arith, nat_tests, less));
             })))
             (λ more _. elim (counts_cases l (sound.legal.lanes p.from p.to l known.0)) [
               | inl idle ↦ absurd (grind (arith, nat_tests, more, within, idle))
@@ -173,5 +173,4 @@ settled_tells base first others sound each on = record {
 pub release_law : ReleaseLaw
 release_law base trail d is =
     let each = trail_each_fresh base trail is in
-    subst (λ front. TellsReleased front (fold base (take d trail)) (IsReleased base (take d trail))) (fold-take_drop d trail base)
-    (settled_tells base (take d trail) (drop d trail) is.sound (each_fresh-take d trail base each) (each_fresh-drop d trail base each))
+    rw (sym (fold-take_drop d trail base)) (settled_tells base (take d trail) (drop d trail) is.sound (each_fresh-take d trail base each) (each_fresh-drop d trail base each))

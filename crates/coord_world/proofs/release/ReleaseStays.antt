@@ -1,5 +1,5 @@
 -- A release stays, and which steps the settled world lets through.
-use Rattle.std.proofs.Common.{◌≡◌, ◌≢◌, ◌↔◌, ℕ, zero, suc, ◌≤◌, true, not, List, [], ◌∷◌, ◌++◌, Option, Some, None, Ok, Err, take, drop, refl, sym, ap, subst, inl, inr, arith}
+use Rattle.std.proofs.Common.{◌≡◌, ◌≢◌, ◌↔◌, ℕ, zero, suc, ◌≤◌, true, not, List, [], ◌∷◌, ◌++◌, Option, Some, None, Ok, Err, take, drop, refl, sym, ap, inl, inr, arith}
 use Rattle.std.proofs.lemmas.Bool.Decides.{nat_tests}
 use Rattle.coord_types.specs.declared.outputs.Output.{Output}
 use Rattle.coord_types.specs.declared.packets.DataPacket.{DataPacket}
@@ -28,14 +28,14 @@ keeps_releases : (w : World) (mid rest : List Step) → IsSound w → EachFresh 
 keeps_releases w mid rest sound each on = record {
   packets = λ p is h.
       let next = takeable_is_next front p is in
-      let stood = has_sent_front w (mid ++ rest) sound (each_fresh-append mid rest w each on) p (takeable_is_next (fold w (mid ++ rest)) p (subst (λ z. IsTakeable z p) (sym (fold-append mid rest w)) is)) h in
+      let stood = has_sent_front w (mid ++ rest) sound (each_fresh-append mid rest w each on) p (takeable_is_next (fold w (mid ++ rest)) p (rw (fold-append mid rest w) is)) h in
       elim (front_fold mid w p sound each stood) [
         | inl stands ↦ front_has_sent later rest kept on p next stands
         | inr past ↦ front_not_past front p.from p.to p.inc p.number next.front.at (past_fold rest later p.from p.to p.inc p.number past)
       ];
   receipts = λ p is h.
       let due = clearable_is_due front p is in
-      let stood = has_receipted_receipt w (mid ++ rest) sound (each_fresh-append mid rest w each on) p (clearable_is_due (fold w (mid ++ rest)) p (subst (λ z. IsClearable z p) (sym (fold-append mid rest w)) is)) h in
+      let stood = has_receipted_receipt w (mid ++ rest) sound (each_fresh-append mid rest w each on) p (clearable_is_due (fold w (mid ++ rest)) p (rw (fold-append mid rest w) is)) h in
       elim (receipt_fold mid w p sound each stood) [
         | inl stands ↦ receipt_has_receipted later rest kept on p due stands
         | inr past ↦ front_not_past front p.from p.to p.inc p.number due.at (past_fold rest later p.from p.to p.inc p.number past)
@@ -96,12 +96,10 @@ release_stays base trail d e s is le h = verdict_stays (fold base trail) (fold b
 
     over : KeepsReleases (fold (fold earlier (drop d first)) (drop e trail)) earlier (fold earlier (drop d first))
     over = keeps_releases earlier (drop d first) (drop e trail) (sound_fold (take d first) base is.sound (each_fresh-take d first base each)) (each_fresh-drop d first base each)
-        (subst (λ w. EachFresh w (drop e trail)) (sym upto) (each_fresh-drop e trail base (trail_each_fresh base trail is)))
+        (rw upto (each_fresh-drop e trail base (trail_each_fresh base trail is)))
 
     all : KeepsReleases (fold base trail) (fold base (take d trail)) (fold base first)
-    all = subst (λ w. KeepsReleases w (fold base (take d trail)) (fold base first)) (fold-take_drop e trail base)
-        (subst (λ ss. KeepsReleases (fold (fold base first) (drop e trail)) (fold base ss) (fold base first)) (take-take d e trail le)
-        (subst (λ w. KeepsReleases (fold w (drop e trail)) earlier w) upto over))
+    all = rw (sym (fold-take_drop e trail base)) (rw (sym (take-take d e trail le)) (rw (sym upto) over))
 
 -- a fresh step is let through where the packet that it names is told as released
 fresh_where_told : (front settled : World) (HasGone : Output → Type 0) (s : Step) → TellsReleased front settled HasGone → IsFresh front front s → IsFresh front settled s ↔ NamesReleased HasGone s

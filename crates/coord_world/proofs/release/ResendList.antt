@@ -47,11 +47,11 @@ module _ (k : ℕ × ℕ) (l : Lane) where
 
 -- what is in the list comes from a lane
 again_lane : (w : World) → Turned w.links → (o : Output) → Contains (again w) o → (e : (ℕ × ℕ) × Lane) × ((lane_at w.links e.0.0 e.0.1 ≡ Some e.1) × Contains (again_by e.0 e.1 e.1.queue) o)
-again_lane w turned o h = Contains-flat_map_entry pair_cmp same_pair (λ e. again_by e.0 e.1 e.1.queue) (λ e. lane_at w.links e.0.0 e.0.1 ≡ Some e.1) (lanes_in_order w.links) o (entries_found w turned) (subst (λ l. Contains l o) (all_again-flat_map (lanes_in_order w.links)) h)
+again_lane w turned o h = Contains-flat_map_entry pair_cmp same_pair (λ e. again_by e.0 e.1 e.1.queue) (λ e. lane_at w.links e.0.0 e.0.1 ≡ Some e.1) (lanes_in_order w.links) o (entries_found w turned) (rw (sym (all_again-flat_map (lanes_in_order w.links))) h)
 
 -- and what a lane sends again is in it
 lane_again : (w : World) → Turned w.links → (o : Output) (k : ℕ × ℕ) (l : Lane) → lane_at w.links k.0 k.1 ≡ Some l → Contains (again_by k l l.queue) o → Contains (again w) o
-lane_again w turned o k l there h = subst (λ z. Contains z o) (sym (all_again-flat_map (lanes_in_order w.links)))
+lane_again w turned o k l there h = rw (all_again-flat_map (lanes_in_order w.links))
     (Contains-flat_map_found pair_cmp same_pair (λ e. again_by e.0 e.1 e.1.queue) (lanes_in_order w.links) k l o (in_order-found w.links turned k.0 k.1 ∙ there) h)
 
 -- a packet that is sent again is a front
@@ -93,9 +93,7 @@ pub front_again : (w : World) → Turned w.links → (p : DataPacket) → IsFron
 front_again w turned p front =
     let l = front.at.lane in
     lane_again w turned (Sent p) (p.from, p.to) l front.at.there
-    (subst (λ q. Contains (again_by (p.from, p.to) l q) (Sent p)) (sym front.queue)
-    (subst (λ z. Contains (again_by (p.from, p.to) l (p.msg ∷ front.rest)) (Sent z)) (front_packet_is w p front)
-    (Contains-head (Sent (front_packet (p.from, p.to) l p.msg)) (receipted (p.from, p.to) l p.msg (is_front_taken l)))))
+    (rw front.queue (rw (sym (front_packet_is w p front)) (Contains-head (Sent (front_packet (p.from, p.to) l p.msg)) (receipted (p.from, p.to) l p.msg (is_front_taken l)))))
 
 -- so is its receipt, once it was taken
 pub receipt_again : (w : World) (p : ReceiptPacket) → IsSound w → IsFrontReceipt w p → Contains (again w) (Receipted p)
@@ -110,5 +108,4 @@ receipt_again w p sound r = lane_again w sound.in_range.turned (Receipted p) (p.
         let front = front_packet (p.from, p.to) l m in
         let taken : is_front_taken l ≡ true = grind (arith, nat_tests, r.got) in
         Contains-tail (Sent front) (receipted (p.from, p.to) l m (is_front_taken l)) (Receipted p)
-        (subst (λ b. Contains (receipted (p.from, p.to) l m b) (Receipted p)) (sym taken)
-        (subst (λ z. Contains (Receipted (receipt front) ∷ []) (Receipted z)) (front_receipt_is w p r m) (Contains-head (Receipted (receipt front)) [])))
+        (rw taken (rw (sym (front_receipt_is w p r m)) (Contains-head (Receipted (receipt front)) [])))

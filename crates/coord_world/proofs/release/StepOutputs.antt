@@ -55,11 +55,11 @@ module _ (w : World) (s : Step) (turned : Turned (next w s).links) where
   -- what is sent comes from a lane of the next world
   all_sent_lane : (o : Output) → Contains (all_sent w.links (lanes_in_order (next w s).links)) o → (e : (ℕ × ℕ) × Lane) × ((lane_at (next w s).links e.0.0 e.0.1 ≡ Some e.1) × Contains (sent_by (lane_at w.links e.0.0 e.0.1) e.0 e.1 e.1.queue) o)
   all_sent_lane o h = Contains-flat_map_entry pair_cmp same_pair (λ e. sent_by (lane_at w.links e.0.0 e.0.1) e.0 e.1 e.1.queue) (λ e. lane_at (next w s).links e.0.0 e.0.1 ≡ Some e.1) (lanes_in_order (next w s).links) o (entries_found (next w s) turned)
-      (subst (λ l. Contains l o) (all_sent-flat_map w.links (lanes_in_order (next w s).links)) h)
+      (rw (sym (all_sent-flat_map w.links (lanes_in_order (next w s).links))) h)
 
   -- and what a lane sends is sent
   lane_sent : (o : Output) (k : ℕ × ℕ) (l : Lane) → lane_at (next w s).links k.0 k.1 ≡ Some l → Contains (sent_by (lane_at w.links k.0 k.1) k l l.queue) o → Contains (all_sent w.links (lanes_in_order (next w s).links)) o
-  lane_sent o k l there h = subst (λ z. Contains z o) (sym (all_sent-flat_map w.links (lanes_in_order (next w s).links)))
+  lane_sent o k l there h = rw (all_sent-flat_map w.links (lanes_in_order (next w s).links))
       (Contains-flat_map_found pair_cmp same_pair (λ e. sent_by (lane_at w.links e.0.0 e.0.1) e.0 e.1 e.1.queue) (lanes_in_order (next w s).links) k l o (in_order-found (next w s).links turned k.0 k.1 ∙ there) h)
 
   -- what a step gives out is a receipt, a signal, or sent
@@ -168,7 +168,7 @@ receipt_from_step w s p sound fresh r = by_step (lane_step w s p.from p.to)
         let inc : q.inc ≡ p.inc = sym is.front.at.inc ∙ ap (λ z. z.inc) here ∙ ap (λ z. z.inc) same ∙ at.inc in
         let number : q.number ≡ p.number = sym is.front.at.number ∙ ap (λ z. z.base + 1) here ∙ ap (λ z. z.base + 1) same ∙ at.number in
         let named : receipt q ≡ p = λ i. record { from = ends.0 i; to = ends.1 i; inc = inc i; number = number i } in
-        let first : Contains (receipts s) (Receipted p) = subst (λ z. Contains (receipts z) (Receipted p)) (sym t) (subst (λ z. Contains (Receipted (receipt q) ∷ []) (Receipted z)) named (Contains-head (Receipted (receipt q)) [])) in
+        let first : Contains (receipts s) (Receipted p) = rw t (rw (sym named) (Contains-head (Receipted (receipt q)) [])) in
         inl (Contains-append_left (receipts s ++ signals (transitions w.version (state w) s)) (all_sent w.links (lanes_in_order (next w s).links)) (Receipted p) (Contains-append_left (receipts s) (signals (transitions w.version (state w) s)) (Receipted p) first))
     by_step (LaneStep.is_cleared k q t ends was e) =
         let same = one_lane _ (cleared k) at.lane e at.there in

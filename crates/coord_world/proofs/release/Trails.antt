@@ -82,7 +82,7 @@ fresh_at (b ∷ bs) w [] rest s is each = cc
 fresh_at (b ∷ bs) w (q ∷ qs) rest s is each =
     let same : q ≡ b = cc is in
     let later : qs ≡ bs ++ s ∷ rest = cc is in
-    subst (λ x. IsFresh (fold (next w x) bs) (fold (next w x) bs) s) same (fresh_at bs (next w q) qs rest s later each.1)
+    rw (sym same) (fresh_at bs (next w q) qs rest s later each.1)
 
 each_fresh_in_turn : (ss : List Step) (w : World) → EachFresh w ss → InTurn w ss
 each_fresh_in_turn ss w each before rest s is = (before, ([], (sym (append-nil before), fresh_at before w ss rest s is each)))

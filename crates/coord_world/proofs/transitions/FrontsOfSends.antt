@@ -1,5 +1,5 @@
 -- A message becomes a new front where the queue is empty, so what a node sends makes its new fronts, and other lanes have none.
-use Rattle.std.proofs.Common.{◌≡◌, ℕ, ◌+◌, Bool, true, false, ◌&&◌, ◌||◌, List, [], ◌∷◌, ◌++◌, Option, Some, None, map, cond, eqb, refl, sym, ap, ◌∙◌, subst, arith, nat_eq, nat_lt, nat_cmp, Less}
+use Rattle.std.proofs.Common.{◌≡◌, ℕ, ◌+◌, Bool, true, false, ◌&&◌, ◌||◌, List, [], ◌∷◌, ◌++◌, Option, Some, None, map, cond, eqb, refl, sym, ap, ◌∙◌, arith, nat_eq, nat_lt, nat_cmp, Less}
 use Rattle.std.specs.List.{AllByRecursion, list_any}
 use Rattle.std.specs.List.Sorted.{IsStrictlySortedBy}
 use Rattle.std.proofs.lemmas.Bool.Decides.{nat_tests}
@@ -42,11 +42,11 @@ Still k before after = (l : Lane) → after ≡ Some l → sent_by before k l l.
 
 pub still_same : (k : ℕ × ℕ) (o : Option Lane) → Still k o o
 still_same k None l is = cc
-still_same k (Some p) l is = let same : p ≡ l = cc in subst (λ z. sent_by (Some p) k z z.queue ≡ []) same (front_stays p.inc p.base p.got p.got p.queue k)
+still_same k (Some p) l is = let same : p ≡ l = cc in rw (sym same) (front_stays p.inc p.base p.got p.got p.queue k)
 
 pub still_took : (k : ℕ × ℕ) (b : Bool) (o : Option Lane) → Still k o (option_map (λ l. cond b (took l) l) o)
 still_took k b None l is = cc
-still_took k true (Some p) l is = let same : took p ≡ l = cc in subst (λ z. sent_by (Some p) k z z.queue ≡ []) same (front_stays p.inc p.base p.got (p.got + 1) p.queue k)
+still_took k true (Some p) l is = let same : took p ≡ l = cc in rw (sym same) (front_stays p.inc p.base p.got (p.got + 1) p.queue k)
 still_took k false (Some p) l is = still_same k (Some p) l is
 
 -- nothing is sent where nobody is among those whom a transition goes to

@@ -1,5 +1,5 @@
 -- A node step of the program is the transition that it stands for: its messages, sent one after the other, join the lanes.
-use Rattle.std.proofs.Common.{◌≡◌, ℕ, Bool, true, false, ◌&&◌, List, [], ◌∷◌, ◌++◌, map, length, ◌<◌, Option, Some, None, refl, sym, ap, ◌∙◌, subst, arith, cond, eqb, nat_eq, nat_cmp, Less}
+use Rattle.std.proofs.Common.{◌≡◌, ℕ, Bool, true, false, ◌&&◌, List, [], ◌∷◌, ◌++◌, map, length, ◌<◌, Option, Some, None, refl, sym, ap, ◌∙◌, arith, cond, eqb, nat_eq, nat_cmp, Less}
 use Rattle.std.specs.List.{AllByRecursion, list_any}
 use Rattle.std.specs.List.Sorted.{IsStrictlySortedBy}
 use Rattle.std.proofs.lemmas.Bool.Decides.{nat_tests}
@@ -96,5 +96,4 @@ module _ (u : ℕ) (m : Msg) where
 pub act_room : (node_transition : NodeTransition) (u : ℕ) (d : Transition) (links : Links) → IsTransitionOf node_transition u d →
     ((v : ℕ) (l : Lane) → lane_at links u v ≡ Some l → set.contains d.to v ≡ true → length l.queue < PLACES) → CanSend node_transition.id node_transition.effects.sends.items links
 act_room node_transition u d links is room =
-    subst (λ x. CanSend x node_transition.effects.sends.items links) (sym is.id) (subst (λ ss. CanSend u ss links) (sym is.sends)
-    (can_send_each u d.message (set.items d.to) links (items-sorted d.to) (λ v l there among. room v l there (contains-items d.to v ∙ among))))
+    rw is.id (rw is.sends (can_send_each u d.message (set.items d.to) links (items-sorted d.to) (λ v l there among. room v l there (contains-items d.to v ∙ among))))

@@ -149,7 +149,7 @@ module _ (version : ℕ) (r : NodeState) (v : ℕ) (node : SoundNode r) where
       no_parent = λ e. cc;
       has_parent = λ e. cc;
       parent_outside = λ y e. grind (arith, rest y);
-      parent_near = λ y e. let same : y ≡ v = up y e in subst (λ z. contains r.neighbours z ≡ true) (sym same) (near_v (subst (λ z. is_parent parent z ≡ true) same e));
+      parent_near = λ y e. let same : y ≡ v = up y e in rw same (near_v (rw (sym same) e));
       within = λ y e. grind (arith, rest y);
     };
     elsewhere = λ l y far near here both.

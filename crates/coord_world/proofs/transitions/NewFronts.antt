@@ -1,5 +1,5 @@
 -- The new fronts of a step stand on the lanes that it touches: those that it sends on, and the one that it clears.
-use Rattle.std.proofs.Common.{◌≡◌, ◌≢◌, ℕ, ◌+◌, Bool, true, false, List, [], ◌∷◌, ◌++◌, Option, Some, None, cond, eqb, refl, sym, ap, ◌∙◌, subst, arith, append-nil, nat_lt, is_some}
+use Rattle.std.proofs.Common.{◌≡◌, ◌≢◌, ℕ, ◌+◌, Bool, true, false, List, [], ◌∷◌, ◌++◌, Option, Some, None, cond, eqb, refl, sym, ap, ◌∙◌, arith, append-nil, nat_lt, is_some}
 use Rattle.std.proofs.lemmas.Bool.Decides.{nat_tests}
 use Rattle.coord_types.specs.NodeSet as set
 use Rattle.coord_types.specs.Facade.{NodeState}
@@ -147,7 +147,7 @@ fronts_are w (Order c n (Remove u)) ready = quiet_step w w.links ready.ranges.tu
 fronts_are w (Order c n (Join a b)) ready = quiet_step w (with_command w (Join a b)).links (after w (Order c n (Join a b)) ready) (λ k l is. made (is_link a b k.0 k.1) k (lane_at w.links k.0 k.1) l (sym (lane_made w a b k.0 k.1) ∙ is))
   where
     made : (t : Bool) (k : ℕ × ℕ) (o : Option Lane) (l : Lane) → cond t (Some (new_lane (w.count + 1))) o ≡ Some l → sent_by o k l l.queue ≡ []
-    made true k o l is = let same : new_lane (w.count + 1) ≡ l = cc in subst (λ z. sent_by o k z z.queue ≡ []) same refl
+    made true k o l is = let same : new_lane (w.count + 1) ≡ l = cc in rw (sym same) refl
     made false k o l is = still_same k o l is
 fronts_are w (Order c n (Drop a b)) ready = drop_fronts w a b (fresh_order w w c n (Drop a b) ready.fresh).apart (after w (Order c n (Drop a b)) ready)
 fronts_are w (Order c n (Reset u)) ready = reset_fronts w u (request w.version (state w u)) (after w (Order c n (Reset u)) ready)

@@ -1,5 +1,5 @@
 -- The view of a world after each change of the world.
-use Rattle.std.proofs.Common.{◌≡◌, ℕ, ◌+◌, ◌≤◌, ◌&&◌, ◌++◌, Option, Some, None, refl, sym, ap, ◌∙◌, arith, cond, eqb, subst, is_some}
+use Rattle.std.proofs.Common.{◌≡◌, ℕ, ◌+◌, ◌≤◌, ◌&&◌, ◌++◌, Option, Some, None, refl, ap, ◌∙◌, arith, cond, eqb, is_some}
 use Rattle.std.proofs.lemmas.Bool.Decides.{nat_tests}
 use Rattle.coord_types.specs.Table as table
 use Rattle.coord_types.specs.Facade.{NodeState, behind_front, get, no_node}
@@ -99,7 +99,7 @@ module _ (w : World) (counts : AllCount w) where
           transit_or_none (option_map (λ l. cond (is_lane (x, y) v u) (took l) l) o) ≡ cond (eqb x v && eqb y u) (behind_front (transit_or_none o)) (transit_or_none o)
       ways x y None e = grind (arith, nat_tests)
       ways x y (Some l) e = by_test (is_lane (x, y) v u) (λ b. transit (cond b (took l) l) ≡ cond b (behind_front (transit l)) (transit l))
-          (λ t. transit-took l (subst (λ (z : Lane). z.got ≡ z.base) (sym (it_is w v u x y k l there e t)) idle)) (λ _. refl)
+          (λ t. transit-took l (rw (it_is w v u x y k l there e t) idle)) (λ _. refl)
 
   -- a front that is cleared was not on the way
   pub view_cleared : (u v : ℕ) (k : Lane) → lane_at w.links u v ≡ Some k → k.base + 1 ≤ k.got → view (on_lane w u v cleared) ≡ view w
@@ -113,4 +113,4 @@ module _ (w : World) (counts : AllCount w) where
       ways : (x y : ℕ) (o : Option Lane) → lane_at w.links x y ≡ o → transit_or_none (option_map (λ l. cond (is_lane (x, y) u v) (cleared l) l) o) ≡ transit_or_none o
       ways x y None e = refl
       ways x y (Some l) e = by_test (is_lane (x, y) u v) (λ b. transit (cond b (cleared l) l) ≡ transit l)
-          (λ t. transit-cleared l (was_taken l (counts x y l e) (subst (λ (z : Lane). z.base + 1 ≤ z.got) (sym (it_is w u v x y k l there e t)) more)).0) (λ _. refl)
+          (λ t. transit-cleared l (was_taken l (counts x y l e) (rw (it_is w u v x y k l there e t) more)).0) (λ _. refl)

@@ -1,5 +1,5 @@
 -- Paths of links.
-use Rattle.std.proofs.Common.{◌≡◌, ℕ, true, List, [], ◌∷◌, ◌++◌, refl, subst, sym}
+use Rattle.std.proofs.Common.{◌≡◌, ℕ, true, List, [], ◌∷◌, ◌++◌, refl, subst}
 use Rattle.coord_world.specs.protocol.NumberedWorld.{World, is_linked}
 use Rattle.coord_world.specs.laws.Waves.{IsPath, Connected}
 
@@ -11,7 +11,7 @@ module _ (w : World) where
 
   -- a path with one more link
   longer : (u x y : ℕ) (path : List ℕ) → IsPath w u path x → is_linked w x y ≡ true → IsPath w u (path ++ y ∷ []) y
-  longer u x y [] same link = (subst (λ z. is_linked w z y ≡ true) (sym same) link, refl)
+  longer u x y [] same link = (rw same link, refl)
   longer u x y (z ∷ path) links link = (links.0, longer z x y path links.1 link)
 
   -- each node is connected with itself

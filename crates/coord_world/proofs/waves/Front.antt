@@ -68,7 +68,7 @@ module _ (z : Ideal) (u : ℕ) (xs : List ℕ) (sound : Sound z) (front : Front 
   -- a node that was reached isn't Ready
   pub reached_busy : (x : ℕ) → among xs x ≡ true → is_ready (z.state x).mode ≡ false
   reached_busy x h = elim (under z u xs front.reached x h) [
-    | inl is_u ↦ subst (λ q. is_ready (z.state q).mode ≡ false) (sym is_u) (ap is_ready front.top)
+    | inl is_u ↦ rw is_u (ap is_ready front.top)
     | inr from ↦ child_busy x from.0 from.1
   ]
 

@@ -1,5 +1,5 @@
 -- The first phase of a wave ends where the initiator finishes: then no node is Abort, and each connected one was reached.
-use Rattle.std.proofs.Common.{◌≡◌, ◌≢◌, ℕ, ◌+◌, true, false, List, [], ◌∷◌, Some, refl, sym, ap, ◌∙◌, subst, inl, inr, arith}
+use Rattle.std.proofs.Common.{◌≡◌, ◌≢◌, ℕ, ◌+◌, true, false, List, [], ◌∷◌, Some, refl, sym, ap, ◌∙◌, inl, inr, arith}
 use Rattle.std.proofs.lemmas.Bool.Decides.{nat_tests, eqb_tells}
 use Rattle.coord_types.specs.Facade.{Ideal, NodeState, contains}
 use Rattle.coord_types.specs.declared.messages.Mode.{Mode}
@@ -26,8 +26,8 @@ module _ (y : Ideal) (u : ℕ) (sound : Sound y) (top : is_empty (y.state u).pen
   quiet : (xs : List ℕ) → Reached y u xs → (x : ℕ) → among xs x ≡ true → is_empty (y.state x).pend ≡ true
   quiet [] reached x h = cc
   quiet (q ∷ xs) reached x h = elim (eqb_tells x q) [
-    | inl same ↦ subst (λ n. is_empty (y.state n).pend ≡ true) (sym same.1) (elim reached.0 [
-      | inl is_u ↦ subst (λ n. is_empty (y.state n).pend ≡ true) (sym is_u) top
+    | inl same ↦ rw same.1 (elim reached.0 [
+      | inl is_u ↦ rw is_u top
       | inr from ↦ below q from.0 from.1 (quiet xs reached.1 from.0 from.2)
     ])
     | inr apart ↦ quiet xs reached.1 x (grind (arith, apart.0, h))
@@ -55,7 +55,7 @@ module _ (z y : Ideal) (u t : ℕ) (xs : List ℕ) (before : Sound z) (after : S
 
   -- the initiator is Ready
   top_ready : (y.state u).mode ≡ Ready
-  top_ready = subst (λ q. (y.state q).mode ≡ Ready) initiator finishes.now
+  top_ready = rw (sym initiator) finishes.now
 
   -- and awaits nobody, so no node is Abort
   pub ends_settled : Settled y

@@ -65,5 +65,5 @@ module _ (z y : Ideal) (u : ℕ) (xs : List ℕ) (near : SameNear z y) (front : 
 
       none : (x q : ℕ) → (y.state x).mode ≡ Converge → (z.state x).parent ≡ Some q → aborts (z.in_transit q x) ≡ 0
       none x q = everywhere (λ n. (y.state n).mode ≡ Converge → (z.state n).parent ≡ Some q → aborts (z.in_transit q n) ≡ 0) t
-          (λ mode up. let same : p ≡ q = cc (up, turns.parent) in subst (λ n. aborts (z.in_transit n t) ≡ 0) same turns.none)
+          (λ mode up. let same : p ≡ q = cc (up, turns.parent) in rw (sym same) turns.none)
           (λ n far mode up. front.held n q (ap (λ (r : NodeState). r.mode) (sym (turns.elsewhere n far)) ∙ mode) up) x

@@ -46,10 +46,9 @@ module _ (z y : Ideal) (u t v : ℕ) (xs : List ℕ) (sound : Sound z) (near : S
   sent a b with_b busy ready =
       let before = ready_before b ready in
       elim (same_or_apart a t) [
-        | inl here ↦ subst (λ q. 1 ≤ aborts (y.in_transit q b)) (sym here)
-            (reaches.sent b (sym (near t b) ∙ subst (λ q. contains (y.state q).neighbours b ≡ true) here with_b)
+        | inl here ↦ rw here (reaches.sent b (sym (near t b) ∙ subst (λ q. contains (y.state q).neighbours b ≡ true) here with_b)
             (λ same. let other = subst (λ q. is_ready (z.state q).mode ≡ false) (sym same) sender_busy in let ready_b = before.1 in cc))
-        | inr far ↦ subst (λ m. 1 ≤ aborts m) (sym (reaches.apart a b far before.0)) (front.sent a b (sym (near a b) ∙ with_b) (sym (ready_far a far) ∙ busy) before.1)
+        | inr far ↦ rw (reaches.apart a b far before.0) (front.sent a b (sym (near a b) ∙ with_b) (sym (ready_far a far) ∙ busy) before.1)
       ]
 
   -- the wave has reached t too

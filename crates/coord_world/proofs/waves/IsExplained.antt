@@ -75,7 +75,7 @@ explained base u (s ∷ ss) w run like inside known =
     let goes = run.0 in
     let here : StepOutcome = record { reply = reply w s; outputs = outputs w s } in
     let by = explains base u (view w) (view (next w s)) (signals_in w.version (state w) s) (started_by (kind (state w) s) s) (kind (state w) s) goes.before like inside
-    (λ t e. known t (subst (λ l. among (l ++ started (next w s) ss) t ≡ true) (sym e) (grind (arith, nat_tests)))) goes.effect in
+    (λ t e. known t (rw e (grind (arith, nat_tests)))) goes.effect in
     All-cons (λ (r : StepOutcome). All (IsExplained base u r.reply.kind) r.outputs) here (outs (next w s) ss)
     (all_explained base u (kind (state w) s) (outputs w s) (λ v some. by.signal v (let given = signals_given v w s in omega arith)))
     (explained base u ss (next w s) run.1 (λ a b near. like a b (sym (goes.near a b) ∙ near)) by.inside (λ t h. known t (later (started_by (kind (state w) s) s) (started (next w s) ss) t h)))

@@ -1,5 +1,5 @@
 -- What a fresh step that keeps all nodes and links does to a wave.
-use Rattle.std.proofs.Common.{◌≡◌, ℕ, true, false, List, [], ◌∷◌, refl, sym, ◌∙◌, ap, subst, arith, count_by, is_some}
+use Rattle.std.proofs.Common.{◌≡◌, ℕ, true, false, List, [], ◌∷◌, refl, sym, ◌∙◌, ap, arith, count_by, is_some}
 use Rattle.std.proofs.lemmas.Bool.Decides.{nat_tests}
 use Rattle.coord_types.specs.Facade.{Ideal, NodeState, contains}
 use Rattle.coord_types.specs.declared.messages.Msg.{Msg}
@@ -65,7 +65,7 @@ ideal_effect w settled (Clear p) stays sound fresh = unchanged (view w) (Clear p
 module _ (w settled : World) (s : Step) (stays : changes_topology s ≡ false) (sound : Sound (view w)) (counts : AllCount w) (fresh : IsFresh w settled s) where
   -- the step itself
   pub step_effect : StepEffect (view w) (view (next w s)) s
-  step_effect = subst (λ y. StepEffect (view w) y s) (sym (view_next w settled s counts fresh)) (ideal_effect w settled s stays sound fresh)
+  step_effect = rw (view_next w settled s counts fresh) (ideal_effect w settled s stays sound fresh)
 
 -- the ideal step leaves the links
 ideal_links : (z : Ideal) (s : Step) → changes_topology s ≡ false → (x y : ℕ) → (ideal_next z s).linked x y ≡ z.linked x y

@@ -19,9 +19,8 @@ settled c =
 
 pub returns-clause-led : goal.returns-clause-led
 returns-clause-led c =
-    let old = c.args.history.now in
     let entries = c.push_reserved.ensures.items ∙ ap (λ (l : List Entry). l ++ Synced ∷ []) c.reserve.ensures.items in
-    sync_led old (record { first = old.first; synced = with_items c.extend_from_slice.new.self c.copy_written.new.synced; entries = c.push_reserved.new.self }) c.args.read.now.items c.requires.led refl entries (settled c)
+    sync_led c.args.history.now _ c.args.read.now.items c.requires.led refl entries (settled c)
 
 pub returns-clause-ok : goal.returns-clause-ok
 returns-clause-ok c =

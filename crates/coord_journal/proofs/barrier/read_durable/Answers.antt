@@ -10,39 +10,37 @@ use Rattle.coord_journal.proofs.barrier.read_durable.Goals as goal
 same : (p q : Present) → q ≡ p → FitsNoMore p q
 same p q is image now = subst (λ r. IsImage r image) is now
 
-after_sync : {D T E : Type 0} (m : DiskModel D) → IsModel m → (disk new : D) (r : Result T E) → Syncs m disk new r → Quiet m disk new
-after_sync m laws disk new r syncs = and_quiet m {P = Synced r} disk disk new (at_first m laws disk) syncs (λ p q does. does.crash)
+after_sync : {D T E : Type 0} (m : DiskModel D) → IsModel m → {disk new : D} {r : Result T E} → Syncs m disk new r → Quiet m disk new
+after_sync m laws {disk = disk} {new = new} {r = r} syncs = and_quiet m {P = Synced r} disk disk new (at_first m laws disk) syncs (λ p q does. does.crash)
 
-after_len : {D E : Type 0} (m : DiskModel D) (disk mid new : D) (r : Result ℕ E) → Quiet m disk mid → Measures m mid new r → Quiet m disk new
-after_len m disk mid new r quiet measures = and_quiet m {P = Measured r} disk mid new quiet measures (λ p q does. same p q does.same)
+after_len : {D E : Type 0} (m : DiskModel D) {disk mid new : D} {n : Result ℕ E} → Quiet m disk mid → Measures m mid new n → Quiet m disk new
+after_len m {disk = disk} {mid = mid} {new = new} {n = n} quiet measures = and_quiet m {P = Measured n} disk mid new quiet measures (λ p q does. same p q does.same)
 
-after_read : {D T E : Type 0} (m : DiskModel D) (disk mid new : D) (at : ℕ) (buffer filled : List ℕ) (r : Result T E) → Quiet m disk mid → Reads m at buffer filled mid new r → Quiet m disk new
-after_read m disk mid new at buffer filled r quiet reads = and_quiet m {P = HasRead at buffer filled r} disk mid new quiet reads (λ p q does. same p q does.same)
+after_read : {D T E : Type 0} (m : DiskModel D) {disk mid new : D} {at : ℕ} {buffer filled : List ℕ} {r : Result T E} → Quiet m disk mid → Reads m at buffer filled mid new r → Quiet m disk new
+after_read m {disk = disk} {mid = mid} {new = new} {at = at} {buffer = buffer} {filled = filled} {r = r} quiet reads = and_quiet m {P = HasRead at buffer filled r} disk mid new quiet reads (λ p q does. same p q does.same)
 
 pub returns-in_err-sync-clause-any_moment : goal.returns-in_err-sync-clause-any_moment
-returns-in_err-sync-clause-any_moment g c = (after_sync g.D.Disk.model g.met.D.Disk.laws c.args.disk.now c.sync.new.self c.sync.result c.sync.ensures.call).any_moment
+returns-in_err-sync-clause-any_moment g c = (after_sync g.D.Disk.model g.met.D.Disk.laws c.sync.ensures.call).any_moment
 
 pub returns-in_err-size-clause-any_moment : goal.returns-in_err-size-clause-any_moment
 returns-in_err-size-clause-any_moment g c =
-    let synced = after_sync g.D.Disk.model g.met.D.Disk.laws c.args.disk.now c.sync.new.self c.sync.result c.sync.ensures.call in
-    (after_len g.D.Disk.model c.args.disk.now c.sync.new.self c.len.new.self c.len.result synced c.len.ensures.call).any_moment
+    let m = g.D.Disk.model in
+    (after_len m (after_sync m g.met.D.Disk.laws c.sync.ensures.call) c.len.ensures.call).any_moment
 
 pub returns-in_err-resize-clause-any_moment : goal.returns-in_err-resize-clause-any_moment
 returns-in_err-resize-clause-any_moment g c =
-    let synced = after_sync g.D.Disk.model g.met.D.Disk.laws c.args.disk.now c.sync.new.self c.sync.result c.sync.ensures.call in
-    (after_len g.D.Disk.model c.args.disk.now c.sync.new.self c.len.new.self c.len.result synced c.len.ensures.call).any_moment
+    let m = g.D.Disk.model in
+    (after_len m (after_sync m g.met.D.Disk.laws c.sync.ensures.call) c.len.ensures.call).any_moment
 
 pub returns-in_err-read-clause-any_moment : goal.returns-in_err-read-clause-any_moment
 returns-in_err-read-clause-any_moment g c =
-    let synced = after_sync g.D.Disk.model g.met.D.Disk.laws c.args.disk.now c.sync.new.self c.sync.result c.sync.ensures.call in
-    let sized = after_len g.D.Disk.model c.args.disk.now c.sync.new.self c.len.new.self c.len.result synced c.len.ensures.call in
-    (after_read g.D.Disk.model c.args.disk.now c.len.new.self c.read.new.self 0 c.deref_mut.result.now c.read.new.buf c.read.result sized c.read.ensures.call).any_moment
+    let m = g.D.Disk.model in
+    (after_read m (after_len m (after_sync m g.met.D.Disk.laws c.sync.ensures.call) c.len.ensures.call) c.read.ensures.call).any_moment
 
 pub returns-clause-any_moment : goal.returns-clause-any_moment
 returns-clause-any_moment g c =
-    let synced = after_sync g.D.Disk.model g.met.D.Disk.laws c.args.disk.now c.sync.new.self c.sync.result c.sync.ensures.call in
-    let sized = after_len g.D.Disk.model c.args.disk.now c.sync.new.self c.len.new.self c.len.result synced c.len.ensures.call in
-    (after_read g.D.Disk.model c.args.disk.now c.len.new.self c.read.new.self 0 c.deref_mut.result.now c.read.new.buf c.read.result sized c.read.ensures.call).any_moment
+    let m = g.D.Disk.model in
+    (after_read m (after_len m (after_sync m g.met.D.Disk.laws c.sync.ensures.call) c.len.ensures.call) c.read.ensures.call).any_moment
 
 pub returns-clause-bytes : goal.returns-clause-bytes
 returns-clause-bytes g c k =

@@ -60,7 +60,7 @@ pub loop-at-preserved : goal.loop-at-preserved
 loop-at-preserved g c =
     let given = c.push_reserved.ensures.items in
     record {
-      so_far = subst (λ l. LoopInvariant {D = g.row.D.Denot} g.D.Disk.model g.D.CrashDisk.crashes c.args.ledger c.args.events.now (c.loop-at.at + 1) l c.in-Ok.next) (sym given)
+      so_far = rw given
           (invariant_on g.D.Disk.model g.D.CrashDisk.crashes c.args.ledger c.args.events.now c.loop-at.at c.loop-at.answers.items c.loop-at.held c.loop-at.invariant.so_far c.index-events-at.result c.loop-at-test.true c.index-events-at.is
           c.in-Ok.next c.in-Ok.answer c.in-Ok.ensures.named c.in-Ok.ensures.answered c.in-Ok.ensures.model c.in-Ok.ensures.disk c.lemma_survives.ensures);
       room = omega (arith, c.loop-at.invariant.room, c.push_reserved.ensures.len, c.push_reserved.ensures.capacity);

@@ -22,7 +22,7 @@ returns-then-not-is_fresh-clause-fault c =
         split = split_at steps i s c.loop-index-test.true c.index-steps-index.is;
         number = length-take-le i steps (omega arith);
         fresh = c.loop-index.invariant.1;
-        stops = λ fresh. let taken = c.is_fresh.ensures.1 (subst here c.requires.same (subst (λ x. IsFresh x c.args.world.now s) (sym c.loop-index.invariant.0) fresh)) in absurd cc;
+        stops = λ fresh. let taken = c.is_fresh.ensures.1 (subst here c.requires.same (rw c.loop-index.invariant.0 fresh)) in absurd cc;
       },
     )
 

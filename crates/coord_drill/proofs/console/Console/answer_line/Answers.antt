@@ -10,7 +10,7 @@ returns-in_err-drill-clause-cut g c =
     let d = c.args.self in
     let line : option_copied c.get.result ≡ d.line = search rules in
     let fault = c.in_err-drill.field-0.0 in
-    passed_on c.from_residual.result fault _ c.from_residual.ensures.1 (subst (λ (l : Line). CutsLine g.D.Disk.model g.D.CrashDisk.crashes d.drill l fault.0 fault.1) line c.in_err-drill.ensures.cut)
+    passed_on c.from_residual.result fault _ c.from_residual.ensures.1 (rw (sym line) c.in_err-drill.ensures.cut)
 
 pub returns-clause-carried : goal.returns-clause-carried
 returns-clause-carried g c =
@@ -18,5 +18,4 @@ returns-clause-carried g c =
     let line : option_copied c.get.result ≡ d.line = search rules in
     let tells = c.in_ok-drill.ensures.carried in
     let text : string_bytes c.respond.new.text ≡ tells.0 = tells.1.0 ∙ ap (λ old. old ++ tells.0) c.clear.ensures.bytes in
-    subst (λ told. CarriesLine g.D.Disk.model g.D.CrashDisk.crashes d.drill (d.number + 1) d.line told c.in_ok-drill.drill) (sym text)
-    (subst (λ (l : Line). CarriesLine g.D.Disk.model g.D.CrashDisk.crashes d.drill (d.number + 1) l tells.0 c.in_ok-drill.drill) line tells.1.1)
+    rw text (rw (sym line) tells.1.1)

@@ -13,7 +13,7 @@ pub returns-in_default-clause-carried : goal.returns-in_default-clause-carried
 returns-in_default-clause-carried g c =
     let d = c.args.drill in
     let over : option_copied c.args.line ≡ None = search rules in
-    subst (λ (l : Line). IfOk c.tell_bad.result (λ new. Tells (string_bytes c.args.text.now) (string_bytes c.tell_bad.new.text) (λ told. CarriesLine g.D.Disk.model g.D.CrashDisk.crashes d c.args.number l told new))) (sym over)
+    rw over
     (tells_bad g.D.Disk.model g.D.CrashDisk.crashes d c.args.number (string_bytes c.args.text.now) (string_bytes c.tell_bad.new.text) c.tell_bad.result None c.tell_bad.ensures.same c.tell_bad.ensures.told (λ p at. goes_over g.D.Disk.model g.D.CrashDisk.crashes d p at c.args.number))
 
 pub returns-then-is_skipped-clause-carried : goal.returns-then-is_skipped-clause-carried
@@ -23,7 +23,7 @@ returns-then-is_skipped-clause-carried g c =
     let here : option_copied c.args.line ≡ Some line = search rules in
     let skipped : is_skipped line ≡ true = search rules in
     tells_nothing (λ told. CarriesLine g.D.Disk.model g.D.CrashDisk.crashes d c.args.number (option_copied c.args.line) told d) (string_bytes c.args.text.now)
-    (subst (λ (l : Line). CarriesLine g.D.Disk.model g.D.CrashDisk.crashes d c.args.number l [] d) (sym here) (λ p at. (p, (at, goes_skipped g.D.Disk.model g.D.CrashDisk.crashes d p at c.args.number line skipped))))
+    (rw here (λ p at. (p, (at, goes_skipped g.D.Disk.model g.D.CrashDisk.crashes d p at c.args.number line skipped))))
 
 pub returns-in-Some-read-clause-carried : goal.returns-in-Some-read-clause-carried
 returns-in-Some-read-clause-carried g c =
@@ -32,7 +32,7 @@ returns-in-Some-read-clause-carried g c =
     let here : option_copied c.args.line ≡ Some line = search rules in
     let kept : is_skipped line ≡ false = search rules in
     let asks : asked_by (state_of d) line ≡ Some c.in-Some-read.request = sym c.read.ensures ∙ c.in-Some-read.is in
-    subst (λ (l : Line). IfOk c.answer.result (λ new. Tells (string_bytes c.args.text.now) (string_bytes c.answer.new.text) (λ told. CarriesLine g.D.Disk.model g.D.CrashDisk.crashes d c.args.number l told new))) (sym here)
+    rw here
     (IfOk-weaker c.answer.result _ _ (λ new tells. (tells.0, (tells.1.0, λ p at. goes_asked g.D.Disk.model g.D.CrashDisk.crashes d p at c.args.number line c.in-Some-read.request tells.0 new kept asks tells.1.1))) c.answer.ensures.told)
 
 pub returns-in-Some-read-clause-cut : goal.returns-in-Some-read-clause-cut
@@ -42,7 +42,7 @@ returns-in-Some-read-clause-cut g c =
     let here : option_copied c.args.line ≡ Some line = search rules in
     let kept : is_skipped line ≡ false = search rules in
     let asks : asked_by (state_of d) line ≡ Some c.in-Some-read.request = sym c.read.ensures ∙ c.in-Some-read.is in
-    subst (λ (l : Line). IfErr c.answer.result (λ refused. CutsLine g.D.Disk.model g.D.CrashDisk.crashes d l refused.0 refused.1)) (sym here)
+    rw here
     (IfErr-weaker c.answer.result _ _ (λ refused cuts p at. cut_asked g.D.Disk.model g.D.CrashDisk.crashes d p at c.args.number line c.in-Some-read.request refused.0 refused.1 kept asks cuts) c.answer.ensures.cut)
 
 pub returns-in-None-clause-carried : goal.returns-in-None-clause-carried
@@ -52,7 +52,7 @@ returns-in-None-clause-carried g c =
     let here : option_copied c.args.line ≡ Some line = search rules in
     let kept : is_skipped line ≡ false = search rules in
     let asks : asked_by (state_of d) line ≡ None = sym c.read.ensures ∙ c.in-None.is in
-    subst (λ (l : Line). IfOk c.tell_bad-in-None.result (λ new. Tells (string_bytes c.args.text.now) (string_bytes c.tell_bad-in-None.new.text) (λ told. CarriesLine g.D.Disk.model g.D.CrashDisk.crashes d c.args.number l told new))) (sym here)
+    rw here
     (tells_bad g.D.Disk.model g.D.CrashDisk.crashes d c.args.number (string_bytes c.args.text.now) (string_bytes c.tell_bad-in-None.new.text) c.tell_bad-in-None.result (Some line) c.tell_bad-in-None.ensures.same c.tell_bad-in-None.ensures.told (λ p at. goes_bad g.D.Disk.model g.D.CrashDisk.crashes d p at c.args.number line kept asks))
 
 -- the disk is given back as it was

@@ -11,7 +11,7 @@ print_flown-printed-requires g c =
     let r = c.in-Ok.landing in
     let so_far = c.lemma_begins.ensures.so_far in
     let run = c.in-Ok.ensures.moments (started d.driver.ledger) so_far.consistent so_far.represents in
-    record { granted = subst (λ (l : LedgerState g.row.D.Denot). AreGranted l.log r.flown d.tickets.items) (sym c.ledger.ensures) (flown_granted g.D.Disk.model g.D.CrashDisk.crashes d.driver r.driver d.tickets.items c.requires.ready.1 (settled_count r.driver.ledger.log) r.flown run c.in-Ok.ensures.flown) }
+    record { granted = rw c.ledger.ensures (flown_granted g.D.Disk.model g.D.CrashDisk.crashes d.driver r.driver d.tickets.items c.requires.ready.1 (settled_count r.driver.ledger.log) r.flown run c.in-Ok.ensures.flown) }
 
 pub returns-in-Ok-printed-clause-ready : goal.returns-in-Ok-printed-clause-ready
 returns-in-Ok-printed-clause-ready g c =

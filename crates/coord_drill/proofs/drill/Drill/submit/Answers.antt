@@ -81,7 +81,7 @@ print_kept-requires g c =
     let t = c.in-Ok-Repeated.ticket in
     let begins = begins_by g.D.Disk.model g.D.CrashDisk.crashes d.driver c.lemma_begins.ensures in
     let hands = subst (λ r. Hands g.D.Disk.model g.D.CrashDisk.crashes d.driver c.args.step r w) (c.in-Ok-Repeated.is ∙ ap Ok c.in-Ok-Repeated.field-0-is) c.hand_in.ensures in
-    subst (λ (l : LedgerState g.row.D.Denot). IsGranted l.log t) (sym c.ledger.ensures) (repeated_granted d.driver.ledger w.ledger c.args.step t hands.handed)
+    rw c.ledger.ensures (repeated_granted d.driver.ledger w.ledger c.args.step t hands.handed)
 
 pub returns-in-Ok-print_kept-clause-told : goal.returns-in-Ok-print_kept-clause-told
 returns-in-Ok-print_kept-clause-told g c =

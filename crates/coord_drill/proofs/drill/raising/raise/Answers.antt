@@ -19,7 +19,7 @@ returns-in-Err-clause-cut g c =
     let going : has_stopped d.ledger.log ≡ false → store.torn ≡ None = λ on. none_torn store.torn (c.in-Ok.ensures.stopped ∙ ap (λ (l : LedgerState g.row.D.Denot). is_some l.log.doubt) ledger ∙ on) in
     let now = c.migrate.new.self in
     let moments : has_stopped d.ledger.log ≡ false → g.D.Disk.model.keeps_model store.disk ≡ true → LeavesOnly g.D.Disk.model store.disk now.disk (GivesRaised d) =
-    λ on keeps. subst (λ w. LeavesOnly g.D.Disk.model store.disk now.disk (GivesEither w (risen w))) world (c.migrate.ensures.changes.any_moment keeps (going on)) in
+    λ on keeps. rw (sym world) (c.migrate.ensures.changes.any_moment keeps (going on)) in
     let fault = c.in-Err.fault in
     let told = c.into.ensures in
     let lost = c.into_disk.ensures.disk in
@@ -27,7 +27,7 @@ returns-in-Err-clause-cut g c =
     record {
       old = store.disk;
       there = there;
-      moments = λ on keeps. subst (λ x. LeavesOnly g.D.Disk.model store.disk x (GivesRaised d)) (sym lost) (moments on keeps);
+      moments = λ on keeps. rw lost (moments on keeps);
       cause = λ empty. subst IsPassing (sym told) (raising_cause d.ledger.log store.world fault world empty c.in-Err.ensures.fault (λ stopped. never_stopped store.torn (going (none_stopped g.D.Disk.model g.D.CrashDisk.crashes d.ledger.log empty)) fault stopped c.in-Err.ensures.stopped.0));
       failed = ap g.D.Disk.model.failures lost ∙ failed ∙ ap (λ n. g.D.Disk.model.failures store.disk + n) (sym (ap failed_by told ∙ told_failures fault));
     }
@@ -42,7 +42,7 @@ returns-in-Ok-adopt-clause-raised g c =
     let going : has_stopped d.ledger.log ≡ false → store.torn ≡ None = λ on. none_torn store.torn (c.in-Ok.ensures.stopped ∙ ap (λ (l : LedgerState g.row.D.Denot). is_some l.log.doubt) ledger ∙ on) in
     let now = c.migrate.new.self in
     let moments : has_stopped d.ledger.log ≡ false → g.D.Disk.model.keeps_model store.disk ≡ true → LeavesOnly g.D.Disk.model store.disk now.disk (GivesRaised d) =
-    λ on keeps. subst (λ w. LeavesOnly g.D.Disk.model store.disk now.disk (GivesEither w (risen w))) world (c.migrate.ensures.changes.any_moment keeps (going on)) in
+    λ on keeps. rw (sym world) (c.migrate.ensures.changes.any_moment keeps (going on)) in
     let over = c.over-driver.ensures in
     let raised : now.world ≡ risen (settled_world d.ledger.log) = c.in-Ok-migrate.ensures.changes.world ∙ ap risen world in
     let is : c.over-driver.result.ledger ≡ ledger_over (risen (settled_world d.ledger.log)) now.disk = ap (λ (v : DriverState g.row.D.Denot). v.ledger) over ∙ c.in-Ok-adopt.ensures.adopted ∙ ap (λ w. ledger_over w now.disk) raised in
@@ -69,13 +69,13 @@ returns-in-Err-adopt-clause-cut g c =
     let going : has_stopped d.ledger.log ≡ false → store.torn ≡ None = λ on. none_torn store.torn (c.in-Ok.ensures.stopped ∙ ap (λ (l : LedgerState g.row.D.Denot). is_some l.log.doubt) ledger ∙ on) in
     let now = c.migrate.new.self in
     let moments : has_stopped d.ledger.log ≡ false → g.D.Disk.model.keeps_model store.disk ≡ true → LeavesOnly g.D.Disk.model store.disk now.disk (GivesRaised d) =
-    λ on keeps. subst (λ w. LeavesOnly g.D.Disk.model store.disk now.disk (GivesEither w (risen w))) world (c.migrate.ensures.changes.any_moment keeps (going on)) in
+    λ on keeps. rw (sym world) (c.migrate.ensures.changes.any_moment keeps (going on)) in
     let lost : c.into_disk-in-Err-adopt.result ≡ now.disk = c.into_disk-in-Err-adopt.ensures.disk ∙ ap (λ (k : Kept g.row.D.Denot). k.disk) c.in-Err-adopt.ensures.back in
     let failed : g.D.Disk.model.failures now.disk ≡ g.D.Disk.model.failures store.disk + 0 = c.in-Ok-migrate.ensures.runs.failures in
     record {
       old = store.disk;
       there = there;
-      moments = λ on keeps. subst (λ x. LeavesOnly g.D.Disk.model store.disk x (GivesRaised d)) (sym lost) (moments on keeps);
+      moments = λ on keeps. rw lost (moments on keeps);
       cause = λ empty. inl refl;
       failed = ap g.D.Disk.model.failures lost ∙ failed;
     }

@@ -12,12 +12,12 @@ invariant_of-result-2 g c =
     elim c.match-begin_flush.branch [
       | in-Ok-Some w ↦
           let departs = begun_some c.self.inside.ledger c.begin_flush.new.self c.begin_flush.result c.begin_flush.ensures.nothing c.begin_flush.ensures.begun w.in-Ok-Some.flight (w.in-Ok-Some.is ∙ ap Ok w.in-Ok-Some.field-0-is) in
-          subst (λ (p : Answer × Option (FlightState g.row.D.Denot)). HoldsFlight c.begin_flush.new.self p.1) (sym w.answer-is) (departs_own c.self.inside.ledger c.begin_flush.new.self w.in-Ok-Some.flight departs)
+          rw w.answer-is (departs_own c.self.inside.ledger c.begin_flush.new.self w.in-Ok-Some.flight departs)
       | in-Ok-None w ↦
           let stays = begun_none c.self.inside.ledger c.begin_flush.new.self c.begin_flush.result c.begin_flush.ensures.nothing c.begin_flush.ensures.begun (w.in-Ok-None.is ∙ ap Ok w.in-Ok-None.field-0-is) in
-          subst (λ (p : Answer × Option (FlightState g.row.D.Denot)). HoldsFlight c.begin_flush.new.self p.1) (sym w.answer-is) (ap (λ (l : LedgerState g.row.D.Denot). l.out) stays.1 ∙ home)
+          rw w.answer-is (ap (λ (l : LedgerState g.row.D.Denot). l.out) stays.1 ∙ home)
       | in-Err w ↦
-          subst (λ (p : Answer × Option (FlightState g.row.D.Denot)). HoldsFlight c.begin_flush.new.self p.1) (sym w.answer-is) (ap (λ (l : LedgerState g.row.D.Denot). l.out) w.in-Err.ensures.err ∙ home)
+          rw w.answer-is (ap (λ (l : LedgerState g.row.D.Denot). l.out) w.in-Err.ensures.err ∙ home)
     ]
 
 -- it is an event of its machine
@@ -34,17 +34,14 @@ returns-clause-simulates g c =
           let many : w.len.result ≡ length w.flight.inside.steps.items = search rules in
           let size : w.len.result ≡ length w.in-Ok-Some.flight.steps = many ∙ ap (λ (f : FlightState g.row.D.Denot). length f.steps) w.flight.view_is in
           subst To (sym w.answer-is)
-          (subst (λ n. To (Begun n, Some w.in-Ok-Some.flight)) (sym size)
-          (subst (λ (d : DriverState g.row.D.Denot). Simulates d Begin (Begun (length w.in-Ok-Some.flight.steps)) (record { ledger = c.begin_flush.new.self; flight = Some w.in-Ok-Some.flight })) same
+          (rw size (rw (sym same)
           (simulates_next old home w.in-Ok-Some.flight c.begin_flush.new.self departs)))
       | in-Ok-None w ↦
           let stays = begun_none c.self.inside.ledger c.begin_flush.new.self c.begin_flush.result c.begin_flush.ensures.nothing c.begin_flush.ensures.begun (w.in-Ok-None.is ∙ ap Ok w.in-Ok-None.field-0-is) in
           subst To (sym w.answer-is)
-          (subst (λ l. Simulates c.args.self Begin Nothing (at_home l)) (sym stays.1)
-          (subst (λ (d : DriverState g.row.D.Denot). Simulates d Begin Nothing (at_home c.self.inside.ledger)) same (simulates_nothing old home stays.0)))
+          (rw stays.1 (rw (sym same) (simulates_nothing old home stays.0)))
       | in-Err w ↦
           let goes = begun_err c.self.inside.ledger c.begin_flush.new.self c.begin_flush.result c.begin_flush.ensures.nothing c.begin_flush.ensures.begun _ w.in-Err.is in
           subst To (sym w.answer-is)
-          (subst (λ l. Simulates c.args.self Begin (Refused OutOfMemory) (at_home l)) (sym w.in-Err.ensures.err)
-          (subst (λ (d : DriverState g.row.D.Denot). Simulates d Begin (Refused OutOfMemory) (at_home c.self.inside.ledger)) same (simulates_not_begun old home goes)))
+          (rw w.in-Err.ensures.err (rw (sym same) (simulates_not_begun old home goes)))
     ]

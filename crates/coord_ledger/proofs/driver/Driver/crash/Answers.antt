@@ -48,5 +48,4 @@ returns-in-Ok-clause-simulates g c on =
     subst (λ (x : DriverState g.row.D.Denot). ImagesGive (g.D.Disk.model.keeps_model d) (g.D.Disk.model.present d) x.ledger.log (kept_by x.ledger.log.settled (option_map flight_out x.flight) x.ledger.log.doubt) → Simulates x Crash (Opened (settled_world c.in-Ok.ledger.log).count) (at_home c.in-Ok.ledger)) c.self.view_is
     (λ images. simulates_opened inside c.in-Ok.ledger g.D.Disk.model g.D.CrashDisk.crashes d is images keeps c.in-Ok.ensures.opened) c.into_disk.ensures.images in
     let count = c.count-count.ensures ∙ ap (λ (w : World). w.count) c.settled.ensures in
-    subst (λ (x : DriverState g.row.D.Denot). Simulates c.args.self Crash (Opened c.count-count.result) x) (sym c.over.ensures)
-    (subst (λ n. Simulates c.args.self Crash (Opened n) (at_home c.in-Ok.ledger)) (sym count) met)
+    rw c.over.ensures (rw count met)

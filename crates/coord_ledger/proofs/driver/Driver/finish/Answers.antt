@@ -19,5 +19,5 @@ returns-in-Ok-clause-released g c releases is =
 pub returns-in-Ok-clause-simulates : goal.returns-in-Ok-clause-simulates
 returns-in-Ok-clause-simulates g c =
     let old : DriverState g.row.D.Denot = record { ledger = c.self.inside.ledger; flight = c.self.inside.flight } in
-    subst (λ (d : DriverState g.row.D.Denot). Simulates c.args.self Finish (Finished (settled_count d.ledger.log)) d) (sym c.over-in-Ok.ensures)
-    (subst (λ (d : DriverState g.row.D.Denot). Simulates d Finish (Finished (settled_count c.end_flush.new.self.log)) (at_home c.end_flush.new.self)) c.self.view_is (simulates_back old c.in-Some.flight c.in-Some.is c.end_flush.new.self c.in-Ok.ensures.taken))
+    rw c.over-in-Ok.ensures
+    (rw (sym c.self.view_is) (simulates_back old c.in-Some.flight c.in-Some.is c.end_flush.new.self c.in-Ok.ensures.taken))

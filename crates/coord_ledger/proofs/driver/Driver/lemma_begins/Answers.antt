@@ -17,7 +17,7 @@ returns g c =
     let own = subst (λ (x : DriverState g.row.D.Denot). HoldsFlight x.ledger x.flight) c.self.view_is c.self.invariant in
     let is = subst (λ (x : DriverState g.row.D.Denot). IsConsistent (machine_of x (started x.ledger))) c.self.view_is (own_consistent inside c.self.invariant kept.log kept.out kept.doubted kept.stopped) in
     let home : d.ledger.out ≡ None = subst (HoldsFlight d.ledger) c.requires own in
-    let first = some_disk d.ledger.disk (sym (subst (λ (l : LedgerState g.row.D.Denot). is_some l.out ≡ is_none l.disk) same kept.home) ∙ ap is_some home) in
+    let first = some_disk d.ledger.disk (sym (rw (sym same) kept.home) ∙ ap is_some home) in
     record {
       first = first.0;
       home = first.1;

@@ -10,4 +10,4 @@ returns-in-Some g c s is represents =
 pub returns-in-None : goal.returns-in-None
 returns-in-None g c s is represents =
     home_survives g.D.Disk.model.keeps_model g.D.Disk.model.present c.args.self.now s is represents (sym (ap (λ (d : DriverState g.row.D.Denot). d.flight) c.self.view_is) ∙ c.in-None.is)
-    (subst (λ (l : LedgerState g.row.D.Denot). IfSome l.disk (λ d. g.D.Disk.model.keeps_model d ≡ true → LedgerGives g.D.Disk.model.present l d)) (ap (λ (d : DriverState g.row.D.Denot). d.ledger) c.self.view_is) c.lemma_images_give_settled.ensures)
+    (rw (sym (ap (λ (d : DriverState g.row.D.Denot). d.ledger) c.self.view_is)) c.lemma_images_give_settled.ensures)

@@ -30,11 +30,11 @@ returns-clause-cause g c =
     record {
       allowed = subst (IsImage (g.D.Disk.model.present c.args.disk)) (sym same) (c.crash.ensures.leaves.image on);
       world = c.in-Ok.store.world;
-      recovered = subst (λ bytes. Recovered bytes c.in-Ok.store.world) (sym same) (c.in-Ok.ensures.world (c.crash.ensures.leaves.model ∙ on));
+      recovered = rw same (c.in-Ok.ensures.world (c.crash.ensures.leaves.model ∙ on));
     } in
     IfErr-weaker c.adopt.result _ _ (λ refused is.
     subst (IsReopenFault (g.D.Disk.model.keeps_model c.args.disk) (g.D.Disk.model.present c.args.disk) (g.D.Disk.model.present refused.1)) (sym is.0)
-    (subst (λ lost. g.D.Disk.model.keeps_model c.args.disk ≡ true → IsOpenedOnce (g.D.Disk.model.present c.args.disk) (g.D.Disk.model.present lost)) (sym is.1) opened))
+    (rw is.1 opened))
     (both c.adopt.result _ _ c.adopt.ensures.memory c.adopt.ensures.back)
 
 pub returns-clause-failures : goal.returns-clause-failures
@@ -51,7 +51,7 @@ returns-clause-failures g c =
 
 pub returns-clause-lost : goal.returns-clause-lost
 returns-clause-lost g c =
-    IfErr-weaker c.adopt.result _ _ (λ refused is on. subst (λ lost. Reopens g.D.Disk.model g.D.CrashDisk.crashes (IsImage (g.D.Disk.model.present c.args.disk)) c.args.disk lost) (sym is) (record {
+    IfErr-weaker c.adopt.result _ _ (λ refused is on. rw is (record {
       taken = c.crash.result;
       crash = c.crash.ensures.crashes;
       image = c.crash.ensures.leaves.image on;

@@ -16,8 +16,8 @@ where_it_fits : {D : Type 0} (keeps_model : D → Bool) (present : D → Present
 where_it_fits {D} keeps_model present Says first steps items world next mark kept f seen new is same says =
     let none = is.torn_is ∙ ap (λ m. carried_torn m world steps) new in
     let here = is.world_is ∙ ap (λ m. carried_world m world steps) new in
-    subst (λ (o : FlightState D). (half : ℕ) (body : List ℕ) → keeps_model o.disk ≡ true → o.mark ≡ New → IsBody o.world body o.steps → HasPlaceIn half (length body) (present o.disk).read → Says half o.disk) seen
-    (λ half body k _ spells place. says half body k none (subst (λ w. IsBody w body items) (sym here) (subst (IsBody world body) (sym same) spells)) place)
+    rw (sym seen)
+    (λ half body k _ spells place. says half body k none (rw here (subst (IsBody world body) (sym same) spells)) place)
 
 pub returns-in-Ok-clause-calls_where_it_fits : goal.returns-in-Ok-clause-calls_where_it_fits
 returns-in-Ok-clause-calls_where_it_fits g c =

@@ -17,8 +17,8 @@ returns g c =
     let next : c.next_steps.result.now ≡ take c.self.inside.out (drop c.self.inside.done c.self.inside.trail.items) = c.next_steps.ensures ∙ ap (λ x. take c.self.inside.out (drop c.self.inside.done x)) c.deref-2.ensures.value in (
       λ t.
           let own = own_is log _ _ _ _ _ _ c.self.invariant _ _ _ c.flight.inside.mark c.flight.inside.store gone size number at (sym c.deref.ensures.value ∙ c.are_same.ensures.0 t ∙ next) in
-          subst (λ x. IsOut x c.args.flight.now) c.self.view_is (subst (λ y. IsOut l y) c.flight.view_is own),
+          rw (sym c.self.view_is) (rw (sym c.flight.view_is) own),
       λ own.
-          let parts = subst (λ x. IsOut x f) (sym c.self.view_is) (subst (λ y. IsOut c.args.self.now y) (sym c.flight.view_is) own) in
+          let parts = subst (λ x. IsOut x f) (sym c.self.view_is) (rw c.flight.view_is own) in
           c.are_same.ensures.1 (c.deref.ensures.value ∙ own_steps log _ _ _ _ _ _ c.self.invariant _ _ _ c.flight.inside.mark c.flight.inside.store size parts ∙ sym next),
     )

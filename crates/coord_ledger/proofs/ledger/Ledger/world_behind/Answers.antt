@@ -12,7 +12,7 @@ pub take_all-requires-clause-fresh : goal.take_all-requires-clause-fresh
 take_all-requires-clause-fresh g c =
     let steps = c.args.steps.now in
     let P : LedgerState g.row.D.Denot → Type 0 = λ l. steps ≡ take (length steps) (pending l.log) in
-    subst (λ w. AllFresh w w steps) (sym c.in_ok-next.ensures) (fresh_next _ _ _ _ _ _ _ steps c.self.invariant (subst P (sym c.self.view_is) c.requires))
+    rw c.in_ok-next.ensures (fresh_next _ _ _ _ _ _ _ steps c.self.invariant (subst P (sym c.self.view_is) c.requires))
 
 pub returns-then-steps-pending : goal.returns-then-steps-pending
 returns-then-steps-pending g c =

@@ -1,6 +1,5 @@
-use Rattle.std.proofs.Common.{◌≡◌, ◌≢◌, ℕ, List, sym, ap, ◌∙◌, subst, arith}
-use Rattle.coord_world.specs.protocol.NumberedWorld.{World, no_world}
-use Rattle.coord_journal.specs.Facade.{Content, content_of, without_batch}
+use Rattle.std.proofs.Common.{◌≡◌, ◌≢◌, sym, ap, ◌∙◌, arith}
+use Rattle.coord_journal.specs.Facade.{content_of, without_batch}
 use Rattle.coord_journal.specs.declared.fault.JournalFault.{JournalFault}
 use Rattle.coord_journal.specs.declared.fault.JournalFault.TheVariants as journal
 use Rattle.coord_store.specs.Faults.{store_fault_of}
@@ -14,15 +13,10 @@ pub over-requires-clause-holds : goal.over-requires-clause-holds
 over-requires-clause-holds g c k =
     let k1 = sym c.in-Ok-open.ensures.runs.model ∙ k in
     let k0 = sym c.format.ensures.runs.model ∙ k1 in
-    let known = c.in-Some.known in
-    let bytes = c.in-Ok.snapshot.items in
     let made = without_batch c.args.version c.deref.result.now in
-    let P : ℕ → Type 0 = λ v. Gives (without_batch v bytes) (no_world known) in
-    let Q : List ℕ → Type 0 = λ b. Gives (without_batch c.args.version b) (no_world known) in
-    let R : World → Type 0 = λ w. Gives made w in
-    let gives = subst R (sym c.empty.ensures.value) (subst Q (sym c.deref.ensures.value) (subst P c.in-Some.ensures.value c.in-Ok.ensures.gives)) in
+    let gives : Gives made c.empty.result = rw (c.empty.ensures.value, c.deref.ensures.value, sym c.in-Some.ensures.value) c.in-Ok.ensures.gives in
     let same = c.in-Ok-open.ensures.only made k1 (c.in-Ok-format.ensures.text k0) in
-    record { content = content_of c.in-Ok-open.field-0-1; ready = c.in-Ok-open.ensures.ready k1; gives = subst (λ (d : Content). Gives d c.empty.result) (sym same) gives }
+    record { content = content_of c.in-Ok-open.field-0-1; ready = c.in-Ok-open.ensures.ready k1; gives = rw same gives }
 
 pub returns-clause-fault : goal.returns-clause-fault
 returns-clause-fault g c k0 =

@@ -1,6 +1,6 @@
-use Rattle.std.proofs.Common.{◌≡◌, ◌≢◌, Ok, Err, eqb, cond, rules, refl, sym, ap, ◌∙◌, subst, arith}
+use Rattle.std.proofs.Common.{◌≡◌, ◌≢◌, eqb, cond, rules, refl, sym, ap, ◌∙◌, arith}
 use Rattle.std.proofs.lemmas.Bool.Decides.{nat_tests}
-use Rattle.coord_store.specs.Facade.{Changes, risen}
+use Rattle.coord_store.specs.Facade.{risen}
 use Rattle.coord_store.specs.declared.faults.CommitFault.TheVariants as commit
 use Rattle.coord_store.specs.declared.faults.StoreFault.TheVariants as fault
 use Rattle.coord_world.specs.laws.Raised.{raised}
@@ -39,7 +39,7 @@ returns-in-Ok-put-clause-changes g c =
     let w = c.args.self.now.world in
     let first : w.version ≡ 1 = grind (arith, nat_tests, c.lemma_in_range.ensures.first, c.lemma_in_range.ensures.last, c.if-number-eq2.false, c.number.ensures.value, c.version.ensures, c.world-world.ensures) in
     let same : c.in-Ok.next ≡ risen w = c.in-Ok.ensures.value ∙ ap raised c.world-world.ensures ∙ rises w first in
-    subst (λ x. Changes g.D.Disk.model x fault.Device c.args.self.now c.put.new.self (Ok tt)) same (retold g.D.Disk.model c.args.self.now c.put.new.self c.in-Ok.next commit.Device fault.Device _ _ c.in-Ok-put.ensures.changes)
+    rw (sym same) (retold g.D.Disk.model c.args.self.now c.put.new.self c.in-Ok.next commit.Device fault.Device _ _ c.in-Ok-put.ensures.changes)
 
 pub returns-in-Err-Device-clause-changes : goal.returns-in-Err-Device-clause-changes
 returns-in-Err-Device-clause-changes g c =
@@ -47,7 +47,7 @@ returns-in-Err-Device-clause-changes g c =
     let first : w.version ≡ 1 = grind (arith, nat_tests, c.lemma_in_range.ensures.first, c.lemma_in_range.ensures.last, c.if-number-eq2.false, c.number.ensures.value, c.version.ensures, c.world-world.ensures) in
     let same : c.in-Ok.next ≡ risen w = c.in-Ok.ensures.value ∙ ap raised c.world-world.ensures ∙ rises w first in
     let device : c.in-Err-Device.field-0 ≡ commit.Device = search rules in
-    subst (λ x. Changes {T = Unit {0}} g.D.Disk.model x fault.Device c.args.self.now c.put.new.self (Err fault.Device)) same (retold_refused g.D.Disk.model c.args.self.now c.put.new.self c.in-Ok.next commit.Device fault.Device c.in-Err-Device.field-0 fault.Device (λ _. device) (λ unlike. absurd (unlike refl)) c.in-Err-Device.ensures.changes)
+    rw (sym same) (retold_refused g.D.Disk.model c.args.self.now c.put.new.self c.in-Ok.next commit.Device fault.Device c.in-Err-Device.field-0 fault.Device (λ _. device) (λ unlike. absurd (unlike refl)) c.in-Err-Device.ensures.changes)
 
 pub returns-in-Err-put-clause-changes : goal.returns-in-Err-put-clause-changes
 returns-in-Err-put-clause-changes g c =
@@ -56,4 +56,4 @@ returns-in-Err-put-clause-changes g c =
     let same : c.in-Ok.next ≡ risen w = c.in-Ok.ensures.value ∙ ap raised c.world-world.ensures ∙ rises w first in
     let why = c.in-Err-put.field-0 in
     let other : why ≢ commit.Device = search rules in
-    subst (λ x. Changes {T = Unit {0}} g.D.Disk.model x fault.Device c.args.self.now c.put.new.self (Err fault.OutOfMemory)) same (retold_refused g.D.Disk.model c.args.self.now c.put.new.self c.in-Ok.next commit.Device fault.Device why fault.OutOfMemory (λ e. absurd cc) (λ _. other) c.in-Err-put.ensures.changes)
+    rw (sym same) (retold_refused g.D.Disk.model c.args.self.now c.put.new.self c.in-Ok.next commit.Device fault.Device why fault.OutOfMemory (λ e. absurd cc) (λ _. other) c.in-Err-put.ensures.changes)

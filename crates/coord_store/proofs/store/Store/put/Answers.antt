@@ -1,9 +1,6 @@
-use Rattle.std.proofs.Common.{◌≡◌, ◌≢◌, ◌⊎◌, IfErr, is_some, refl, sym, ap, ◌∙◌, subst}
-use Rattle.coord_disk.specs.Model.Moments.{Runs}
-use Rattle.coord_store.specs.Faults.{failures_in}
-use Rattle.coord_store.specs.Facade.{Changes, Kept}
-use Rattle.coord_store.specs.declared.faults.CommitFault.TheVariants.{OutOfMemory, Device}
-use Rattle.coord_store.proofs.Changing.{changed, fails_so, kept, kept_after, same_failures, untouched}
+use Rattle.std.proofs.Common.{is_some, refl, ap, ◌∙◌}
+use Rattle.coord_store.specs.Facade.{Kept}
+use Rattle.coord_store.proofs.Changing.{changed, fails_so, kept_after, same_failures, untouched}
 use Rattle.coord_store.proofs.Holding.{none_of}
 use Rattle.coord_store.proofs.store.Store.put.Goals as goal
 
@@ -24,10 +21,9 @@ returns-clause-changes g c =
     let w = c.self.inside.world in
     let torn = c.self.inside.torn in
     let none = none_of torn (is_some torn) refl (ap (λ (k : Kept g.row.D.Denot). is_some k.torn) c.self.view_is ∙ c.requires.going) in
-    rw (← c.self.view_is)
-    (subst (Changes g.D.Disk.model c.args.next Device (kept journal w torn) (kept c.put_in_place-written.new.journal c.conclude.new.world c.conclude.new.torn)) (sym c.conclude.ensures.answer)
+    rw (← c.self.view_is, c.conclude.ensures.answer)
     (changed g.D.Disk.model journal c.put_in_place-written.new.journal w c.args.next c.conclude.new.world torn c.conclude.new.torn none c.self.invariant.holds c.put_in_place-written.result
-    c.conclude.ensures.keeps (c.put_in_place-written.ensures.follows w) (c.put_in_place-written.ensures.stays w)))
+    c.conclude.ensures.keeps (c.put_in_place-written.ensures.follows w) (c.put_in_place-written.ensures.stays w))
 
 pub returns-clause-unchanged : goal.returns-clause-unchanged
 returns-clause-unchanged g c =
@@ -35,15 +31,11 @@ returns-clause-unchanged g c =
     let w = c.self.inside.world in
     let torn = c.self.inside.torn in
     let none = none_of torn (is_some torn) refl (ap (λ (k : Kept g.row.D.Denot). is_some k.torn) c.self.view_is ∙ c.requires.going) in
-    rw (← c.self.view_is)
-    (subst (λ r. IfErr r (λ fault. fault ≢ Device → kept c.put_in_place-written.new.journal c.conclude.new.world c.conclude.new.torn ≡ kept journal w torn)) (sym c.conclude.ensures.answer)
-    (untouched g.D.Disk.model journal c.put_in_place-written.new.journal w c.args.next c.conclude.new.world torn c.conclude.new.torn none c.self.invariant.holds c.put_in_place-written.result c.conclude.ensures.keeps c.put_in_place-written.ensures.unchanged))
+    rw (← c.self.view_is, c.conclude.ensures.answer)
+    (untouched g.D.Disk.model journal c.put_in_place-written.new.journal w c.args.next c.conclude.new.world torn c.conclude.new.torn none c.self.invariant.holds c.put_in_place-written.result c.conclude.ensures.keeps c.put_in_place-written.ensures.unchanged)
 
 pub returns-clause-fault : goal.returns-clause-fault
-returns-clause-fault g c =
-    subst (λ r. IfErr r (λ fault. (fault ≡ OutOfMemory) ⊎ (fault ≡ Device))) (sym c.conclude.ensures.answer) (fails_so c.self.inside.world c.put_in_place-written.result _ c.put_in_place-written.ensures.ends.fault)
+returns-clause-fault g c = rw c.conclude.ensures.answer (fails_so c.self.inside.world c.put_in_place-written.result _ c.put_in_place-written.ensures.ends.fault)
 
 pub returns-clause-runs : goal.returns-clause-runs
-returns-clause-runs g c =
-    rw (← c.self.view_is)
-    (subst (Runs g.D.Disk.model c.self.inside.journal.disk c.put_in_place-written.new.journal.disk 4) (same_failures c.self.inside.world c.put_in_place-written.result ∙ ap failures_in (sym c.conclude.ensures.answer)) c.put_in_place-written.ensures.ends.runs)
+returns-clause-runs g c = rw (← c.self.view_is, c.conclude.ensures.answer, same_failures c.self.inside.world c.put_in_place-written.result) c.put_in_place-written.ensures.ends.runs

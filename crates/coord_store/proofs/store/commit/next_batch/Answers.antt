@@ -1,7 +1,4 @@
-use Rattle.std.proofs.Common.{refl, sym, subst, arith}
-use Rattle.std.specs.List.{AllByRecursion}
-use Rattle.coord_batch.specs.Batches.{CarriesRightly}
-use Rattle.coord_world.specs.Facade.{Legal}
+use Rattle.std.proofs.Common.{refl, arith}
 use Rattle.coord_store.proofs.Freshness.{all_carried, all_writable, each_fresh, first_number, led_soundly}
 use Rattle.coord_store.proofs.Holding.{taken}
 use Rattle.coord_store.proofs.store.commit.next_batch.Goals as goal
@@ -15,14 +12,14 @@ write_batch-requires-clause-writable c =
     let w = c.args.world.now in
     let steps = c.args.steps.now in
     let carried = all_carried steps w (record { in_range = c.lemma_in_range.ensures; legal = c.requires.legal }) (each_fresh steps w w c.lemma_in_ranges.ensures c.requires.fresh) in
-    all_writable c.version.result steps c.requires.numbered (subst (λ v. AllByRecursion (CarriesRightly v) steps) (sym c.version.ensures) carried)
+    all_writable c.version.result steps c.requires.numbered (rw c.version.ensures carried)
 
 pub returns-in-Ok-clause-legal : goal.returns-in-Ok-clause-legal
 returns-in-Ok-clause-legal c =
     let w = c.args.world.now in
     let steps = c.args.steps.now in
     let led = led_soundly steps w (record { in_range = c.lemma_in_range.ensures; legal = c.requires.legal }) (each_fresh steps w w c.lemma_in_ranges.ensures c.requires.fresh) in
-    subst Legal (sym c.in_ok-next.ensures.world) led.legal
+    rw c.in_ok-next.ensures.world led.legal
 
 pub returns-in-Ok-clause-taken : goal.returns-in-Ok-clause-taken
 returns-in-Ok-clause-taken c =

@@ -1,12 +1,9 @@
-use Rattle.std.proofs.Common.{◌≡◌, sym, ap, subst}
-use Rattle.std.specs.List.{All}
-use Rattle.coord_tables.specs.Links.{lanes_in_order}
+use Rattle.std.proofs.Common.{◌≡◌, ap}
 use Rattle.coord_world.specs.protocol.NumberedWorld.{World}
-use Rattle.coord_world.specs.code.Fronts.{HasNumber}
 use Rattle.coord_world.proofs.lanes.HasNumber.{all_numbered}
 use Rattle.coord_world.proofs.tables.Tables.again.Goals as goal
 
 pub push_all_again-requires : goal.push_all_again-requires
 push_all_again-requires c =
     let same : c.self.inside.links ≡ (c.args.self.now).links = ap (λ (w : World). w.links) c.self.view_is in
-    subst (λ t. All HasNumber (lanes_in_order t)) (sym same) (all_numbered c.args.self.now c.requires)
+    rw same (all_numbered c.args.self.now c.requires)

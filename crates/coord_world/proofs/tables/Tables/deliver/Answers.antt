@@ -1,9 +1,6 @@
-use Rattle.std.proofs.Common.{◌≡◌, ◌<◌, ℕ, Some, true, length, sym, ap, subst, ◌∙◌}
-use Rattle.coord_types.specs.NodeSet as set
-use Rattle.coord_link.specs.declared.lane.TheConstants.{PLACES}
-use Rattle.coord_link.specs.LaneMachine.{Lane}
+use Rattle.std.proofs.Common.{ap, ◌∙◌}
 use Rattle.coord_node.specs.Rules.{transition}
-use Rattle.coord_world.specs.Facade.{World, lane_at, state, with_transition}
+use Rattle.coord_world.specs.Facade.{World, state, with_transition}
 use Rattle.coord_world.proofs.transitions.IsTransitionOf.{act_done, act_room}
 use Rattle.coord_world.proofs.tables.Tables.deliver.Goals as goal
 
@@ -13,7 +10,7 @@ carry_out-requires-clause-room c =
     let d = transition c.args.self.now.version p.msg (state c.args.self.now p.to) p.from in
     let after : World = c.take_front.new.self in
     act_room c.in_ok-node_transition.node_transition p.to d after.links c.in_ok-node_transition.ensures
-    (subst (λ (w : World). (v : ℕ) (l : Lane) → lane_at w.links p.to v ≡ Some l → set.contains d.to v ≡ true → length l.queue < PLACES) (sym c.take_front.ensures) c.requires.acts.room)
+    (rw c.take_front.ensures c.requires.acts.room)
 
 pub returns-clause-world : goal.returns-clause-world
 returns-clause-world c =

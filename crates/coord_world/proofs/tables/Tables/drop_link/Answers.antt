@@ -1,11 +1,7 @@
-use Rattle.std.proofs.Common.{◌≡◌, ◌<◌, ℕ, Some, IsSome, true, length, ap, sym, ◌∙◌, subst}
-use Rattle.coord_types.specs.NodeSet as set
-use Rattle.coord_types.specs.Table.{get}
+use Rattle.std.proofs.Common.{◌≡◌, ap, ◌∙◌}
 use Rattle.coord_types.specs.declared.steps.Command.TheVariants.{Drop}
-use Rattle.coord_link.specs.declared.lane.TheConstants.{PLACES}
-use Rattle.coord_link.specs.LaneMachine.{Lane}
 use Rattle.coord_node.specs.Rules.{Transition, lost}
-use Rattle.coord_world.specs.Facade.{World, lane_at, state, with_command, with_transition}
+use Rattle.coord_world.specs.Facade.{World, state, with_command, with_transition}
 use Rattle.coord_tables.proofs.Found.{set_stays}
 use Rattle.coord_world.proofs.transitions.IsTransitionOf.{act_done, act_room}
 use Rattle.coord_world.proofs.tables.Tables.drop_link.Goals as goal
@@ -15,7 +11,7 @@ carry_out-requires-clause-room c =
     let d : Transition = lost (state c.args.self.now c.args.a) c.args.b in
     let after : World = c.drop_lanes.new.self in
     act_room c.in_ok-first.first c.args.a d after.links c.in_ok-first.ensures
-    (subst (λ (w : World). (v : ℕ) (l : Lane) → lane_at w.links c.args.a v ≡ Some l → set.contains d.to v ≡ true → length l.queue < PLACES) (sym c.drop_lanes.ensures) c.requires.first.room)
+    (rw c.drop_lanes.ensures c.requires.first.room)
 
 pub carry_out-requires-2-clause-there : goal.carry_out-requires-2-clause-there
 carry_out-requires-2-clause-there c =
@@ -23,8 +19,7 @@ carry_out-requires-2-clause-there c =
     let d : Transition = lost (state before c.args.a) c.args.b in
     let between : c.carry_out.new.self ≡ with_transition (with_command before (Drop c.args.a c.args.b)) c.args.a d =
     c.carry_out.ensures ∙ act_done c.drop_lanes.new.self c.in_ok-first.first c.args.a d c.in_ok-first.ensures ∙ ap (λ w. with_transition w c.args.a d) c.drop_lanes.ensures in
-    subst (λ u. IsSome (get (c.carry_out.new.self).nodes u)) (sym c.in_ok-second.ensures.id)
-    (subst (λ (w : World). IsSome (get w.nodes c.args.b)) (sym between) (set_stays before.nodes c.args.a d.state c.args.b c.requires.second.there))
+    rw c.in_ok-second.ensures.id (rw between (set_stays before.nodes c.args.a d.state c.args.b c.requires.second.there))
 
 pub carry_out-requires-2-clause-room : goal.carry_out-requires-2-clause-room
 carry_out-requires-2-clause-room c =
@@ -34,7 +29,7 @@ carry_out-requires-2-clause-room c =
     let between : c.carry_out.new.self ≡ with_transition (with_command c.args.self.now (Drop c.args.a c.args.b)) c.args.a one =
     c.carry_out.ensures ∙ act_done c.drop_lanes.new.self c.in_ok-first.first c.args.a one c.in_ok-first.ensures ∙ ap (λ w. with_transition w c.args.a one) c.drop_lanes.ensures in
     act_room c.in_ok-second.second c.args.b d after.links c.in_ok-second.ensures
-    (subst (λ (w : World). (v : ℕ) (l : Lane) → lane_at w.links c.args.b v ≡ Some l → set.contains d.to v ≡ true → length l.queue < PLACES) (sym between) c.requires.second.room)
+    (rw between c.requires.second.room)
 
 pub returns-clause-world : goal.returns-clause-world
 returns-clause-world c =

@@ -1,6 +1,4 @@
-use Rattle.std.proofs.Common.{◌≡◌, sym, ◌∙◌, subst}
-use Rattle.coord_node.specs.Steps.{kind}
-use Rattle.coord_world.specs.Facade.{IsFresh, state}
+use Rattle.std.proofs.Common.{sym, ◌∙◌}
 use Rattle.coord_world.proofs.acceptance.FreshVerdict.{verdict_fresh, verdict_fresh_itself, verdict_kind}
 use Rattle.coord_world.proofs.world.World.judge.Goals as goal
 
@@ -8,12 +6,12 @@ pub returns-clause-fresh : goal.returns-clause-fresh
 returns-clause-fresh c k is =
     let step = c.args.step.now in
     let fresh = verdict_fresh c.self.inside.tables c.settled.inside.tables step k (sym c.judge.ensures ∙ is) in
-    subst (λ w. IsFresh w c.args.settled.now step) c.self.view_is (subst (λ w. IsFresh c.self.inside.tables w step) c.settled.view_is fresh)
+    rw (sym c.self.view_is) (rw (sym c.settled.view_is) fresh)
 
 pub returns-clause-itself : goal.returns-clause-itself
 returns-clause-itself c k is =
-    subst (λ w. IsFresh w w c.args.step.now) c.self.view_is (verdict_fresh_itself c.self.inside.tables c.settled.inside.tables c.args.step.now k (sym c.judge.ensures ∙ is))
+    rw (sym c.self.view_is) (verdict_fresh_itself c.self.inside.tables c.settled.inside.tables c.args.step.now k (sym c.judge.ensures ∙ is))
 
 pub returns-clause-kind : goal.returns-clause-kind
 returns-clause-kind c k is =
-    subst (λ w. k ≡ kind (state w) c.args.step.now) c.self.view_is (verdict_kind c.self.inside.tables c.settled.inside.tables c.args.step.now k (sym c.judge.ensures ∙ is))
+    rw (sym c.self.view_is) (verdict_kind c.self.inside.tables c.settled.inside.tables c.args.step.now k (sym c.judge.ensures ∙ is))

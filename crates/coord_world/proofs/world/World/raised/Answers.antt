@@ -7,7 +7,7 @@ use Rattle.coord_world.proofs.world.World.raised.Goals as goal
 
 raises_well : (w v : World) → w ≡ v → InRange w → Legal v → v.version ≡ 1 → AllReady v → RaisesWell w
 raises_well w v same range legal first ready =
-    raised_is_legal w range (subst Legal (sym same) legal) (subst (λ (x : World). x.version ≡ 1) (sym same) first) (subst AllReady (sym same) ready)
+    raised_is_legal w range (subst Legal (sym same) legal) (rw same first) (subst AllReady (sym same) ready)
 
 pub invariant_of-result : goal.invariant_of-result
 invariant_of-result c =

@@ -15,7 +15,7 @@ returns-in_default-clause-answered g c s is follows =
     let items = c.args.self.now.tickets.items in
     let below : c.args.index < length items = search rules in
     let here : c.index_mut.result.now ≡ None = sym c.take.ensures.value ∙ c.in_default.is in
-    let was : None ≡ slice_index_or items c.args.index None = subst (λ (o : Option Claim). o ≡ slice_index_or items c.args.index o) here c.index_mut.ensures.value in
+    let was : None ≡ slice_index_or items c.args.index None = rw (sym here) c.index_mut.ensures.value in
     follows_no_ticket c.args.self.now s is follows _ (ap (slice_set items c.args.index) c.take.ensures.after ∙ set_same items c.args.index None was) c.args.index (ticket_within items c.args.index None below was)
 
 pub returns-in-Ok-clause-answered : goal.returns-in-Ok-clause-answered
@@ -24,7 +24,7 @@ returns-in-Ok-clause-answered g c s is follows =
     let ticket = c.in-Some.ticket in
     let below : c.args.index < length items = search rules in
     let here : c.index_mut.result.now ≡ Some ticket = sym c.take.ensures.value ∙ c.in-Some.is in
-    let was : Some ticket ≡ slice_index_or items c.args.index (Some ticket) = subst (λ (o : Option Claim). o ≡ slice_index_or items c.args.index o) here c.index_mut.ensures.value in
+    let was : Some ticket ≡ slice_index_or items c.args.index (Some ticket) = rw (sym here) c.index_mut.ensures.value in
     let given = subst (λ (l : LedgerState g.row.D.Denot). (c.in-Ok.reply ≡ reply_of ticket) × IsCollectable l.log ticket) c.ledger.ensures c.in-Ok.ensures.settled in
     follows_collected c.args.self.now s is follows c.args.index ticket (ticket_within items c.args.index (Some ticket) below was) _ (ap (slice_set items c.args.index) c.take.ensures.after ∙ spent_is items c.args.index) c.in-Ok.reply given.0 given.1
 
@@ -34,6 +34,6 @@ returns-after-replace-clause-answered g c s is follows =
     let ticket = c.in-Some.ticket in
     let below : c.args.index < length items = search rules in
     let here : c.index_mut.result.now ≡ Some ticket = sym c.take.ensures.value ∙ c.in-Some.is in
-    let was : Some ticket ≡ slice_index_or items c.args.index (Some ticket) = subst (λ (o : Option Claim). o ≡ slice_index_or items c.args.index o) here c.index_mut.ensures.value in
+    let was : Some ticket ≡ slice_index_or items c.args.index (Some ticket) = rw (sym here) c.index_mut.ensures.value in
     let given = subst (λ (l : LedgerState g.row.D.Denot). (c.in-Err.ticket ≡ ticket) × ¬ IsCollectable l.log ticket) c.ledger.ensures c.in-Err.ensures.waiting in
     follows_waiting c.args.self.now s is follows c.args.index ticket (ticket_within items c.args.index (Some ticket) below was) _ (put_back items c.args.index (Some ticket) c.take.new.self c.replace.new.self was (c.replace.ensures.after ∙ ap Some given.0)) given.1

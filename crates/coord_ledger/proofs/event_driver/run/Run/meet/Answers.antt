@@ -53,8 +53,7 @@ returns-in-Finish-clause-disk g c s is follows =
 
 pub returns-in-Crash-clause-disk : goal.returns-in-Crash-clause-disk
 returns-in-Crash-clause-disk g c s is follows =
-    subst (λ x. MatchResult c.crash.result (λ held. DiskEffect {D = g.row.D.Denot} g.D.Disk.model g.D.CrashDisk.crashes (found_by_crash s x held.0) (touches_disk x held.0) x (disk_held c.args.self.driver) (disk_held held.1.driver)) (λ broken. IsLost {D = g.row.D.Denot} g.D.Disk.model g.D.CrashDisk.crashes s x broken.kind (disk_held c.args.self.driver) broken.disk)) (sym c.in-Crash.is)
-    (c.crash.ensures.disk s is follows)
+    rw c.in-Crash.is (c.crash.ensures.disk s is follows)
 
 pub returns-in-Err-clause-disk : goal.returns-in-Err-clause-disk
 returns-in-Err-clause-disk g c s is follows =
@@ -76,9 +75,7 @@ returns-in-Ok-clause-failures g c n so =
       | in-Submit w ↦ aside (Submit w.in-Submit.step) c.in-Ok.answer n w.in-Submit.is refl (ap (λ (h : Run g.row.D.Denot). disk_held h.driver) w.held-is ∙ w.submit-answer.ensures.disk) so
       | in-Commit w ↦
           let same : w.commit.result ≡ c.in-Ok.answer = cc (w.answer-is, c.in-Ok.is) in
-          subst (λ x. HasFailed g.D.Disk.model.failures (disk_held c.match-event.held.driver) (n + failed_at x c.in-Ok.answer)) (sym w.in-Commit.is)
-          (subst (λ a. HasFailed g.D.Disk.model.failures (disk_held c.match-event.held.driver) (n + failed_at Commit a)) same
-          (subst (λ (h : Run g.row.D.Denot). HasFailed g.D.Disk.model.failures (disk_held h.driver) (n + failed_at Commit w.commit.result)) (sym w.held-is) (w.commit.ensures.failures n so)))
+          rw w.in-Commit.is (rw (sym same) (rw w.held-is (w.commit.ensures.failures n so)))
       | in-Collect w ↦ aside (Collect w.in-Collect.index) c.in-Ok.answer n w.in-Collect.is refl (ap (λ (h : Run g.row.D.Denot). disk_held h.driver) w.held-is ∙ w.collect.ensures.disk) so
       | in-Resend w ↦ aside Resend c.in-Ok.answer n w.in-Resend.is refl (ap (λ (h : Run g.row.D.Denot). disk_held h.driver) w.held-is ∙ w.resend-answer.ensures.disk) so
       | in-Show w ↦ aside Show c.in-Ok.answer n w.in-Show.is refl (ap (λ (h : Run g.row.D.Denot). disk_held h.driver) w.held-is ∙ w.show.ensures.disk) so

@@ -12,7 +12,7 @@ returns-in_ok-count-in-Ok-clause-answered g c s is follows =
     let given = c.in-Ok.ensures ∙ ap (λ (l : LedgerState g.row.D.Denot). resent (settled_world l.log)) c.ledger.ensures in
     let all = c.in_ok-count-in-Ok.ensures.all ∙ ap (λ l. run.released.items ++ l) given in
     let count = c.in_ok-count-in-Ok.ensures.count ∙ ap length given ∙ resent_count (settled_world run.driver.ledger.log) in
-    subst (λ n. FollowsTo s Resend (Resent n) (record run { released = c.push_releases.new.released })) (sym count) (follows_resent run s is follows c.push_releases.new.released all)
+    rw count (follows_resent run s is follows c.push_releases.new.released all)
 
 pub returns-in_err-count-in-Ok-clause-cut : goal.returns-in_err-count-in-Ok-clause-cut
 returns-in_err-count-in-Ok-clause-cut g c s is follows =

@@ -11,7 +11,7 @@ returns-in-Ok-Accepted-clause-answered g c s is follows =
     let pushed = c.push_reserved.ensures.items ∙ ap (λ l. l ++ Some t ∷ []) c.reserve.ensures.items in
     let handed = subst (λ r. HandedTo run.driver.ledger c.args.step r c.submit.new.self.ledger) given c.submit.ensures.handed in
     let simulates = subst (λ r. Simulates run.driver (Submit c.args.step) (answer_to r) c.submit.new.self) given c.submit.ensures.simulates in
-    subst (λ n. FollowsTo s (Submit c.args.step) (Accepted n) (record run { driver = c.submit.new.self; tickets = c.push_reserved.new.self })) (sym c.step-number.ensures)
+    rw c.step-number.ensures
     (follows_accepted run s is follows c.submit.new.self c.args.step t c.push_reserved.new.self pushed handed simulates)
 
 pub returns-in-Ok-Repeated-clause-answered : goal.returns-in-Ok-Repeated-clause-answered
@@ -22,7 +22,7 @@ returns-in-Ok-Repeated-clause-answered g c s is follows =
     let pushed = c.push_reserved-in-Ok-Repeated.ensures.items ∙ ap (λ l. l ++ Some t ∷ []) c.reserve.ensures.items in
     let handed = subst (λ r. HandedTo run.driver.ledger c.args.step r c.submit.new.self.ledger) given c.submit.ensures.handed in
     let simulates = subst (λ r. Simulates run.driver (Submit c.args.step) (answer_to r) c.submit.new.self) given c.submit.ensures.simulates in
-    subst (λ n. FollowsTo s (Submit c.args.step) (Repeated n) (record run { driver = c.submit.new.self; tickets = c.push_reserved-in-Ok-Repeated.new.self })) (sym c.step-number-in-Ok-Repeated.ensures)
+    rw c.step-number-in-Ok-Repeated.ensures
     (follows_repeated run s is follows c.submit.new.self c.args.step t c.push_reserved-in-Ok-Repeated.new.self pushed handed simulates)
 
 pub returns-in-Err-clause-answered : goal.returns-in-Err-clause-answered

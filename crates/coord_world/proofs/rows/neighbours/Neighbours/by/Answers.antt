@@ -1,10 +1,9 @@
-use Rattle.std.proofs.Common.{◌≡◌, ◌+◌, ◌-◌, ◌<◌, ◌≤◌, ◌∷◌, length, drop, sym, ap, ◌∙◌, subst, arith}
+use Rattle.std.proofs.Common.{◌≡◌, ◌+◌, ◌-◌, ◌<◌, ◌≤◌, ◌∷◌, length, drop, sym, ap, ◌∙◌, arith}
 use Rattle.std.proofs.lemmas.List.{drop_all, drop_more, get_or-replicate, length-replicate, length-set}
 use Rattle.coord_types.specs.NodeSet.{NodeSet, empty}
 use Rattle.coord_world.specs.code.Assembly.{near_in, near_with}
 use Rattle.coord_tables.specs.declared.links.LinkRow.{LinkRow}
 use Rattle.coord_world.proofs.listings.NearSets.{both_noted, noted}
-use Rattle.coord_world.proofs.rows.neighbours.Neighbours.by.Invariants.{AreMet}
 use Rattle.coord_world.proofs.rows.neighbours.Neighbours.by.Goals as goal
 
 pub loop-link-init : goal.loop-link-init
@@ -22,7 +21,7 @@ loop-link-preserved c =
     let within : n < length links = c.loop-link-test.true in
     let rest : drop n links ≡ r ∷ drop (n + 1) links = drop_more links n r within ∙ ap (λ x. x ∷ drop (n + 1) links) (sym c.link-item.is) in
     let two = c.note-in-loop-link.ensures.set ∙ ap (λ s. noted s r.b r.a) c.note.ensures.set in
-    subst (λ s. AreMet s (drop (n + 1) links) links) (sym two) (record {
+    rw two (record {
       long = length-set (noted sets r.a r.b) (r.b - 1) _ ∙ length-set sets (r.a - 1) _ ∙ c.loop-link.invariant.long;
       near = λ u node. ap (λ s. near_with u s (drop (n + 1) links)) (both_noted sets r c.loop-link.invariant.long c.note.ensures.node c.note-in-loop-link.ensures.node u node)
           ∙ ap (near_with u (near_in sets u)) (sym rest) ∙ c.loop-link.invariant.near u node;
