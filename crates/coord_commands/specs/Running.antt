@@ -13,7 +13,7 @@ use Rattle.coord_commands.specs.Folders.{reads}
 use Rattle.coord_commands.specs.Inspection.{Checks, Shows}
 use Rattle.coord_commands.specs.Making.{IsCreatedLine, IsOfMaking}
 use Rattle.coord_commands.specs.Migrating.{IsMigratedLine, IsOfMigrating}
-use Rattle.coord_commands.specs.Serving.{Serves}
+use Rattle.coord_commands.specs.Serving.{IsOfServing, Serves}
 use Rattle.coord_commands.specs.Words.{Asked, check, drill, init, migrate, resetd, serve, show, task_of}
 use Rattle.coord_commands.specs.declared.fault.Fault.{Fault}
 use Rattle.coord_commands.specs.declared.fault.Fault.TheVariants.{Usage, OutOfMemory}
@@ -58,7 +58,7 @@ Does (init file topology) status old new =
 Does (check file) status old new = Checks (reads (old.holds file)) status old.streams new.streams
 Does (show file) status old new = Shows (reads (old.holds file)) status old.streams new.streams
 Does (migrate file) status old new = Ends (IsOfMigrating (old.holds file) (new.holds file)) (IsMigratedLine (old.holds file) (new.holds file)) status old.streams new.streams
-Does (serve file address) status old new = Serves address (reads (old.holds file)) (reads (new.holds file)) status old.streams.errors new.streams.errors
+Does (serve file address) status old new = Serves (IsOfServing (reads (old.holds file))) address (reads (old.holds file)) (reads (new.holds file)) status old.streams.errors new.streams.errors
 
 -- the words are refused, or there is no memory to read them
 abbrev pub IsOfWords : List Text → Fault → Type 0
