@@ -7,9 +7,8 @@ use Rattle.std.specs.Io.KnownBytes.{Appends, Keeps}
 use Rattle.coord_drill.specs.Drilled.{WritesFirstPart}
 use Rattle.coord_commands.specs.Ending.{Ends, IsCutShort, IsOfWriting, PrintsOne, Streams}
 use Rattle.coord_commands.specs.Faults.{fault_line, status_of}
-use Rattle.coord_commands.specs.Serving.{IsAddress, IsOfServing, IsOfServingAt, IsServedToEnd, Serves}
+use Rattle.coord_commands.specs.Serving.{IsAddress, IsOfServingAt, IsServedToEnd, Serves}
 use Rattle.coord_commands.specs.declared.fault.Fault.{Fault}
-use Rattle.coord_commands.specs.declared.fault.Fault.TheVariants.{Usage, Read, Write, Socket, TooManyReads, OutOfMemory, Topology, Store, Refused, NotClosed}
 
 -- what ended is reported
 pub reported : {A : Type 0} (Q : Fault → Type 0) (P : List ℕ → Type 0) (ended : Result A Fault) (status : ℕ) (old new : Streams) → status ≡ status_of ended
@@ -33,27 +32,23 @@ pub of_writing : {A : Type 0} (Q : Fault → Type 0) (result : Result A Fault) �
 of_writing Q (Ok x) among of = tt
 of_writing Q (Err fault) among of = among fault of
 
--- the faults at an address are among those of `serve`
-at_address : (word : List ℕ) (bytes : Option (List ℕ)) (fault : Fault) → IsAddress word → IsOfServing bytes fault → IsOfServingAt word bytes fault
-at_address word bytes Usage proper of = absurd of
-at_address word bytes Read proper of = (proper, of)
-at_address word bytes Write proper of = (proper, of)
-at_address word bytes Socket proper of = (proper, of)
-at_address word bytes TooManyReads proper of = (proper, of)
-at_address word bytes OutOfMemory proper of = (proper, of)
-at_address word bytes (Topology reason) proper of = (proper, of)
-at_address word bytes (Store fault) proper of = (proper, of)
-at_address word bytes (Refused refusal) proper of = (proper, of)
-at_address word bytes (NotClosed fault) proper of = (proper, of)
-
 -- what was served, or was not
-pub served : {A D : Type 0} (keeps_model : D → Bool) (present : D → Present) (word : List ℕ) (bytes after : Option (List ℕ)) (ended : Result A Fault) (status : ℕ) (old new : Option (List ℕ)) → IsAddress word → status ≡ status_of ended
+pub served : {A D : Type 0} (of : Fault → Type 0) (keeps_model : D → Bool) (present : D → Present) (word : List ℕ) (bytes after : Option (List ℕ)) (ended : Result A Fault) (status : ℕ) (old new : Option (List ℕ)) → IsAddress word → status ≡ status_of ended
     → MatchResult ended (λ _. Keeps old new) (λ fault. WritesFirstPart old new (fault_line fault))
-    → OnOk ended (IsServedToEnd keeps_model present bytes after) → IfErr ended (IsOfServing bytes) → Serves word bytes after status old new
-served keeps_model present word bytes after (Ok x) status old new proper is told closed of =
+    → OnOk ended (IsServedToEnd keeps_model present bytes after) → IfErr ended of → Serves of word bytes after status old new
+served of keeps_model present word bytes after (Ok x) status old new proper is told closed possible =
     let gives = gave keeps_model present bytes after closed in
     inl (record { number = is; address = proper; opened = gives.0; closed = gives.1; silent = told })
-served keeps_model present word bytes after (Err fault) status old new proper is told closed of = inr (record { fault = fault; possible = at_address word bytes fault proper of; number = is; told = told })
+served of keeps_model present word bytes after (Err fault) status old new proper is told closed possible = inr (record { fault = fault; possible = inr (proper, possible); number = is; told = told })
+
+serving_weaker : (P Q : Fault → Type 0) (word : List ℕ) (fault : Fault) → (P fault → Q fault) → IsOfServingAt P word fault → IsOfServingAt Q word fault
+serving_weaker P Q word fault so (inl none) = inl none
+serving_weaker P Q word fault so (inr is) = inr (is.0, so is.1)
+
+-- what is said of its faults, or less
+pub serves_weaker : (P Q : Fault → Type 0) (word : List ℕ) (bytes after : Option (List ℕ)) (status : ℕ) (old new : Option (List ℕ)) → ((fault : Fault) → P fault → Q fault) → Serves P word bytes after status old new → Serves Q word bytes after status old new
+serves_weaker P Q word bytes after status old new so (inl is) = inl is
+serves_weaker P Q word bytes after status old new so (inr is) = inr (record { fault = is.fault; possible = serving_weaker P Q word is.fault (so is.fault) is.possible; number = is.number; told = is.told })
 
 -- what holds where it has ended well
 pub is_done : {A : Type 0} (P : Type 0) (ended : Result A Fault) → IsOk ended → OnOk ended P → P

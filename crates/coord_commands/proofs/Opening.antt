@@ -1,15 +1,24 @@
 -- What is known of the bytes of a disk.
-use Rattle.std.proofs.Common.{◌≡◌, ℕ, Bool, true, false, List, Option, Some, None, IfSome, refl, subst, if◌then◌else◌}
-use Rattle.coord_disk.specs.Model.Present.{Present}
+use Rattle.std.proofs.Common.{◌≡◌, ◌≢◌, ◌⊎◌, ℕ, ◌+◌, Bool, true, false, List, Option, Some, None, IfSome, inl, inr, refl, sym, ap, ◌∙◌, subst, arith, if◌then◌else◌}
+use Rattle.coord_disk.specs.Model.DiskModel.{DiskModel}
+use Rattle.coord_disk.specs.Model.Present.{Present, whole}
 use Rattle.coord_engine.specs.declared.closed.Closed.{Closed}
-use Rattle.coord_server.specs.Lives.{HasLivedToClose}
-use Rattle.coord_store.specs.Facade.{Recovered}
+use Rattle.coord_server.specs.Lives.{EndsWith, HasLivedToClose}
+use Rattle.coord_store.specs.Facade.{Kept, Recovered}
+use Rattle.coord_store.specs.Refused.{failed_in}
+use Rattle.coord_store.specs.declared.faults.StoreFault.{StoreFault}
+use Rattle.coord_store.specs.declared.faults.StoreFault.TheVariants.{Device}
 use Rattle.coord_world.specs.protocol.NumberedWorld.{World}
 use Rattle.coord_commands.specs.Folders.{bytes_of, known_of, reads}
 use Rattle.coord_server.specs.declared.fault.ServerFault.{ServerFault}
 use Rattle.coord_server.specs.declared.fault.ServerFault.TheVariants as of_server
 use Rattle.coord_commands.specs.Faults.{fault_of_server}
-use Rattle.coord_commands.specs.Serving.{GivesWorld, IsOfServing, IsServedToEnd}
+use Rattle.coord_commands.specs.Inspection.{IsOfOpening}
+use Rattle.coord_commands.specs.Migrating.{ReadsAsBefore}
+use Rattle.coord_commands.specs.Serving.{EndsServing, GivesWorld, IsNotOpened, IsOfServing, IsOpened, IsPutBack, IsServedToEnd}
+use Rattle.coord_commands.specs.declared.fault.Fault.{Fault}
+use Rattle.coord_commands.specs.declared.fault.Fault.TheVariants.{Socket, Store}
+use Rattle.coord_commands.proofs.Raising.{closed, if_both, unread}
 
 -- what holds of the bytes of a disk that keeps the model, holds of them where they are known
 pub if_keeps : (keeps : Bool) (known : Present) (P : List ℕ → Type 0) → (keeps ≡ true → P known.read) → IfSome (reads (if keeps then Some known else None)) P
@@ -17,21 +26,14 @@ if_keeps true known P holds = holds refl
 if_keeps false known P holds = tt
 
 module _ {D : Type 0} (keeps_model : D → Bool) (present : D → Present) where
-  put_back : (after : Option Present) (disk : D) (w : World) → IfSome (bytes_of keeps_model present disk) (λ known. Recovered known w) → IfSome after (λ known. known_of keeps_model present disk ≡ Some known) → IfSome (reads after) (λ known. Recovered known w)
-  put_back None disk w gives is = tt
-  put_back (Some known) disk w gives is = subst (λ k. IfSome (reads k) (λ bytes. Recovered bytes w)) is gives
+  back_gives : (after : Option Present) (disk : D) (w : World) → IfSome (bytes_of keeps_model present disk) (λ known. Recovered known w) → IfSome after (λ known. known_of keeps_model present disk ≡ Some known) → IfSome (reads after) (λ known. Recovered known w)
+  back_gives None disk w gives is = tt
+  back_gives (Some known) disk w gives is = subst (λ k. IfSome (reads k) (λ bytes. Recovered bytes w)) is gives
 
-  -- a disk was taken and opened, its store was served to a close, and what that left is put back
-  pub served_to_end : (before after : Option Present) (taken left : D) (began : World) (closed : Closed D) → known_of keeps_model present taken ≡ before
-      → IfSome (bytes_of keeps_model present taken) (λ known. Recovered known began) → HasLivedToClose keeps_model present began closed
+  -- a store with this world was opened, it was served to a close, and what that left is put back
+  pub served_to_end : (before after : Option Present) (left : D) (began : World) (closed : Closed D) → IfSome (reads before) (λ known. Recovered known began) → HasLivedToClose keeps_model present began closed
       → IfSome (bytes_of keeps_model present left) (λ known. Recovered known closed.store.world) → IfSome after (λ known. known_of keeps_model present left ≡ Some known) → IsServedToEnd keeps_model present (reads before) (reads after)
-  served_to_end before after taken left began closed is opened lived gives back = record {
-    began = began;
-    left = closed;
-    opened = subst (λ k. IfSome (reads k) (λ known. Recovered known began)) is opened;
-    lived = lived;
-    closed = put_back after left closed.store.world gives back;
-  }
+  served_to_end before after left began closed opened lived gives back = record { began = began; left = closed; opened = opened; lived = lived; closed = back_gives after left closed.store.world gives back }
 
 -- known bytes give a world
 pub gives_some : (o : Option (List ℕ)) (w : World) → IfSome o (λ known. Recovered known w) → GivesWorld o
@@ -42,14 +44,71 @@ gives_some (Some known) w is = (w, is)
 pub gave : {D : Type 0} (keeps_model : D → Bool) (present : D → Present) (bytes after : Option (List ℕ)) → IsServedToEnd keeps_model present bytes after → GivesWorld bytes × GivesWorld after
 gave keeps_model present bytes after is = (gives_some bytes is.began is.opened, gives_some after is.left.store.world is.closed)
 
--- of a disk that was taken and opened
-pub gives_taken : {D : Type 0} (keeps_model : D → Bool) (present : D → Present) (before : Option Present) (taken : D) (w : World) → known_of keeps_model present taken ≡ before → IfSome (bytes_of keeps_model present taken) (λ known. Recovered known w) → GivesWorld (reads before)
-gives_taken keeps_model present before taken w is opened = gives_some (reads before) w (subst (λ k. IfSome (reads k) (λ known. Recovered known w)) is opened)
-
 -- the faults of serving, where the disk gave a world
 pub of_serving : (bytes : Option (List ℕ)) (fault : ServerFault) → GivesWorld bytes → IsOfServing bytes (fault_of_server fault)
-of_serving bytes of_server.OutOfMemory gives = tt
+of_serving bytes of_server.OutOfMemory gives = gives
 of_serving bytes of_server.Socket gives = gives
-of_serving bytes of_server.Device gives = tt
+of_serving bytes of_server.Device gives = inl refl
 of_serving bytes of_server.Write gives = gives
 of_serving bytes (of_server.NotClosed fault) gives = gives
+
+module _ {D : Type 0} (model : DiskModel D) where
+  -- a disk was taken and put back
+  pub put_back : (failed : ℕ) (before after : Option Present) (taken back : D) → known_of model.keeps_model model.present taken ≡ before → IfSome after (λ known. known_of model.keeps_model model.present back ≡ Some known)
+      → model.failures back ≡ model.failures taken + failed → (failed ≡ 0 → model.keeps_model taken ≡ true → (model.present back).read ≡ (model.present taken).read) → IsPutBack model failed before after
+  put_back failed before after taken back was is failures same = record {
+    taken = taken;
+    back = back;
+    was = was;
+    is = is;
+    failures = failures;
+    reads = λ never.
+        let reads : ReadsAsBefore (known_of model.keeps_model model.present taken) (known_of model.keeps_model model.present back) =
+        if_both (model.keeps_model taken) (model.keeps_model back) (model.present taken) (model.present back) (λ (old new : Present). new.read ≡ old.read) (λ keeps _. same never keeps) in
+        closed (λ o. ReadsAsBefore before o) (known_of model.keeps_model model.present back) after (λ _. unread before) is (subst (λ (o : Option Present). ReadsAsBefore o (known_of model.keeps_model model.present back)) was reads);
+  }
+
+  -- the device of a disk that is refused otherwise has not failed
+  no_device : (fault : StoreFault) → failed_in fault ≡ 0 → fault ≡ Device → ⊥
+  no_device fault never is =
+      let one : failed_in Device ≡ 0 = ap failed_in (sym is) ∙ never in
+      absurd (omega (arith, one))
+
+  pub refused : (before after : Option Present) (taken back : D) (fault : StoreFault) → known_of model.keeps_model model.present taken ≡ before → IfSome after (λ known. known_of model.keeps_model model.present back ≡ Some known)
+      → model.failures back ≡ model.failures taken + failed_in fault → (model.keeps_model taken ≡ true → fault ≢ Device → model.present back ≡ whole (model.present taken).read)
+      → IsOfOpening (bytes_of model.keeps_model model.present taken) (Store fault) → IsNotOpened model before after (Store fault)
+  refused before after taken back fault was is failures unchanged of = record {
+    fault = fault;
+    named = refl;
+    why = inr (subst (λ (o : Option Present). IsOfOpening (reads o) (Store fault)) was of, put_back (failed_in fault) before after taken back was is failures (λ never keeps. ap (λ (p : Present). p.read) (unchanged keeps (no_device fault never))));
+  }
+
+  pub opened : (before : Option Present) (taken : D) (store : Kept D) → known_of model.keeps_model model.present taken ≡ before → (model.keeps_model taken ≡ true → Recovered (model.present taken).read store.world)
+      → model.failures store.disk ≡ model.failures taken + 0 → (model.keeps_model taken ≡ true → model.present store.disk ≡ whole (model.present taken).read) → IsOpened model before store
+  opened before taken store was world failures same = record {
+    taken = taken;
+    was = was;
+    world = subst (λ k. IfSome (reads k) (λ known. Recovered known store.world)) was (if_keeps (model.keeps_model taken) (model.present taken) (λ (known : List ℕ). Recovered known store.world) world);
+    failures = omega (arith, failures);
+    same = λ keeps. ap (λ (p : Present). p.read) (same keeps);
+  }
+
+  -- it was opened, and put back
+  pub not_bound : (before after : Option Present) (store : Kept D) (back : D) → IsOpened model before store → back ≡ store.disk → IfSome after (λ known. known_of model.keeps_model model.present back ≡ Some known) → EndsServing model before after Socket
+  not_bound before after store back is same put =
+      let failures : model.failures back ≡ model.failures is.taken + 0 = omega (arith, ap model.failures same, is.failures) in
+      inr (inl (refl, gives_some (reads before) store.world is.world, put_back 0 before after is.taken back is.was put failures (λ _ keeps. ap (λ d. (model.present d).read) same ∙ is.same keeps)))
+
+  -- a server over it has ended
+  pub ended : (before after : Option Present) (store : Kept D) (fault : ServerFault) → IsOpened model before store → EndsWith model.keeps_model model.present store.world fault → EndsServing model before after (fault_of_server fault)
+  ended before after store fault is ends = inr (inr (record { began = store.world; opened = is.world; fault = fault; ends = ends; named = refl }))
+
+  of_unopened : (before after : Option Present) (fault : StoreFault) → ((fault ≡ Device) × (after ≡ before)) ⊎ (IsOfOpening (reads before) (Store fault) × IsPutBack model (failed_in fault) before after) → IsOfServing (reads before) (Store fault)
+  of_unopened before after fault (inl none) = inl none.0
+  of_unopened before after fault (inr refuses) = refuses.0
+
+  -- as far as the bytes tell
+  pub of_ending : (before after : Option Present) (told : Fault) → EndsServing model before after told → IsOfServing (reads before) told
+  of_ending before after told (inl is) = subst (IsOfServing (reads before)) (sym is.named) (of_unopened before after is.fault is.why)
+  of_ending before after told (inr (inl is)) = subst (IsOfServing (reads before)) (sym is.0) is.1
+  of_ending before after told (inr (inr is)) = subst (IsOfServing (reads before)) (sym is.named) (of_serving (reads before) is.fault (gives_some (reads before) is.began is.opened))

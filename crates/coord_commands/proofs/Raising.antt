@@ -2,7 +2,8 @@
 use Rattle.std.proofs.Common.{◌≡◌, ◌≢◌, ℕ, Bool, true, false, List, Option, Some, None, IfSome, is_some, Result, Ok, Err, inl, inr, refl, sym, subst, if◌then◌else◌, ◌∙◌, OnOk, IfOk, IfErr, IsErrOf, MatchResult}
 use Rattle.coord_disk.specs.Model.DiskModel.{DiskModel}
 use Rattle.coord_disk.specs.Model.Present.{Present}
-use Rattle.coord_store.specs.Facade.{GivesEither, GivesKept, Kept, Recovered, has_stopped, risen}
+use Rattle.coord_store.specs.Facade.{GivesEither, GivesKept, IsOpenFault, Kept, Recovered, RefusesOpen, has_stopped, risen}
+use Rattle.coord_store.specs.declared.faults.StoreFault.{StoreFault}
 use Rattle.coord_store.specs.declared.faults.StoreFault.TheVariants as of_store
 use Rattle.coord_world.specs.protocol.NumberedWorld.{World}
 use Rattle.coord_commands.specs.Ending.{IsOfWriting}
@@ -23,9 +24,24 @@ if_both true true disk disk' P holds = holds refl refl
 if_both true false disk disk' P holds = tt
 if_both false keeps' disk disk' P holds = tt
 
-any : (known : Option Present) → IfSome known (λ _. Unit {0})
-any None = tt
-any (Some disk) = tt
+no_memory : (known : Option Present) → IfSome known (λ old. RefusesOpen old.read of_store.OutOfMemory)
+no_memory None = tt
+no_memory (Some disk) = inl (inl refl)
+
+-- a store that is not opened is not raised
+pub not_opened : (before after : Option Present) (fault : StoreFault) → IsOpenFault fault → IfSome before (λ old. RefusesOpen old.read fault) → (fault ≢ of_store.Device → ReadsAsBefore before after) → GivesEitherVersion before after → IsOfRaising before after (Store fault)
+not_opened before after of_store.OutOfMemory named refuses same either = (named, refuses, same (λ e. cc))
+not_opened before after of_store.Device named refuses same either = either
+not_opened before after of_store.NotEmpty named refuses same either = absurd named
+not_opened before after of_store.HalfSize named refuses same either = absurd named
+not_opened before after of_store.NoMagic named refuses same either = (named, refuses, same (λ e. cc))
+not_opened before after of_store.BadRecord named refuses same either = (named, refuses, same (λ e. cc))
+not_opened before after of_store.BadSnapshot named refuses same either = (named, refuses, same (λ e. cc))
+not_opened before after of_store.BadBatch named refuses same either = (named, refuses, same (λ e. cc))
+not_opened before after (of_store.BadStep batch index) named refuses same either = (named, refuses, same (λ e. cc))
+not_opened before after (of_store.Violated violation) named refuses same either = (named, refuses, same (λ e. cc))
+not_opened before after (of_store.NotQuiet node) named refuses same either = absurd named
+not_opened before after of_store.Stopped named refuses same either = absurd named
 
 -- the line of a store that was raised
 pub line_of : {A : Type 0} (text : A → List ℕ) (ended : Result A Fault) (before after : Option Present) (w v : World) (torn : Option World) → IfOk ended (λ line. text line ≡ migrated_line w.count)
@@ -50,7 +66,7 @@ module _ {A : Type 0} {Same Torn : Type 0} (ended : Result A Fault) (before afte
   of_raising TooManyReads is refuses left = absurd refuses
   of_raising OutOfMemory is refuses left = reads (left (λ e. cc))
   of_raising (Topology fault) is refuses left = absurd refuses
-  of_raising (Store of_store.OutOfMemory) is refuses left = (tt, any before, reads (left (λ e. cc)))
+  of_raising (Store of_store.OutOfMemory) is refuses left = (tt, no_memory before, reads (left (λ e. cc)))
   of_raising (Store of_store.Device) is refuses left = either (torn is)
   of_raising (Store of_store.NotEmpty) is refuses left = absurd refuses
   of_raising (Store of_store.HalfSize) is refuses left = absurd refuses
@@ -81,11 +97,11 @@ pub going_on : {D : Type 0} (kept : Kept D) → kept.torn ≡ None → has_stopp
 going_on kept going is = none_is_not kept.torn going is
 
 -- a disk is put back: where what it holds then is known, it is what the disk held
-closed : (Q : Option Present → Type 0) (known after : Option Present) → (Q known → Q None) → IfSome after (λ disk. known ≡ Some disk) → Q known → Q after
+pub closed : (Q : Option Present → Type 0) (known after : Option Present) → (Q known → Q None) → IfSome after (λ disk. known ≡ Some disk) → Q known → Q after
 closed Q known None less is held = less held
 closed Q known (Some disk) less is held = subst Q is held
 
-unread : (before : Option Present) → ReadsAsBefore before None
+pub unread : (before : Option Present) → ReadsAsBefore before None
 unread None = tt
 unread (Some disk) = tt
 

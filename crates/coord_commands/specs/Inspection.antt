@@ -36,8 +36,7 @@ pub record IsShown (bytes : Option (List ℕ)) (lines : List ℕ) : Type 0 where
 abbrev pub IsOfOpening : Option (List ℕ) → Fault → Type 0
 IsOfOpening bytes Write = Unit {0}
 IsOfOpening bytes OutOfMemory = Unit {0}
-IsOfOpening bytes (Store Device) = Unit {0}
-IsOfOpening bytes (Store fault) = IsOpenFault fault × IfSome bytes (λ known. RefusesOpen known fault)
+IsOfOpening bytes (Store fault) = (fault ≡ Device) ⊎ (IsOpenFault fault × IfSome bytes (λ known. RefusesOpen known fault))
 IsOfOpening bytes fault = ⊥
 
 -- the status 1 and the line of a violation

@@ -4,6 +4,7 @@ use Rattle.std.specs.Io.KnownBytes.{Appends, Consumes, IsAtEnd, Keeps}
 use Rattle.clap.specs.Words.{Text, takes}
 use Rattle.coord_disk.specs.Model.Present.{Present}
 use Rattle.coord_drill.specs.Drilled.{IsDrilled, WritesFirstPart}
+use Rattle.coord_drill.specs.InMemory.{DrillsInMemory, FailsInMemory}
 use Rattle.coord_drill.specs.declared.console.TheConstants.{MOST_READS}
 use Rattle.coord_drill.specs.declared.fault.Fault.{Fault as DrillFault}
 use Rattle.coord_drill.specs.declared.fault.Fault.TheVariants.{TooManyReads}
@@ -13,7 +14,7 @@ use Rattle.coord_commands.specs.Folders.{reads}
 use Rattle.coord_commands.specs.Inspection.{Checks, Shows}
 use Rattle.coord_commands.specs.Making.{IsCreatedLine, IsOfMaking}
 use Rattle.coord_commands.specs.Migrating.{IsMigratedLine, IsOfMigrating}
-use Rattle.coord_commands.specs.Serving.{Serves}
+use Rattle.coord_commands.specs.Serving.{IsOfServing, Serves}
 use Rattle.coord_commands.specs.Words.{Asked, check, drill, init, migrate, resetd, serve, show, task_of}
 use Rattle.coord_commands.specs.declared.fault.Fault.{Fault}
 use Rattle.coord_commands.specs.declared.fault.Fault.TheVariants.{Usage, OutOfMemory}
@@ -25,14 +26,16 @@ pub record Around : Type 0 where
   pub holds : List ℕ → Option Present
   pub says : List ℕ → Option (List ℕ)
 
--- the drill has printed what may be printed to all of its input
+-- the drill has printed what may be printed to all of its input, and was one over a disk in memory
 pub record HasDrilled (input left : Option (List ℕ)) (status : ℕ) (old new : Streams) : Type 0 where
   pub number : status ≡ 0
   pub printed : IfSome input (λ known. (text : List ℕ) × IsDrilled known text × Appends old.output new.output text)
+  pub drilled : DrillsInMemory input left old.output new.output
   pub end : IsAtEnd left
   pub silent : Keeps old.errors new.errors
 
--- it has failed, and printed a first part of what may be printed to the input that was read
+-- It has failed, and printed a first part of what may be printed to the input that was read. By `broke` a drill over a disk
+-- in memory stops so for this fault, where what was read and written ends.
 pub record FailsToDrill (input left : Option (List ℕ)) (status : ℕ) (old new : Streams) : Type 0 where
   pub fault : DrillFault
   pub number : status ≡ fault_status (fault_of_drill fault)
@@ -40,6 +43,7 @@ pub record FailsToDrill (input left : Option (List ℕ)) (status : ℕ) (old new
   pub seen : List ℕ
   pub read : Consumes input left seen
   pub printed : (text : List ℕ) × IsDrilled seen text × WritesFirstPart old.output new.output text
+  pub broke : FailsInMemory input left old.output new.output fault
   pub reads : fault ≡ TooManyReads → MOST_READS ≤ length seen
 
 -- the drill, by its input and what of it is left
@@ -58,7 +62,7 @@ Does (init file topology) status old new =
 Does (check file) status old new = Checks (reads (old.holds file)) status old.streams new.streams
 Does (show file) status old new = Shows (reads (old.holds file)) status old.streams new.streams
 Does (migrate file) status old new = Ends (IsOfMigrating (old.holds file) (new.holds file)) (IsMigratedLine (old.holds file) (new.holds file)) status old.streams new.streams
-Does (serve file address) status old new = Serves address (reads (old.holds file)) (reads (new.holds file)) status old.streams.errors new.streams.errors
+Does (serve file address) status old new = Serves (IsOfServing (reads (old.holds file))) address (reads (old.holds file)) (reads (new.holds file)) status old.streams.errors new.streams.errors
 
 -- the words are refused, or there is no memory to read them
 abbrev pub IsOfWords : List Text → Fault → Type 0

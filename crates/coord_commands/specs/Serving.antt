@@ -1,16 +1,23 @@
--- How `serve` ends, where this is the word of its address, and these are the bytes of the disk before and after it.
-use Rattle.std.specs.Prelude.{◌≡◌, ◌⊎◌, ℕ, Bool, List, Option, IfSome}
+-- How `serve` ends, where this is the word of its address, and this is what is known of the disk before and after it.
+use Rattle.std.specs.Prelude.{◌≡◌, ◌⊎◌, ℕ, ◌+◌, Bool, true, List, Option, Some, IfSome}
 use Rattle.std.specs.Io.KnownBytes.{Keeps}
 use Rattle.std.specs.Net.Grammar.{IsSocketV4Text}
 use Rattle.std.specs.declared.net.socket_addr.SocketAddrV4.{SocketAddrV4}
+use Rattle.coord_disk.specs.Model.DiskModel.{DiskModel}
 use Rattle.coord_disk.specs.Model.Present.{Present}
 use Rattle.coord_drill.specs.Drilled.{WritesFirstPart}
 use Rattle.coord_engine.specs.declared.closed.Closed.{Closed}
-use Rattle.coord_server.specs.Lives.{HasLivedToClose}
-use Rattle.coord_store.specs.Recovered.{Recovered}
+use Rattle.coord_server.specs.Lives.{EndsWith, HasLivedToClose}
+use Rattle.coord_server.specs.declared.fault.ServerFault.{ServerFault}
+use Rattle.coord_store.specs.Facade.{Kept, Recovered}
+use Rattle.coord_store.specs.Refused.{failed_in}
+use Rattle.coord_store.specs.declared.faults.StoreFault.{StoreFault}
+use Rattle.coord_store.specs.declared.faults.StoreFault.TheVariants.{Device}
 use Rattle.coord_world.specs.protocol.NumberedWorld.{World}
-use Rattle.coord_commands.specs.Faults.{fault_line, fault_status}
+use Rattle.coord_commands.specs.Faults.{fault_line, fault_of_server, fault_status}
+use Rattle.coord_commands.specs.Folders.{known_of, reads}
 use Rattle.coord_commands.specs.Inspection.{IsOfOpening}
+use Rattle.coord_commands.specs.Migrating.{ReadsAsBefore}
 use Rattle.coord_commands.specs.declared.fault.Fault.{Fault}
 use Rattle.coord_commands.specs.declared.fault.Fault.TheVariants.{Usage, Socket, Write, OutOfMemory, Store, NotClosed}
 
@@ -22,19 +29,55 @@ GivesWorld bytes = IfSome bytes (λ known. (w : World) × Recovered known w)
 abbrev pub IsAddress : List ℕ → Type 0
 IsAddress word = (address : SocketAddrV4) × IsSocketV4Text word address
 
--- The faults of `serve` at an address. The disk is judged, and then the socket is bound: the store is open where a fault of the socket or of serving is told.
+-- The faults of `serve` at an address, as far as the bytes of the disk tell. The disk is judged, and then the socket is bound: the store is open where a fault of the socket or of serving is told.
 abbrev pub IsOfServing : Option (List ℕ) → Fault → Type 0
-IsOfServing bytes OutOfMemory = Unit {0}
+IsOfServing bytes OutOfMemory = GivesWorld bytes
 IsOfServing bytes (Store fault) = IsOfOpening bytes (Store fault)
 IsOfServing bytes Socket = GivesWorld bytes
 IsOfServing bytes Write = GivesWorld bytes
 IsOfServing bytes (NotClosed fault) = GivesWorld bytes
 IsOfServing bytes fault = ⊥
 
--- the faults of `serve`: the word is judged first, and is told as no address just where it is none
-abbrev pub IsOfServingAt : List ℕ → Option (List ℕ) → Fault → Type 0
-IsOfServingAt word bytes Usage = ¬ IsAddress word
-IsOfServingAt word bytes fault = IsAddress word × IsOfServing bytes fault
+-- `model`: what the disks of a folder mean
+module _ {D : Type 0} (model : DiskModel D) where
+  -- the disk of a name was taken and put back. In between its device has failed so often, and if never, the disk reads as before
+  pub record IsPutBack (failed : ℕ) (before after : Option Present) : Type 0 where
+    pub taken : D
+    pub back : D
+    pub was : known_of model.keeps_model model.present taken ≡ before
+    pub is : IfSome after (λ known. known_of model.keeps_model model.present back ≡ Some known)
+    pub failures : model.failures back ≡ model.failures taken + failed
+    pub reads : failed ≡ 0 → ReadsAsBefore before after
+
+  -- no store was opened: the disk was not to be had; or it was taken, refused and put back
+  pub record IsNotOpened (before after : Option Present) (told : Fault) : Type 0 where
+    pub fault : StoreFault
+    pub named : told ≡ Store fault
+    pub why : ((fault ≡ Device) × (after ≡ before)) ⊎ (IsOfOpening (reads before) (Store fault) × IsPutBack (failed_in fault) before after)
+
+  -- a store was opened on the disk of a name, which was taken: it has the world that the bytes give, and reads as before
+  pub record IsOpened (before : Option Present) (store : Kept D) : Type 0 where
+    pub taken : D
+    pub was : known_of model.keeps_model model.present taken ≡ before
+    pub world : IfSome (reads before) (λ known. Recovered known store.world)
+    pub failures : model.failures store.disk ≡ model.failures taken
+    pub same : model.keeps_model taken ≡ true → (model.present store.disk).read ≡ (model.present taken).read
+
+  -- it was opened and put back: no socket could be bound
+  abbrev pub IsNotBound : Option Present → Option Present → Fault → Type 0
+  IsNotBound before after told = (told ≡ Socket) × GivesWorld (reads before) × IsPutBack 0 before after
+
+  -- a server over the world of the disk has ended, and tells this
+  pub record HasEnded (before : Option Present) (told : Fault) : Type 0 where
+    pub began : World
+    pub opened : IfSome (reads before) (λ known. Recovered known began)
+    pub fault : ServerFault
+    pub ends : EndsWith model.keeps_model model.present began fault
+    pub named : told ≡ fault_of_server fault
+
+  -- The faults of `serve` at an address. Where a server has ended with one, its disk is not put back.
+  abbrev pub EndsServing : Option Present → Option Present → Fault → Type 0
+  EndsServing before after told = IsNotOpened before after told ⊎ (IsNotBound before after told ⊎ HasEnded before told)
 
 -- A store on a disk was served until a line closed it: these bytes gave its world, from which there were lives one behind the other, of which a line closed the last, and the bytes that are put back give the world that they left.
 pub record IsServedToEnd {D : Type 0} (keeps_model : D → Bool) (present : D → Present) (bytes after : Option (List ℕ)) : Type 0 where
@@ -52,13 +95,19 @@ pub record IsServed (word : List ℕ) (bytes after : Option (List ℕ)) (status 
   pub closed : GivesWorld after
   pub silent : Keeps old new
 
--- it has ended with a fault
-pub record IsNotServed (word : List ℕ) (bytes : Option (List ℕ)) (status : ℕ) (old new : Option (List ℕ)) : Type 0 where
-  pub fault : Fault
-  pub possible : IsOfServingAt word bytes fault
-  pub number : status ≡ fault_status fault
-  pub told : WritesFirstPart old new (fault_line fault)
+-- `of`: the faults of `serve` at an address
+module _ (of : Fault → Type 0) where
+  -- the word is judged first: it is no address, or it is one
+  abbrev pub IsOfServingAt : List ℕ → Fault → Type 0
+  IsOfServingAt word told = ((told ≡ Usage) × ¬ IsAddress word) ⊎ (IsAddress word × of told)
 
--- with this status, and on standard error
-abbrev pub Serves : List ℕ → Option (List ℕ) → Option (List ℕ) → ℕ → Option (List ℕ) → Option (List ℕ) → Type 0
-Serves word bytes after status old new = IsServed word bytes after status old new ⊎ IsNotServed word bytes status old new
+  -- it has ended with a fault
+  pub record IsNotServed (word : List ℕ) (status : ℕ) (old new : Option (List ℕ)) : Type 0 where
+    pub fault : Fault
+    pub possible : IsOfServingAt word fault
+    pub number : status ≡ fault_status fault
+    pub told : WritesFirstPart old new (fault_line fault)
+
+  -- with this status, and on standard error
+  abbrev pub Serves : List ℕ → Option (List ℕ) → Option (List ℕ) → ℕ → Option (List ℕ) → Option (List ℕ) → Type 0
+  Serves word bytes after status old new = IsServed word bytes after status old new ⊎ IsNotServed word status old new

@@ -5,8 +5,7 @@ ghost use Rattle.std.specs.Io.KnownBytes.{Keeps};
 ghost use Rattle.std.specs.Net.Grammar.{IsSocketV4Text};
 ghost use Rattle.std.specs.declared.net.socket_addr.SocketAddrV4.{SocketAddrV4};
 ghost use Rattle.coord_commands.specs.Folders.{bytes_of, reads};
-ghost use Rattle.coord_commands.specs.Serving.{IsOfServing, IsServedToEnd, Serves};
-ghost use Rattle.coord_commands.specs.declared.fault.Fault.TheVariants.{Socket, Usage};
+ghost use Rattle.coord_commands.specs.Serving.{EndsServing, IsNotOpened, IsOfServing, IsOpened, IsServedToEnd, Serves};
 ghost use Rattle.coord_store.specs.Kept.{has_stopped};
 ghost use Rattle.coord_store.specs.Recovered.{Recovered};
 
@@ -34,7 +33,7 @@ pub fn serve<
     W: Write + Send,
     E: Write,
 >(rt: &S, file: &str, address: &str, output: &mut W, errors: &mut E) -> u8
-    ensures served { Serves address.now None None result (E.contents errors.old)
+    ensures served { Serves (IsOfServing None) address.now None None result (E.contents errors.old)
         (E.contents errors.new) }
     ensures usage { ((a : SocketAddrV4) → ¬ IsSocketV4Text address.now a) → result ≡ 2 }
 {
@@ -44,14 +43,16 @@ pub fn serve<
 
 /// Serves the store on the disk of a name to the connections that come to an address, until one of
 /// them closes it, and answers the exit status. The address is judged before the disk is opened,
-/// and the socket is bound once the store is open. Where it was closed, the disk is put back.
+/// and the socket is bound once the store is open. Where it was closed, the disk is put back; so is
+/// one that is refused, or whose socket can't be bound.
 pub fn serve_in<
     S: Net + Threads + Wait + Clock + Sync + AllocGlobal,
     F: Folder,
     W: Write + Send,
     E: Write,
 >(rt: &S, folder: &mut F, file: &str, address: &str, output: &mut W, errors: &mut E) -> u8
-    ensures served { Serves address.now (reads (F.holds folder.old file.now))
+    ensures served { Serves (EndsServing F.Disk.model (F.holds folder.old file.now)
+        (F.holds folder.new file.now)) address.now (reads (F.holds folder.old file.now))
         (reads (F.holds folder.new file.now)) result (E.contents errors.old)
         (E.contents errors.new) }
     ensures closed { result ≡ 0 → IsServedToEnd F.Disk.model.keeps_model F.Disk.model.present
@@ -75,11 +76,11 @@ fn serve_at<S: Net + Threads + Wait + Clock + Sync + AllocGlobal, F: Folder, W: 
 ) -> Result<(), Fault>
     ensures served { OnOk result (IsServedToEnd F.Disk.model.keeps_model F.Disk.model.present
         (reads (F.holds folder.old file.now)) (reads (F.holds folder.new file.now))) }
-    ensures fault { IfErr result (IsOfServing (reads (F.holds folder.old file.now))) }
+    ensures fault { IfErr result (EndsServing F.Disk.model (F.holds folder.old file.now)
+        (F.holds folder.new file.now)) }
 {
-    let disk = folder.open(file)?;
-    let store = opened(rt.alloc(), disk)?;
-    match bound(rt, address) {
+    let store = opened(rt.alloc(), folder, file)?;
+    match TcpListener::bind(rt, SocketAddr::V4(address)) {
         Ok(listener) => {
             let served = serve_store(rt, rt.alloc(), store, &listener, output);
             drop(listener);
@@ -87,33 +88,27 @@ fn serve_at<S: Net + Threads + Wait + Clock + Sync + AllocGlobal, F: Folder, W: 
             folder.close(file, left(closed));
             Ok(())
         }
-        Err(fault) => {
-            drop(store);
-            Err(fault)
+        Err(_) => {
+            folder.close(file, store.into_disk());
+            Err(Fault::Socket)
         }
     }
 }
 
-/// The store on a disk.
-fn opened<D: Disk>(alloc: Global, disk: D) -> Result<Store<D>, Fault>
-    ensures world { IfOk result (λ store.
-        IfSome (bytes_of D.model.keeps_model D.model.present disk) (λ known. Recovered known store.world)) }
+/// Takes the disk of a name, and opens the store on it. A disk that is refused is put back.
+fn opened<F: Folder>(alloc: Global, folder: &mut F, file: &str) -> Result<Store<F::Disk>, Fault>
+    ensures opened { IfOk result (IsOpened F.Disk.model (F.holds folder.old file.now)) }
     ensures going { IfOk result (λ store. has_stopped store ≡ false) }
-    ensures fault { IfErr result (IsOfServing (bytes_of D.model.keeps_model D.model.present disk)) }
+    ensures fault { IfErr result (IsNotOpened F.Disk.model (F.holds folder.old file.now)
+        (F.holds folder.new file.now)) }
 {
+    let disk = folder.open(file)?;
     match Store::open(alloc, disk) {
         Ok(store) => Ok(store),
-        Err((fault, _disk)) => Err(Fault::Store(fault)),
-    }
-}
-
-/// A listener at an address.
-fn bound<S: Net>(rt: &S, address: SocketAddrV4) -> Result<S::Listener, Fault>
-    ensures { IfErr result (λ fault. fault ≡ Socket) }
-{
-    match TcpListener::bind(rt, SocketAddr::V4(address)) {
-        Ok(listener) => Ok(listener),
-        Err(_) => Err(Fault::Socket),
+        Err((fault, disk)) => {
+            folder.close(file, disk);
+            Err(Fault::Store(fault))
+        }
     }
 }
 

@@ -49,3 +49,13 @@ returns-in_err-print-in-Violated-clause-cut g c =
         c.in_err-print-in-Violated.ensures.err,
       ),
     ))
+
+pub returns-in_ok-print-in-Violated-clause-violated : goal.returns-in_ok-print-in-Violated-clause-violated
+returns-in_ok-print-in-Violated-clause-violated g c = λ _.
+    let violation = c.in-Violated.violation in
+    let text : c.deref-in-Violated.result.now ≡ violated_line violation = search rules in
+    let refused = if_keeps _ _ _ (λ keeps. subst (λ (fault : StoreFault). RefusesOpen (g.D.Disk.model.present c.args.disk).read fault) c.in-Violated.is (c.in-Err.ensures.fault keeps)) in
+    (c.deref-in-Violated.result.now, record { violation = violation; refused = refused; named = text }, c.in_ok-print-in-Violated.ensures.ok)
+
+pub returns-in_default-clause-fault : goal.returns-in_default-clause-fault
+returns-in_default-clause-fault g c = inr (c.in-Err.ensures.named, if_keeps _ _ _ c.in-Err.ensures.fault)

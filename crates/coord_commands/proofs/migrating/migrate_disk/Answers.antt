@@ -2,10 +2,10 @@ use Rattle.std.proofs.Common.{◌≡◌, ◌⊎◌, ⊎_elim, ◌+◌, ◌∙◌
 use Rattle.coord_disk.proofs.MomentLemmas.{and_then, weaker}
 use Rattle.coord_disk.specs.Model.Moments.{LeavesOnly}
 use Rattle.coord_disk.specs.Model.Present.{IsImage, Present}
-use Rattle.coord_store.specs.Facade.{GivesEither, Kept, Recovered, has_stopped, risen}
+use Rattle.coord_store.specs.Facade.{Kept, Recovered, has_stopped, risen}
 use Rattle.coord_world.specs.protocol.NumberedWorld.{World}
 use Rattle.coord_commands.specs.Migrating.{IsEitherVersion, failures_in}
-use Rattle.coord_commands.proofs.Raising.{either_of, fault_of, going_on, if_both, if_present, line_of}
+use Rattle.coord_commands.proofs.Raising.{either_of, fault_of, going_on, if_both, if_present, line_of, not_opened}
 use Rattle.coord_commands.proofs.migrating.migrate_disk.Goals as goal
 
 pub returns-in-Ok-clause-line : goal.returns-in-Ok-clause-line
@@ -68,3 +68,15 @@ returns-in-Err-clause-raises g c = record {
   any_moment = λ keeps. weaker g.D.Disk.model c.args.disk c.in-Err.disk _ _ (c.in-Err.ensures.any_moment keeps) (λ image was. inl was);
   failures = c.in-Err.ensures.runs.failures;
 }
+
+pub returns-in-Err-clause-fault : goal.returns-in-Err-clause-fault
+returns-in-Err-clause-fault g c =
+    let old = c.args.disk in
+    let new = c.in-Err.disk in
+    not_opened _ _ c.in-Err.fault c.in-Err.ensures.named (if_present _ _ _ c.in-Err.ensures.fault)
+    (λ other. if_both (g.D.Disk.model.keeps_model old) (g.D.Disk.model.keeps_model new) (g.D.Disk.model.present old) (g.D.Disk.model.present new) (λ (old new : Present). new.read ≡ old.read)
+    (λ keeps _. ap (λ (p : Present). p.read) (c.in-Err.ensures.unchanged keeps other)))
+    (if_both (g.D.Disk.model.keeps_model old) (g.D.Disk.model.keeps_model new) (g.D.Disk.model.present old) (g.D.Disk.model.present new) (λ (old new : Present). (image : List ℕ) → IsImage new image → IsEitherVersion old image)
+    (λ keeps kept image is.
+    let adds = c.in-Err.ensures.any_moment keeps in
+    inl (adds.each image (g.met.D.Disk.laws.counts_now new (g.D.Disk.model.clock old) image kept adds.later is))))

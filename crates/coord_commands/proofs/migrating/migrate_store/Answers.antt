@@ -1,7 +1,5 @@
 use Rattle.std.proofs.Common.{Result, Ok, Err, IfErr, inl}
 use Rattle.coord_disk.proofs.MomentLemmas.{weaker}
-use Rattle.coord_store.specs.declared.faults.StoreFault.TheVariants.{Device}
-use Rattle.coord_commands.specs.declared.fault.Fault.TheVariants.{Store}
 use Rattle.coord_commands.proofs.migrating.migrate_store.Goals as goal
 
 -- where there is no memory for the line, nothing is done

@@ -6,7 +6,7 @@ use Rattle.coord_commands.specs.declared.fault.Fault.{Fault}
 use Rattle.coord_commands.proofs.running.drill.Goals as goal
 
 pub returns-in-Ok : goal.returns-in-Ok
-returns-in-Ok g c = inl (record { number = refl; printed = c.in-Ok.ensures.printed; end = c.in-Ok.ensures.end; silent = Keeps-refl _ })
+returns-in-Ok g c = inl (record { number = refl; printed = c.in-Ok.ensures.printed; drilled = c.in-Ok.ensures.ended; end = c.in-Ok.ensures.end; silent = Keeps-refl _ })
 
 pub returns-in-Err : goal.returns-in-Err
 returns-in-Err g c =
@@ -19,5 +19,6 @@ returns-in-Err g c =
       seen = failed.0;
       read = failed.1;
       printed = failed.2;
+      broke = c.in-Err.ensures.broke;
       reads = failed.3;
     })

@@ -1,8 +1,28 @@
-use Rattle.std.proofs.Common.{ℕ, List}
-use Rattle.coord_store.specs.Recovered.{Recovered}
-use Rattle.coord_commands.proofs.Opening.{if_keeps}
+use Rattle.std.proofs.Common.{◌≡◌, Err, inl, inr, refl, rules}
+use Rattle.coord_commands.proofs.Endings.{err_last}
+use Rattle.coord_commands.proofs.Opening.{if_keeps, opened, refused}
+use Rattle.coord_commands.specs.Folders.{bytes_of}
+use Rattle.coord_commands.specs.Inspection.{IsOfOpening}
+use Rattle.coord_commands.specs.Serving.{IsNotOpened}
+use Rattle.coord_commands.specs.declared.fault.Fault.TheVariants.{Store}
+use Rattle.coord_store.specs.declared.faults.StoreFault.TheVariants.{Device}
 use Rattle.coord_commands.proofs.serving.opened.Goals as goal
 
-pub returns-in-Ok-clause-world : goal.returns-in-Ok-clause-world
-returns-in-Ok-clause-world g c =
-    if_keeps (g.D.Disk.model.keeps_model c.args.disk) (g.D.Disk.model.present c.args.disk) (λ (known : List ℕ). Recovered known c.in-Ok.store.world) (λ keeps. c.in-Ok.ensures.world keeps)
+-- the disk is not to be had
+pub returns-in_err-disk-clause-fault : goal.returns-in_err-disk-clause-fault
+returns-in_err-disk-clause-fault g c =
+    let before = g.F.Folder.holds c.args.folder.now c.args.file.now in
+    let after = g.F.Folder.holds c.«open».new.self c.args.file.now in
+    let told : c.from_residual.result ≡ Err (Store Device) = search rules in
+    err_last (IsNotOpened g.F.Disk.Disk.model before after) c.from_residual.result (Store Device) told (record { fault = Device; named = refl; why = inl (refl, c.in_err-disk.ensures.refused) })
+
+pub returns-in-Ok-clause-opened : goal.returns-in-Ok-clause-opened
+returns-in-Ok-clause-opened g c =
+    opened g.F.Disk.Disk.model (g.F.Folder.holds c.args.folder.now c.args.file.now) c.in_ok-disk.disk c.in-Ok.store c.in_ok-disk.ensures.taken c.in-Ok.ensures.world c.in-Ok.ensures.runs.failures c.in-Ok.ensures.bytes
+
+pub returns-in-Err-clause-fault : goal.returns-in-Err-clause-fault
+returns-in-Err-clause-fault g c =
+    let taken = c.in_ok-disk.disk in
+    let fault = c.in-Err.fault in
+    let of : IsOfOpening (bytes_of g.F.Disk.Disk.model.keeps_model g.F.Disk.Disk.model.present taken) (Store fault) = inr (c.in-Err.ensures.named, if_keeps _ _ _ c.in-Err.ensures.fault) in
+    refused g.F.Disk.Disk.model (g.F.Folder.holds c.args.folder.now c.args.file.now) (g.F.Folder.holds c.close.new.self c.args.file.now) taken c.in-Err.disk fault c.in_ok-disk.ensures.taken c.close.ensures c.in-Err.ensures.runs.failures c.in-Err.ensures.unchanged of

@@ -1,17 +1,19 @@
-use Rattle.std.proofs.Common.{inr}
+use Rattle.std.proofs.Common.{inl, inr, refl}
 use Rattle.coord_commands.proofs.Endings.{is_done, served}
 use Rattle.coord_commands.specs.Folders.{reads}
-use Rattle.coord_commands.specs.Serving.{IsServedToEnd}
+use Rattle.coord_commands.specs.Serving.{EndsServing}
 use Rattle.coord_commands.specs.declared.fault.Fault.TheVariants.{Usage}
 use Rattle.coord_commands.proofs.serving.serve_in.Goals as goal
 
 pub returns-in_default-clause-served : goal.returns-in_default-clause-served
 returns-in_default-clause-served g c =
-    inr (record { fault = Usage; possible = λ is. c.in_default.ensures.none is.0 is.1; number = c.report.ensures.status; told = c.report.ensures.told })
+    inr (record { fault = Usage; possible = inl (refl, λ is. c.in_default.ensures.none is.0 is.1); number = c.report.ensures.status; told = c.report.ensures.told })
 
 pub returns-clause-served : goal.returns-clause-served
 returns-clause-served g c =
-    served g.F.Disk.Disk.model.keeps_model g.F.Disk.Disk.model.present c.args.address.now (reads (g.F.Folder.holds c.args.folder.now c.args.file.now)) (reads (g.F.Folder.holds c.serve_at.new.folder c.args.file.now)) c.serve_at.result c.report-2.result (g.E.Write.contents c.args.errors.now) (g.E.Write.contents c.report-2.new.errors) (c.in-Some.place, c.in-Some.ensures.some) c.report-2.ensures.status c.report-2.ensures.told c.serve_at.ensures.served c.serve_at.ensures.fault
+    let before = g.F.Folder.holds c.args.folder.now c.args.file.now in
+    let after = g.F.Folder.holds c.serve_at.new.folder c.args.file.now in
+    served (EndsServing g.F.Disk.Disk.model before after) g.F.Disk.Disk.model.keeps_model g.F.Disk.Disk.model.present c.args.address.now (reads before) (reads after) c.serve_at.result c.report-2.result (g.E.Write.contents c.args.errors.now) (g.E.Write.contents c.report-2.new.errors) (c.in-Some.place, c.in-Some.ensures.some) c.report-2.ensures.status c.report-2.ensures.told c.serve_at.ensures.served c.serve_at.ensures.fault
 
 pub returns-clause-closed : goal.returns-clause-closed
 returns-clause-closed g c = λ zero. is_done _ c.serve_at.result (c.report-2.ensures.done zero) c.serve_at.ensures.served
