@@ -189,14 +189,14 @@ class Refused(Served):
 
     def seconds(self, store, refusing, first):
         """Three orders, where 300 allocations are refused from this one on: in how many seconds all of them were carried out,
-        or 0 if they were not."""
+        or 0 if they were not, or before so many were asked for."""
         with Serving(store, env=refusing.environment(first, 300)) as server, server.connect() as connection:
             began = time.monotonic()
             with contextlib.suppress(OSError):
                 connection.send(*({"op": "reset", "client": 1, "number": number, "node": 1} for number in range(1, 4)))
                 connection.socket.shutdown(socket.SHUT_WR)
-            replies = self.replies(connection)
-            return time.monotonic() - began if [reply.get("step") for reply in replies] == [2, 3, 4] else 0
+            replies, took, behind = self.replies(connection), time.monotonic() - began, refusing.count()
+            return took if [reply.get("step") for reply in replies] == [2, 3, 4] and behind >= first + 300 else 0
 
     def test_a_flusher_that_finds_no_memory_rests(self):
         """From one allocation on it is the flusher that is refused, before a flight or as one comes back. Each time it tries

@@ -134,6 +134,11 @@ fn the_links_of_node_64_come_back(rt: HostRuntime) {
     take(&rt, &mut world, &add(3, id(64)));
     take(&rt, &mut world, &join(4, id(1), id(64)));
     take(&rt, &mut world, &join(5, id(2), id(64)));
+    let ends = world
+        .links()
+        .iter()
+        .map(|link| (link.a.number(), link.b.number()));
+    assert!(rt; ends.eq([(1, 64), (2, 64)].iter().copied()));
     comes_back(&rt, &world);
 }
 
