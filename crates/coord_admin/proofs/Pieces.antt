@@ -13,7 +13,7 @@ use Rattle.coord_admin.proofs.Stream.{InTurn, all-append, all-one, breaks-behind
 
 module _ {D P : Type 0} (answers : D → Request → Answer → D → Type 0) (posts : D → Request → P → D → Type 0) where
   await-none : (d : D) (posted : List P) → posted ≡ [] → AwaitReplies posts d [] posted d
-  await-none d posted e = subst (λ ps. AwaitReplies posts d [] ps d) (sym e) ([], tt, refl)
+  await-none d posted e = rw e ([], tt, refl)
 
   -- no line has come
   pub goes-none : (d : D) (posted : List P) → posted ≡ [] → GoesOn answers posts d [] [] posted d
@@ -31,7 +31,7 @@ module _ {D P : Type 0} (answers : D → Request → Answer → D → Type 0) (p
     g.2,
     ap (λ l. l ++ line ∷ []) g.3 ∙ append_assoc g.0 g.1 (line ∷ []),
     g.4,
-    subst (λ ps. AwaitReplies posts g.2 (g.1 ++ line ∷ []) ps h) (sym more) (await-on posts g.2 e h g.1 posted line r p g.5 asks order put),
+    rw more (await-on posts g.2 e h g.1 posted line r p g.5 asks order put),
   )
 
   -- all have their replies
@@ -49,11 +49,11 @@ module _ {D P : Type 0} (answers : D → Request → Answer → D → Type 0) (p
   -- one more line came
   pub goes-further : (d e h : D) (lines : List Line) (line : Line) (told more : List Answer) (posted later : List P) → (g : GoesOn answers posts d lines told posted e) → GoesOn answers posts g.2 (g.1 ++ line ∷ []) more later h → GoesOn answers posts d (lines ++ line ∷ []) (told ++ more) later h
   goes-further d e h lines line told more posted later g n =
-      subst (λ l. GoesOn answers posts d l (told ++ more) later h) (sym (ap (λ l. l ++ line ∷ []) g.3 ∙ append_assoc g.0 g.1 (line ∷ []))) (goes-on d e h lines (g.1 ++ line ∷ []) told more posted later g n)
+      rw (ap (λ l. l ++ line ∷ []) g.3 ∙ append_assoc g.0 g.1 (line ∷ [])) (goes-on d e h lines (g.1 ++ line ∷ []) told more posted later g n)
 
   -- those that waited have their replies
   pub goes-all : (d e h : D) (lines : List Line) (told more : List Answer) (posted : List P) → (g : GoesOn answers posts d lines told posted e) → AllGet answers g.2 g.1 more h → AllGet answers d lines (told ++ more) h
-  goes-all d e h lines told more posted g k = subst (λ l. AllGet answers d l (told ++ more) h) (sym g.3) (all-append answers g.0 g.1 told more d g.2 h g.4 k)
+  goes-all d e h lines told more posted g k = rw g.3 (all-append answers g.0 g.1 told more d g.2 h g.4 k)
 
   -- or not all of them
   pub goes-broken : (d e h : D) (lines left : List Line) (told : List Answer) (posted : List P) (text : List ℕ) → (g : GoesOn answers posts d lines told posted e) → BreaksOff answers g.2 (g.1 ++ left) text h → BreaksOff answers d (lines ++ left) (reply_lines told ++ text) h
@@ -80,7 +80,7 @@ module _ {D P : Type 0} (answers : D → Request → Answer → D → Type 0) (p
   piece-broken d e h a b c all lines left told posted g written same w = (
     reply_lines told ++ w.0,
     told-on exchanged turn a b c [] (reply_lines told) w.0 written w.1,
-    subst (λ ls. BreaksOff answers d ls (reply_lines told ++ w.0) h) (sym same) (goes-broken answers posts d e h lines left told posted w.0 g w.2),
+    rw same (goes-broken answers posts d e h lines left told posted w.0 g w.2),
   )
 
   pub piece-closed : (d e h : D) (a b c : C) (all lines : List Line) (line : Line) (behind : List ℕ) (told : List Answer) (posted : List P) → (g : GoesOn answers posts d lines told posted e) → exchanged a [] (reply_lines told) b → all ≡ lines ++ line ∷ lines_on (Some []) behind

@@ -11,17 +11,17 @@ talks_on (first ∷ cs) c = ap (λ l. first.talk ∷ l) (talks_on cs c)
 module _ {D : Type 0} (answers : D → Request → Answer → D → Type 0) where
   -- one more connection, which didn't close the desk
   pub served_on : (cs : List Connection) (c : Connection) (d f e : D) → AllServed answers d cs f → IsServed answers f c e → has_closed c.ended ≡ false → AllServed answers d (cs ++ c ∷ []) e
-  served_on [] c d f e all s unclosed = (e, subst (λ x. IsServed answers x c e) all s, unclosed, refl)
+  served_on [] c d f e all s unclosed = (e, rw (sym all) s, unclosed, refl)
   served_on (first ∷ cs) c d f e all s unclosed = (all.0, all.1, all.2, served_on cs c all.0 f e all.3 s unclosed)
 
   module _ {V : Type 0} (talked : V → List Talk → V → Type 0) (turn : (a b c : V) (some more : List Talk) → talked a some b → talked b more c → talked a (some ++ more) c) where
     -- no one more has ended
     pub talked_still : (v w x : V) (ts : List Talk) → talked v ts w → talked w [] x → talked v ts x
-    talked_still v w x ts first second = subst (λ l. talked v l x) (append-nil ts) (turn v w x ts [] first second)
+    talked_still v w x ts first second = rw (sym (append-nil ts)) (turn v w x ts [] first second)
 
     -- one more has ended
     pub talked_on : (v w x y : V) (cs : List Connection) (c : Connection) → talked v (talks cs) w → talked w [] x → talked x (c.talk ∷ []) y → talked v (talks (cs ++ c ∷ [])) y
-    talked_on v w x y cs c first second third = subst (λ l. talked v l y) (sym (talks_on cs c)) (turn v x y (talks cs) (c.talk ∷ []) (talked_still v w x (talks cs) first second) third)
+    talked_on v w x y cs c first second third = rw (talks_on cs c) (turn v x y (talks cs) (c.talk ∷ []) (talked_still v w x (talks cs) first second) third)
 
     pub open_still : (v w x : V) (d f : D) → ServedOpen answers talked v d w f → talked w [] x → ServedOpen answers talked v d x f
     open_still v w x d f o still = (o.0, talked_still v w x (talks o.0) o.1 still, o.2)

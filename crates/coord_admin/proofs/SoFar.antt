@@ -28,7 +28,7 @@ module _ {D P : Type 0} (answers : D → Request → Answer → D → Type 0) (p
   pub served-in-part : (d h : D) (a c : C) (seen : List ℕ) (r : Result Ended ServeFault) → IsErrAnd r (λ fault. fault ≡ Write) → (text : List ℕ) × exchanged a seen text c × BreaksOff answers d (lines_of seen) text h → (seen : List ℕ) × (text : List ℕ) × exchanged a seen text c × Served answers d seen text r h
   served-in-part d h a c seen r failed w =
       let fault = err_from_is_err_and r failed in
-      (seen, w.0, w.1, subst (λ x. Served answers d seen w.0 x h) (sym (fault.1 ∙ ap Err fault.2)) w.2)
+      (seen, w.0, w.1, rw (fault.1 ∙ ap Err fault.2) w.2)
 
   module _ (turn : InTurn exchanged) where
     -- a read brought nothing
@@ -69,7 +69,7 @@ module _ {D P : Type 0} (answers : D → Request → Answer → D → Type 0) (p
         let rest = lines_on line [] in (
           reply_lines s.1 ++ n.0,
           told-on exchanged turn a b c seen (reply_lines s.1) n.0 s.3 n.1,
-          subst (λ l. BreaksOff answers d l (reply_lines s.1 ++ n.0) h) (sym (ap lines_of (sym (append-nil seen)) ∙ s.4 [])) (goes-broken answers posts d e h s.0 rest s.1 posted n.0 g (n.2 rest)),
+          rw (ap lines_of (sym (append-nil seen)) ∙ s.4 []) (goes-broken answers posts d e h s.0 rest s.1 posted n.0 g (n.2 rest)),
         )
 
     -- the lines of what was seen, with a piece more

@@ -68,7 +68,7 @@ pub written-next : (answers told : List Answer) (answer a : Answer) (i : ℕ) �
 written-next answers told answer a i below is w one =
     let next : i + 1 ≡ suc i = omega arith in
     let more : take (i + 1) answers ≡ take i answers ++ answer ∷ [] = ap (λ n. take n answers) next ∙ take-suc answers i answer below ∙ ap (λ x. take i answers ++ x ∷ []) (sym is) in
-    subst (λ l. AreWritten l (told ++ a ∷ [])) (sym more) (written-on (take i answers) told answer a w one)
+    rw more (written-on (take i answers) told answer a w one)
 
 -- all of them
 pub all-taken : (answers : List Answer) (i : ℕ) → length answers ≤ i → take i answers ≡ answers
@@ -179,11 +179,11 @@ module _ {D : Type 0} (answers : D → Request → Answer → D → Type 0) wher
 
   -- what a line asks for was answered, or its fault is the answer
   pub gets-asked : (d e : D) (line : Line) (r : Result Request LineFault) (a : Answer) → (r ≢ Err OutOfMemory → r ≡ asked_by line) → (r ≡ Err OutOfMemory → IsText line) → MayAnswer answers d r a e → Gets answers d line a e
-  gets-asked d e line (Ok q) a reads memory h = inl (subst (λ asked. MayAnswer answers d asked a e) (reads (λ k. absurd cc)) h)
-  gets-asked d e line (Err f) a reads memory h = subst (λ g. Gets answers d line a g) (sym h.1) (subst (λ b. Gets answers d line b d) (sym h.0) (gets-fault d line f (Err f) refl reads memory))
+  gets-asked d e line (Ok q) a reads memory h = inl (rw (sym (reads (λ k. absurd cc))) h)
+  gets-asked d e line (Err f) a reads memory h = rw h.1 (rw h.0 (gets-fault d line f (Err f) refl reads memory))
 
   pub gets-told : (d e : D) (line : Line) (answer told : Answer) → Gets answers d line answer e → IsWritten answer told → Gets answers d line told e
-  gets-told d e line answer told h (inl same) = subst (λ a. Gets answers d line a e) (sym same) h
+  gets-told d e line answer told h (inl same) = rw same h
   gets-told d e line answer told (inl h) (inr w) = inr (w.0, inr (answer, w.1, h))
   gets-told d e line answer told (inr h) (inr w) = inr (w.0, h.1)
 
@@ -204,12 +204,12 @@ module _ {D : Type 0} (answers : D → Request → Answer → D → Type 0) wher
   all-ordered d e (line ∷ lines) [] results asks h = absurd asks
   all-ordered d e (line ∷ lines) (r ∷ orders) [] asks h = absurd h
   all-ordered d e (line ∷ lines) (r ∷ orders) (x ∷ results) asks h =
-      (h.0, inl (subst (λ asked. MayAnswer answers d asked (order_answer x) h.0) (sym asks.0) h.1), order-open x, all-ordered h.0 e lines orders results asks.2 h.2)
+      (h.0, inl (rw asks.0 h.1), order-open x, all-ordered h.0 e lines orders results asks.2 h.2)
 
   -- ---- lines behind lines
 
   pub all-append : (xs ys : List Line) (xas yas : List Answer) (d f e : D) → AllGet answers d xs xas f → AllGet answers f ys yas e → AllGet answers d (xs ++ ys) (xas ++ yas) e
-  all-append [] ys [] yas d f e h k = subst (λ g. AllGet answers g ys yas e) h k
+  all-append [] ys [] yas d f e h k = rw (sym h) k
   all-append [] ys (a ∷ xas) yas d f e h k = absurd h
   all-append (x ∷ xs) ys [] yas d f e h k = absurd h
   all-append (x ∷ xs) ys (a ∷ xas) yas d f e h k = (h.0, h.1, h.2, all-append xs ys xas yas h.0 f e h.3 k)
@@ -254,7 +254,7 @@ module _ {D : Type 0} (answers : D → Request → Answer → D → Type 0) wher
       by : ((more : List ℕ) → IsFirstPart more (reply_lines told) → BreaksOff answers h.0 (next ∷ lines ++ left) more e) → IsFirstPart part (reply_line a) ⊎ ((more : List ℕ) × (part ≡ reply_line a ++ more) × IsFirstPart more (reply_lines told)) → BreaksOff answers d (line ∷ next ∷ lines ++ left) part e
       by later (inl first) = breaks-first d h.0 e line (next ∷ lines) left a told part (inr posted) h.1 h.3 first
       by later (inr on) =
-          subst (λ p. BreaksOff answers d (line ∷ next ∷ lines ++ left) p e) (ap (λ l. l ++ on.0) (append-nil (reply_line a)) ∙ sym on.1)
+          rw (sym (ap (λ l. l ++ on.0) (append-nil (reply_line a)) ∙ sym on.1))
           (breaks-behind d h.0 e (line ∷ next ∷ lines ++ left) (next ∷ lines ++ left) (line ∷ []) (a ∷ []) on.0 (h.0, h.1, h.2, refl) refl (later on.0 on.2))
 
   -- ---- one more line
@@ -297,15 +297,15 @@ InTurn {C} exchanged = (a b c : C) (bytes_read more bytes_written later : List �
 module _ {C : Type 0} (exchanged : C → List ℕ → List ℕ → C → Type 0) (turn : InTurn exchanged) where
   -- more goes out
   pub told-on : (a b c : C) (bytes_read bytes_written text : List ℕ) → exchanged a bytes_read bytes_written b → exchanged b [] text c → exchanged a bytes_read (bytes_written ++ text) c
-  told-on a b c bytes_read bytes_written text first second = subst (λ l. exchanged a l (bytes_written ++ text) c) (append-nil bytes_read) (turn a b c bytes_read [] bytes_written text first second)
+  told-on a b c bytes_read bytes_written text first second = rw (sym (append-nil bytes_read)) (turn a b c bytes_read [] bytes_written text first second)
 
   -- more comes in
   pub heard-on : (a b c : C) (bytes_read more bytes_written : List ℕ) → exchanged a bytes_read bytes_written b → exchanged b more [] c → exchanged a (bytes_read ++ more) bytes_written c
-  heard-on a b c bytes_read more bytes_written first second = subst (λ l. exchanged a (bytes_read ++ more) l c) (append-nil bytes_written) (turn a b c bytes_read more bytes_written [] first second)
+  heard-on a b c bytes_read more bytes_written first second = rw (sym (append-nil bytes_written)) (turn a b c bytes_read more bytes_written [] first second)
 
   -- nothing more comes in
   pub still : (a b c : C) (bytes_read bytes_written : List ℕ) → exchanged a bytes_read bytes_written b → exchanged b [] [] c → exchanged a bytes_read bytes_written c
-  still a b c bytes_read bytes_written first second = subst (λ l. exchanged a l bytes_written c) (append-nil bytes_read) (heard-on a b c bytes_read [] bytes_written first second)
+  still a b c bytes_read bytes_written first second = rw (sym (append-nil bytes_read)) (heard-on a b c bytes_read [] bytes_written first second)
 
   -- a read that gave no byte
   pub no-more : (a b c : C) (bytes_read bytes bytes_written : List ℕ) (count : ℕ) → exchanged a bytes_read bytes_written b → exchanged b (take count bytes) [] c → count ≡ 0 → exchanged a bytes_read bytes_written c
@@ -315,11 +315,11 @@ module _ {C : Type 0} (exchanged : C → List ℕ → List ℕ → C → Type 0)
 
   -- one more reply
   pub told-one : (a b c : C) (told : List Answer) (x : Answer) → exchanged a [] (reply_lines told) b → exchanged b [] (reply_line x) c → exchanged a [] (reply_lines (told ++ x ∷ [])) c
-  told-one a b c told x first second = subst (λ l. exchanged a [] l c) (reply_lines-one told x) (turn a b c [] [] (reply_lines told) (reply_line x) first second)
+  told-one a b c told x first second = rw (sym (reply_lines-one told x)) (turn a b c [] [] (reply_lines told) (reply_line x) first second)
 
   -- more replies
   pub told-all : (a b c : C) (bytes_read : List ℕ) (told more : List Answer) → exchanged a bytes_read (reply_lines told) b → exchanged b [] (reply_lines more) c → exchanged a bytes_read (reply_lines (told ++ more)) c
-  told-all a b c bytes_read told more first second = subst (λ l. exchanged a bytes_read l c) (sym (reply_lines-append told more)) (told-on a b c bytes_read (reply_lines told) (reply_lines more) first second)
+  told-all a b c bytes_read told more first second = rw (reply_lines-append told more) (told-on a b c bytes_read (reply_lines told) (reply_lines more) first second)
 
 module _ {D : Type 0} (answers : D → Request → Answer → D → Type 0) {C : Type 0} (exchanged : C → List ℕ → List ℕ → C → Type 0) (turn : InTurn exchanged) where
   -- the reply to the next line was not written whole

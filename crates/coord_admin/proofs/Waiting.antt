@@ -25,7 +25,7 @@ ask-on (l ∷ lines) (q ∷ orders) line r asks e o = (asks.0, asks.1, ask-on li
 
 module _ {D P : Type 0} (posts : D → Request → P → D → Type 0) where
   posted-on : (d e f : D) (orders : List Request) (posted : List P) (r : Request) (p : P) → AllPosted posts d orders posted e → posts e r p f → AllPosted posts d (orders ++ r ∷ []) (posted ++ p ∷ []) f
-  posted-on d e f [] [] r p h put = (f, subst (λ s. posts s r p f) h put, refl)
+  posted-on d e f [] [] r p h put = (f, rw (sym h) put, refl)
   posted-on d e f [] (q ∷ posted) r p h put = absurd h
   posted-on d e f (o ∷ orders) [] r p h put = absurd h
   posted-on d e f (o ∷ orders) (q ∷ posted) r p h put = (h.0, h.1, posted-on h.0 e f orders posted r p h.2 put)
@@ -50,7 +50,7 @@ module _ {D P : Type 0} (posts : D → Request → P → D → Type 0) where
 
 module _ {D P : Type 0} (replies : D → P → Result Reply Refusal → D → Type 0) where
   pub replied-on : (d e f : D) (posted : List P) (results : List (Result Reply Refusal)) (p : P) (x : Result Reply Refusal) → AllReplied replies d posted results e → replies e p x f → AllReplied replies d (posted ++ p ∷ []) (results ++ x ∷ []) f
-  replied-on d e f [] [] p x h reply = (f, subst (λ s. replies s p x f) h reply, refl)
+  replied-on d e f [] [] p x h reply = (f, rw (sym h) reply, refl)
   replied-on d e f [] (y ∷ results) p x h reply = absurd h
   replied-on d e f (q ∷ posted) [] p x h reply = absurd h
   replied-on d e f (q ∷ posted) (y ∷ results) p x h reply = (h.0, h.1, replied-on h.0 e f posted results p x h.2 reply)
@@ -75,7 +75,7 @@ module _ {D P : Type 0} (answers : D → Request → Answer → D → Type 0) (p
     (stays_apart : (a b c : D) (r : Request) (p q : P) (x : Result Reply Refusal) → posts a r q b → replies b p x c → (m : D) × replies a p x m × posts m r q c) where
   -- none was posted
   pub none-answered : (d e : D) (lines : List Line) (posted : List P) → posted ≡ [] → AwaitReplies posts d lines posted e → AllGet answers d lines [] e
-  none-answered d e lines posted none h = by lines h.0 h.1 (subst (λ ps. AllPosted posts d h.0 ps e) none h.2)
+  none-answered d e lines posted none h = by lines h.0 h.1 (rw (sym none) h.2)
     where
       by : (lines : List Line) (orders : List Request) → AskFor lines orders → AllPosted posts d orders [] e → AllGet answers d lines [] e
       by [] [] asks same = same

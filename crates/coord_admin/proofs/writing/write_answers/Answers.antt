@@ -39,7 +39,7 @@ returns-clause-whole g c =
     on_ok_weaker c.reply.result (λ whole. (
       inv.1,
       w,
-      subst (λ l. g.C.Duplex.exchanged c.args.connection.now [] l c.reply.new.self) (ap (λ l. inv.0 ++ l) c.deref.ensures.value ∙ sym inv.4) (told-on g.C.Duplex.exchanged g.met.C.Duplex.in_turn _ _ _ [] inv.0 c.deref.result.now inv.3 whole),
+      rw (sym (ap (λ l. inv.0 ++ l) c.deref.ensures.value ∙ sym inv.4)) (told-on g.C.Duplex.exchanged g.met.C.Duplex.in_turn _ _ _ [] inv.0 c.deref.result.now inv.3 whole),
     )) c.reply.ensures.whole
 
 pub returns-clause-part : goal.returns-clause-part
