@@ -28,7 +28,7 @@ one_left (suc k) (x ∷ xs) is lt = one_left k xs is (omega (arith, lt))
 
 module _ {P : Type 0} (carried : P → ℕ → Packet → Bool → P → Type 0) (signalled : P → ℕ → ℕ → Bool → P → Type 0) where
   asked_last : (s m t : P) (ds : List Delivery) (d : Delivery) → AreAsked carried signalled s ds m → IsAsked carried signalled m d t → AreAsked carried signalled s (ds ++ d ∷ []) t
-  asked_last s m t [] d is last = (t, subst (λ x. IsAsked carried signalled x d t) is last, refl)
+  asked_last s m t [] d is last = (t, rw (sym is) last, refl)
   asked_last s m t (e ∷ ds) d is last = (is.0, is.1, asked_last is.0 m t ds d is.2 last)
 
   -- one more is handed over
@@ -36,5 +36,5 @@ module _ {P : Type 0} (carried : P → ℕ → Packet → Bool → P → Type 0)
       → slice_get left 0 ≡ Some r → d ≡ delivery_of r.output → IsAsked carried signalled m d u → t ≡ u → AreAsked carried signalled s (deliveries_of (take (k + 1) released)) t
   hands_next s m t u k released left r d at is next asked last same =
       let now : slice_get (drop k released) 0 ≡ Some r = ap (λ l. slice_get l 0) (sym at) ∙ next in
-      let all : AreAsked carried signalled s (deliveries_of (take k released) ++ delivery_of r.output ∷ []) u = asked_last s m u (deliveries_of (take k released)) (delivery_of r.output) is (subst (λ x. IsAsked carried signalled m x u) asked last) in
-      subst (AreAsked carried signalled s (deliveries_of (take (k + 1) released))) (sym same) (subst (λ ds. AreAsked carried signalled s ds u) (sym (next_asked k released r now)) all)
+      let all : AreAsked carried signalled s (deliveries_of (take k released) ++ delivery_of r.output ∷ []) u = asked_last s m u (deliveries_of (take k released)) (delivery_of r.output) is (rw (sym asked) last) in
+      subst (AreAsked carried signalled s (deliveries_of (take (k + 1) released))) (sym same) (rw (next_asked k released r now) all)

@@ -47,7 +47,7 @@ module _ (notes : List Note) (ascending : IsAscending notes) where
           λ is. (at, within, is),
           λ there.
               let place : there.0 ≡ at = one_place there.0 at note there.1 within (ap (λ (x : Note). x.step) there.2 ∙ sym number) in
-              subst (λ k. get_or notes k note ≡ note) place there.2,
+              rw (sym place) there.2,
         )
     searched (Err at) within parted = λ there.
         let number = ap (λ (x : Note). x.step) there.2 in

@@ -23,7 +23,7 @@ module _ {D : Type 0} (g : GuardedState D) (seen later : ℕ) where
   told_shown : (answer : Result Shown Refusal) → OnErr answer (later ≡ seen) → is_some g.ledger.log.doubt ≡ false → seen ≤ settled_count g.ledger.log
       → MatchResult answer (λ v. (v ≡ shown (accepted_count g.ledger.log) (settled_world g.ledger.log)) × (later ≡ settled_count g.ledger.log)) (λ why. why ≡ OutOfMemory) → Told answer
   told_shown (Ok v) unseen going le is = (going, le, is.0, is.1)
-  told_shown (Err why) unseen going le is = (subst (λ w. RefusesShow w seen g) (sym is) tt, unseen)
+  told_shown (Err why) unseen going le is = (rw is tt, unseen)
 
   told_by : (answer : Result Shown Refusal) → LedgerShows answer → (b c : Bool) → is_some g.ledger.log.doubt ≡ b → nat_lt (settled_count g.ledger.log) seen ≡ c → Told answer
   told_by answer is true c b_is c_is = let why = is.stopped b_is in subst Told (sym why) (b_is, subst (λ r. OnErr r (later ≡ seen)) why is.unseen)

@@ -11,7 +11,5 @@ pub since : (base : World) (before : List Step) (shares : List (List Note)) (log
 since base before shares log start left trail same_base at begins named is_left is_trail = record {
   same_base = is_left ∙ same_base;
   begins = ap (λ n. take n trail) (sym at) ∙ ap (take start) is_trail ∙ begins;
-  named = subst (λ w. IsNamed shares (w.count + length before) (drop (length before) trail)) same_base
-      (subst (λ k. IsNamed shares (log.base.count + k) (drop k trail)) at
-      (subst (λ t. IsNamed shares (log.base.count + start) (drop start t)) (sym is_trail) named));
+  named = rw (sym same_base) (rw (sym at) (rw is_trail named));
 }

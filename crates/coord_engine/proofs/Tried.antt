@@ -16,10 +16,10 @@ module _ {D : Type 0} (b : Basis D) (notes next : List Note) where
   -- the first still has to wait
   pub tries_stuck : (waiting : List Packet) (p : Packet) (waits : Bool) → slice_get waiting 0 ≡ Some p → Tries b notes p waits next → waits ≡ true → TriesAll b notes waiting next waiting
   tries_stuck [] p waits is tried stays = cc
-  tries_stuck (q ∷ waiting) p waits is tried stays = (next, waits, subst (λ x. Tries b notes x waits next) (sym (ap (some_is p) is)) tried, inl (stays, refl, refl))
+  tries_stuck (q ∷ waiting) p waits is tried stays = (next, waits, rw (ap (some_is p) is) tried, inl (stays, refl, refl))
 
   -- or it is done with, and the others are tried
   pub tries_on : (waiting : List Packet) (p : Packet) (waits : Bool) (later : List Note) (left : List Packet) → slice_get waiting 0 ≡ Some p → Tries b notes p waits next → waits ≡ false
       → TriesAll b next (drop 1 waiting) later left → TriesAll b notes waiting later left
   tries_on [] p waits later left is tried goes rest = cc
-  tries_on (q ∷ waiting) p waits later left is tried goes rest = (next, waits, subst (λ x. Tries b notes x waits next) (sym (ap (some_is p) is)) tried, inr (goes, rest))
+  tries_on (q ∷ waiting) p waits later left is tried goes rest = (next, waits, rw (ap (some_is p) is) tried, inr (goes, rest))

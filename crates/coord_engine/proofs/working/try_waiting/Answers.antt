@@ -16,5 +16,5 @@ loop-tried-preserved g c =
       omega (arith, c.loop-tried.invariant.0, drops_one c.loop-tried.waiting c.in-Some.packet first, ap length c.drop_first.ensures),
       λ later left rest.
           c.loop-tried.invariant.1 later left
-          (tries_on b c.loop-tried.share c.submit.new.share c.loop-tried.waiting c.in-Some.packet c.submit.result later left first c.submit.ensures c.if-submit.false (subst (λ w. TriesAll b c.submit.new.share w later left) c.drop_first.ensures rest)),
+          (tries_on b c.loop-tried.share c.submit.new.share c.loop-tried.waiting c.in-Some.packet c.submit.result later left first c.submit.ensures c.if-submit.false (rw (sym c.drop_first.ensures) rest)),
     )

@@ -11,7 +11,7 @@ so false is = sym is
 pub returns-clause-starts : goal.returns-clause-starts
 returns-clause-starts g c = λ _.
     let b = based_on g.D.Disk.model.keeps_model g.D.Disk.model.present g.L.Origin.base g.L.Origin.before in
-    then b c.deref.result.now c.keeps.ensures (λ x. is_idle x ≡ false) (subst (λ x. is_idle x ≡ false) (sym c.deref.ensures) c.lock_for_flight-guarded.ensures)
+    then b c.deref.result.now c.keeps.ensures (λ x. is_idle x ≡ false) (rw c.deref.ensures c.lock_for_flight-guarded.ensures)
 
 pub returns-clause-ends : goal.returns-clause-ends
 returns-clause-ends g c = λ none.

@@ -12,6 +12,6 @@ returns g c =
     let s = c.steps_from-steps.result.now in
     let steps : s ≡ drop c.self.inside.start log.trail = c.steps_from-steps.ensures ∙ ap (drop c.self.inside.start) c.trail.ensures in
     let others : c.accepted_count.result - length s ≡ log.base.count + c.self.inside.start = omega (arith, c.accepted_count.ensures.value, ap length steps, length-drop c.self.inside.start log.trail, c.self.invariant.3) in (
-      λ t. record { ascending = c.if-not-all_ascending.ensures.0 refl; noted = subst V c.self.view_is (subst (λ n. P n (drop c.self.inside.start log.trail)) others (subst (P (c.accepted_count.result - length s)) steps (c.all_noted.ensures.0 t))) },
-      λ are. c.all_noted.ensures.1 (subst (P (c.accepted_count.result - length s)) (sym steps) (subst (λ n. P n (drop c.self.inside.start log.trail)) (sym others) (subst V (sym c.self.view_is) are.noted))),
+      λ t. record { ascending = c.if-not-all_ascending.ensures.0 refl; noted = subst V c.self.view_is (rw (sym others) (subst (P (c.accepted_count.result - length s)) steps (c.all_noted.ensures.0 t))) },
+      λ are. c.all_noted.ensures.1 (subst (P (c.accepted_count.result - length s)) (sym steps) (rw others (subst V (sym c.self.view_is) are.noted))),
     )

@@ -12,7 +12,7 @@ returns-then-not-are_noted-clause-refused g c =
     let all : length c.args.shares.items ≡ c.args.self.given = search rules in
     let n = c.args.self.ledger.log.base.count + c.args.self.start in
     let steps = drop c.args.self.start c.args.self.ledger.log.trail in
-    (home, all, λ is. false≢true (c.if-not-are_noted.ensures.1 (subst (λ s. AreNoted s n steps) (sym c.deref.ensures.value) (named_noted c.args.shares.items n steps is))))
+    (home, all, λ is. false≢true (c.if-not-are_noted.ensures.1 (rw c.deref.ensures.value (named_noted c.args.shares.items n steps is))))
 
 pub returns-clause-may : goal.returns-clause-may
 returns-clause-may g c =
@@ -20,7 +20,7 @@ returns-clause-may g c =
     let all : length c.args.shares.items ≡ c.args.self.given = search rules in
     let n = c.args.self.ledger.log.base.count + c.args.self.start in
     let steps = drop c.args.self.start c.args.self.ledger.log.trail in
-    let are : AreNoted c.args.shares.items n steps = subst (λ s. AreNoted s n steps) c.deref.ensures.value (c.if-not-are_noted.ensures.0 refl) in
+    let are : AreNoted c.args.shares.items n steps = rw (sym c.deref.ensures.value) (c.if-not-are_noted.ensures.0 refl) in
     let start = ap (λ (x : GuardedState g.row.D.Denot). x.start) c.self.view_is in
     let trail = ap (λ (x : GuardedState g.row.D.Denot). length x.ledger.log.trail) c.self.view_is in
     let count : sum_by (λ notes. length notes) c.args.shares.items ≡ length steps = omega (arith, c.gather.ensures, c.self.invariant.3, start, trail, length-drop c.args.self.start c.args.self.ledger.log.trail) in
@@ -31,7 +31,7 @@ returns-clause-since g c =
     let shares = c.args.shares.items in
     let n = c.args.self.ledger.log.base.count + c.args.self.start in
     let steps = drop c.args.self.start c.args.self.ledger.log.trail in
-    let are : AreNoted shares n steps = subst (λ s. AreNoted s n steps) c.deref.ensures.value (c.if-not-are_noted.ensures.0 refl) in
+    let are : AreNoted shares n steps = rw (sym c.deref.ensures.value) (c.if-not-are_noted.ensures.0 refl) in
     let start = ap (λ (x : GuardedState g.row.D.Denot). x.start) c.self.view_is in
     let trail = ap (λ (x : GuardedState g.row.D.Denot). length x.ledger.log.trail) c.self.view_is in
     let count : sum_by (λ notes. length notes) shares ≡ length steps = omega (arith, c.gather.ensures, c.self.invariant.3, start, trail, length-drop c.args.self.start c.args.self.ledger.log.trail) in

@@ -17,7 +17,7 @@ loop-share-preserved g c =
     let i = c.loop-share.share-index in
     let here = c.notes.ensures ∙ c.share-item.is in
     let P : ℕ → Type 0 = λ k. (d : List Note) → Contains (get_or c.args.shares.now k d) c.args.note.now → ⊥ in
-    let last : P i = λ d there. false≢true (c.if-has.ensures.1 (subst (λ l. Contains l c.args.note.now) (get_or_default c.args.shares.now i d c.share-item.result c.loop-share-test.true ∙ sym here) there)) in
+    let last : P i = λ d there. false≢true (c.if-has.ensures.1 (rw (sym (get_or_default c.args.shares.now i d c.share-item.result c.loop-share-test.true ∙ sym here)) there)) in
     one_more P i c.loop-share.invariant last
 
 pub returns : goal.returns
