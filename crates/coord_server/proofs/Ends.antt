@@ -37,13 +37,13 @@ one_history : {D : Type 0} (b : Basis D) (own : List Note) (shares : List (List 
     → IsSince b.base b.before shares left.base left.trail.items → AtSomeMoment b (Closes {D = D} left.store left.base left.trail.items left.settled shares) → IsOneHistory b own left
 one_history {D} b own shares left none added since closed =
     let named : IsNamed shares b.base.count left.trail.items = named_of shares b.base.count b.before left.trail.items none since.named in
-    let here : IsNamed shares left.base.count left.trail.items = subst (λ (w : World). IsNamed shares w.count left.trail.items) (sym since.same_base) named in
+    let here : IsNamed shares left.base.count left.trail.items = rw since.same_base named in
     record {
       workers = added.0;
       of_packets = added.2;
       same_base = since.same_base;
-      named = subst (λ l. IsNamed l left.base.count left.trail.items) added.1 here;
-      closed = subst (λ l. AtSomeMoment b (Closes {D = D} left.store left.base left.trail.items left.settled l)) added.1 closed;
+      named = rw (sym added.1) here;
+      closed = rw (sym added.1) closed;
     }
 
 -- of an engine that was not taken apart nothing is left
@@ -53,7 +53,7 @@ nothing_left keeps_model present world before shares fault.OutOfMemory none all 
 nothing_left keeps_model present world before shares fault.Socket none all is = absurd is
 nothing_left keeps_model present world before shares fault.Device none all is = absurd is
 nothing_left keeps_model present world before shares fault.Write none all is = absurd is
-nothing_left keeps_model present world before shares (fault.NotClosed why) none all is = (world, shares, all, subst (λ l. IsNotClosed (based_on keeps_model present world l) shares (fault.NotClosed why)) none is)
+nothing_left keeps_model present world before shares (fault.NotClosed why) none all is = (world, shares, all, rw (sym none) is)
 
 -- an engine of which a desk tells so many steps has kept them
 pub kept_most : {D : Type 0} (b : Basis D) (desk : DeskState) (most : ℕ) → KeepsSteps (DeskKeeps b) desk most → HasKept b most
@@ -68,7 +68,7 @@ module _ {D : Type 0} (b : Basis D) {V : Type 0} (talked : V → List Talk → V
 
   -- the desk's notes, in the share that it gave back
   pub serves_with : (v w : V) (desk : DeskState) (left : LifeEnd) (notes : List Note) → ServesLife b talked failed most v w desk left → notes ≡ desk.notes → (seen : ℕ) × ServesLife b talked failed most v w (record { notes = notes; seen = seen }) left
-  serves_with v w desk left notes s same = (desk.seen, subst (λ n. ServesLife b talked failed most v w (record { notes = n; seen = desk.seen }) left) (sym same) s)
+  serves_with v w desk left notes s same = (desk.seen, rw same s)
 
   -- the shares of the desk and of the workers, once all are back
   pub has_run : (v w : V) (left : LifeEnd) (own : List Note) (shares : List (List Note)) → (seen : ℕ) × ServesLife b talked failed most v w (record { notes = own; seen = seen }) left
@@ -81,7 +81,7 @@ module _ {D : Type 0} (b : Basis D) {V : Type 0} (talked : V → List Talk → V
       → life.callers ≡ u → life.left ≡ ran → IsLife b talked failed most v life
   lived v u ran shares life none is since closed same_w same = record {
     desk = is.desk;
-    served = subst (λ (x : V). ServesLife b talked failed most v x is.desk life.left) (sym same_w) (subst (λ (l : LifeEnd). ServesLife b talked failed most v u is.desk l) (sym same) is.served);
+    served = rw same_w (rw same is.served);
     history = one_history b is.desk.notes shares life.closed none is.added since closed;
   }
 
@@ -116,8 +116,8 @@ module _ {D : Type 0} (keeps_model : D → Bool) (present : D → Present) {V : 
       → ((n : ℕ) × Lives keeps_model present talked most n began v next.world others) × (has_stopped next ≡ false)
   lives_next began world v u others life next lives so is same same_w going all =
       let on : (n : ℕ) × Lives keeps_model present talked most n began v life.closed.store.world life.callers = (suc lives.0, (world, u, lives.1, rests world u life is so going all)) in (
-        subst (λ x. (n : ℕ) × Lives keeps_model present talked most n began v next.world x) (sym same_w) (subst (λ (k : Kept D). (n : ℕ) × Lives keeps_model present talked most n began v k.world life.callers) (sym same) on),
-        subst (λ (k : Kept D). has_stopped k ≡ false) (sym same) going,
+        rw same_w (rw same on),
+        rw same going,
       )
 
   -- and the last one has ended
@@ -130,7 +130,7 @@ module _ {D : Type 0} (keeps_model : D → Bool) (present : D → Present) {V : 
     lives.1,
     (
       so.desk,
-      subst (λ w. Serves (b world) talked failed most u w so.desk ended.served) (sym same_w) (served_at_last (b world) talked failed most u life.callers so.desk life.left ended.served so.served over),
+      rw same_w (served_at_last (b world) talked failed most u life.callers so.desk life.left ended.served so.served over),
       subst (IsOneHistory (b world) so.desk.notes) (sym same) so.history,
     ),
   )

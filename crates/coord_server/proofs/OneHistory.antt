@@ -34,14 +34,14 @@ tells {D} b desk left history =
     let held = history.closed.held in
     let so = history.closed.so in
     let same : log.base ≡ b.base = held.grown.same_base in
-    let here : IsTrail b.base log.trail = subst (λ (w : World). IsTrail w log.trail) same held.log.trail in
+    let here : IsTrail b.base log.trail = rw (sym same) held.log.trail in
     let over : fold log.base (take log.settled log.trail) ≡ fold b.base (take log.settled log.trail) = ap (λ (w : World). fold w (take log.settled log.trail)) same in
     let by : fold b.base (take log.settled log.trail) ≡ fold b.base (take log.settled left.trail.items) = ap (λ (l : List Step). fold b.base (take log.settled l)) (sym so.2) in
     record {
       from = history.same_base;
-      steps = subst (λ (l : List Step). IsTrail b.base l) (sym so.2) here;
+      steps = rw so.2 here;
       done = log.settled;
-      within = subst (λ (l : List Step). log.settled ≤ length l) (sym so.2) held.log.within;
+      within = rw so.2 held.log.within;
       counted = so.3 ∙ ap (λ (w : World). w.count + log.settled) same;
       kept = so.5 ∙ over ∙ by;
     }
@@ -64,7 +64,7 @@ GoOn w (l ∷ ls) next = (l.base ≡ w) × IsTrail w l.trail × GoOn (fold w l.t
 goes_on : (ls : List LifeSteps) (w world next : World) (l : LifeSteps) → GoOn w ls world → l.base ≡ world → IsTrail world l.trail → next ≡ fold world l.trail → GoOn w (ls ++ l ∷ []) next
 goes_on [] w world next l here base steps is = (
   base ∙ here,
-  subst (λ (x : World). IsTrail x l.trail) here steps,
+  rw (sym here) steps,
   is ∙ ap (λ (x : World). fold x l.trail) here,
 )
 goes_on (q ∷ qs) w world next l here base steps is = (here.0, here.1, goes_on qs (fold w q.trail) world next l here.2 base steps is)

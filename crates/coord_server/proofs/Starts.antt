@@ -12,7 +12,7 @@ printing_is_of_start told (inl memory) = subst IsOfStart (sym memory) tt
 printing_is_of_start told (inr write) = subst IsOfStart (sym write) tt
 
 prints_last : {W : Type 0} (contents : W → Option (List ℕ)) (p m q : PrinterState W) (came : List Signal) (s : Signal) → PrintsEach contents p came m → Prints contents m s q → PrintsEach contents p (came ++ s ∷ []) q
-prints_last contents p m q [] s is last = (q, subst (λ x. Prints contents x s q) is last, refl)
+prints_last contents p m q [] s is last = (q, rw (sym is) last, refl)
 prints_last contents p m q (x ∷ came) s is last = (is.0, is.1, prints_last contents is.0 m q came s is.2 last)
 
 printed : {W : Type 0} (contents : W → Option (List ℕ)) (m q : PrinterState W) (s : Signal) (is_written : Bool) → (is_written ≡ true → Appends (contents m.output) (contents q.output) (signal_line s.node s.epoch)) → (is_written ≡ true → (q.is_broken ≡ false) × (q.lost ≡ m.lost)) → (is_written ≡ false → q.is_broken ≡ false → q ≡ with_lost m)

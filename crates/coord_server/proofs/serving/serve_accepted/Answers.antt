@@ -18,8 +18,8 @@ returns-clause-images g c =
     let ended = c.in_ok-ended.ended in
     IfOk-weaker c.closed_of.result _ _
     (λ closed is keeps.
-    only_world g.D.Disk.model closed.store (subst (λ k. has_stopped k.store ≡ false) (sym is.0) (not_stopped (has_stopped ended.closed.store) ended.served ended.is_broken is.1))
-    (subst (λ k. ImagesGive g.D.Disk.model k.store) (sym is.0) (c.in_ok-ended.ensures.images (subst (λ k. g.D.Disk.model.keeps_model k.store.disk ≡ true) is.0 keeps))))
+    only_world g.D.Disk.model closed.store (rw is.0 (not_stopped (has_stopped ended.closed.store) ended.served ended.is_broken is.1))
+    (rw is.0 (c.in_ok-ended.ensures.images (rw (sym is.0) keeps))))
     c.closed_of.ensures.closed
 
 pub returns-clause-whole : goal.returns-clause-whole
