@@ -57,7 +57,7 @@ is_done P (Err fault) ok so = absurd (false≢true ok)
 
 -- what is an error with a fault
 pub err_last : {A : Type 0} (P : Fault → Type 0) (result : Result A Fault) (fault : Fault) → result ≡ Err fault → P fault → IfErr result P
-err_last P result fault is has = subst (λ r. IfErr r P) (sym is) has
+err_last P result fault is has = rw is has
 
 cut_weaker : (P Q : List ℕ → Type 0) (old new : Option (List ℕ)) (fault : Fault) → ((line : List ℕ) → P line → Q line) → IsCutShort P old new fault → IsCutShort Q old new fault
 cut_weaker P Q old new fault so (inl kept) = inl kept

@@ -65,7 +65,7 @@ module _ {D : Type 0} (model : DiskModel D) where
     reads = λ never.
         let reads : ReadsAsBefore (known_of model.keeps_model model.present taken) (known_of model.keeps_model model.present back) =
         if_both (model.keeps_model taken) (model.keeps_model back) (model.present taken) (model.present back) (λ (old new : Present). new.read ≡ old.read) (λ keeps _. same never keeps) in
-        closed (λ o. ReadsAsBefore before o) (known_of model.keeps_model model.present back) after (λ _. unread before) is (subst (λ (o : Option Present). ReadsAsBefore o (known_of model.keeps_model model.present back)) was reads);
+        closed (λ o. ReadsAsBefore before o) (known_of model.keeps_model model.present back) after (λ _. unread before) is (rw (sym was) reads);
   }
 
   -- the device of a disk that is refused otherwise has not failed
@@ -80,7 +80,7 @@ module _ {D : Type 0} (model : DiskModel D) where
   refused before after taken back fault was is failures unchanged of = record {
     fault = fault;
     named = refl;
-    why = inr (subst (λ (o : Option Present). IsOfOpening (reads o) (Store fault)) was of, put_back (failed_in fault) before after taken back was is failures (λ never keeps. ap (λ (p : Present). p.read) (unchanged keeps (no_device fault never))));
+    why = inr (rw (sym was) of, put_back (failed_in fault) before after taken back was is failures (λ never keeps. ap (λ (p : Present). p.read) (unchanged keeps (no_device fault never))));
   }
 
   pub opened : (before : Option Present) (taken : D) (store : Kept D) → known_of model.keeps_model model.present taken ≡ before → (model.keeps_model taken ≡ true → Recovered (model.present taken).read store.world)
@@ -88,7 +88,7 @@ module _ {D : Type 0} (model : DiskModel D) where
   opened before taken store was world failures same = record {
     taken = taken;
     was = was;
-    world = subst (λ k. IfSome (reads k) (λ known. Recovered known store.world)) was (if_keeps (model.keeps_model taken) (model.present taken) (λ (known : List ℕ). Recovered known store.world) world);
+    world = rw (sym was) (if_keeps (model.keeps_model taken) (model.present taken) (λ (known : List ℕ). Recovered known store.world) world);
     failures = omega (arith, failures);
     same = λ keeps. ap (λ (p : Present). p.read) (same keeps);
   }

@@ -51,10 +51,10 @@ line_of text (Err fault) before after w v torn is world going raised = tt
 
 -- a torn migration: an image gives the world in one version or the other
 pub either_of : {D : Type 0} (kept : Kept D) (w v : World) (image : List ℕ) → kept.world ≡ w → kept.torn ≡ Some v → GivesKept kept image → GivesEither w v image
-either_of kept w v image same torn (inl gives) = inl (subst (λ (x : World). Recovered image x) same gives)
+either_of kept w v image same torn (inl gives) = inl (rw (sym same) gives)
 either_of kept w v image same torn (inr gives) =
     let is : Some gives.0 ≡ Some v = sym gives.1 ∙ torn in
-    let one : gives.0 ≡ v = cc in inr (subst (λ (x : World). Recovered image x) one gives.2)
+    let one : gives.0 ≡ v = cc in inr (rw (sym one) gives.2)
 
 module _ {A : Type 0} {Same Torn : Type 0} (ended : Result A Fault) (before after : Option Present) (w : World) (torn : IsErrOf ended (Store of_store.Device) → Torn) (stopped : IsErrOf ended (Store of_store.Stopped) → ⊥) (given : IfSome before (λ old. Recovered old.read w)) (reads : Same → ReadsAsBefore before after) (either : Torn → GivesEitherVersion before after) where
   -- the fault of a store that was not raised
@@ -140,13 +140,13 @@ less_fault before known (NotClosed fault) of = absurd of
 pub line_named : {A : Type 0} (text : A → List ℕ) (ended : Result A Fault) (before after taken known : Option Present) → taken ≡ before → IfSome after (λ disk. known ≡ Some disk) → IfOk ended (λ line. IsMigratedLine taken known (text line))
     → IfOk ended (λ line. IsMigratedLine before after (text line))
 line_named text (Ok line) before after taken known is back of =
-    closed (λ o. IsMigratedLine before o (text line)) known after (less_line before known (text line)) back (subst (λ (o : Option Present). IsMigratedLine o known (text line)) is of)
+    closed (λ o. IsMigratedLine before o (text line)) known after (less_line before known (text line)) back (rw (sym is) of)
 line_named text (Err fault) before after taken known is back of = tt
 
 pub fault_named : {A : Type 0} (ended : Result A Fault) (before after taken known : Option Present) → taken ≡ before → IfSome after (λ disk. known ≡ Some disk) → IfErr ended (IsOfRaising taken known) → IfErr ended (IsOfRaising before after)
 fault_named (Ok x) before after taken known is back of = tt
 fault_named (Err fault) before after taken known is back of =
-    closed (λ o. IsOfRaising before o fault) known after (less_fault before known fault) back (subst (λ (o : Option Present). IsOfRaising o known fault) is of)
+    closed (λ o. IsOfRaising before o fault) known after (less_fault before known fault) back (rw (sym is) of)
 
 -- the line of a store that was raised is not written
 pub unwritten : (before after : Option Present) (line : List ℕ) → IsMigratedLine before after line → (fault : Fault) → IsOfWriting fault → IsOfMigrating before after fault

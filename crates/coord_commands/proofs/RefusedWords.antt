@@ -11,8 +11,8 @@ use Rattle.coord_commands.specs.declared.fault.Fault.{Fault}
 use Rattle.coord_commands.specs.declared.fault.Fault.TheVariants.{Usage, OutOfMemory}
 
 of_words : (words : List Text) (fault : Fault) → (fault ≡ OutOfMemory) ⊎ ((fault ≡ Usage) × (takes resetd words ≡ true → task_of words ≡ None)) → IsOfWords words fault
-of_words words fault (inl is) = subst (λ (f : Fault). IsOfWords words f) (sym is) tt
-of_words words fault (inr why) = subst (λ (f : Fault). IsOfWords words f) (sym why.0) why.1
+of_words words fault (inl is) = rw is tt
+of_words words fault (inr why) = rw why.0 why.1
 
 -- nothing but the fault's line is printed
 pub refused_words : (words : List Text) (fault : Fault) (status : ℕ) (input output old new : Option (List ℕ)) (holds : List ℕ → Option Present) (says : List ℕ → Option (List ℕ))

@@ -9,5 +9,5 @@ use Rattle.coord_commands.proofs.creation.create_store.Goals as goal
 
 pub commit-requires-clause-numbered : goal.commit-requires-clause-numbered
 commit-requires-clause-numbered g c =
-    subst (λ (l : List Step). AllByRecursion IsNumbered l) (sym (c.deref.ensures.value ∙ c.in-Ok-founding_steps.ensures.steps))
+    rw (c.deref.ensures.value ∙ c.in-Ok-founding_steps.ensures.steps)
     (each_numbered 1 (commands (content c.args.topology.now)) (omega arith))

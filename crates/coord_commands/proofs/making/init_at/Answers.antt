@@ -14,7 +14,7 @@ returns-in_err-topology-clause-fault g c =
     let same = reads (g.F.Folder.holds c.args.folder.now c.args.file.now) in
     let fault = c.in_err-topology.field-0.0 in
     let returned : c.from_residual.result ≡ Err fault = search rules in
-    subst (λ r. IfErr r (IsOfMaking file same same)) (sym returned)
+    rw returned
     (refused_file file _ same c.topology_from.result fault c.in-Ok.ensures c.in_err-topology.was c.topology_from.ensures.named c.topology_from.ensures.refused)
 
 -- its store is not made

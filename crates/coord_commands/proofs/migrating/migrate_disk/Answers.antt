@@ -41,7 +41,7 @@ returns-in-Ok-clause-fault g c =
       store.world,
       c.in-Ok.ensures.world keeps,
       either_of raised store.world (risen store.world) image torn.0 torn.1
-          (c.lemma_images_give_world.ensures.images (subst (λ d. g.D.Disk.model.keeps_model d ≡ true) back kept) image (subst (λ d. IsImage (g.D.Disk.model.present d) image) back is)),
+          (c.lemma_images_give_world.ensures.images (rw (sym back) kept) image (rw (sym back) is)),
     )))
 
 -- at each moment, and how often the device has failed
@@ -54,7 +54,7 @@ returns-in-Ok-clause-raises g c =
       any_moment = λ keeps.
           let opening = c.in-Ok.ensures.any_moment keeps in
           let raising = c.migrate_store-line.ensures.any_moment (c.in-Ok.ensures.runs.model ∙ keeps) c.in-Ok.ensures.going in
-          subst (λ d. LeavesOnly {D = g.row.D.Denot} g.D.Disk.model c.args.disk d (IsEitherVersion (g.D.Disk.model.present c.args.disk))) (sym back)
+          rw back
           (weaker g.D.Disk.model c.args.disk raised.disk _ _ (and_then g.D.Disk.model c.args.disk store.disk raised.disk _ _ opening raising)
           (λ image either. ⊎_elim (λ was. inl was) (λ gives. inr (store.world, c.in-Ok.ensures.world keeps, gives)) either));
       failures =

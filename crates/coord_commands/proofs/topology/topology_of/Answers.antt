@@ -12,8 +12,7 @@ returns-in_err-read_topology-in-Ok-clause-refused c reason wanted =
     let fault : ConfigFault = c.in_err-read_topology-in-Ok.field-0.0 in
     let text = c.in-Ok.ensures.cases in
     let returned : c.from_residual.result ≡ Err (Topology fault) = search rules in
-    subst (λ r. IfErr r (λ f. f ≡ Topology reason → said_by c.args.bytes.now ≡ Err reason)) (sym returned)
-    (λ told. let same : fault ≡ reason = cc in
+    rw returned (λ told. let same : fault ≡ reason = cc in
     a_text c.args.bytes.now c.in-Ok.text.now (Err reason) text.1 text.0
     (subst (λ f. f ≢ OutOfMemory → reading c.in-Ok.text.now ≡ Err f) same c.in_err-read_topology-in-Ok.ensures.refused wanted))
 

@@ -33,9 +33,8 @@ returns-in-Ok c =
     let asked : ℕ → Option (Text × List Row) → Option Asked = λ n f. option_and_then (in_words n) (option_and_then (λ (p : Text × List Row). asked_by p.0 p.1) f) in
     let is : option_map asked_of c.task_in.result ≡ task_of words = c.task_in.ensures ∙ ap₂ asked count command in
     record {
-      ok = subst (λ (r : Result Task Fault). IfOk r (λ task. task_of words ≡ Some (asked_of task))) (sym c.ok_or.ensures.value) (ok_of c.task_in.result (task_of words) is);
-      err = subst (λ (r : Result Task Fault). IfErr r (λ fault. (fault ≡ OutOfMemory) ⊎ ((fault ≡ Usage) × (takes resetd words ≡ true → task_of words ≡ None)))) (sym c.ok_or.ensures.value)
-          (err_of words c.task_in.result is);
+      ok = rw c.ok_or.ensures.value (ok_of c.task_in.result (task_of words) is);
+      err = rw c.ok_or.ensures.value (err_of words c.task_in.result is);
     }
 
 pub returns : goal.returns

@@ -15,7 +15,7 @@ returns-clause-under_way c =
     record {
       nothing_settled = first;
       world = second ∙ sym (ap (λ (l : List Step). fold (no_world 2) l) none);
-      fresh = subst (λ (l : List Step). AllFresh (no_world 2) (no_world 2) l) (sym none) tt;
+      fresh = rw none tt;
       legal = c.empty-2.ensures.legal;
       numbered = ap (λ (w : World). last_number (get w.sessions founder)) second ∙ none_yet ∙ sym (ap (λ (l : List Step). length l) none);
     }
