@@ -8,9 +8,9 @@ use std::sync::ledger::{Ledger as Count, Share as Part};
 
 /// A caller's share in an engine: the notes of its accepted steps, in order. Contracts see the
 /// notes.
+///
 /// Beside the notes it has one part of the engine's count of accepted steps. So nobody can make a
 /// share up, and all shares together have as many notes as steps were accepted.
-/// made up, and the notes of all shares are as many as the steps.
 #[derive(Drop)]
 pub struct Share<L: Count> {
     pub(crate) part: Part<L>,
