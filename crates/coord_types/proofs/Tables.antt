@@ -1,5 +1,5 @@
 -- What a table's operations answer.
-use Rattle.std.proofs.Common.{◌≡◌, Bool, true, false, not, List, [], ◌∷◌, Some, None, length, refl, sym, ap, ◌∙◌, cond, Ordering, is_some}
+use Rattle.std.proofs.Common.{◌≡◌, Bool, true, not, List, [], ◌∷◌, Some, None, length, refl, sym, ap, ◌∙◌, cond, Ordering, is_some, arith}
 use Rattle.std.proofs.lemmas.List.{nil_from_length}
 use Rattle.std.specs.List.{list_any}
 pub use Rattle.std.specs.Option.{option_map}
@@ -10,8 +10,7 @@ use Rattle.std.specs.FinMap.Entries.{find, put, is_sorted, find-put, find-where_
 use Rattle.coord_types.specs.Table.{Table, entries, get, insert, remove, len, keys, change, changed_by, checked, from_sorted, empty, same_entries_table}
 
 turned : {A : Type 0} (b : Bool) (x y : A) → cond (not b) x y ≡ cond b y x
-turned true x y = refl
-turned false x y = refl
+turned b x y = grind arith
 
 pub get-empty : {K X : Type 0} {R : K → K → Ordering} (o : IsTotalOrder R) (q : K) → get (empty {X = X} {o = o}) q ≡ None
 unfolding get empty
@@ -59,8 +58,7 @@ module _ {K X : Type 0} {R : K → K → Ordering} {o : IsTotalOrder R} where
 module _ {K X : Type 0} {R : K → K → Ordering} (o : IsTotalOrder R) where
   entries-checked : (es : List (K × X)) (b : Bool) (e : is_sorted R es ≡ b) → b ≡ true → entries (checked {o = o} es b e) ≡ es
   unfolding checked
-  entries-checked es true e h = refl
-  entries-checked es false e h = cc
+  entries-checked es b e h1 = grind arith
 
   pub entries-from_sorted : (es : List (K × X)) → is_sorted R es ≡ true → entries (from_sorted {o = o} es) ≡ es
   unfolding from_sorted
@@ -77,11 +75,7 @@ module _ {K X : Type 0} {R : K → K → Ordering} (o : IsTotalOrder R) where
 module _ {K X Y : Type 0} (R : K → K → Ordering) (f : K → X → Y) (same : (x y : K) → eq_by_cmp R x y ≡ true → x ≡ y) where
   find-changed : (q : K) (es : List (K × X)) → find R q (changed_by R f es) ≡ option_map (f q) (find R q es)
   find-changed q [] = refl
-  find-changed q (e ∷ es) =
-      elim (eq_by_cmp R q e.0) as (λ b. eq_by_cmp R q e.0 ≡ b → cond b (Some (f e.0 e.1)) (find R q (changed_by R f es)) ≡ option_map (f q) (cond b (Some e.1) (find R q es))) [
-        | true ↦ λ h. ap (λ k. Some (f k e.1)) (sym (same q e.0 h))
-        | false ↦ λ h. find-changed q es
-      ] refl
+  find-changed q (e ∷ es) = grind (arith, find-changed q es)
 
   pub get-change : {o : IsTotalOrder R} (m : Table o X) (q : K) → get (change f m) q ≡ option_map (f q) (get m q)
   unfolding change get
