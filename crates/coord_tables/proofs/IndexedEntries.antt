@@ -13,10 +13,9 @@ use Rattle.coord_tables.specs.Pairs.{pair_cmp, pair_cmp_total}
 use Rattle.coord_tables.specs.Places.{pair_place, noted_place, HasKeyAt, IsIndexOfFirst, IsIndexed}
 use Rattle.coord_tables.specs.Place.{IsPlaceOf}
 use Rattle.coord_tables.proofs.Cases.{both, by_test}
-use Rattle.coord_tables.proofs.SortedEntries.{below_each, found, is_less}
+use Rattle.coord_tables.proofs.SortedEntries.{below_each, found, is_less, sorted-put, from_sorted-put}
 use Rattle.coord_tables.proofs.Found.{same_pair}
 use Rattle.coord_tables.proofs.PutAtPlace.{put_here}
-use Rattle.coord_tables.proofs.TableEntries.{sorted-put, from_sorted-put}
 
 abbrev pub Entries : Type 0 → Type 0
 Entries X = List ((ℕ × ℕ) × X)

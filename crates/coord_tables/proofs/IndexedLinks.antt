@@ -25,8 +25,7 @@ use Rattle.coord_tables.proofs.IndexedEntries.{at_noted, is_put, nothing_noted, 
 use Rattle.coord_tables.proofs.KeyedLists.{not_tied}
 use Rattle.coord_tables.proofs.LinkLanes.{lane_none_is, same_links, turned_of}
 use Rattle.coord_tables.proofs.PutAtPlace.{put_between}
-use Rattle.coord_tables.proofs.SortedEntries.{below_each, found}
-use Rattle.coord_tables.proofs.TableEntries.{from_sorted-out, from_sorted-put, sorted-out, sorted-put}
+use Rattle.coord_tables.proofs.SortedEntries.{below_each, found, from_sorted-out, from_sorted-put, sorted-out, sorted-put}
 
 -- ---- what is found
 

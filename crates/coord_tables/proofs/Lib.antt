@@ -1,7 +1,6 @@
 pub mod Cases
 pub mod Found
 pub mod KeyedLists
-pub mod TableEntries
 pub mod SortedEntries
 pub mod SlotTables
 pub mod PutAtPlace

@@ -19,7 +19,7 @@ use Rattle.coord_tables.specs.declared.links.LinkRow.{LinkRow}
 use Rattle.coord_tables.proofs.Cases.{both, by_test}
 use Rattle.coord_tables.proofs.Found.{same_pair}
 use Rattle.coord_tables.proofs.KeyedLists.{all_mapped, each_entry, find-below}
-use Rattle.coord_tables.proofs.TableEntries.{from_sorted-put, is_true, sorted-put}
+use Rattle.coord_tables.proofs.SortedEntries.{from_sorted-put, is_true, sorted-put}
 
 pub antisymmetric : IsAntisymmetric pair_cmp
 antisymmetric x y e = same_pair x y (ap is_eq e)

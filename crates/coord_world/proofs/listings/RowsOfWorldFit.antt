@@ -22,7 +22,7 @@ use Rattle.coord_tables.proofs.Found.{same_number, same_pair}
 use Rattle.coord_world.proofs.listings.RowsGiveWorld.{row_listed}
 use Rattle.coord_world.proofs.ranges.EveryNode.{there_is}
 use Rattle.coord_world.proofs.legal.SoundView.{at_each, sound_view}
-use Rattle.coord_tables.proofs.TableEntries.{is_true}
+use Rattle.coord_tables.proofs.SortedEntries.{is_true}
 
 module _ {K X A : Type 0} (R : K → K → Ordering) (made : K × X → A) (key : A → K) (same : (e : K × X) → key (made e) ≡ e.0) where
   abbrev with_key : A → K × A

@@ -2,8 +2,7 @@ use Rattle.std.proofs.Common.{◌≡◌, ◌+◌, ◌<◌, [], suc, Some, length
 use Rattle.std.proofs.lemmas.Option.{slice_get-get_or}
 use Rattle.std.specs.Cmp.{nat_cmp_total}
 use Rattle.coord_types.specs.Table as table
-use Rattle.coord_tables.proofs.SortedEntries.{put_next, sorted-take}
-use Rattle.coord_tables.proofs.TableEntries.{from_sorted-none, from_sorted-put}
+use Rattle.coord_tables.proofs.SortedEntries.{put_next, sorted-take, from_sorted-none, from_sorted-put}
 use Rattle.coord_tables.proofs.slot_table.SlotTable.from_sorted.Goals as goal
 
 pub loop-entry-init : goal.loop-entry-init
