@@ -1,7 +1,6 @@
 pub mod Grammars
 pub mod StepGrammars
 pub mod Loops
-pub mod FieldRanges
 pub mod Batched
 pub mod Lengths
 pub mod Decoded

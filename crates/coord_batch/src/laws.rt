@@ -4,21 +4,25 @@ ghost use Rattle.coord_batch.specs.WorkedBytes.{WorkedBytes};
 ghost use Rattle.coord_batch.specs.Laws.{BatchesArePrefixFree, BytesBehindBatchesAreExtra, CutBatchesAreShort, StepsArePrefixFree};
 
 /// No spelling of a step begins that of another one.
+#[tactic(auto, using(crate::proofs::SpellingLaws::steps_prefix_free))]
 pub fn steps_are_prefix_free()
     ensures { StepsArePrefixFree }
 {}
 
 /// No spelling of a batch begins that of another one.
+#[tactic(auto, using(crate::proofs::SpellingLaws::batches_prefix_free))]
 pub fn batches_are_prefix_free()
     ensures { BatchesArePrefixFree }
 {}
 
 /// A spelling of a batch without its last bytes is `Short`, at the number of bytes that are there.
+#[tactic(auto, using(crate::proofs::SpellingLaws::cut_batches_short))]
 pub fn cut_batches_are_short()
     ensures { CutBatchesAreShort }
 {}
 
 /// A spelling of a batch with more bytes behind it is `Extra`, at the first of these.
+#[tactic(auto, using(crate::proofs::SpellingLaws::more_batches_extra))]
 pub fn bytes_behind_batches_are_extra()
     ensures { BytesBehindBatchesAreExtra }
 {}
