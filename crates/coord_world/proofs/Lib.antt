@@ -1,12 +1,12 @@
 mod release
-mod acceptance
+mod Acceptance
 mod transitions
 mod lanes
 mod legal
 mod listings
 mod lists
 mod ranges
-mod view
+mod View
 mod waves
 mod WorkedRuns
 pub mod Facade

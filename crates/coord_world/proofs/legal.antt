@@ -1,19 +1,11 @@
 -- A fresh step keeps a world legal.
 pub mod TransitionKept
-pub mod DropKept
+pub mod LinksKept
 pub mod EmptyWorld
 pub mod EpochsFit
-pub mod JoinKept
 pub mod NextKeepsLegal
-pub mod StateKept
-pub mod Outside
 pub mod RulesKept
 pub mod Sound
-pub mod SoundLink
-pub mod SoundNext
-pub mod SoundNode
 pub mod SoundView
-pub mod TakeKept
 pub mod NoCycle
-pub mod RaisedLegal
-pub mod NoDistance
+pub mod Versions

@@ -1,10 +1,7 @@
 -- What the rules do at a node and to its links.
 pub mod CanApply
-pub mod FrontsInOrder
 pub mod FrontsOfSends
 pub mod IsTransitionOf
 pub mod KeepsLinks
-pub mod LegalBoth
-pub mod NodeGoesOn
 pub mod RuleCases
 pub mod NewFronts

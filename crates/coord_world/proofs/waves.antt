@@ -1,21 +1,9 @@
 -- A wave signals each node that it reaches exactly once.
-pub mod AbortEffect
-pub mod AckEffect
-pub mod BothPhases
-pub mod Calm
-pub mod Connected
-pub mod Effect
-pub mod Front
-pub mod FrontEnds
-pub mod FrontGoesOn
-pub mod FrontGrows
-pub mod IsExplained
-pub mod LastPhase
+pub mod StepEffects
 pub mod OncePerWave
-pub mod ReadyEffect
-pub mod ResetEffect
+pub mod Effect
+pub mod Connected
+pub mod FirstPhase
+pub mod LastPhase
 pub mod SignalsOf
-pub mod StepEffect
-pub mod StepsInTurn
 pub mod StoredWave
-pub mod WaveBegins

@@ -10,11 +10,13 @@ ghost use Rattle.coord_world.specs.laws.Version1.{Version1AsksNoDistance};
 ghost use Rattle.coord_world.specs.laws.Waves.{OncePerWave};
 
 /// A step that a world takes over some settled world, it takes over itself.
+#[tactic(auto, using(crate::proofs::Acceptance::itself))]
 pub fn fresh_over_itself()
     ensures { FreshOverItself }
 {}
 
 /// A fresh step keeps the ranges of a world.
+#[tactic(auto, using(crate::proofs::ranges::NextKeepsRanges::ranges_next))]
 pub fn next_keeps_ranges()
     ensures { NextKeepsRanges }
 {}
@@ -25,6 +27,7 @@ pub fn next_keeps_legal()
 {}
 
 /// What a step makes of the view is the ideal step.
+#[tactic(auto, using(crate::proofs::View::view_next))]
 pub fn view_of_next()
     ensures { ViewOfNext }
 {}
@@ -36,12 +39,14 @@ pub fn lanes_are_short()
 
 /// In a legal world of version 2 no chain of parents comes back, of nodes in a reset without a Ready
 /// on the way from one to the next.
+#[tactic(auto, using(crate::proofs::legal::NoCycle::no_parent_cycle))]
 pub fn no_parent_cycle()
     ensures { NoParentCycle }
 {}
 
 /// In a world of version 1 within its ranges the predicates ask nothing of distances: H holds of
 /// each link, and N of each node of which the rest of N does.
+#[tactic(auto, using(crate::proofs::legal::Versions::version_1_asks_no_distance))]
 pub fn version_1_asks_no_distance()
     ensures { Version1AsksNoDistance }
 {}
@@ -58,6 +63,7 @@ pub fn rows_of_world_fit()
 {}
 
 /// The rows of a legal world have at most 2 Aborts in each queue.
+#[tactic(auto, using(crate::proofs::listings::RowsOfWorldFit::rows_have_few_aborts))]
 pub fn rows_have_few_aborts()
     ensures { RowsHaveFewAborts }
 {}
@@ -91,6 +97,7 @@ pub fn trail_goes_on()
 {}
 
 /// Each step counts once.
+#[tactic(auto, using(crate::proofs::release::Trails::fold_counts))]
 pub fn fold_counts()
     ensures { FoldCounts }
 {}
@@ -130,6 +137,7 @@ pub fn released_from_base()
 
 /// The kept-reply law: the reply that is kept for a client is the one that its last order was
 /// given, or the base's.
+#[tactic(auto, using(crate::proofs::release::KeptReplies::kept_reply_law))]
 pub fn kept_reply_law()
     ensures { KeptReplyLaw }
 {}

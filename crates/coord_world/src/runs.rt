@@ -5,11 +5,13 @@ ghost use Rattle.coord_world.specs.laws.ReleasedRun.{ReleasedRun};
 ghost use Rattle.coord_world.specs.laws.WorkedSteps.{Distances, DropInAbort, DropInConverge, StoredRun, StoredWave, TwoInitiators, TwoInitiatorsWithDistances};
 
 /// Two nodes and one reset.
+#[tactic(auto, using(crate::proofs::WorkedRuns::stored_computes))]
 pub fn stored_run()
     ensures { StoredRun }
 {}
 
 /// What follows once these nodes are linked is one wave from the first of them.
+#[tactic(auto, using(crate::proofs::waves::StoredWave::stored_is_wave))]
 pub fn stored_wave()
     ensures { StoredWave }
 {}
@@ -20,26 +22,31 @@ pub fn released_run()
 {}
 
 /// Both ends of a link start a reset.
+#[tactic(auto, using(crate::proofs::WorkedRuns::two_compute))]
 pub fn two_initiators()
     ensures { TwoInitiators }
 {}
 
 /// The first link of a path of three nodes is dropped while the wave goes out.
+#[tactic(auto, using(crate::proofs::WorkedRuns::abort_computes))]
 pub fn drop_in_abort()
     ensures { DropInAbort }
 {}
 
 /// The first link of a path of three nodes is dropped after the wave has come back.
+#[tactic(auto, using(crate::proofs::WorkedRuns::converge_computes))]
 pub fn drop_in_converge()
     ensures { DropInConverge }
 {}
 
 /// A wave of version 2 along a path of three nodes, the first link of which is dropped.
+#[tactic(auto, using(crate::proofs::WorkedRuns::distances_compute))]
 pub fn distances()
     ensures { Distances }
 {}
 
 /// Two waves of version 2 that meet on a path of three nodes, up to the signals.
+#[tactic(auto, using(crate::proofs::WorkedRuns::two_waves_compute))]
 pub fn two_initiators_with_distances()
     ensures { TwoInitiatorsWithDistances }
 {}

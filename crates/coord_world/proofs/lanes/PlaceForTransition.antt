@@ -15,7 +15,7 @@ use Rattle.coord_world.specs.Facade.{InRange, IsFresh, Legal, World, lane_at, ne
 use Rattle.coord_tables.proofs.Cases.{by_test}
 use Rattle.coord_world.proofs.legal.NextKeepsLegal.{sound_after}
 use Rattle.coord_world.proofs.lists.GetAfter.{lane_done}
-use Rattle.coord_world.proofs.lanes.IsShort.{lane_short}
+use Rattle.coord_world.proofs.lanes.LaneNumbers.{lane_short}
 
 -- a lane is there, with n messages or more
 record HasQueue (o : Option Lane) (n : ℕ) : Type 0 where

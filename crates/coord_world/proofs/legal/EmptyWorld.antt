@@ -1,14 +1,30 @@
--- The world before any step is legal and in its ranges.
-use Rattle.std.proofs.Common.{◌≡◌, ℕ, ◌≤◌, false, None, sym, ◌∙◌, ap, arith, is_some}
+-- The world before any step is legal and in its ranges: what stands where no node can be is Ready.
+use Rattle.std.proofs.Common.{◌≡◌, ℕ, ◌<◌, Option, Some, None, refl, ap, arith, ◌≤◌, false, sym, ◌∙◌, is_some}
 use Rattle.std.specs.Cmp.{nat_cmp_total}
-use Rattle.coord_types.specs.Facade.{contains, get}
+use Rattle.std.specs.Option.{option_map}
+use Rattle.coord_types.specs.Facade.{NodeState, get, contains}
+use Rattle.coord_types.specs.declared.messages.Mode.TheVariants.{Ready}
+use Rattle.coord_world.specs.Facade.{InRange, World, state, state_or_none, Legal, is_linked, no_world, pair_cmp_total}
 use Rattle.coord_types.specs.declared.limits.TheConstants.{MAX_VERSIONS}
 use Rattle.coord_types.proofs.Sets.{contains-empty}
 use Rattle.coord_types.proofs.Tables.{get-empty, len-empty}
-use Rattle.std.specs.Option.{option_map}
 use Rattle.coord_tables.specs.Links.{Lanes, ends, lane_at, toward}
 use Rattle.coord_tables.proofs.LinkLanes.{turned-empty}
-use Rattle.coord_world.specs.Facade.{InRange, Legal, is_linked, no_world, pair_cmp_total, state_or_none}
+
+-- ---- where no node can be
+
+module _ (w : World) (range : InRange w) (v : ℕ) where
+  of_option : (o : Option NodeState) → get w.nodes v ≡ o → ((r : NodeState) → o ≡ Some r → ⊥) → (state w v).mode ≡ Ready
+  of_option None is never = ap (λ o. (state_or_none o).mode) is
+  of_option (Some r) is never = absurd (never r refl)
+
+  pub none_below : v < 1 → (state w v).mode ≡ Ready
+  none_below low = of_option (get w.nodes v) refl (λ r is. omega (arith, low, (range.nodes v r is).least))
+
+  pub none_above : 64 < v → (state w v).mode ≡ Ready
+  none_above high = of_option (get w.nodes v) refl (λ r is. omega (arith, high, (range.nodes v r is).greatest))
+
+-- ---- the empty world
 
 module _ (version : ℕ) where
   -- no node

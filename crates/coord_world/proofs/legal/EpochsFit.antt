@@ -4,9 +4,9 @@ use Rattle.coord_types.specs.declared.steps.Command.TheVariants.{Add}
 use Rattle.coord_types.specs.declared.steps.Step.{Step}
 use Rattle.coord_types.specs.declared.steps.Step.TheVariants.{Order}
 use Rattle.coord_world.specs.Facade.{InRange, IsFresh, Legal, World, next}
-use Rattle.coord_world.proofs.legal.SoundNode.{EpochsFit, epochs_fit}
+use Rattle.coord_world.proofs.legal.Sound.{EpochsFit, epochs_fit}
 use Rattle.coord_world.proofs.ranges.EveryNode.{Adds, AllRows, Carries, carried_by, rows_next}
-use Rattle.coord_world.proofs.ranges.Carried.{carried_within, farthest_le}
+use Rattle.coord_world.proofs.ranges.Distances.{carried_within, farthest_le}
 
 -- each change of a node keeps it
 carries_epochs : (count n : ℕ) → n ≤ count → Carries n (λ x r. EpochsFit count r × (r.distance ≤ count)) (λ x r. EpochsFit (count + 1) r)

@@ -1,23 +1,121 @@
--- Each rule keeps a world sound: a reset that is asked for, and an Abort, an Ack and a Ready that are taken.
-use Rattle.std.proofs.Common.{◌≡◌, ◌≢◌, ℕ, true, false, List, ◌∷◌, ◌++◌, Option, Some, None, refl, ap, ◌∙◌, sym, subst, arith, eqb}
-use Rattle.std.proofs.lemmas.List.{append-nil}
+-- Each rule keeps a world sound: a state that changes by itself, a message that is taken, a reset that is asked for.
+use Rattle.std.proofs.Common.{◌≡◌, ℕ, true, ◌++◌, refl, sym, subst, arith, ◌≢◌, List, ◌∷◌, ◌∙◌, inl, inr, false, Option, Some, None, ap, eqb}
 use Rattle.std.proofs.lemmas.Bool.Decides.{nat_tests}
-use Rattle.coord_types.specs.Facade.{Ideal, NodeState, contains}
-use Rattle.coord_types.specs.NodeSet as set
-use Rattle.coord_types.specs.declared.messages.Mode.TheVariants.{Abort, Converge}
-use Rattle.coord_types.specs.declared.messages.Msg.{Msg}
-use Rattle.coord_types.specs.declared.messages.Msg.TheVariants as msg
-use Rattle.coord_types.proofs.Sets.{contains-empty, contains-remove}
-use Rattle.coord_node.specs.Facade.{Transition, added, answer, carries, finish, ideal_applied, idle, is_empty, is_parent, kept, on_abort, on_ack, on_ready, request, transition, wave_back, wave_on}
-use Rattle.coord_world.specs.protocol.Links.{link, acks, is_abort, is_ready, strays}
-use Rattle.coord_world.proofs.legal.TransitionKept.{both_before, but_of, transition_kept, not_self}
-use Rattle.coord_world.proofs.transitions.LegalBoth.{LegalBoth, acked, acked_last, converges_near, passed_by, released, wave_ends, wave_meets, wave_reaches}
-use Rattle.coord_world.proofs.transitions.KeepsLinks.{Aside, Keeps, aside_acked, aside_self, has_without, keeps_alone, keeps_answer, keeps_converge, keeps_finish, keeps_idle, keeps_wave_back, keeps_wave_on}
-use Rattle.coord_world.proofs.transitions.RuleCases.{abort_cases, ack_cases, acked_by, ready_cases, request_cases}
+use Rattle.std.proofs.lemmas.List.{append-nil}
+use Rattle.coord_types.specs.Facade.{Ideal, NodeState, new_node, contains}
+use Rattle.coord_types.proofs.Sets.{contains-empty, empty_of_len, len-empty, contains-remove}
+use Rattle.coord_node.specs.Facade.{added, ideal_applied, idle, is_empty, set_state, Transition, headed, answer, carries, finish, is_parent, kept, on_abort, on_ack, on_ready, request, transition, wave_back, wave_on}
+use Rattle.coord_world.proofs.legal.Sound.{SoundNode, Sound}
+use Rattle.coord_world.specs.protocol.Links.{end_of, Link, link, acks, is_abort, is_ready, strays}
+use Rattle.coord_world.proofs.legal.TransitionKept.{but_of, links_of, transition_kept, SoundBut, both_before, not_self, far_after}
+use Rattle.coord_world.proofs.transitions.KeepsLinks.{LegalBoth, acked, acked_last, converges_near, passed_by, released, wave_ends, wave_meets, wave_reaches, Keeps, Aside, aside_acked, aside_self, has_without, keeps_alone, keeps_answer, keeps_converge, keeps_finish, keeps_idle, keeps_wave_back, keeps_wave_on}
 use Rattle.coord_world.proofs.lists.NodeSets.{empty_has, has_only}
-use Rattle.coord_world.proofs.legal.Sound.{Sound}
-use Rattle.coord_world.proofs.legal.SoundNode.{SoundNode}
-use Rattle.coord_world.proofs.legal.TakeKept.{after_take, take_kept}
+use Rattle.coord_types.specs.declared.messages.Msg.{Msg}
+use Rattle.coord_tables.proofs.Cases.{same_or_apart}
+use Rattle.coord_types.specs.declared.messages.Mode.TheVariants.{Abort, Converge}
+use Rattle.coord_world.proofs.transitions.RuleCases.{abort_cases, ack_cases, acked_by, ready_cases, request_cases}
+use Rattle.coord_types.specs.NodeSet as set
+use Rattle.coord_types.specs.declared.messages.Msg.TheVariants as msg
+
+-- ---- a node's state that changes by itself keeps a world sound
+
+-- a node's law looks at four fields
+pub same_node : (r s : NodeState) → r.mode ≡ s.mode → r.parent ≡ s.parent → r.pend ≡ s.pend → r.neighbours ≡ s.neighbours → SoundNode r → SoundNode s
+same_node r s mode parent pend neighbours node = grind (arith, nat_tests, mode, parent, pend, neighbours, node)
+
+module _ (w : Ideal) (u : ℕ) (r : NodeState) (sound : Sound w) where
+  -- a state that changes is a transition that sends nothing
+  set_acts : set_state w u r ≡ ideal_applied w u (idle r)
+  set_acts i = record { version = w.version; state = (set_state w u r).state; linked = w.linked; in_transit = λ x y. same x y i }
+    where
+      same : (x y : ℕ) → w.in_transit x y ≡ (ideal_applied w u (idle r)).in_transit x y
+      same x y = grind (arith, nat_tests, contains-empty y, append-nil (w.in_transit x y))
+
+  -- it keeps a world sound where the neighbours and the ends of the links stay
+  pub row_kept : r.neighbours ≡ (w.state u).neighbours → SoundNode r → ((y : ℕ) → w.linked u y ≡ true → end_of w.version r y ≡ end_of w.version (w.state u) y) → Sound (set_state w u r)
+  row_kept neighbours node ends = subst Sound (sym set_acts) (transition_kept w u (idle r) (but_of w u sound)
+      (λ y with_y. subst LegalBoth (λ i. record { here = sym (ends y with_y) i; there = end_of w.version (w.state y) u; out = sym (nothing y) i; back = w.in_transit y u }) ((links_of w sound).links u y with_y))
+      neighbours node)
+    where
+      nothing : (y : ℕ) → w.in_transit u y ++ added (idle r) y ≡ w.in_transit u y
+      nothing y = grind (arith, contains-empty y, append-nil (w.in_transit u y))
+
+-- a node as it is added
+pub new_legal : (g : ℕ) → SoundNode (new_node g)
+new_legal g = record {
+  awaits = λ e. cc;
+  quiet = λ e. grind (arith, nat_tests, len-empty);
+  no_parent = λ e. refl;
+  has_parent = λ e n. cc;
+  parent_outside = λ y e. cc;
+  parent_near = λ y e. cc;
+  within = λ y e. e;
+}
+
+module _ (w : Ideal) (u : ℕ) (sound : Sound w) where
+  -- more of the node's epochs is confirmed
+  pub confirm_kept : (e : ℕ) → Sound (set_state w u (record (w.state u) { confirmed = e }))
+  confirm_kept e = grind (arith, nat_tests)
+
+  -- a node without neighbours begins anew
+  pub new_kept : (g : ℕ) → is_empty (w.state u).neighbours ≡ true → Sound (set_state w u (new_node g))
+  new_kept g alone = row_kept w u (new_node g) sound (sym (empty_of_len (w.state u).neighbours (grind (arith, nat_tests)))) (new_legal g)
+      (λ y with_y. absurd (grind (arith, sound.linked u y, empty_has (w.state u).neighbours y alone)))
+
+-- ---- a transition at the node that takes a message keeps the world sound, where it keeps the node's links legal
+
+-- u takes the front message from v, and does a transition
+abbrev pub after_take : Ideal → ℕ → ℕ → Transition → Ideal
+after_take w v u d = ideal_applied (headed w v u) u d
+
+module _ (w : Ideal) (v u : ℕ) where
+  -- the message has left the way
+  pub way_back : (m : Msg) (rest : List Msg) → w.in_transit v u ≡ m ∷ rest → (headed w v u).in_transit v u ≡ rest
+  way_back m rest front = grind (arith, nat_tests)
+
+  -- nothing else that comes to u changes
+  way_back_far : (y : ℕ) → y ≢ v → (headed w v u).in_transit y u ≡ w.in_transit y u
+  way_back_far y far = grind (arith, nat_tests)
+
+  -- nor what goes to others
+  pub way_apart : (x y : ℕ) → y ≢ u → (headed w v u).in_transit x y ≡ w.in_transit x y
+  way_apart x y apart = grind (arith, nat_tests)
+
+module _ (w : Ideal) (v u : ℕ) (m : Msg) (rest : List Msg) (front : w.in_transit v u ≡ m ∷ rest) (near : contains (w.state u).neighbours v ≡ true) (sound : Sound w) where
+  -- without the message the world is sound but for the links of its receiver
+  headed_but : SoundBut (headed w v u) u
+  headed_but =
+      let ok = links_of w sound in
+      record { links = λ x y p q with_y. subst LegalBoth (sym (apart_is x y p q)) (ok.links x y with_y); nodes = sound.nodes; linked = sound.linked; mirrored = ok.mirrored; apart = ok.apart }
+    where
+      apart_is : (x y : ℕ) → x ≢ u → y ≢ u → link (headed w v u) x y ≡ link w x y
+      apart_is x y p q i = record { here = end_of w.version (w.state x) y; there = end_of w.version (w.state y) x; out = way_apart w v u x y q i; back = way_apart w v u y x p i }
+
+  module _ (d : Transition) where
+    -- the link to the sender after the transition
+    abbrev pub near_after : Link
+    near_after = record { here = end_of w.version d.state v; there = end_of w.version (w.state v) u; out = w.in_transit u v ++ added d v; back = rest }
+
+    near_is : v ≢ u → far_after (headed w v u) u d v ≡ near_after
+    near_is apart i = record { here = end_of w.version d.state v; there = end_of w.version (w.state v) u; out = way_apart w v u u v apart i ++ added d v; back = way_back w v u m rest front i }
+
+    -- any other link of the node
+    far_is : (y : ℕ) → y ≢ u → y ≢ v → far_after (headed w v u) u d y ≡ far_after w u d y
+    far_is y apart far i = record { here = end_of w.version d.state y; there = end_of w.version (w.state y) u; out = way_apart w v u u y apart i ++ added d y; back = way_back_far w v u y far i }
+
+    -- so the world is sound
+    pub take_kept : d.state.neighbours ≡ (w.state u).neighbours → Keeps w.version (w.state u) v d → LegalBoth near_after → Sound (after_take w v u d)
+    take_kept same keeps at_sender = transition_kept (headed w v u) u d headed_but each same keeps.node
+      where
+        each : (y : ℕ) → w.linked u y ≡ true → LegalBoth (far_after (headed w v u) u d y)
+        each y with_y =
+            let near_y : contains (w.state u).neighbours y ≡ true = sym (sound.linked u y) ∙ with_y in
+            elim (same_or_apart y v) [
+              | inl here ↦ rw here (subst LegalBoth (sym (near_is (not_self w u sound v near))) at_sender)
+              | inr far ↦ subst LegalBoth (sym (far_is y (not_self w u sound y near_y) far)) (keeps.elsewhere (link w u y) y far near_y refl (both_before w u sound y near_y))
+            ]
+
+-- ---- the rules
 
 -- a parent is one node
 pub one_parent : (p : Option ℕ) (x y : ℕ) → is_parent p x ≡ true → y ≢ x → is_parent p y ≡ false

@@ -3,10 +3,8 @@ use Rattle.std.proofs.Common.{◌≡◌, ℕ, Option, Some, None, refl, sym, ◌
 use Rattle.coord_types.specs.Facade.{NodeState, get}
 use Rattle.coord_tables.proofs.LinkLanes.{lane-apart, lane-mirrored}
 use Rattle.coord_world.specs.Facade.{InRange, Legal, World, link, state, state_or_none, view}
-use Rattle.coord_world.proofs.legal.SoundLink.{sound_link}
-use Rattle.coord_world.proofs.legal.SoundNode.{SoundNode, sound_node}
-use Rattle.coord_world.proofs.legal.StateKept.{new_legal}
-use Rattle.coord_world.proofs.legal.Sound.{Sound}
+use Rattle.coord_world.proofs.legal.Sound.{sound_link, SoundNode, sound_node, Sound}
+use Rattle.coord_world.proofs.legal.RulesKept.{new_legal}
 
 -- what holds of a new node and of each node that is there holds at every number
 pub at_each : (w : World) (P : NodeState → Type 0) → P (state_or_none None) → ((u : ℕ) (r : NodeState) → get w.nodes u ≡ Some r → P r) → (u : ℕ) → P (state w u)

@@ -5,10 +5,9 @@ use Rattle.coord_types.specs.Facade.{Ideal, NodeState, contains}
 use Rattle.coord_node.specs.Facade.{Transition, added, ideal_applied}
 use Rattle.coord_world.specs.protocol.Links.{Link, link, end_of, turned}
 use Rattle.coord_tables.proofs.Cases.{by_test, everywhere}
-use Rattle.coord_world.proofs.transitions.LegalBoth.{LegalBoth, LegalEnd}
+use Rattle.coord_world.proofs.transitions.KeepsLinks.{LegalBoth, LegalEnd}
 use Rattle.coord_world.proofs.lists.NodeSets.{empty_has}
-use Rattle.coord_world.proofs.legal.Sound.{Sound}
-use Rattle.coord_world.proofs.legal.SoundNode.{SoundNode}
+use Rattle.coord_world.proofs.legal.Sound.{Sound, SoundNode}
 
 -- what a node's own rules say at each of its ends
 pub legal_end : (version : ℕ) (r : NodeState) (v : ℕ) → SoundNode r → LegalEnd (end_of version r v)

@@ -21,8 +21,7 @@ use Rattle.coord_tables.proofs.IndexedLinks.{lanes_in}
 use Rattle.coord_tables.proofs.KeyedLists.{all_weaker, each_value, find-values, found, sorted-keys}
 use Rattle.coord_tables.proofs.LinkLanes.{each_lane, lane-linked, links-len, one_inc, rows_come_back, turned_of}
 use Rattle.coord_tables.proofs.Found.{same_number, same_pair}
-use Rattle.coord_world.proofs.listings.Degree.{IsTurned}
-use Rattle.coord_world.proofs.listings.NearLinks.{contains-near_with, len-near_with, row_between}
+use Rattle.coord_world.proofs.listings.Near.{IsTurned, contains-near_with, len-near_with, row_between}
 use Rattle.coord_world.proofs.legal.SoundView.{at_each}
 
 module _ (rows : Rows) (fit : RowsFit rows) where

@@ -1,24 +1,46 @@
--- Distances stay in their ranges through a step, those of nodes and those that lanes carry.
-use Rattle.std.proofs.Common.{◌≡◌, ℕ, ◌+◌, ◌≤◌, List, [], ◌∷◌, ◌++◌, cond, refl, sym, ap, ◌∙◌, arith, is_some}
+-- Distances stay in their ranges through a step: those of nodes, and those that lanes and fresh steps carry.
+use Rattle.std.proofs.Common.{ℕ, ◌+◌, ◌≤◌, cond, eqb, subst, arith, ◌≡◌, List, [], ◌∷◌, ◌++◌, refl, sym, ap, ◌∙◌, is_some}
 use Rattle.std.proofs.lemmas.Bool.Decides.{nat_tests}
-use Rattle.coord_types.specs.NodeSet as set
-use Rattle.coord_types.specs.Facade.{NodeState, behind_front}
-use Rattle.coord_types.specs.declared.messages.Msg.{Msg}
-use Rattle.coord_types.specs.declared.messages.Msg.TheVariants as msg
-use Rattle.coord_types.specs.declared.steps.Command.{Command}
-use Rattle.coord_types.specs.declared.steps.Command.TheVariants.{Add, Remove, Join, Drop, Reset, Confirm}
 use Rattle.coord_types.specs.declared.steps.Step.{Step}
 use Rattle.coord_types.specs.declared.steps.Step.TheVariants.{Order, Take, Clear}
+use Rattle.coord_world.specs.Facade.{CarryWithin, InRange, IsFresh, World, farthest, IsDistant, carried, next, state}
+use Rattle.coord_world.proofs.Acceptance.{fresh_take, Passes, fresh_order}
+use Rattle.coord_world.proofs.ranges.EveryNode.{carried_by, Adds, AllRows, Carries, rows_next}
+use Rattle.coord_types.specs.Facade.{NodeState, behind_front}
+use Rattle.coord_types.specs.declared.messages.Msg.{Msg}
+use Rattle.coord_types.specs.declared.steps.Command.{Command}
+use Rattle.coord_types.specs.declared.steps.Command.TheVariants.{Add, Remove, Join, Drop, Reset, Confirm}
 use Rattle.coord_node.specs.Facade.{Transition, added, kept, lost, request, transition, transitions}
 use Rattle.coord_tables.proofs.LinkLanes.{lane-mirrored}
-use Rattle.coord_world.specs.Facade.{CarryWithin, InRange, IsDistant, IsFresh, World, carried, farthest, next, state}
-use Rattle.coord_world.proofs.acceptance.FreshOrder.{Passes, fresh_order}
-use Rattle.coord_world.proofs.acceptance.IsFresh.{fresh_take}
 use Rattle.coord_world.proofs.lanes.EveryLane.{AllLanes, AllSend, LaneCarries, Makes, lanes_next}
-use Rattle.coord_world.proofs.ranges.Carried.{carried_within, one_further_within, farthest_grows}
-use Rattle.coord_world.proofs.ranges.EveryNode.{Adds, AllRows, Carries, carried_by, rows_next}
 use Rattle.coord_world.proofs.transitions.RuleCases.{abort_cases, ack_cases, lost_cases, ready_cases, request_cases}
 use Rattle.coord_tables.proofs.Cases.{by_test}
+use Rattle.coord_types.specs.NodeSet as set
+use Rattle.coord_types.specs.declared.messages.Msg.TheVariants as msg
+
+-- ---- the distance that a fresh step carries to a node is within the world's ranges
+
+-- no distance is above the count
+pub farthest_le : (version count : ℕ) → farthest version count ≤ count
+farthest_le version count = grind (arith, nat_tests)
+
+-- as steps are taken it only grows
+pub farthest_grows : (version count : ℕ) → farthest version count ≤ farthest version (count + 1)
+farthest_grows version count = grind (arith, nat_tests)
+
+-- an Abort carries one more, and in version 1 nothing
+pub one_further_within : (version count d : ℕ) → d ≤ farthest version count → cond (eqb version 1) 0 (d + 1) ≤ farthest version (count + 1)
+one_further_within version count d near = grind (arith, nat_tests)
+
+-- of a step, by its lane
+pub carried_within : (w settled : World) (s : Step) → InRange w → IsFresh w settled s → carried_by s ≤ farthest w.version w.count
+carried_within w settled (Order c n x) range fresh = omega arith
+carried_within w settled (Take p) range fresh =
+    let take = fresh_take w settled p fresh in
+    (subst (CarryWithin (farthest w.version w.count)) take.front (range.carried p.from p.to take.lane take.there)).0
+carried_within w settled (Clear p) range fresh = omega arith
+
+-- ---- of nodes and lanes
 
 -- ---- nodes
 

@@ -12,11 +12,10 @@ use Rattle.coord_types.specs.declared.steps.Step.TheVariants.{Order, Take, Clear
 use Rattle.coord_node.specs.Rules.{with_neighbour}
 use Rattle.coord_tables.proofs.LinkLanes.{lane-mirrored}
 use Rattle.coord_world.specs.Facade.{InRange, IsFresh, World, carried, next, state}
-use Rattle.coord_world.proofs.transitions.NodeGoesOn.{Goes, goes_transition, goes_lost, goes_request}
-use Rattle.coord_world.proofs.acceptance.IsFresh.{fresh_take}
+use Rattle.coord_world.proofs.transitions.RuleCases.{Goes, goes_transition, goes_lost, goes_request}
+use Rattle.coord_world.proofs.Acceptance.{fresh_take, Passes, fresh_order}
 use Rattle.coord_tables.proofs.Found.{get-set, get-unset}
 use Rattle.coord_world.proofs.lists.GetAfter.{each_left, each_made}
-use Rattle.coord_world.proofs.acceptance.FreshOrder.{Passes, fresh_order}
 use Rattle.coord_world.proofs.lists.TableLen.{len-remove_le}
 
 -- the distance that a step carries to a node

@@ -11,19 +11,16 @@ use Rattle.coord_link.specs.LaneMachine.{new_lane, took}
 use Rattle.coord_node.specs.Facade.{Transition, is_parent, transitions, transitions_ordered}
 use Rattle.coord_world.specs.Facade.{InRange, IsFresh, IsNode, NodeInRange, World, is_linked, next, on_lane, state, state_or_none, view, with_command, with_transition, with_transitions}
 use Rattle.coord_world.specs.laws.Laws.{NextKeepsRanges}
-use Rattle.coord_world.proofs.acceptance.IsFresh.{fresh_count}
+use Rattle.coord_world.proofs.Acceptance.{fresh_count, fresh_order}
 use Rattle.coord_world.proofs.ranges.OneGroup.{OneGroup, group_next}
-use Rattle.coord_world.proofs.ranges.LaneInRange.{inc_next, lane_ranges_next}
+use Rattle.coord_world.proofs.ranges.InRange.{inc_next, lane_ranges_next, nodes_next, sessions_next}
 use Rattle.coord_world.proofs.legal.NextKeepsLegal.{sound_after}
-use Rattle.coord_world.proofs.view.ViewOfNext.{view_next}
-use Rattle.coord_world.proofs.ranges.NodeInRange.{nodes_next}
+use Rattle.coord_world.proofs.View.{view_next}
 use Rattle.coord_world.proofs.ranges.Distances.{carried_next, distances_next, same_version}
-use Rattle.coord_world.proofs.acceptance.FreshOrder.{fresh_order}
 use Rattle.coord_tables.proofs.LinkLanes.{turned-changed, turned-joined, turned-parted}
 use Rattle.coord_tables.specs.Links.{Turned, ends, joined}
 use Rattle.coord_world.proofs.ranges.EveryNode.{AllRows, there_is}
-use Rattle.coord_world.proofs.ranges.SessionInRange.{sessions_next}
-use Rattle.coord_world.proofs.lanes.IsShort.{lane_short}
+use Rattle.coord_world.proofs.lanes.LaneNumbers.{lane_short}
 use Rattle.coord_world.proofs.lists.TableLen.{len-change, len-insert, len-remove}
 use Rattle.coord_world.proofs.legal.Sound.{Sound}
 use Rattle.coord_world.proofs.legal.SoundView.{sound_view}

@@ -7,10 +7,10 @@ use Rattle.coord_types.specs.declared.steps.Step.{Step}
 use Rattle.coord_types.specs.declared.steps.Step.TheVariants.{Order, Take, Clear}
 use Rattle.coord_node.specs.Facade.{Transition, headed, ideal_applied, ideal_next, is_empty, linked_up, request, set_state, transition}
 use Rattle.coord_world.specs.Facade.{IsFresh, World, state, state_or_none, view}
-use Rattle.coord_world.proofs.transitions.NodeGoesOn.{goes_transition, goes_lost, goes_request}
-use Rattle.coord_world.proofs.legal.DropKept.{dropped}
-use Rattle.coord_world.proofs.legal.SoundNext.{new_alone}
-use Rattle.coord_world.proofs.acceptance.FreshOrder.{fresh_order}
+use Rattle.coord_world.proofs.transitions.RuleCases.{goes_transition, goes_lost, goes_request}
+use Rattle.coord_world.proofs.legal.LinksKept.{dropped}
+use Rattle.coord_world.proofs.legal.NextKeepsLegal.{new_alone}
+use Rattle.coord_world.proofs.Acceptance.{fresh_order}
 use Rattle.coord_world.proofs.lists.NodeSets.{empty_has}
 use Rattle.coord_world.proofs.legal.Sound.{Sound}
 

@@ -11,7 +11,7 @@ use Rattle.coord_world.specs.Facade.{World, fold, next, outputs, reply}
 use Rattle.coord_world.specs.laws.KeptReplies.{IsLastOrder, IsNotBy, KeptReplyLaw}
 use Rattle.coord_tables.proofs.Cases.{same_or_apart}
 use Rattle.coord_tables.proofs.Found.{get-set}
-use Rattle.coord_world.proofs.ranges.SessionInRange.{sessions_noted}
+use Rattle.coord_world.proofs.ranges.InRange.{sessions_noted}
 
 -- what is kept for client c after these steps
 abbrev Keeps : World → List Step → ℕ → Type 0

@@ -17,9 +17,8 @@ use Rattle.coord_world.specs.laws.Trails.{IsSound}
 use Rattle.coord_tables.proofs.Cases.{by_test}
 use Rattle.coord_world.proofs.lanes.Transit.{counts_cases}
 use Rattle.coord_world.proofs.release.StepOutputs.{front_from_step, outputs_front, receipt_from_step, outputs_receipt}
-use Rattle.coord_world.proofs.release.ResendList.{again_front, again_receipt, again_no_signal, front_again, receipt_again}
+use Rattle.coord_world.proofs.release.ResendList.{again_front, again_receipt, again_no_signal, front_again, receipt_again, not_in_nil}
 use Rattle.coord_world.proofs.release.TakeablePackets.{IsDueReceipt, IsNextPacket, clearable_is_due, lane_found, takeable_is_next, lane_numbered}
-use Rattle.coord_world.proofs.release.Membership.{not_in_nil}
 use Rattle.coord_world.proofs.release.LaneFronts.{IsNumbered, IsFront, IsPast, IsFrontReceipt, front_fold, front_not_past, one_lane, past_fold, receipt_fold}
 use Rattle.coord_world.proofs.release.Trails.{EachFresh, fold-take_drop, each_fresh-drop, each_fresh-take, sound_fold, sound_next, trail_each_fresh}
 use Rattle.coord_world.proofs.lanes.Transit.{counts_cases}

@@ -1,6 +1,7 @@
--- A release stays, and which steps the settled world lets through.
-use Rattle.std.proofs.Common.{◌≡◌, ◌≢◌, ◌↔◌, ℕ, zero, suc, ◌≤◌, true, not, List, [], ◌∷◌, ◌++◌, Option, Some, None, Ok, Err, take, drop, refl, sym, ap, inl, inr, arith}
+-- What is released stays so, whichever world of the trail is the base.
+use Rattle.std.proofs.Common.{◌≡◌, ◌≢◌, ◌↔◌, ℕ, zero, suc, ◌≤◌, true, not, List, [], ◌∷◌, ◌++◌, Option, Some, None, Ok, Err, take, drop, refl, sym, ap, inl, inr, arith, ◌+◌, subst, Contains}
 use Rattle.std.proofs.lemmas.Bool.Decides.{nat_tests}
+use Rattle.std.proofs.lemmas.List.Elements.{Contains-append_cases, Contains-append_left, Contains-append_right}
 use Rattle.coord_types.specs.declared.outputs.Output.{Output}
 use Rattle.coord_types.specs.declared.packets.DataPacket.{DataPacket}
 use Rattle.coord_types.specs.declared.packets.ReceiptPacket.{ReceiptPacket}
@@ -10,13 +11,16 @@ use Rattle.coord_types.specs.declared.steps.Step.{Step}
 use Rattle.coord_types.specs.declared.steps.Step.TheVariants.{Clear, Order, Take}
 use Rattle.coord_link.specs.LaneMachine.{Lane, Tests, against_clear, against_take, refused_or}
 use Rattle.coord_world.specs.declared.verdicts.Verdict.TheVariants.{Fresh}
-use Rattle.coord_world.specs.Facade.{IsFresh, World, accepts, against_data, against_receipt, fold, has_receipted, has_sent, is_exhausted, lane}
-use Rattle.coord_world.specs.laws.Release.{FreshWhereReleased, IsReleased, IsClearable, NamesReleased, IsTakeable, ReleaseStays, TellsReleased}
+use Rattle.coord_world.specs.Facade.{IsFresh, World, accepts, against_data, against_receipt, fold, has_receipted, has_sent, is_exhausted, lane, next, outputs}
+use Rattle.coord_world.specs.laws.Release.{FreshWhereReleased, IsReleased, IsClearable, NamesReleased, IsTakeable, ReleaseStays, TellsReleased, ReleasedFromBase, ReleasedGrows, outputs_of}
 use Rattle.coord_world.specs.laws.Trails.{IsSound}
-use Rattle.coord_world.proofs.release.ReleaseLaw.{front_has_sent, has_receipted_receipt, receipt_has_receipted, release_law, has_sent_front}
+use Rattle.coord_world.proofs.release.ReleaseLaw.{front_has_sent, has_receipted_receipt, receipt_has_receipted, release_law, has_sent_front, again_released}
 use Rattle.coord_world.proofs.release.TakeablePackets.{clearable_is_due, refused_or_none_holds, none_holds_passes, takeable_is_next}
 use Rattle.coord_world.proofs.release.LaneFronts.{front_fold, front_not_past, past_fold, receipt_fold}
 use Rattle.coord_world.proofs.release.Trails.{EachFresh, fold-append, fold-take_drop, each_fresh-append, each_fresh-drop, each_fresh-take, sound_fold, trail_each_fresh}
+use Rattle.coord_world.proofs.release.ResendList.{not_in_nil}
+
+-- ---- a release stays
 
 -- what the earlier settled world shows as released, the later one shows so
 record KeepsReleases (front earlier later : World) : Type 0 where
@@ -136,3 +140,34 @@ fresh_where_told front settled HasGone (Clear p) tells fresh = of_lane (lane fro
 -- so over a trail
 pub fresh_where_released : FreshWhereReleased
 fresh_where_released base trail d s is fresh = fresh_where_told (fold base trail) (fold base (take d trail)) (IsReleased base (take d trail)) s (release_law base trail d is) fresh
+
+-- ---- other bases
+
+-- more steps give out all that fewer give out
+outputs_of_more : (d e : ℕ) (ss : List Step) (w : World) (o : Output) → d ≤ e → Contains (outputs_of w (take d ss)) o → Contains (outputs_of w (take e ss)) o
+outputs_of_more zero e ss w o le h = not_in_nil o h
+outputs_of_more (suc d) zero ss w o le h = absurd (omega (arith, le))
+outputs_of_more (suc d) (suc e) [] w o le h = not_in_nil o h
+outputs_of_more (suc d) (suc e) (s ∷ ss) w o le h = elim (Contains-append_cases (outputs w s) (outputs_of (next w s) (take d ss)) o h) [
+  | inl now ↦ Contains-append_left (outputs w s) (outputs_of (next w s) (take e ss)) o now
+  | inr later ↦ Contains-append_right (outputs w s) (outputs_of (next w s) (take e ss)) o (outputs_of_more d e ss (next w s) o (omega (arith, le)) later)
+]
+
+-- what later steps give out is among the outputs of all
+outputs_of_later : (n d : ℕ) (ss : List Step) (w : World) (o : Output) → Contains (outputs_of (fold w (take n ss)) (take d (drop n ss))) o → Contains (outputs_of w (take (n + d) ss)) o
+outputs_of_later zero d ss w o h = let same : d ≡ zero + d = omega arith in subst (λ k. Contains (outputs_of w (take k ss)) o) same h
+outputs_of_later (suc n) zero [] w o h = not_in_nil o h
+outputs_of_later (suc n) (suc d) [] w o h = not_in_nil o h
+outputs_of_later (suc n) d (s ∷ ss) w o h =
+    let same : suc (n + d) ≡ suc n + d = omega arith in
+    subst (λ k. Contains (outputs_of w (take k (s ∷ ss))) o) same (Contains-append_right (outputs w s) (outputs_of (next w s) (take (n + d) ss)) o (outputs_of_later n d ss (next w s) o h))
+
+pub released_grows : ReleasedGrows
+released_grows base trail d e o le gone = elim gone [ inl given ↦ inl (outputs_of_more d e trail base o le given) | inr before ↦ inr before ]
+
+-- what a later world sends again is released already
+pub released_from_base : ReleasedFromBase
+released_from_base base trail n d o is gone = elim gone [
+  | inl given ↦ inl (outputs_of_later n d trail base o given)
+  | inr again ↦ released_grows base trail n (n + d) o (omega arith) (again_released base (take n trail) is.sound (each_fresh-take n trail base (trail_each_fresh base trail is)) o again)
+]

@@ -18,12 +18,10 @@ use Rattle.coord_world.specs.Facade.{IsFresh, World, all_sent, front_packet, had
 use Rattle.coord_world.specs.laws.Trails.{IsSound}
 use Rattle.coord_tables.proofs.Cases.{by_test}
 use Rattle.coord_world.proofs.lanes.Transit.{counts_cases}
-use Rattle.coord_world.proofs.release.ResendList.{entries_found, front_packet_is, all_sent-flat_map}
-use Rattle.coord_world.proofs.release.LaneAfterStep.{LaneStep, lane_step, lane_taken}
+use Rattle.coord_world.proofs.release.ResendList.{entries_found, front_packet_is, all_sent-flat_map, Contains-cons_cases, Contains-head, not_in_nil, Contains-one, Contains-flat_map_found, Contains-flat_map_entry}
+use Rattle.coord_world.proofs.release.LaneFronts.{LaneStep, lane_step, lane_taken, IsNumbered, IsFront, IsFrontReceipt, one_lane}
 use Rattle.coord_tables.proofs.Found.{same_pair}
 use Rattle.coord_world.proofs.release.TakeablePackets.{fresh_take_is_next}
-use Rattle.coord_world.proofs.release.Membership.{Contains-cons_cases, Contains-head, not_in_nil, Contains-one, Contains-flat_map_found, Contains-flat_map_entry}
-use Rattle.coord_world.proofs.release.LaneFronts.{IsNumbered, IsFront, IsFrontReceipt, one_lane}
 use Rattle.coord_world.proofs.lanes.Transit.{counts_cases}
 
 -- the receipts of a step are of the packet that it takes

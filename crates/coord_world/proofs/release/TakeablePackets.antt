@@ -10,7 +10,7 @@ use Rattle.coord_link.specs.LaneMachine.{Lane, Tests, against_clear, against_tak
 use Rattle.coord_world.specs.Facade.{IsFresh, World, against_data, lane, lane_at, of_incarnation}
 use Rattle.coord_world.specs.laws.Release.{IsClearable, IsTakeable}
 use Rattle.coord_tables.proofs.Cases.{by_test}
-use Rattle.coord_world.proofs.acceptance.IsFresh.{NoneHolds, begins_is, tests_passed, with_incarnation}
+use Rattle.coord_world.proofs.Acceptance.{NoneHolds, begins_is, tests_passed, with_incarnation}
 use Rattle.coord_world.proofs.release.LaneFronts.{IsNumbered, IsFront}
 
 -- where no test refuses, none holds

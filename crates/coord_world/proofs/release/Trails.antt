@@ -4,10 +4,10 @@ use Rattle.std.proofs.lemmas.List.Elements.{All-head, All-tail, All-cons, All-ni
 use Rattle.coord_types.specs.declared.steps.Step.{Step}
 use Rattle.coord_world.specs.Facade.{InTurn, IsFresh, StepInRange, World, fold, next, outputs, outs, reply}
 use Rattle.coord_world.specs.laws.Trails.{IsTrail, IsSound, FoldCounts, TrailKeepsWorlds, TrailIsCut, TrailGoesOn}
-use Rattle.coord_world.proofs.acceptance.FreshOverItself.{itself}
+use Rattle.coord_world.proofs.Acceptance.{itself}
 use Rattle.coord_world.proofs.legal.NextKeepsLegal.{legal_next}
 use Rattle.coord_world.proofs.ranges.NextKeepsRanges.{ranges_next}
-use Rattle.coord_world.proofs.waves.StepsInTurn.{IsTaken, taken_in_turn}
+use Rattle.coord_world.proofs.waves.OncePerWave.{IsTaken, taken_in_turn}
 
 -- each step is fresh over the world before it, and in its ranges
 abbrev pub EachFresh : World → List Step → Type 0

@@ -11,9 +11,8 @@ use Rattle.coord_world.specs.Facade.{InRange, World, carried, lane_at, on_lane, 
 use Rattle.coord_world.specs.code.Fronts.{AreNumbered}
 use Rattle.coord_world.specs.code.NodeTransitions.{CanApply}
 use Rattle.coord_world.specs.code.Ready.{IsReadyFor}
-use Rattle.coord_world.proofs.ranges.Carried.{carried_within, farthest_le}
-use Rattle.coord_world.proofs.acceptance.IsFresh.{fresh_take}
-use Rattle.coord_world.proofs.acceptance.FreshOrder.{fresh_order}
+use Rattle.coord_world.proofs.ranges.Distances.{carried_within, farthest_le}
+use Rattle.coord_world.proofs.Acceptance.{fresh_take, fresh_order}
 use Rattle.coord_world.proofs.lanes.PlaceForTransition.{room_take, room_reset, room_drop_first, room_drop_second}
 use Rattle.coord_world.proofs.legal.SoundView.{at_each}
 

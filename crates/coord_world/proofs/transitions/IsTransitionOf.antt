@@ -18,7 +18,7 @@ use Rattle.coord_world.specs.code.NodeTransitions.{IsTransitionOf, node_changed}
 use Rattle.coord_tables.proofs.Cases.{by_test}
 use Rattle.coord_tables.proofs.LinkLanes.{changed_alike, changed_nowhere, changed_twice, lane-changed}
 use Rattle.coord_tables.specs.Links.{change_lanes}
-use Rattle.coord_world.proofs.release.LaneAfterStep.{sent_none, sent_twice}
+use Rattle.coord_world.proofs.release.LaneFronts.{sent_none, sent_twice}
 
 -- all that is sent to y
 abbrev pub all_to : List (ℕ × Msg) → ℕ → List Msg

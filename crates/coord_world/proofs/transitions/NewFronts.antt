@@ -16,15 +16,13 @@ use Rattle.coord_world.specs.Facade.{Links, World, all_sent, is_lane, lane_at, l
 use Rattle.coord_world.specs.code.Fronts.{by_lesser, front_behind, fronts_sent, new_fronts}
 use Rattle.coord_world.specs.code.Ready.{IsReadyFor}
 use Rattle.coord_tables.proofs.Cases.{by_test}
-use Rattle.coord_world.proofs.acceptance.FreshOrder.{fresh_order}
-use Rattle.coord_world.proofs.acceptance.IsFresh.{fresh_take}
+use Rattle.coord_world.proofs.Acceptance.{fresh_order, fresh_take}
 use Rattle.coord_world.proofs.ranges.NextKeepsRanges.{turned_next}
 use Rattle.coord_tables.specs.Links.{Turned}
 use Rattle.coord_world.proofs.lists.GetAfter.{lane_done, lane_left, lane_made, lane_on}
 use Rattle.coord_world.proofs.lists.NodeSets.{has_only}
-use Rattle.coord_world.proofs.transitions.FrontsInOrder.{among, front_now, in_order}
+use Rattle.coord_world.proofs.transitions.FrontsOfSends.{among, front_now, in_order, Still, fronts_of_sends, lanes_to, nothing_here, rising_to, sends_here, still_same, still_took, two_fronts}
 use Rattle.coord_world.proofs.transitions.RuleCases.{lost_cases}
-use Rattle.coord_world.proofs.transitions.FrontsOfSends.{Still, fronts_of_sends, lanes_to, nothing_here, rising_to, sends_here, still_same, still_took, two_fronts}
 
 -- nothing is touched
 quiet_step : (w : World) (after : Links) → Turned after → ((k : ℕ × ℕ) → Still k (lane_at w.links k.0 k.1) (lane_at after k.0 k.1)) → [] ≡ all_sent w.links (lanes_in_order after)

@@ -13,7 +13,7 @@ use Rattle.coord_node.specs.Steps.{transitions}
 use Rattle.coord_link.specs.LaneMachine.{Lane}
 use Rattle.coord_world.specs.Facade.{Links, StepOutcome, World, all_sent, lane_at, lanes_in_order, next, outputs, outs, receipts, reply, sent_by, signals, state}
 use Rattle.coord_world.specs.laws.Waves.{Connected, IsExplained, is_signal_of, signals_of}
-use Rattle.coord_world.proofs.waves.StepEffect.{signals_in}
+use Rattle.coord_world.proofs.waves.StepEffects.{signals_in}
 
 module _ (v : ℕ) where
   -- 1 for a signal of v

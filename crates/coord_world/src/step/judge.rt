@@ -56,7 +56,7 @@ impl Tables {
     }
 
     /// What a command in its turn is answered, or why it is refused.
-    #[tactic(auto, using(crate::proofs::acceptance::RefusedOr::passes, crate::proofs::acceptance::RefusedOr::refuses))]
+    #[tactic(auto, using(crate::proofs::Acceptance::passes, crate::proofs::Acceptance::refuses))]
     fn judge_fresh(&self, command: &Command) -> Result<Verdict, Refusal>
         ensures { result ≡ refused_or (Verdict.Fresh (kind_ordered (state self.now) command.now))
             (against_command self.now command.now) }

@@ -1,4 +1,4 @@
-use Rattle.coord_world.proofs.lanes.IsShort.{lane_short}
+use Rattle.coord_world.proofs.lanes.LaneNumbers.{lane_short}
 use Rattle.coord_world.proofs.legal.SoundView.{sound_view}
 use Rattle.coord_world.proofs.laws.lanes_are_short.Goals as goal
 

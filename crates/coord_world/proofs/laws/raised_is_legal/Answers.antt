@@ -1,4 +1,4 @@
-use Rattle.coord_world.proofs.legal.RaisedLegal.{raised_is_legal}
+use Rattle.coord_world.proofs.legal.Versions.{raised_is_legal}
 use Rattle.coord_world.proofs.laws.raised_is_legal.Goals as goal
 
 pub returns : goal.returns

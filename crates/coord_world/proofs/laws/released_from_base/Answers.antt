@@ -1,4 +1,4 @@
-use Rattle.coord_world.proofs.release.ReleasedGrows as law
+use Rattle.coord_world.proofs.release.ReleaseStays as law
 use Rattle.coord_world.proofs.laws.released_from_base.Goals as goal
 
 pub returns : goal.returns

@@ -1,4 +1,4 @@
-use Rattle.coord_world.proofs.listings.RowsGiveWorld as law
+use Rattle.coord_world.proofs.listings.RowsOfWorldFit as law
 use Rattle.coord_world.proofs.laws.rows_give_world.Goals as goal
 
 pub returns : goal.returns

@@ -1,6 +1,6 @@
 use Rattle.std.proofs.Common.{◌≡◌, ap}
 use Rattle.coord_world.specs.protocol.NumberedWorld.{World}
-use Rattle.coord_world.proofs.lanes.HasNumber.{all_numbered}
+use Rattle.coord_world.proofs.lanes.LaneNumbers.{all_numbered}
 use Rattle.coord_world.proofs.tables.Tables.again.Goals as goal
 
 pub push_all_again-requires : goal.push_all_again-requires

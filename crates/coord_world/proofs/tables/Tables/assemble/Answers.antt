@@ -4,7 +4,7 @@ use Rattle.coord_types.specs.Table.{from_sorted}
 use Rattle.coord_world.specs.code.Assembly.{AreNear}
 use Rattle.coord_world.specs.protocol.Rows.{listed}
 use Rattle.coord_world.proofs.listings.Assembled.{ids_are_nodes, links_in_order}
-use Rattle.coord_world.proofs.listings.NearSets.{same_with}
+use Rattle.coord_world.proofs.listings.Near.{same_with}
 use Rattle.coord_world.proofs.tables.Tables.assemble.Goals as goal
 
 pub from_rows-requires-clause-rise : goal.from_rows-requires-clause-rise

@@ -2,7 +2,7 @@ use Rattle.std.proofs.Common.{sym, ◌∙◌}
 use Rattle.coord_node.specs.Steps.{kind_ordered}
 use Rattle.coord_world.specs.declared.verdicts.Verdict.TheVariants.{Fresh}
 use Rattle.coord_world.specs.Facade.{against_command, state}
-use Rattle.coord_world.proofs.acceptance.RefusedOr.{refuses}
+use Rattle.coord_world.proofs.Acceptance.{refuses}
 use Rattle.coord_world.proofs.tables.Tables.judge_fresh.Goals as goal
 
 pub returns-in-Err : goal.returns-in-Err

@@ -3,7 +3,7 @@ use Rattle.std.proofs.lemmas.Bool.Decides.{nat_tests}
 use Rattle.coord_tables.proofs.Cases.{by_test}
 use Rattle.coord_types.specs.declared.messages.Mode.TheVariants.{Ready}
 use Rattle.coord_world.specs.protocol.NumberedWorld.{state}
-use Rattle.coord_world.proofs.legal.Outside.{none_above, none_below}
+use Rattle.coord_world.proofs.legal.EmptyWorld.{none_above, none_below}
 use Rattle.coord_world.proofs.world.World.first_busy.Goals as goal
 
 pub loop-number-init : goal.loop-number-init

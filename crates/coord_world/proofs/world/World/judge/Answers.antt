@@ -1,5 +1,5 @@
 use Rattle.std.proofs.Common.{sym, ◌∙◌}
-use Rattle.coord_world.proofs.acceptance.FreshVerdict.{verdict_fresh, verdict_fresh_itself, verdict_kind}
+use Rattle.coord_world.proofs.Acceptance.{verdict_fresh, verdict_fresh_itself, verdict_kind}
 use Rattle.coord_world.proofs.world.World.judge.Goals as goal
 
 pub returns-clause-fresh : goal.returns-clause-fresh

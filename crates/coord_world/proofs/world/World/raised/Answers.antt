@@ -2,7 +2,7 @@ use Rattle.std.proofs.Common.{◌≡◌, sym, subst}
 use Rattle.coord_world.specs.laws.Raised.{RaisesWell}
 use Rattle.coord_world.specs.laws.Waves.{AllReady}
 use Rattle.coord_world.specs.Facade.{InRange, Legal, World}
-use Rattle.coord_world.proofs.legal.RaisedLegal.{raised_is_legal}
+use Rattle.coord_world.proofs.legal.Versions.{raised_is_legal}
 use Rattle.coord_world.proofs.world.World.raised.Goals as goal
 
 raises_well : (w v : World) → w ≡ v → InRange w → Legal v → v.version ≡ 1 → AllReady v → RaisesWell w

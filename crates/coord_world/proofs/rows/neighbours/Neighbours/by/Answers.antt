@@ -3,7 +3,7 @@ use Rattle.std.proofs.lemmas.List.{drop_all, drop_more, get_or-replicate, length
 use Rattle.coord_types.specs.NodeSet.{NodeSet, empty}
 use Rattle.coord_world.specs.code.Assembly.{near_in, near_with}
 use Rattle.coord_tables.specs.declared.links.LinkRow.{LinkRow}
-use Rattle.coord_world.proofs.listings.NearSets.{both_noted, noted}
+use Rattle.coord_world.proofs.listings.Near.{both_noted, noted}
 use Rattle.coord_world.proofs.rows.neighbours.Neighbours.by.Goals as goal
 
 pub loop-link-init : goal.loop-link-init

@@ -1,21 +1,29 @@
--- In a world of version 1 in its ranges every distance is 0, so H holds, and N where the rest of it does.
+-- Worlds of version 1 in their ranges: every distance is 0, so H holds, and N where the rest of it does; a quiet one stays legal as one of version 2.
 use Rattle.std.proofs.Common.{◌≡◌, ℕ, ◌+◌, ◌≤◌, Bool, true, false, ◌&&◌, List, [], ◌∷◌, Option, Some, None, refl, sym, ap, ◌∙◌, subst, arith, is_some, length}
 use Rattle.std.specs.List.{list_all}
 use Rattle.std.proofs.lemmas.Bool.Decides.{nat_tests}
-use Rattle.coord_types.specs.NodeSet as set
-use Rattle.coord_types.specs.Facade.{NodeSet, NodeState, behind_front, get}
+use Rattle.coord_types.specs.Facade.{NodeSet, NodeState, behind_front, get, contains}
 use Rattle.coord_types.specs.declared.messages.Mode.{Mode}
 use Rattle.coord_types.specs.declared.messages.Mode.TheVariants.{Ready, Abort, Converge}
 use Rattle.coord_types.specs.declared.messages.Msg.{Msg}
-use Rattle.coord_types.specs.declared.messages.Msg.TheVariants as msg
 use Rattle.coord_types.proofs.Sets.{len_of_items}
 use Rattle.coord_link.specs.LaneMachine.{Lane, transit, is_front_taken}
 use Rattle.coord_node.specs.Rules.{carries, is_empty, kept}
 use Rattle.coord_world.specs.laws.Version1.{Version1AsksNoDistance, is_legal_but_for_distance}
 use Rattle.coord_world.specs.protocol.Links.{strays}
-use Rattle.coord_world.specs.Facade.{CarryWithin, InRange, World, awaits_rightly, farthest, has_right_distances, has_right_parent, is_distance_right, is_legal_node, is_parent_near, is_ready, lane_at, link, state, state_or_none, transit_or_none, view}
-use Rattle.coord_world.proofs.legal.SoundView.{at_each}
+use Rattle.coord_world.specs.Facade.{CarryWithin, InRange, World, awaits_rightly, farthest, has_right_distances, has_right_parent, is_distance_right, is_legal_node, is_parent_near, is_ready, lane_at, link, state, state_or_none, transit_or_none, view, Legal, aborts, is_abort, is_linked}
+use Rattle.coord_world.proofs.legal.SoundView.{at_each, sound_view}
 use Rattle.coord_tables.proofs.Cases.{both, by_test}
+use Rattle.coord_world.specs.laws.Raised.{RaisedIsLegal, raised}
+use Rattle.coord_world.specs.laws.Waves.{AllReady}
+use Rattle.coord_world.proofs.legal.Sound.{Sound, SoundLink, legal_link}
+use Rattle.coord_world.proofs.lanes.Transit.{ways}
+use Rattle.coord_world.proofs.lists.NodeSets.{empty_has}
+use Rattle.coord_world.proofs.ranges.Distances.{within_more}
+use Rattle.coord_types.specs.NodeSet as set
+use Rattle.coord_types.specs.declared.messages.Msg.TheVariants as msg
+
+-- ---- of version 1
 
 -- ---- a node that is in a reset has a neighbour, by the rest of N
 
@@ -103,3 +111,66 @@ module _ (w : World) (range : InRange w) (first : w.version ≡ 1) where
 
 pub version_1_asks_no_distance : Version1AsksNoDistance
 version_1_asks_no_distance w range first = record { links = links w range first; nodes = nodes w range first }
+
+-- ---- raised to version 2
+
+module _ (w : World) (range : InRange w) (legal : Legal w) (first : w.version ≡ 1) (ready : AllReady w) where
+  sound : Sound (view w)
+  sound = sound_view w range legal
+
+  in_range : InRange (raised w)
+  in_range = record {
+    first = omega arith;
+    last = omega arith;
+    count = range.count;
+    nodes = range.nodes;
+    distances = λ u s is. let far = range.distances u s is in record { within = omega (arith, no_distance w range first s.distance far.within); ready = far.ready };
+    lanes = range.lanes;
+    short = range.short;
+    carried = λ u v l is. within_more _ w.count l.queue (omega (arith, ap (λ v. farthest v w.count) first)) (range.carried u v l is);
+    awaited = range.awaited;
+    parents = range.parents;
+    sessions = range.sessions;
+    links = range.links;
+    linked = range.linked;
+    turned = range.turned;
+    ends = range.ends;
+    one_group = range.one_group;
+    one_incarnation = range.one_incarnation;
+  }
+
+  -- nobody awaits anybody, so no Abort is on the way
+  no_abort : (u v : ℕ) → is_linked w u v ≡ true → aborts ((view w).in_transit u v) ≡ 0
+  no_abort u v linked =
+      let near : contains (state w u).neighbours v ≡ true = sym (sound.linked u v) ∙ linked in
+      let count = (sound.links u v near).counted in
+      let none : contains (state w u).pend v ≡ false = empty_has (state w u).pend v ((sound.nodes u).quiet (ap is_abort (ready u))) in
+      grind (arith, count, none)
+
+  link_raised : (u v : ℕ) → is_linked w u v ≡ true → SoundLink (link (view (raised w)) u v)
+  link_raised u v linked =
+      let before = sound.links u v (sym (sound.linked u v) ∙ linked) in
+      record {
+        counted = before.counted;
+        one_ready = before.one_ready;
+        ready_first = before.ready_first;
+        converged = before.converged;
+        one_parent = before.one_parent;
+        no_ready = before.no_ready;
+        carried = grind (arith, ways, no_abort u v linked);
+        distant = λ busy _ _. cc (ap is_ready (ready v), busy);
+      }
+
+  raised_legal : Legal (raised w)
+  raised_legal = record {
+    nodes = legal.nodes;
+    lanes = legal.lanes;
+    links = λ u v linked. legal_link _ (link_raised u v linked);
+  }
+
+pub raised_is_legal : RaisedIsLegal
+raised_is_legal w range legal first ready = record {
+  in_range = in_range w range legal first ready;
+  legal = raised_legal w range legal first ready;
+  same_again = refl;
+}
