@@ -10,8 +10,7 @@ use Rattle.coord_check.specs.declared.violation.Letter.{Letter}
 use Rattle.coord_check.specs.declared.violation.Letter.TheVariants as letter
 use Rattle.coord_check.specs.declared.violation.Violation.{Violation}
 use Rattle.coord_check.specs.Faults.{first, fault_unless, link_holds, node_faults, end_faults, letter_faults, link_letters, link_faults, faults_from, nodes_from, faults}
-use Rattle.coord_check.proofs.NoFaults.{untold, not_told, both_empty, empty_both, none_told, tell_none, no_letter, letters_none}
-use Rattle.coord_check.proofs.FirstFault.{no_first, there}
+use Rattle.coord_check.proofs.Faults.{untold, not_told, both_empty, empty_both, none_told, tell_none, no_letter, letters_none, no_first, there}
 
 order : (u v : ℕ) → (u < v) ⊎ ((v < u) ⊎ (u ≡ v))
 order u v = grind arith

@@ -1,5 +1,3 @@
-pub mod FirstFault
-pub mod NoFaults
+pub mod Faults
 pub mod LegalWithoutFaults
-pub mod FaultsFail
 pub mod Walk

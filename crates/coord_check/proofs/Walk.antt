@@ -11,9 +11,8 @@ use Rattle.coord_world.specs.Facade.{InRange, World, is_linked, state}
 use Rattle.coord_world.proofs.Facade.{lane-mirrored}
 use Rattle.coord_check.specs.declared.violation.Violation.{Violation}
 use Rattle.coord_check.specs.Faults.{first, faults_from, letter_faults, link_faults, link_letters, nodes_from}
-use Rattle.coord_check.proofs.FirstFault.{first_further}
+use Rattle.coord_check.proofs.Faults.{first_further, lesser_or_same}
 use Rattle.coord_check.proofs.LegalWithoutFaults.{is_node}
-use Rattle.coord_check.proofs.NoFaults.{lesser_or_same}
 
 -- numbers that rise, none of them below u
 abbrev RiseFrom : ℕ → List ℕ → Type 0

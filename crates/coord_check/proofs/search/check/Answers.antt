@@ -4,8 +4,7 @@ use Rattle.std.specs.List.{flat_map}
 use Rattle.coord_world.specs.protocol.NumberedWorld.{World}
 use Rattle.coord_check.specs.Faults.{faults, first, node_faults, faults_from, nodes_from}
 use Rattle.coord_check.specs.declared.violation.Violation.{Violation}
-use Rattle.coord_check.proofs.FaultsFail.{first_fails}
-use Rattle.coord_check.proofs.FirstFault.{first_here, first_further}
+use Rattle.coord_check.proofs.Faults.{first_fails, first_here, first_further}
 use Rattle.coord_check.proofs.LegalWithoutFaults.{clear_or_not}
 use Rattle.coord_check.proofs.search.check.Goals as goal
 

@@ -2,7 +2,7 @@
 use Rattle.std.proofs.Common.{sym, refl, ap, ◌∙◌, arith}
 use Rattle.coord_world.proofs.Facade.{lane-mirrored}
 use Rattle.coord_check.specs.Faults.{first}
-use Rattle.coord_check.proofs.FirstFault.{there, none_left, broken_here, broken_back, unbroken_letter}
+use Rattle.coord_check.proofs.Faults.{there, none_left, broken_here, broken_back, unbroken_letter}
 use Rattle.coord_check.proofs.search.first_of_link.Goals as goal
 
 pub returns-then-not-holds : goal.returns-then-not-holds

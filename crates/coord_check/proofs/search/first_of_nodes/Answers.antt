@@ -1,7 +1,7 @@
 -- Place by place.
 use Rattle.std.proofs.Common.{sym, ap, ◌∙◌, arith}
 use Rattle.coord_check.specs.Faults.{first, node_faults}
-use Rattle.coord_check.proofs.FirstFault.{passed, met, all_passed}
+use Rattle.coord_check.proofs.Faults.{passed, met, all_passed}
 use Rattle.coord_check.proofs.search.first_of_nodes.Goals as goal
 
 pub returns-in-Some : goal.returns-in-Some
