@@ -15,7 +15,7 @@ use Rattle.coord_batch.specs.Steps.{command}
 use Rattle.coord_batch.proofs.Lengths.{aborted, length-command, length-distance, length-flat_map_most, length-message}
 use Rattle.coord_codec.specs.Worlds.{client_row, clients, ends, kind, lane, link_row, links, mask, mode, most_distance, node_row, nodes, parent, queue, world}
 use Rattle.coord_codec.proofs.WorldRows.{all_both, few_clients, few_nodes}
-use Rattle.coord_codec.proofs.WorldTexts.{world_text}
+use Rattle.coord_codec.proofs.WorldGrammars.{world_text}
 
 -- a message is a byte, and an Abort's distance
 length-messages : (version : ℕ) (ms : List Msg) → length (flat_map (message version 0).text ms) ≤ length ms + 8 * aborts ms

@@ -1,17 +1,83 @@
--- The formats of worlds are grammars.
-use Rattle.std.proofs.Common.{◌≡◌, ℕ, zero, suc, ◌<◌, ◌^◌, leb, ltb, List, [], refl, arith}
-use Rattle.coord_types.specs.Facade.{mask_of, mode_from, mode_number, nodes_of}
+-- The formats of worlds are grammars, and so what spells a world is read as that world.
+use Rattle.std.proofs.Common.{◌≡◌, ℕ, Bool, true, false, eqb, List, [], ◌∷◌, ◌++◌, length, refl, ap, zero, suc, ◌<◌, ◌^◌, leb, ltb, arith, Result, Ok, Err, subst, IfOk}
+use Rattle.std.specs.Int.{w64, to_be_bytes}
+use Rattle.std.specs.List.{flat_map}
+use Rattle.std.proofs.lemmas.Bool.Decides.{nat_tests}
+use Rattle.coord_types.specs.Facade.{mask_of, mode_number, mode_from, nodes_of}
+use Rattle.coord_types.specs.declared.messages.Msg.{Msg}
+use Rattle.coord_link.specs.LaneMachine.{Lane}
+use Rattle.coord_world.specs.protocol.Rows.{Rows}
+use Rattle.coord_world.specs.declared.rows.parts.NodeRow.{NodeRow}
+use Rattle.coord_tables.specs.declared.links.LinkRow.{LinkRow}
+use Rattle.coord_batch.specs.Fields.{at_most, distance, from_one_to, group, how_many, message, message_case, node, unless}
+use Rattle.coord_codec.specs.Worlds.{client_row, clients, content_of_lane, ends, lane, link_row, links, mask, mode, most_distance, node_row, nodes, parent, parent_number, queue, world, can_link, first_rises, kind, kind_from, kind_number, last_by, parent_from, second_rises}
 use Rattle.coord_types.specs.declared.steps.Command.{Command}
 use Rattle.coord_link.specs.declared.lane.TheConstants.{PLACES}
 use Rattle.coord_types.proofs.Masks.{mask_back}
 use Rattle.coord_world.specs.protocol.Ranges.{answers}
-use Rattle.coord_world.specs.declared.rows.parts.NodeRow.{NodeRow}
-use Rattle.coord_tables.specs.declared.links.LinkRow.{LinkRow}
 use Rattle.coord_world.specs.declared.rows.parts.ClientRow.{ClientRow}
-use Rattle.coord_batch.specs.Facade.{byte, client, message, node, such_that, u64}
-use Rattle.coord_codec.specs.Worlds.{can_link, client_row, clients, ends, first_rises, kind, kind_from, kind_number, lane, last_by, link_row, links, mask, mode, most_distance, node_row, nodes, parent, parent_from, parent_number, queue, second_rises, world}
-use Rattle.coord_batch.proofs.Grammars.{IsGrammar, byte_grammar, u64_grammar, such_grammar, followed_grammar, made_grammar, counted_grammar}
+use Rattle.coord_batch.specs.Facade.{byte, client, such_that, u64}
+use Rattle.coord_batch.proofs.Grammars.{IsGrammar, byte_grammar, u64_grammar, such_grammar, followed_grammar, made_grammar, counted_grammar, IsBytes, prefix_free}
 use Rattle.coord_batch.proofs.StepGrammars.{and_grammar, at_most_grammar, client_grammar, command_grammar, distance_grammar, from_one_to_grammar, group_grammar, how_many_grammar, message_grammar, node_grammar}
+use Rattle.coord_world.specs.Facade.{InRange, World, rows_of}
+use Rattle.coord_world.proofs.Facade.{rows_give_world, rows_of_world_fit}
+use Rattle.coord_batch.specs.declared.fault.CodecFault.{CodecFault}
+use Rattle.coord_batch.specs.declared.fault.FaultKind.{FaultKind}
+use Rattle.coord_batch.specs.declared.fault.FaultKind.TheVariants.{OutOfMemory, Short, BadByte, Extra, BadVersion}
+use Rattle.coord_batch.specs.Decoding.{Answers, Unless, decoded, is_version}
+use Rattle.coord_batch.proofs.Decoded.{answers_found, answers_only}
+use Rattle.coord_codec.proofs.WorldRows.{rows_fit, version_fits}
+use Rattle.coord_batch.proofs.SpellingLaws.{cut_short, more_extra}
+use Rattle.coord_codec.specs.Laws.{BytesBehindWorldsAreExtra, CutWorldsAreShort, WorldsArePrefixFree}
+use Rattle.coord_types.specs.declared.messages.Msg.TheVariants as msg
+
+-- ---- how the parts of a world are spelled, whatever else is asked of them
+
+-- how a distance is spelled does not depend on what it may be
+distance_text : (version most other n : ℕ) → (distance version most).text n ≡ (distance version other).text n
+unfolding distance unless at_most
+distance_text version most other n = by_version (eqb version 1)
+  where
+    by_version : (b : Bool) → (unless b most).text n ≡ (unless b other).text n
+    by_version true = refl
+    by_version false = refl
+
+message_text : (version most : ℕ) (m : Msg) → (message version most).text m ≡ (message version 0).text m
+unfolding message message_case
+message_text version most (msg.Abort k) = ap (λ t. 0 ∷ t) (distance_text version most 0 k)
+message_text version most msg.Ack = refl
+message_text version most msg.Ready = refl
+
+node_row_text : (version count : ℕ) (r : NodeRow) → (node_row version count []).text r ≡ (node_row version 0 []).text r
+unfolding node_row at_most node group mode parent mask
+node_row_text version count r =
+    ap (λ t. r.id ∷ r.group ∷ mode_number r.mode ∷ parent_number r.parent ∷ ((to_be_bytes w64 (mask_of r.pend) ++ (to_be_bytes w64 r.epoch ++ to_be_bytes w64 r.confirmed)) ++ t)) (distance_text version (most_distance r.mode count) (most_distance r.mode 0) r.distance)
+
+nodes_text : (version count : ℕ) (rs : List NodeRow) → (nodes version count).text rs ≡ (nodes version 0).text rs
+unfolding nodes how_many
+nodes_text version count rs = λ i. length rs ∷ flat_map (λ r. node_row_text version count r i) rs
+
+lane_text : (version count : ℕ) (l : Lane) → (lane version count).text (content_of_lane l) ≡ (lane version 0).text (content_of_lane l)
+unfolding lane queue at_most how_many
+lane_text version count l = λ i. to_be_bytes w64 l.base ++ (to_be_bytes w64 l.got ++ length l.queue ∷ flat_map (λ m. message_text version count m i) l.queue)
+
+link_row_text : (version count : ℕ) (listed : List NodeRow) (r : LinkRow) → (link_row version count listed []).text r ≡ (link_row version 0 [] []).text r
+unfolding link_row ends node from_one_to
+link_row_text version count listed r = λ i. r.a ∷ r.b ∷ (to_be_bytes w64 r.forth.inc ++ (lane_text version count r.forth i ++ lane_text version count r.back i))
+
+links_text : (version count : ℕ) (listed : List NodeRow) (rs : List LinkRow) → (links version count listed).text rs ≡ (links version 0 []).text rs
+unfolding links how_many
+links_text version count listed rs = λ i. length rs ∷ flat_map (λ r. link_row_text version count listed r i) rs
+
+clients_text : (count : ℕ) → (clients count).text ≡ (clients 0).text
+unfolding clients client_row from_one_to
+clients_text count = refl
+
+pub world_text : (r : Rows) → (world r.version).text r ≡ to_be_bytes w64 r.count ++ ((nodes r.version 0).text r.nodes ++ ((links r.version 0 []).text r.links ++ (clients 0).text r.clients))
+unfolding world at_most
+world_text r = λ i. to_be_bytes w64 r.count ++ (nodes_text r.version r.count r.nodes i ++ (links_text r.version r.count r.nodes r.links i ++ clients_text r.count i r.clients))
+
+-- ---- the formats of the parts
 
 -- ---- fields
 
@@ -111,3 +177,54 @@ pub world_grammar : (version : ℕ) → IsGrammar (world version)
 unfolding world
 world_grammar version =
     made_grammar _ _ _ (followed_grammar _ _ (at_most_grammar (2 ^ 40)) (λ count. followed_grammar _ _ (nodes_grammar version count) (λ listed. and_grammar _ _ (links_grammar version count listed) (clients_grammar count)))) (λ p fits. refl)
+
+-- ---- what spells a world is read as that world
+
+-- what is read is in its ranges, and is spelled so
+pub world_found : (version : ℕ) (bytes : List ℕ) (result : Result World CodecFault) → IsBytes bytes → IfOk result InRange → Answers rows_of result (decoded world version bytes) → IfOk result (λ v. (v.version ≡ version) × InRange v × (bytes ≡ (world version).text (rows_of v)))
+world_found version bytes result fits ranges answers = of_result result ranges (answers_found world world_grammar version rows_of bytes result fits answers)
+  where
+    of_result : (r : Result World CodecFault) → IfOk r InRange → IfOk r (λ v. (is_version version ≡ true) × (world version).Fits (rows_of v) × (bytes ≡ (world version).text (rows_of v))) → IfOk r (λ v. (v.version ≡ version) × InRange v × (bytes ≡ (world version).text (rows_of v)))
+    of_result (Ok v) range found = (version_fits version (rows_of v) found.1, range, found.2)
+    of_result (Err e) range found = tt
+
+-- what is said of every fault but want of memory, in other words
+weaker : (k : FaultKind) (P Q : Type 0) → (P → Q) → Unless k P → Unless k Q
+weaker OutOfMemory P Q to said = tt
+weaker Short P Q to said = to said
+weaker BadByte P Q to said = to said
+weaker Extra P Q to said = to said
+weaker BadVersion P Q to said = to said
+
+-- an answer with these rows is this world
+same_world : (w : World) (result : Result World CodecFault) → InRange w → IfOk result InRange → Answers rows_of result (Ok (rows_of w)) → Answers (λ v. v) result (Ok w)
+same_world w (Ok v) range ranges answers = let rows : rows_of w ≡ rows_of v = cc in ap Ok (rows_give_world w v range ranges rows)
+same_world w (Err e) range ranges answers = weaker e.kind _ _ (λ is. absurd cc) answers
+
+-- what spells a world is read as that world, unless memory runs out
+pub world_only : (version : ℕ) (bytes : List ℕ) (result : Result World CodecFault) (w : World) → IfOk result InRange → w.version ≡ version → InRange w → bytes ≡ (world version).text (rows_of w) → Answers rows_of result (decoded world version bytes) → Answers (λ v. v) result (Ok w)
+world_only version bytes result w ranges known range spelled answers =
+    let a_version : is_version version ≡ true = subst (λ n. is_version n ≡ true) known (grind (arith, nat_tests, range.first, range.last)) in
+    let fits = subst (λ n. (world n).Fits (rows_of w)) known (rows_fit (rows_of w) (rows_of_world_fit w range)) in
+    same_world w result range ranges (answers_only world world_grammar version rows_of bytes result (rows_of w) a_version fits spelled answers)
+
+-- ---- the laws of the spellings of worlds, from those of any grammar
+
+-- a world in its ranges has a spelling
+world_fits : (w : World) → InRange w → (world w.version).Fits (rows_of w)
+world_fits w range = rows_fit (rows_of w) (rows_of_world_fit w range)
+
+-- its version is one
+known : (w : World) → InRange w → is_version w.version ≡ true
+known w range = grind (arith, nat_tests, range.first, range.last)
+
+pub worlds_prefix_free : WorldsArePrefixFree
+worlds_prefix_free v w rest more first second one same =
+    let both = prefix_free (world v.version) (world_grammar v.version) (rows_of v) (rows_of w) rest more (world_fits v first) (rw one (world_fits w second)) same in
+    (rows_give_world v w first second both.0, both.1)
+
+pub cut_worlds_short : CutWorldsAreShort
+cut_worlds_short w front rest b range is = cut_short world world_grammar w.version (known w range) (rows_of w) front rest b (world_fits w range) is
+
+pub more_worlds_extra : BytesBehindWorldsAreExtra
+more_worlds_extra w rest b range = more_extra world world_grammar w.version (known w range) (rows_of w) rest b (world_fits w range)

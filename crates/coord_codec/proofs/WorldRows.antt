@@ -26,7 +26,7 @@ use Rattle.coord_batch.specs.Fields.{distance, message, unless}
 use Rattle.coord_batch.specs.Format.{FitBehind, Format}
 use Rattle.coord_codec.specs.Worlds.{client_row, clients, ends, kind, lane, last_by, last_ends, link_row, links, mask, mode, most_distance, node_row, nodes, parent, queue, same_group, world}
 use Rattle.coord_batch.proofs.Batched.{command_fits, command_in_range, at_most_fits, at_most_in_range, client_fits, client_in_range, from_one_to_fits, from_one_to_in_range, group_fits, group_in_range, how_many_fits, how_many_in_range, message_fits, message_in_range, node_fits, node_in_range}
-use Rattle.coord_codec.proofs.Rising.{RiseFrom, above_zero, few_keys, last_push, rise_of_sorted, sorted_of_rise}
+use Rattle.coord_codec.proofs.RowsRead.{RiseFrom, above_zero, few_keys, last_push, rise_of_sorted, sorted_of_rise}
 
 -- ---- fields
 

@@ -8,16 +8,19 @@ pub use coord_batch::laws::{
 };
 
 /// No spelling of a world begins that of another one.
+#[tactic(auto, using(crate::proofs::WorldGrammars::worlds_prefix_free))]
 pub fn worlds_are_prefix_free()
     ensures { WorldsArePrefixFree }
 {}
 
 /// A spelling of a world without its last bytes is `Short`, at the number of bytes that are there.
+#[tactic(auto, using(crate::proofs::WorldGrammars::cut_worlds_short))]
 pub fn cut_worlds_are_short()
     ensures { CutWorldsAreShort }
 {}
 
 /// A spelling of a world with more bytes behind it is `Extra`, at the first of these.
+#[tactic(auto, using(crate::proofs::WorldGrammars::more_worlds_extra))]
 pub fn bytes_behind_worlds_are_extra()
     ensures { BytesBehindWorldsAreExtra }
 {}

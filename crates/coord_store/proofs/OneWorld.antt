@@ -4,7 +4,7 @@ use Rattle.coord_types.specs.declared.steps.Step.{Step}
 use Rattle.coord_batch.specs.Facade.{batch, pair}
 use Rattle.coord_batch.proofs.SpellingLaws.{batches_prefix_free}
 use Rattle.coord_codec.specs.Worlds.{world}
-use Rattle.coord_codec.proofs.SpellingLaws.{worlds_prefix_free}
+use Rattle.coord_codec.proofs.WorldGrammars.{worlds_prefix_free}
 use Rattle.coord_journal.specs.Text.{Content}
 use Rattle.coord_journal.proofs.Texts.{text_same}
 use Rattle.coord_world.specs.Facade.{World, fold, rows_of}

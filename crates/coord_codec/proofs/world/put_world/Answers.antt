@@ -2,7 +2,7 @@ use Rattle.std.proofs.Common.{◌≡◌, [], ◌++◌, refl, ap, sym, ◌∙◌,
 use Rattle.std.specs.Int.{w64, to_be_bytes}
 use Rattle.coord_world.specs.protocol.Rows.{rows_of}
 use Rattle.coord_codec.specs.Worlds.{clients, links, nodes}
-use Rattle.coord_codec.proofs.WorldTexts.{world_text}
+use Rattle.coord_codec.proofs.WorldGrammars.{world_text}
 use Rattle.coord_codec.proofs.world.put_world.Goals as goal
 
 pub returns : goal.returns

@@ -2,8 +2,7 @@ use Rattle.std.proofs.Common.{arith}
 use Rattle.coord_world.specs.protocol.Rows.{rows_of}
 use Rattle.coord_batch.proofs.Decoded.{version_told}
 use Rattle.coord_codec.specs.Worlds.{world}
-use Rattle.coord_codec.proofs.WorldGrammars.{world_grammar}
-use Rattle.coord_codec.proofs.WorldDecoded.{world_found, world_only}
+use Rattle.coord_codec.proofs.WorldGrammars.{world_grammar, world_found, world_only}
 use Rattle.coord_codec.proofs.world.read_world.Goals as goal
 
 pub returns-clause-found : goal.returns-clause-found

@@ -2,7 +2,7 @@ use Rattle.std.proofs.Common.{sym, ◌∙◌}
 use Rattle.std.proofs.lemmas.Result.{err_from_is_err_and}
 use Rattle.coord_codec.specs.Worlds.{client_row}
 use Rattle.coord_batch.proofs.Loops.{one_more, cut_short, all_read}
-use Rattle.coord_codec.proofs.Rising.{last_push}
+use Rattle.coord_codec.proofs.RowsRead.{last_push}
 use Rattle.coord_codec.proofs.world_reading.read_client_list.Goals as goal
 
 pub returns-in_err-row : goal.returns-in_err-row

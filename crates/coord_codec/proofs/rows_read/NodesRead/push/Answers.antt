@@ -1,7 +1,6 @@
 use Rattle.std.proofs.Common.{sym, ◌∙◌, arith}
 use Rattle.coord_world.specs.declared.rows.parts.NodeRow.{NodeRow}
-use Rattle.coord_codec.proofs.Rising.{last_push}
-use Rattle.coord_codec.proofs.RowsRead.{group_noted}
+use Rattle.coord_codec.proofs.RowsRead.{last_push, group_noted}
 use Rattle.coord_codec.proofs.rows_read.NodesRead.push.Goals as goal
 
 pub invariant_of-self-2-clause-last_row : goal.invariant_of-self-2-clause-last_row
