@@ -1,20 +1,60 @@
--- Bytes that give a world are refused for no reason of theirs.
-use Rattle.std.proofs.Common.{◌≡◌, ℕ, List, Some, IsNone, refl, inl, inr, sym, subst}
+-- Bytes give one world at most, and bytes that give one are refused for no reason of theirs.
+use Rattle.std.proofs.Common.{◌≡◌, ℕ, ◌+◌, List, [], ◌∷◌, ◌++◌, sym, ap, ◌∙◌, Some, IsNone, refl, inl, inr, subst, ◌⊎◌, ⊎_elim}
 use Rattle.coord_types.specs.declared.steps.Step.{Step}
+use Rattle.coord_batch.specs.Facade.{batch, pair}
+use Rattle.coord_batch.proofs.SpellingLaws.{batches_prefix_free}
+use Rattle.coord_codec.specs.Worlds.{world}
+use Rattle.coord_codec.proofs.WorldGrammars.{worlds_prefix_free}
+use Rattle.coord_journal.specs.Text.{Content}
+use Rattle.coord_journal.proofs.Texts.{text_same, text_header, behind_header}
+use Rattle.coord_world.specs.Facade.{World, fold, rows_of, InRange, Legal}
+use Rattle.coord_store.specs.Laws.{RecoveredIsOne, RecoveredIsOpened}
+use Rattle.coord_store.specs.Recovered.{Gives, HasSnapshot, IsBody, Replays}
 use Rattle.coord_check.specs.Faults.{faults, first}
 use Rattle.coord_check.specs.declared.violation.Violation.{Violation}
 use Rattle.coord_check.proofs.LegalWithoutFaults.{clear_or_not}
-use Rattle.coord_journal.specs.Facade.{BeginsWithHeader, Content, IsText, RefusesOpen as JournalRefuses}
+use Rattle.coord_journal.specs.Facade.{BeginsWithHeader, IsText, RefusesOpen as JournalRefuses}
 use Rattle.coord_journal.specs.declared.fault.JournalFault.{JournalFault}
-use Rattle.coord_journal.specs.declared.fault.JournalFault.TheVariants as journal
-use Rattle.coord_journal.proofs.Texts.{text_header, text_same, behind_header}
-use Rattle.coord_world.specs.Facade.{InRange, Legal, World}
-use Rattle.coord_store.specs.Laws.{RecoveredIsOpened}
-use Rattle.coord_store.specs.Facade.{AllFresh, Gives, HasSnapshot, IsPassing, Recovered, RefusesBatch, RefusesBatches, RefusesContent, RefusesReplay, RefusesSnapshot, RefusesText, Replays, StopsAt, Takes, store_fault_of}
+use Rattle.coord_store.specs.Facade.{AllFresh, IsPassing, Recovered, RefusesBatch, RefusesBatches, RefusesContent, RefusesReplay, RefusesSnapshot, RefusesText, StopsAt, Takes, store_fault_of, RefusesCreate, RefusesOpen}
 use Rattle.coord_store.specs.declared.faults.StoreFault.{StoreFault}
-use Rattle.coord_store.proofs.Freshness.{fresh_at}
-use Rattle.coord_store.proofs.OneWorld.{one_end, one_spelling, one_start}
-use Rattle.coord_store.proofs.Replaying.{reached}
+use Rattle.coord_store.proofs.Freshness.{fresh_at, reached}
+use Rattle.coord_store.specs.declared.faults.StoreFault.TheVariants.{OutOfMemory}
+use Rattle.coord_journal.specs.declared.fault.JournalFault.TheVariants as journal
+
+-- ---- one world
+
+-- a body spells one list of steps
+pub one_spelling : (w : World) (body : List ℕ) (ss ts : List Step) → IsBody w body ss → IsBody w body ts → ss ≡ ts
+one_spelling w body ss ts here there =
+    let e : (batch w.version).text (pair (w.count + 1) ss) ++ [] ≡ (batch w.version).text (pair (w.count + 1) ts) ++ [] = ap (λ l. l ++ []) (sym here.spelled ∙ there.spelled) in
+    ap (λ p. p.1) (batches_prefix_free w.version (w.count + 1) (w.count + 1) ss ts [] [] here.numbered there.numbered e).0
+
+-- a snapshot spells one world
+pub one_start : (content : Content) (v w : World) → HasSnapshot content v → HasSnapshot content w → v ≡ w
+one_start content v w here there =
+    let same : v.version ≡ w.version = sym here.known ∙ there.known in
+    let e : (world v.version).text (rows_of v) ++ [] ≡ (world v.version).text (rows_of w) ++ [] = ap (λ l. l ++ []) (sym here.spelled ∙ there.spelled ∙ ap (λ n. (world n).text (rows_of w)) (sym same)) in
+    (worlds_prefix_free v w [] [] here.in_range there.in_range same e).0
+
+-- batches lead to one world
+pub one_end : (bodies : List (List ℕ)) (w u v : World) → Replays w bodies u → Replays w bodies v → u ≡ v
+one_end [] w u v here there = sym here ∙ there
+one_end (body ∷ bodies) w u v here there =
+    let same = one_spelling w body here.0 there.0 here.1.spells there.1.spells in
+    one_end bodies (fold w there.0) u v (rw (sym same) here.2) there.2
+
+-- a content gives one world
+pub one_given : (content : Content) (v w : World) → Gives content v → Gives content w → v ≡ w
+one_given content v w here there =
+    let start = one_start content here.start there.start here.snapshot there.snapshot in
+    one_end content.batches there.start v w (rw (sym start) here.replays) there.replays
+
+pub recovered_is_one : RecoveredIsOne
+recovered_is_one bytes v w here there =
+    let same : here.content ≡ there.content = text_same bytes here.content there.content here.text there.text in
+    one_given there.content v w (rw (sym same) here.gives) there.gives
+
+-- ---- what is not refused
 
 -- a legal world has no fault
 legal_unfaulted : (w : World) (v : Violation) → InRange w → Legal w → first (faults w) ≡ Some v → ⊥
@@ -79,3 +119,14 @@ recovered_is_opened bytes w fault recovered (inl passing) = passing
 recovered_is_opened bytes w fault recovered (inr (inl by_journal)) =
     rw by_journal.1 (journal_unrefused bytes recovered.content by_journal.0 recovered.text by_journal.2)
 recovered_is_opened bytes w fault recovered (inr (inr by_text)) = absurd (text_unrefused bytes w fault recovered by_text)
+
+-- ---- what is refused, told of the whole device
+
+-- what a journal holds
+pub content_refused : (bytes : List ℕ) (content : Content) (fault : StoreFault) → IsText content bytes → (fault ≡ OutOfMemory) ⊎ RefusesContent content fault → RefusesOpen bytes fault
+content_refused bytes content fault text refused = ⊎_elim (λ memory. inl (inl memory)) (λ r. inr (inr (content, text, r))) refused
+
+-- a journal that was just made is refused for want of memory or by the device alone
+pub made_refused : (bytes made : List ℕ) (half_size : ℕ) (content : Content) (why : JournalFault) (fault : StoreFault) → fault ≡ store_fault_of why → IsText content made → JournalRefuses made why → RefusesCreate bytes half_size fault
+made_refused bytes made half_size content why fault is text refused =
+    rw is (⊎_elim (λ memory. rw memory tt) (λ device. rw device tt) (journal_unrefused made content why text refused))

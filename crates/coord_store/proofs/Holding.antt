@@ -18,7 +18,7 @@ use Rattle.coord_world.specs.Facade.{InRange, Legal, World, fold, rows_of}
 use Rattle.coord_store.specs.Facade.{AllFresh, Ends, Follows, Gives, GivesEither, Holds, ImagesGive, IsBody, IsKept, IsOnlyWorld, Kept, Recovered, Stays, Takes}
 use Rattle.coord_store.specs.declared.faults.CommitFault.{CommitFault}
 use Rattle.coord_store.specs.declared.faults.CommitFault.TheVariants.{Device}
-use Rattle.coord_store.proofs.Replaying.{replays-push}
+use Rattle.coord_store.proofs.Freshness.{replays-push}
 
 pub text_gives : (content : Content) (w : World) (bytes : List ℕ) → Gives content w → IsText content bytes → Recovered bytes w
 text_gives content w bytes gives text = record { content = content; text = text; gives = gives }

@@ -2,7 +2,7 @@
 use Rattle.std.proofs.Common.{◌≡◌, ◌+◌, ◌-◌, ◌≤◌, true, length, refl, sym, ap, ◌∙◌, subst, arith}
 use Rattle.std.specs.Option.{option_map}
 use Rattle.coord_disk.specs.Model.DiskModel.{DiskModel}
-use Rattle.coord_store.proofs.OneWorld.{recovered_is_one}
+use Rattle.coord_store.proofs.Exclusion.{recovered_is_one}
 use Rattle.coord_world.specs.Facade.{World}
 use Rattle.coord_ledger.specs.Facade.{Crash, DriverState, ImagesGive, IsConsistent, IsOneOf, IsReopened, LedgerState, Opened, Simulates, adopted, answers, at_home, flight_out, kept, kept_by, machine_of, settled_world, started, world_after}
 use Rattle.coord_ledger.proofs.machine.ConsistentFlights.{kept_more}

@@ -1,4 +1,4 @@
-use Rattle.coord_store.proofs.OneWorld as law
+use Rattle.coord_store.proofs.Exclusion as law
 use Rattle.coord_store.proofs.laws.recovered_is_one.Goals as goal
 
 pub returns : goal.returns

@@ -2,7 +2,7 @@ use Rattle.std.proofs.Common.{◌+◌, ⊎_elim, inl, inr, sym, subst, take}
 use Rattle.coord_journal.specs.Contents.{bodies}
 use Rattle.coord_world.specs.protocol.NumberedWorld.{World}
 use Rattle.coord_store.specs.Recovered.{Replays}
-use Rattle.coord_store.proofs.Replaying.{refused_here, replays_on}
+use Rattle.coord_store.proofs.Freshness.{refused_here, replays_on}
 use Rattle.coord_store.proofs.replay.replay.Goals as goal
 
 pub returns-in-Err-replay_batch-clause-refused : goal.returns-in-Err-replay_batch-clause-refused

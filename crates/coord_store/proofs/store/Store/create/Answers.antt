@@ -6,7 +6,7 @@ use Rattle.coord_store.specs.Faults.{store_fault_of}
 use Rattle.coord_store.specs.Recovered.{Gives}
 use Rattle.coord_store.specs.declared.faults.StoreFault.{StoreFault}
 use Rattle.coord_store.specs.declared.faults.StoreFault.TheVariants.{Device}
-use Rattle.coord_store.proofs.Refusing.{made_refused}
+use Rattle.coord_store.proofs.Exclusion.{made_refused}
 use Rattle.coord_store.proofs.store.Store.create.Goals as goal
 
 pub over-requires-clause-holds : goal.over-requires-clause-holds

@@ -1,8 +1,6 @@
 use Rattle.std.proofs.Common.{◌∙◌, inl, inr}
 use Rattle.coord_journal.specs.Contents.{content_of}
-use Rattle.coord_store.proofs.Exclusion.{recovered_is_opened}
-use Rattle.coord_store.proofs.OneWorld.{recovered_is_one}
-use Rattle.coord_store.proofs.Refusing.{content_refused}
+use Rattle.coord_store.proofs.Exclusion.{recovered_is_opened, recovered_is_one, content_refused}
 use Rattle.coord_store.proofs.store.Store.open.Goals as goal
 
 -- its journal is refused
