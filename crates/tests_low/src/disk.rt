@@ -31,54 +31,84 @@ pub(crate) fn choosing(rt: &impl Host, bytes: &[u8], which: usize) -> MemDisk {
     disk
 }
 
+// What a crash leaves of three bytes that were synced and two that were not, behind a gap of two places.
+fn left_of_five(rt: &impl Host, which: usize) -> MemDisk {
+    let mut disk = choosing(rt, &[1, 2, 3], which);
+    disk.write_at(5, &[9, 8]).expect(rt, "not written");
+    disk.crash()
+}
+
+// The three are there, and these bytes behind them.
+fn goes_on(rt: &impl Host, disk: &MemDisk, behind: &[u8], which: usize) {
+    assert!(rt; disk.bytes().starts_with(&[1, 2, 3]), "choice {which}");
+    assert_eq!(rt;
+        disk.bytes().get(3..).unwrap_or(&[9]),
+        behind,
+        "choice {which}"
+    );
+}
+
 #[test]
 fn a_crash_leaves_what_was_chosen(rt: HostRuntime) {
-    // behind a gap of two places two bytes are not synced, and the zeros of the gap are not either
+    // the zeros of the gap are not synced either
     let left: [[u8; 4]; CHOICES] = [[0; 4], [0, 0, 9, 8], [7; 4], [0; 4], [1, 0, 0, 0]];
     for (which, behind) in left.into_iter().enumerate() {
-        let mut disk = choosing(&rt, &[1, 2, 3], which);
-        disk.write_at(5, &[9, 8]).expect(&rt, "not written");
-        let disk = disk.crash();
         let behind = if which == 0 { &[] } else { behind.as_slice() };
-        assert!(rt; disk.bytes().starts_with(&[1, 2, 3]), "choice {which}");
-        assert_eq!(rt;
-            disk.bytes().get(3..).unwrap_or(&[9]),
-            behind,
-            "choice {which}"
-        );
+        goes_on(&rt, &left_of_five(&rt, which), behind, which);
     }
+}
+
+// A disk of four bytes that are synced, of which the second is written once more. It is read as it was
+// written.
+fn written_twice(rt: &impl Host) -> MemDisk {
+    let mut disk = choosing(rt, &[], 2);
+    disk.write_at(0, &[1, 2, 3, 4]).expect(rt, "not written");
+    disk.sync().expect(rt, "not synced");
+    disk.write_at(1, &[5]).expect(rt, "not written");
+    let mut read = [0; 2];
+    disk.read(1, &mut read).expect(rt, "not read");
+    let len = disk.len();
+    assert_eq!(rt; (read, len), ([5, 3], Ok(4)));
+    disk
+}
+
+fn has(rt: &impl Host, disk: &MemDisk, bytes: &[u8]) {
+    assert_eq!(rt; disk.bytes(), bytes);
 }
 
 #[test]
 fn a_synced_write_outlives_a_crash(rt: HostRuntime) {
-    let mut disk = choosing(&rt, &[], 2);
-    disk.write_at(0, &[1, 2, 3, 4]).expect(&rt, "not written");
-    disk.sync().expect(&rt, "not synced");
-    disk.write_at(1, &[5]).expect(&rt, "not written");
-    let mut read = [0; 2];
-    disk.read(1, &mut read).expect(&rt, "not read");
-    assert_eq!(rt; (read, disk.len()), ([5, 3], Ok(4)));
+    let mut disk = written_twice(&rt);
     disk.write_at(3, &[6]).expect(&rt, "not written");
-    let disk = disk.crash();
-    assert_eq!(rt; disk.bytes(), [1, 7, 3, 7].as_slice());
-    assert_eq!(rt; disk.crash().bytes(), [1, 7, 3, 7].as_slice());
+    for _ in 0..2u8 {
+        disk = disk.crash();
+        has(&rt, &disk, &[1, 7, 3, 7]);
+    }
 }
 
-// A sync says that it came, passes where the gate is open, and else fails and changes nothing.
+// Of a sync at a gate: whether it had said that it came before, whether it passes, and whether it says so
+// then; and how many bytes a crash leaves.
+fn synced_at(rt: &impl Host, is_open: bool) -> (bool, bool, bool, usize) {
+    let entered = Arc::new(rt.alloc(), AtomicBool::new(false)).expect(rt, "no flag");
+    let answered = Arc::new(rt.alloc(), AtomicBool::new(is_open)).expect(rt, "no flag");
+    let came = Arc::try_clone(&entered).expect(rt, "no flag");
+    let mut disk = GateDisk::new(MemDisk::new(rt.alloc()), entered, answered);
+    disk.write_at(0, &[1]).expect(rt, "not written");
+    let before = came.load(Ordering::SeqCst);
+    let passed = disk.sync().is_ok();
+    let then = came.load(Ordering::SeqCst);
+    drop(came);
+    let inner = disk.crash().into_inner();
+    let len = inner.bytes().len();
+    drop(inner);
+    (before, passed, then, len)
+}
+
+// It says that it came, passes where the gate is open, and else fails and changes nothing.
 #[test]
 fn a_sync_waits_at_a_gate(rt: HostRuntime) {
     for is_open in [true, false] {
-        let entered = Arc::new(rt.alloc(), AtomicBool::new(false)).expect(&rt, "no flag");
-        let answered = Arc::new(rt.alloc(), AtomicBool::new(is_open)).expect(&rt, "no flag");
-        let came = Arc::try_clone(&entered).expect(&rt, "no flag");
-        let mut disk = GateDisk::new(MemDisk::new(rt.alloc()), entered, answered);
-        disk.write_at(0, &[1]).expect(&rt, "not written");
-        assert!(rt; !came.load(Ordering::SeqCst));
-        assert_eq!(rt; disk.sync().is_ok(), is_open);
-        assert!(rt; came.load(Ordering::SeqCst));
-        assert_eq!(rt;
-            disk.crash().into_inner().bytes().len(),
-            usize::from(is_open)
-        );
+        let wanted = (false, is_open, true, usize::from(is_open));
+        assert_eq!(rt; synced_at(&rt, is_open), wanted);
     }
 }

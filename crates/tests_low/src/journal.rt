@@ -1,7 +1,7 @@
 //! Tests of coord_journal.
 
 use crate::disk::{CHOICES, Host, choosing};
-use coord_disk::{BlipDisk, CrashDisk, Disk, FuseDisk, MemDisk, TornDisk};
+use coord_disk::{BlipDisk, CrashDisk, Disk, FailingDisk, FuseDisk, MemDisk, Rule, TornDisk};
 use coord_journal::{Contents, Journal, JournalFault, format, laws, open};
 
 /// How many calls of the device an opening takes, and an act.
@@ -96,21 +96,24 @@ fn a_journal_is_made_and_added_to(rt: HostRuntime) {
     holds(&rt, &contents, 1);
 }
 
+// A device with these bytes is refused, and left as it is.
+fn is_refused(rt: &impl Host, bytes: &[u8], half_size: u64, why: JournalFault) {
+    let mut disk = MemDisk::from_bytes(rt.alloc(), bytes).expect(rt, "no disk");
+    let answer = format(rt.alloc(), &mut disk, half_size, 1, &[]);
+    let is_left = disk.bytes() == bytes;
+    drop(disk);
+    assert_eq!(rt; (answer, is_left), (Err(why), true));
+}
+
 #[test]
 fn a_device_that_cannot_be_formatted_is_left(rt: HostRuntime) {
-    let full = created();
-    let refused: [(&[u8], u64, JournalFault); 3] = [
-        (&full, 32_768, JournalFault::NotEmpty),
-        (&[], 32_767, JournalFault::HalfSize),
-        (&[], 16_777_217, JournalFault::HalfSize),
-    ];
-    for (bytes, half_size, why) in refused {
-        let mut disk = MemDisk::from_bytes(rt.alloc(), bytes).expect(&rt, "no disk");
-        assert_eq!(rt; format(rt.alloc(), &mut disk, half_size, 1, &[]), Err(why));
-        assert_eq!(rt; disk.bytes(), bytes);
-    }
+    is_refused(&rt, &created(), 32_768, JournalFault::NotEmpty);
+    is_refused(&rt, &[], 32_767, JournalFault::HalfSize);
+    is_refused(&rt, &[], 16_777_217, JournalFault::HalfSize);
     let mut disk = MemDisk::new(rt.alloc());
-    assert_eq!(rt; format(rt.alloc(), &mut disk, 16_777_216, 1, &[]), Ok(()));
+    let made = format(rt.alloc(), &mut disk, 16_777_216, 1, &[]);
+    drop(disk);
+    assert_eq!(rt; made, Ok(()));
 }
 
 // What a replace leaves: all that was written but the selector, and the second half behind zeros.
@@ -216,13 +219,32 @@ fn left(act: Act, passed: u64, which: usize) -> (u8, usize) {
     }
 }
 
-// Whether a crash of this disk leaves it.
-fn leaves(rt: &impl Host, disk: MemDisk, act: Act, passed: u64, which: usize) {
-    let (_journal, contents) = opened(rt, disk.crash());
+// The version and the number of batches on a disk.
+fn found_on(rt: &impl Host, disk: MemDisk) -> (u8, usize) {
+    let (journal, contents) = opened(rt, disk);
     let found = (contents.version, contents.batches.len());
+    drop(journal);
+    drop(contents);
+    found
+}
+
+// An act over a device that fails once so many of its calls are passed, and what a crash leaves of a
+// device that has reached so many.
+fn leaves<R: Rule>(
+    rt: &impl Host,
+    device: FailingDisk<MemDisk, R>,
+    act: Act,
+    passed: u64,
+    reached: u64,
+    which: usize,
+) {
+    let (answer, device) = done(rt, device, act);
+    let calls = device.calls();
+    let found = found_on(rt, device.into_inner().crash());
+    assert_eq!(rt; (answer, calls), wanted(passed), "{act:?}");
     assert_eq!(rt;
         found,
-        left(act, passed, which),
+        left(act, reached, which),
         "{act:?}, {passed} passed, choice {which}"
     );
 }
@@ -232,14 +254,10 @@ fn a_crash_leaves_it_done_or_not(rt: HostRuntime) {
     for act in ACTS {
         for passed in 0..=CALLS {
             for which in 0..CHOICES {
-                let disk = before(&rt, act, which);
-                let (answer, disk) = done(&rt, FuseDisk::new(disk, OPENING + passed), act);
-                assert_eq!(rt; (answer, disk.calls()), wanted(passed), "{act:?}");
-                leaves(&rt, disk.into_inner(), act, passed, which);
-                let disk = before(&rt, act, which);
-                let (answer, disk) = done(&rt, BlipDisk::new(disk, OPENING + passed), act);
-                assert_eq!(rt; (answer, disk.calls()), wanted(passed), "{act:?}");
-                leaves(&rt, disk.into_inner(), act, passed, which);
+                let fuse = FuseDisk::new(before(&rt, act, which), OPENING + passed);
+                leaves(&rt, fuse, act, passed, passed, which);
+                let blip = BlipDisk::new(before(&rt, act, which), OPENING + passed);
+                leaves(&rt, blip, act, passed, passed, which);
             }
         }
     }
@@ -252,10 +270,8 @@ fn a_torn_write_leaves_it_done_or_not(rt: HostRuntime) {
     for act in ACTS {
         for (passed, kept, reached) in [(0, 1, 0), (0, 6, 0), (2, 0, 2), (2, 1, 3)] {
             for which in 0..CHOICES {
-                let disk = before(&rt, act, which);
-                let (answer, disk) = done(&rt, TornDisk::new(disk, OPENING + passed, kept), act);
-                assert_eq!(rt; (answer, disk.calls()), wanted(passed), "{act:?}");
-                leaves(&rt, disk.into_inner(), act, reached, which);
+                let torn = TornDisk::new(before(&rt, act, which), OPENING + passed, kept);
+                leaves(&rt, torn, act, passed, reached, which);
             }
         }
     }
