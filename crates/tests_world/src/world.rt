@@ -1,6 +1,7 @@
 //! Tests of coord_world and coord_check: a reset as a caller sees it, a world put together again from
 //! its rows, and one that is raised.
 
+ghost use Rattle.std.specs.Prelude.{◌≤◌};
 ghost use Rattle.coord_world.specs.protocol.Legal.{Legal};
 
 use crate::steps::{
@@ -125,45 +126,78 @@ fn number_of_last(world: &World) -> u64 {
     }
 }
 
-#[test]
-fn the_links_of_node_64_come_back(rt: HostRuntime) {
+fn has_last_order(rt: &impl Host, world: &World, number: u64) {
+    assert_eq!(rt; number_of_last(world), number);
+}
+
+// Nodes 1, 2 and 64 are added, and 64 is linked to each of the others.
+fn linked_to_64(rt: &impl Host) -> World
+    ensures { Legal result }
+{
     let mut world = World::empty(rt.alloc(), first_version());
-    take(&rt, &mut world, &add(1, id(1)));
-    assert_eq!(rt; number_of_last(&world), 1);
-    take(&rt, &mut world, &add(2, id(2)));
-    take(&rt, &mut world, &add(3, id(64)));
-    take(&rt, &mut world, &join(4, id(1), id(64)));
-    take(&rt, &mut world, &join(5, id(2), id(64)));
+    take(rt, &mut world, &add(1, id(1)));
+    has_last_order(rt, &world, 1);
+    take(rt, &mut world, &add(2, id(2)));
+    take(rt, &mut world, &add(3, id(64)));
+    take(rt, &mut world, &join(4, id(1), id(64)));
+    take(rt, &mut world, &join(5, id(2), id(64)));
+    world
+}
+
+// The links are those of node 64.
+fn has_links_of_64(rt: &impl Host, world: &World) {
     let ends = world
         .links()
         .iter()
         .map(|link| (link.a.number(), link.b.number()));
     assert!(rt; ends.eq([(1, 64), (2, 64)].iter().copied()));
+}
+
+#[test]
+fn the_links_of_node_64_come_back(rt: HostRuntime) {
+    let world = linked_to_64(&rt);
+    has_links_of_64(&rt, &world);
     comes_back(&rt, &world);
 }
 
-// A world of version 1 whose nodes 63 and 64 are Ready becomes one of version 2 with as many links, and
-// the same last order.
-fn raises(rt: &impl Host, world: &World)
-    requires { Legal world.now }
+// A quiet world of version 1 whose nodes 63 and 64 are linked.
+fn linked_last(rt: &impl Host) -> World
+    ensures { Legal result }
 {
-    assert!(rt; world.first_busy().is_none() && world.version().number() == 1);
-    let raised = world.raised().expect(rt, "not raised");
+    let mut world = World::empty(rt.alloc(), first_version());
+    take(rt, &mut world, &add(1, id(63)));
+    take(rt, &mut world, &add(2, id(64)));
+    take(rt, &mut world, &join(3, id(63), id(64)));
+    world
+}
+
+// It is one of version 2 once it is raised, with as many links and the same last order.
+fn is_raised(rt: &impl Host, raised: &World, world: &World) {
     assert_eq!(rt; (raised.version().number(), raised.count()), (2, 3));
     assert_eq!(rt; raised.links().len(), 1);
     assert_eq!(rt; raised.last(client()), world.last(client()));
 }
 
+fn raises(rt: &impl Host, world: &World)
+    requires { Legal world.now }
+{
+    assert!(rt; world.first_busy().is_none() && world.version().number() == 1);
+    let raised = world.raised().expect(rt, "not raised");
+    is_raised(rt, &raised, world);
+}
+
 // A node that is in a reset is told as busy.
+fn is_busy(rt: &impl Host, world: &World, number: u8)
+    requires { (1 ≤ number) × (number ≤ 64) }
+{
+    assert_eq!(rt; world.first_busy(), Some(id(number)));
+}
+
 #[test]
 fn a_quiet_world_is_raised(rt: HostRuntime) {
-    let mut world = World::empty(rt.alloc(), first_version());
-    take(&rt, &mut world, &add(1, id(63)));
-    take(&rt, &mut world, &add(2, id(64)));
-    take(&rt, &mut world, &join(3, id(63), id(64)));
+    let mut world = linked_last(&rt);
     raises(&rt, &world);
     take(&rt, &mut world, &order(4, Command::Reset(id(64))));
-    assert_eq!(rt; world.first_busy(), Some(id(64)));
-    let other = asked(&rt, first_version());
-    assert_eq!(rt; other.first_busy(), Some(id(1)));
+    is_busy(&rt, &world, 64);
+    is_busy(&rt, &asked(&rt, first_version()), 1);
 }
