@@ -1,14 +1,15 @@
 //! Tests of coord_batch and coord_codec: given bytes, each form once, and the greatest batch and world.
 
-use crate::steps::Host;
+use crate::steps::{Host, same};
 use coord_codec::{CodecFault, FaultKind, read_batch, read_world, write_world};
+use coord_world::World;
 
 mod batches;
 mod greatest_world;
 mod worlds;
 
 // What bytes may spell.
-#[derive(Clone, Copy, Debug)]
+#[derive(Clone, Copy)]
 enum Form {
     Batch,
     World,
@@ -36,10 +37,10 @@ fn finds(rt: &impl Host, form: Form, version: u8, bytes: &[u8], kind: FaultKind,
         Form::Batch => read_batch(rt.alloc(), version, bytes).err(),
         Form::World => read_world(rt.alloc(), version, bytes).err(),
     };
-    assert_eq!(rt;
-        found,
-        Some(CodecFault { kind, at }),
-        "{form:?} of version {version}"
+    same(
+        rt,
+        &(version, found),
+        &(version, Some(CodecFault { kind, at })),
     );
 }
 
@@ -66,13 +67,15 @@ fn have_one_length(rt: &impl Host, form: Form, version: u8, bytes: &[u8]) {
     }
 }
 
+// The world that these bytes spell.
+fn world_of(rt: &impl Host, version: u8, bytes: &[u8]) -> World {
+    read_world(rt.alloc(), version, bytes).expect(rt, "no world")
+}
+
 // These bytes spell a world, and it is written as these bytes.
 fn spells_world(rt: &impl Host, version: u8, bytes: &[u8]) {
     let world = read_world(rt.alloc(), version, bytes).expect(rt, "no world");
     let written = write_world(rt.alloc(), &world).expect(rt, "not written");
-    assert!(rt;
-        written.as_slice() == bytes,
-        "a world of {} bytes",
-        bytes.len()
-    );
+    drop(world);
+    assert!(rt; written.as_slice() == bytes);
 }

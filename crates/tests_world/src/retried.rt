@@ -3,7 +3,7 @@
 
 ghost use Rattle.coord_world.specs.protocol.Legal.{Legal};
 
-use crate::steps::{Host, abort, ack, asked, first_version, id, order, receipt, take};
+use crate::steps::{Host, abort, ack, asked, first_version, id, order, receipt, same, take};
 use coord_types::{Command, Kind, Step};
 use coord_world::World;
 
@@ -13,10 +13,10 @@ fn takes(rt: &impl Host, world: &mut World, step: Step, kind: Kind, outputs: usi
     ensures { Legal world.new }
 {
     let outcome = take(rt, world, &step);
-    assert_eq!(rt;
-        (outcome.reply.kind, outcome.outputs.len()),
-        (kind, outputs),
-        "{step:?}"
+    same(
+        rt,
+        &(outcome.reply.kind, outcome.outputs.len()),
+        &(kind, outputs),
     );
 }
 
@@ -28,6 +28,7 @@ fn each_call_leaves_the_world_as_it_was(rt: HostRuntime) {
     takes(&rt, &mut world, Step::Take(ack()), Kind::Taken, 2);
     let receipt = Step::Clear(receipt(abort()));
     takes(&rt, &mut world, receipt, Kind::Cleared, 1);
-    let drop = order(5, Command::Drop(id(1), id(2)));
-    takes(&rt, &mut world, drop, Kind::Done, 1);
+    let parting = order(5, Command::Drop(id(1), id(2)));
+    takes(&rt, &mut world, parting, Kind::Done, 1);
+    drop(world);
 }

@@ -6,12 +6,19 @@ ghost use Rattle.coord_world.specs.protocol.Legal.{Legal};
 use coord_check::check;
 use coord_types::{Client, Command, DataPacket, Group, Msg, NodeId, ReceiptPacket, Step, Version};
 use coord_world::{StepOutcome, Verdict, World};
+use std::fmt::Debug;
 use std::process::Abort;
 
 /// What a test asks for memory, and what ends it.
 pub(crate) trait Host: Abort + AllocGlobal {}
 
 impl<R: Abort + AllocGlobal> Host for R {}
+
+/// What was found is what was wanted. A call of this costs its caller's proof a fraction of what
+/// `assert_eq!` costs where it stands.
+pub(crate) fn same<T: PartialEq + Debug>(rt: &impl Abort, found: &T, wanted: &T) {
+    assert_eq!(rt; found, wanted);
+}
 
 pub(crate) fn id(number: u8) -> NodeId
     requires { (1 ≤ number) × (number ≤ 64) }
@@ -83,11 +90,12 @@ pub(crate) fn take(rt: &impl Host, world: &mut World, step: &Step) -> StepOutcom
     let outcome = match tried(rt, world, &before, step) {
         Some(outcome) => outcome,
         None => {
-            assert!(rt; *world == before, "changed");
+            assert!(rt; *world == before);
             tried(rt, world, &before, step).expect(rt, "not taken")
         }
     };
-    assert!(rt; check(world).is_none(), "a fault behind {step:?}");
+    drop(before);
+    same(rt, &check(world), &None);
     outcome
 }
 

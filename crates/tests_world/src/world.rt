@@ -5,7 +5,8 @@ ghost use Rattle.std.specs.Prelude.{◌≤◌};
 ghost use Rattle.coord_world.specs.protocol.Legal.{Legal};
 
 use crate::steps::{
-    Host, abort, ack, add, asked, client, first_version, id, join, order, packet, receipt, take,
+    Host, abort, ack, add, asked, client, first_version, id, join, order, packet, receipt, same,
+    take,
 };
 use coord_types::{Command, Kind, Mode, Msg, Output, Reply, Session, Step, Version};
 use coord_world::World;
@@ -16,7 +17,7 @@ fn gives(rt: &impl Host, world: &mut World, step: Step, wanted: &[Output])
     ensures { Legal world.new }
 {
     let taken = take(rt, world, &step);
-    assert_eq!(rt; taken.outputs.as_slice(), wanted, "{step:?}");
+    same(rt, &taken.outputs.as_slice(), &wanted);
 }
 
 // These outputs are sent again.
@@ -24,7 +25,7 @@ fn resends(rt: &impl Host, world: &World, wanted: &[Output])
     requires { Legal world.now }
 {
     let resent = world.resend().expect(rt, "not sent again");
-    assert_eq!(rt; resent.as_slice(), wanted);
+    same(rt, &resent.as_slice(), &wanted);
 }
 
 #[test]
@@ -42,6 +43,7 @@ fn a_reset_goes_out_and_comes_back(rt: HostRuntime) {
     gives(&rt, &mut world, Step::Take(ack()), &signal);
     let ready = [Output::Sent(packet(true, 2, Msg::Ready))];
     gives(&rt, &mut world, Step::Clear(receipt(abort())), &ready);
+    drop(world);
 }
 
 // In version 2 an Abort carries how far it has come.
@@ -49,7 +51,9 @@ fn a_reset_goes_out_and_comes_back(rt: HostRuntime) {
 fn distances_are_carried(rt: HostRuntime) {
     let mut world = asked(&rt, Version::new(2).expect(&rt, "no version"));
     take(&rt, &mut world, &Step::Take(packet(true, 1, Msg::Abort(1))));
-    assert_eq!(rt; world.node(id(2)).map(|node| node.distance()), Some(1));
+    let distance = world.node(id(2)).map(|node| node.distance());
+    drop(world);
+    same(&rt, &distance, &Some(1));
 }
 
 // Whether this is the world of `asked`.
@@ -59,13 +63,14 @@ fn is_asked(rt: &impl Host, world: &World) {
         node.pend().contains(id(2)),
         node.neighbours().contains(id(2)),
     );
-    assert_eq!(rt;
-        (world.count(), node.mode(), near),
-        (4, Mode::Abort, (true, true))
+    same(
+        rt,
+        &(world.count(), node.mode(), near),
+        &(4, Mode::Abort, (true, true)),
     );
     let forth = world.lane(id(1), id(2)).expect(rt, "no lane to node 2");
-    assert_eq!(rt; (forth.inc(), forth.base(), forth.got()), (3, 0, 0));
-    assert_eq!(rt; forth.queue(), [Msg::Abort(0)].as_slice());
+    same(rt, &(forth.inc(), forth.base(), forth.got()), &(3, 0, 0));
+    same(rt, &forth.queue(), &[Msg::Abort(0)].as_slice());
     let back = world.lane(id(2), id(1)).expect(rt, "no lane to node 1");
     assert!(rt; back.queue().is_empty());
     let command = Command::Reset(id(1));
@@ -73,13 +78,14 @@ fn is_asked(rt: &impl Host, world: &World) {
         step: 4,
         kind: Kind::Started,
     };
-    assert_eq!(rt;
-        world.last(client()),
-        Some(Session {
+    same(
+        rt,
+        &world.last(client()),
+        &Some(Session {
             number: 4,
             command,
-            reply
-        })
+            reply,
+        }),
     );
 }
 
@@ -98,7 +104,9 @@ fn a_world_comes_back(rt: HostRuntime) {
     let world = asked(&rt, first_version());
     is_asked(&rt, &world);
     let back = comes_back(&rt, &world);
+    drop(world);
     is_asked(&rt, &back);
+    drop(back);
 }
 
 // A copy is the same world, until it takes a step.
@@ -109,6 +117,7 @@ fn is_copied(rt: &impl Host, world: &World)
     assert!(rt; copy == *world);
     take(rt, &mut copy, &Step::Take(abort()));
     assert!(rt; copy != *world);
+    drop(copy);
 }
 
 #[test]
@@ -116,6 +125,7 @@ fn a_world_is_copied(rt: HostRuntime) {
     let world = asked(&rt, first_version());
     is_copied(&rt, &world);
     is_asked(&rt, &world);
+    drop(world);
 }
 
 // The number of client 1's last order; 0 where it has none.
@@ -127,7 +137,7 @@ fn number_of_last(world: &World) -> u64 {
 }
 
 fn has_last_order(rt: &impl Host, world: &World, number: u64) {
-    assert_eq!(rt; number_of_last(world), number);
+    same(rt, &number_of_last(world), &number);
 }
 
 // Nodes 1, 2 and 64 are added, and 64 is linked to each of the others.
@@ -157,7 +167,9 @@ fn has_links_of_64(rt: &impl Host, world: &World) {
 fn the_links_of_node_64_come_back(rt: HostRuntime) {
     let world = linked_to_64(&rt);
     has_links_of_64(&rt, &world);
-    comes_back(&rt, &world);
+    let back = comes_back(&rt, &world);
+    drop(back);
+    drop(world);
 }
 
 // A quiet world of version 1 whose nodes 63 and 64 are linked.
@@ -173,9 +185,9 @@ fn linked_last(rt: &impl Host) -> World
 
 // It is one of version 2 once it is raised, with as many links and the same last order.
 fn is_raised(rt: &impl Host, raised: &World, world: &World) {
-    assert_eq!(rt; (raised.version().number(), raised.count()), (2, 3));
-    assert_eq!(rt; raised.links().len(), 1);
-    assert_eq!(rt; raised.last(client()), world.last(client()));
+    same(rt, &(raised.version().number(), raised.count()), &(2, 3));
+    same(rt, &raised.links().len(), &1);
+    same(rt, &raised.last(client()), &world.last(client()));
 }
 
 fn raises(rt: &impl Host, world: &World)
@@ -184,13 +196,14 @@ fn raises(rt: &impl Host, world: &World)
     assert!(rt; world.first_busy().is_none() && world.version().number() == 1);
     let raised = world.raised().expect(rt, "not raised");
     is_raised(rt, &raised, world);
+    drop(raised);
 }
 
 // A node that is in a reset is told as busy.
 fn is_busy(rt: &impl Host, world: &World, number: u8)
     requires { (1 ≤ number) × (number ≤ 64) }
 {
-    assert_eq!(rt; world.first_busy(), Some(id(number)));
+    same(rt, &world.first_busy(), &Some(id(number)));
 }
 
 #[test]
@@ -199,5 +212,8 @@ fn a_quiet_world_is_raised(rt: HostRuntime) {
     raises(&rt, &world);
     take(&rt, &mut world, &order(4, Command::Reset(id(64))));
     is_busy(&rt, &world, 64);
-    is_busy(&rt, &asked(&rt, first_version()), 1);
+    drop(world);
+    let world = asked(&rt, first_version());
+    is_busy(&rt, &world, 1);
+    drop(world);
 }

@@ -5,7 +5,7 @@ ghost use Rattle.coord_types.specs.Facade.{carried};
 ghost use Rattle.coord_types.specs.declared.limits.TheConstants.{MAX_BATCH_STEPS, MAX_STEPS};
 
 use super::*;
-use crate::steps::{client, first_version, id, packet};
+use crate::steps::{client, first_version, id, packet, same};
 use coord_codec::write_batch;
 use coord_types::{Client, Command, Group, Msg, ReceiptPacket, Step, Version};
 
@@ -101,9 +101,9 @@ fn spells(rt: &impl Host, version: Version, bytes: &[u8], first: u64, steps: &[S
     requires writable { AllByRecursion (IsWritable version) steps.now }
 {
     let batch = read_batch(rt.alloc(), version.number(), bytes).expect(rt, "not read");
-    assert_eq!(rt; (batch.first, batch.steps.as_slice()), (first, steps));
+    same(rt, &(batch.first, batch.steps.as_slice()), &(first, steps));
     let written = write_batch(rt.alloc(), version, first, steps);
-    assert_eq!(rt; written.expect(rt, "not written").as_slice(), bytes);
+    same(rt, &written.expect(rt, "not written").as_slice(), &bytes);
 }
 
 #[test]

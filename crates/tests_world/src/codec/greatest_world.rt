@@ -91,7 +91,7 @@ fn star(rt: &impl Host, count: u8) -> Vec<u8> {
 fn the_greatest_world_and_star(rt: HostRuntime) {
     for (version, size) in [(1, 8_907), (2, 17_611)] {
         let bytes = greatest(&rt, version);
-        assert_eq!(rt; bytes.len(), size);
+        same(&rt, &bytes.len(), &size);
         spells_world(&rt, version, &bytes);
     }
     spells_world(&rt, 1, &star(&rt, 17));

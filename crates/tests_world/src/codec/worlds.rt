@@ -1,5 +1,4 @@
 use super::*;
-use coord_world::World;
 
 // After three steps: nodes 1 and 2 of group 1, the link that the third step made, and an Ack from 2 to 1.
 const WORLD: [u8; 112] = [
@@ -82,15 +81,17 @@ fn silent_world(rt: &impl Host) -> Vec<u8> {
 fn differ(rt: &impl Host, silent: &World, near: &World) {
     assert!(rt; silent != near);
     assert!(rt; near != silent);
-    assert_eq!(rt; silent.count(), near.count());
+    same(rt, &silent.count(), &near.count());
 }
 
 #[test]
 fn a_longer_queue_makes_another_world(rt: HostRuntime) {
     let bytes = silent_world(&rt);
-    let silent = read_world(rt.alloc(), 1, &bytes).expect(&rt, "not read");
-    let near = read_world(rt.alloc(), 1, &world()).expect(&rt, "not read");
+    let silent = world_of(&rt, 1, &bytes);
+    let near = world_of(&rt, 1, &world());
     differ(&rt, &silent, &near);
+    drop(silent);
+    drop(near);
 }
 
 const CHANGES: [Change; 23] = [
