@@ -1,6 +1,6 @@
 //! The bytes of a store, and devices that are refused.
 
-use crate::scripts::{HALF, Host, OPENING, begun, created, node, told_on};
+use crate::scripts::{HALF, Host, OPENING, begun, created, node, same, told_on};
 use coord_check::{Letter, Violation};
 use coord_disk::{BlipDisk, MemDisk};
 use coord_journal::format;
@@ -56,8 +56,20 @@ fn a_store_is_made_and_committed_to(rt: HostRuntime) {
     for version in 1..3u8 {
         let bytes = changed(version, VERSION, version);
         let made = created(&rt, version).into_disk();
-        assert_eq!(rt; made.bytes(), without_batch(version).as_slice());
-        assert_eq!(rt; begun(&rt, version).bytes(), bytes.as_slice());
+        same(&rt, &made.bytes(), &without_batch(version).as_slice());
+        same(&rt, &begun(&rt, version).bytes(), &bytes.as_slice());
+    }
+}
+
+// Why no store is made on a device that fails this call.
+fn not_made(rt: &impl Host, call: u64) -> StoreFault {
+    let disk = BlipDisk::new(MemDisk::new(rt.alloc()), call);
+    match Store::create(rt.alloc(), disk, HALF, 2) {
+        Ok(_store) => panic!(rt; "made, without call {call}"),
+        Err((fault, disk)) => {
+            drop(disk);
+            fault
+        }
     }
 }
 
@@ -65,11 +77,7 @@ fn a_store_is_made_and_committed_to(rt: HostRuntime) {
 #[test]
 fn a_making_may_fail_at_each_call(rt: HostRuntime) {
     for call in 0..2 * OPENING {
-        let disk = BlipDisk::new(MemDisk::new(rt.alloc()), call);
-        match Store::create(rt.alloc(), disk, HALF, 2) {
-            Ok(_store) => panic!(rt; "made, without call {call}"),
-            Err((fault, _disk)) => assert_eq!(rt; fault, StoreFault::Device),
-        }
+        same(&rt, &not_made(&rt, call), &StoreFault::Device);
     }
 }
 
@@ -92,21 +100,30 @@ const CHANGED: [(usize, u8, Result<u64, StoreFault>); 14] = [
     (57, 2, Err(StoreFault::BadStep { batch: 0, index: 0 })),
 ];
 
+// They stand behind a call, so that a proof about the walk over them does not carry them.
+fn changes() -> [(usize, u8, Result<u64, StoreFault>); 14] {
+    CHANGED
+}
+
+// A device that is cut has no header, or an unfinished record.
+fn cut_is_told(rt: &impl Host, bytes: &[u8; 62]) {
+    for len in 0..62 {
+        let fault = if len < VERSION {
+            StoreFault::NoMagic
+        } else {
+            StoreFault::BadRecord
+        };
+        same(rt, &(len, told(rt, &bytes[..len])), &(len, Err(fault)));
+    }
+}
+
 #[test]
 fn cut_and_changed_devices_are_told(rt: HostRuntime) {
     for version in 1..3u8 {
-        let bytes = changed(version, VERSION, version);
-        for len in 0..62 {
-            let fault = if len < VERSION {
-                StoreFault::NoMagic
-            } else {
-                StoreFault::BadRecord
-            };
-            assert_eq!(rt; told(&rt, &bytes[..len]), Err(fault), "cut at {len}");
-        }
-        for (place, byte, wanted) in CHANGED {
+        cut_is_told(&rt, &changed(version, VERSION, version));
+        for (place, byte, wanted) in changes() {
             let told = told(&rt, &changed(version, place, byte));
-            assert_eq!(rt; told, wanted, "{byte} at {place}");
+            same(&rt, &(place, byte, told), &(place, byte, wanted));
         }
     }
 }
@@ -116,8 +133,9 @@ fn a_violated_snapshot_is_refused(rt: HostRuntime) {
     let mut disk = MemDisk::new(rt.alloc());
     format(rt.alloc(), &mut disk, HALF, 1, &VIOLATED).expect(&rt, "not written");
     let (a, b, letter) = (node(1), node(2), Letter::B);
-    assert_eq!(rt;
-        told_on(&rt, disk),
-        Err(StoreFault::Violated(Violation { a, b, letter }))
+    same(
+        &rt,
+        &told_on(&rt, disk),
+        &Err(StoreFault::Violated(Violation { a, b, letter })),
     );
 }

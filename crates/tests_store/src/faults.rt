@@ -3,7 +3,7 @@
 ghost use Rattle.std.specs.Prelude.{◌≤◌};
 
 use crate::scripts::{
-    Host, OPENING, begun, choosing, commit, opened, reset_to, resetting, told_on,
+    Host, OPENING, begun, choosing, commit, opened, reset_to, resetting, same, told_on,
 };
 use coord_disk::{BlipDisk, CrashDisk, FailingDisk, FuseDisk, MemDisk, Rule};
 use coord_store::{CommitFault, StoreFault};
@@ -30,9 +30,10 @@ fn left_by<R: Rule>(rt: &impl Host, disk: FailingDisk<MemDisk, R>) -> Left {
     if answer.is_ok() {
         answer = commit(rt, &mut store, &[resetting(1_214)]);
     }
-    assert_eq!(rt; store.stopped(), answer.is_err());
+    let is_stopped = store.stopped();
     let disk = store.into_disk();
     let calls = disk.calls();
+    same(rt, &is_stopped, &answer.is_err());
     (answer, calls, told_on(rt, disk.into_inner().crash()))
 }
 
@@ -67,10 +68,10 @@ fn a_stop_at_each_call_leaves_what_was_committed(rt: HostRuntime) {
         for which in 0..5 {
             let disk = choosing(&rt, full.bytes(), which);
             let left = left_by(&rt, FuseDisk::new(disk, OPENING + passed));
-            assert_eq!(rt;
-                left,
-                wanted(1, passed, which),
-                "call {passed}, choice {which}"
+            same(
+                &rt,
+                &(passed, which, left),
+                &(passed, which, wanted(1, passed, which)),
             );
         }
     }
@@ -83,10 +84,10 @@ fn a_fault_at_each_call_leaves_what_was_committed(rt: HostRuntime) {
         for which in 0..5 {
             let disk = choosing(&rt, full.bytes(), which);
             let left = left_by(&rt, BlipDisk::new(disk, OPENING + passed));
-            assert_eq!(rt;
-                left,
-                wanted(2, passed, which),
-                "call {passed}, choice {which}"
+            same(
+                &rt,
+                &(passed, which, left),
+                &(passed, which, wanted(2, passed, which)),
             );
         }
     }

@@ -6,7 +6,7 @@ ghost use Rattle.coord_batch.specs.Batches.{IsNumbered};
 
 use crate::scripts::{
     Host, OPENING, adding, begun, choosing, commit, created, node, opened, order, reset_to,
-    resetting, told_on,
+    resetting, same, told_on,
 };
 use coord_disk::{BlipDisk, CrashDisk, FailingDisk, FuseDisk, MemDisk, Rule};
 use coord_store::{Store, StoreFault};
@@ -39,23 +39,39 @@ fn ring() -> [Step; 8]
     ]
 }
 
+// It stands behind a call, so that a proof that looks at it does not carry it.
+fn raised() -> [u8; 74] {
+    RAISED
+}
+
+// The device of a store of one node that was migrated, and then once more.
+fn migrated(rt: &impl Host) -> MemDisk {
+    let mut store = opened(rt, begun(rt, 1));
+    let answers = (store.migrate(), store.migrate());
+    let disk = store.into_disk();
+    same(rt, &answers, &(Ok(()), Ok(())));
+    disk
+}
+
+// What a migration answers while a node is in a reset, and the device.
+fn not_migrated(rt: &impl Host) -> (Result<(), StoreFault>, MemDisk) {
+    let mut store = created(rt, 1);
+    commit(rt, &mut store, &ring()).expect(rt, "not committed");
+    commit(rt, &mut store, &[resetting(9)]).expect(rt, "not committed");
+    let answer = store.migrate();
+    (answer, store.into_disk())
+}
+
 #[test]
 fn a_quiet_store_is_migrated(rt: HostRuntime) {
-    let mut store = opened(&rt, begun(&rt, 1));
-    assert_eq!(rt; (store.migrate(), store.migrate()), (Ok(()), Ok(())));
-    let disk = store.into_disk();
-    assert_eq!(rt; disk.bytes().first().copied(), Some(1));
-    assert_eq!(rt;
-        disk.bytes().get(SECOND_HALF..).unwrap_or(&[]),
-        RAISED.as_slice()
-    );
-    assert_eq!(rt; told_on(&rt, disk), Ok((2, 1)));
-    // not while a node is in a reset
-    let mut store = created(&rt, 1);
-    commit(&rt, &mut store, &ring()).expect(&rt, "not committed");
-    commit(&rt, &mut store, &[resetting(9)]).expect(&rt, "not committed");
-    assert_eq!(rt; store.migrate(), Err(StoreFault::NotQuiet(node(1))));
-    assert_eq!(rt; told_on(&rt, store.into_disk()), Ok((1, 9)));
+    let disk = migrated(&rt);
+    same(&rt, &disk.bytes().first().copied(), &Some(1));
+    let second = disk.bytes().get(SECOND_HALF..).unwrap_or(&[]);
+    same(&rt, &second, &raised().as_slice());
+    same(&rt, &told_on(&rt, disk), &Ok((2, 1)));
+    let (answer, disk) = not_migrated(&rt);
+    same(&rt, &answer, &Err(StoreFault::NotQuiet(node(1))));
+    same(&rt, &told_on(&rt, disk), &Ok((1, 9)));
 }
 
 // The step that is due for an output: a packet is taken, and a receipt clears its lane.
@@ -94,41 +110,61 @@ fn go_round(rt: &impl Host, store: &mut Store<MemDisk>) -> u64 {
     greatest
 }
 
-// A reset goes round it to the node opposite, two links away, and its steps are read again, with the
-// distances of its Aborts.
-#[test]
-fn a_reset_goes_round_a_raised_ring(rt: HostRuntime) {
-    let mut store = created(&rt, 1);
-    commit(&rt, &mut store, &ring()).expect(&rt, "not committed");
-    store.migrate().expect(&rt, "not raised");
-    commit(&rt, &mut store, &[resetting(9)]).expect(&rt, "not committed");
-    let mut greatest = 0;
-    for _ in 0..8u8 {
-        greatest = go_round(&rt, &mut store).max(greatest);
-    }
-    assert_eq!(rt; greatest, 2);
-    let store = opened(&rt, store.into_disk());
+// All nodes are ready again, in their first epoch.
+fn are_ready(rt: &impl Host, store: &Store<MemDisk>) {
     for number in 1..=4u8 {
         let state = store
             .world()
             .node(node(number))
             .map(|it| (it.epoch(), it.mode()));
-        assert_eq!(rt; state, Some((1, Mode::Ready)), "node {number}");
+        same(rt, &(number, state), &(number, Some((1, Mode::Ready))));
     }
+}
+
+// A store of the ring that was raised, in which node 1 is reset.
+fn raised_ring(rt: &impl Host) -> Store<MemDisk> {
+    let mut store = created(rt, 1);
+    commit(rt, &mut store, &ring()).expect(rt, "not committed");
+    store.migrate().expect(rt, "not raised");
+    commit(rt, &mut store, &[resetting(9)]).expect(rt, "not committed");
+    store
+}
+
+// Takes all that is on the way. The greatest distance of node 3 meanwhile.
+fn go_all_round(rt: &impl Host, store: &mut Store<MemDisk>) -> u64 {
+    let mut greatest = 0;
+    for _ in 0..8u8 {
+        greatest = go_round(rt, store).max(greatest);
+    }
+    greatest
+}
+
+// A reset goes round it to the node opposite, two links away, and its steps are read again, with the
+// distances of its Aborts.
+#[test]
+fn a_reset_goes_round_a_raised_ring(rt: HostRuntime) {
+    let mut store = raised_ring(&rt);
+    same(&rt, &go_all_round(&rt, &mut store), &2);
+    let store = opened(&rt, store.into_disk());
+    are_ready(&rt, &store);
+    drop(store);
+}
+
+// The device of a store that was raised, and is so full that its last step made a checkpoint.
+fn raised_and_full(rt: &impl Host) -> MemDisk {
+    let mut store = opened(rt, begun(rt, 1));
+    store.migrate().expect(rt, "not raised");
+    reset_to(rt, &mut store, 1_212);
+    store.into_disk()
 }
 
 // The checkpoint writes version 2 over the first half.
 #[test]
 fn a_raised_store_makes_checkpoints(rt: HostRuntime) {
-    let mut store = opened(&rt, begun(&rt, 1));
-    store.migrate().expect(&rt, "not raised");
-    reset_to(&rt, &mut store, 1_212);
-    let disk = store.into_disk();
-    assert_eq!(rt;
-        (disk.bytes().first().copied(), disk.bytes().get(17).copied()),
-        (Some(0), Some(2))
-    );
-    assert_eq!(rt; told_on(&rt, disk), Ok((2, 1_212)));
+    let disk = raised_and_full(&rt);
+    let places = (disk.bytes().first().copied(), disk.bytes().get(17).copied());
+    same(&rt, &places, &(Some(0), Some(2)));
+    same(&rt, &told_on(&rt, disk), &Ok((2, 1_212)));
 }
 
 /// How many calls of the device a migration takes.
@@ -151,10 +187,10 @@ fn leaves<R: Rule>(rt: &impl Host, disk: FailingDisk<MemDisk, R>, passed: u64, v
     } else {
         ((Ok(()), Ok(())), CALLS)
     };
-    assert_eq!(rt;
-        left,
-        (wanted, OPENING + made, Ok((version, 1))),
-        "behind {passed}"
+    same(
+        rt,
+        &(passed, left),
+        &(passed, (wanted, OPENING + made, Ok((version, 1)))),
     );
 }
 

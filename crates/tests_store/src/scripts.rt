@@ -7,12 +7,19 @@ ghost use Rattle.coord_batch.specs.Batches.{IsNumbered};
 use coord_disk::{Choice, Disk, MemDisk};
 use coord_store::{CommitFault, Store, StoreFault};
 use coord_types::{Client, Command, Group, NodeId, Step};
+use std::fmt::Debug;
 use std::process::Abort;
 
 /// What a test asks for memory, and what ends it.
 pub(crate) trait Host: Abort + AllocGlobal {}
 
 impl<R: Abort + AllocGlobal> Host for R {}
+
+/// What was found is what was wanted. A call of this costs its caller's proof a fraction of what
+/// `assert_eq!` costs where it stands.
+pub(crate) fn same<T: PartialEq + Debug>(rt: &impl Abort, found: &T, wanted: &T) {
+    assert_eq!(rt; found, wanted);
+}
 
 /// The least size of a half.
 pub(crate) const HALF: u64 = 32_768;
@@ -41,7 +48,11 @@ pub(crate) fn opened<D: Disk>(rt: &impl Host, disk: D) -> Store<D> {
 /// The version of the store on a device and how many steps it holds, or why it is not opened.
 pub(crate) fn told_on<D: Disk>(rt: &impl Host, disk: D) -> Result<(u8, u64), StoreFault> {
     match Store::open(rt.alloc(), disk) {
-        Ok(store) => Ok((store.world().version().number(), store.world().count())),
+        Ok(store) => {
+            let told = (store.world().version().number(), store.world().count());
+            drop(store);
+            Ok(told)
+        }
         Err((fault, _disk)) => Err(fault),
     }
 }
@@ -115,10 +126,7 @@ pub(crate) fn commit<D: Disk>(
     requires some { (1 ≤ length steps.now) × (length steps.now ≤ 256) }
     requires numbered { AllByRecursion IsNumbered steps.now }
 {
-    assert!(rt;
-        store.takes(steps).expect(rt, "not judged"),
-        "not fresh: {steps:?}"
-    );
+    assert!(rt; store.takes(steps).expect(rt, "not judged"));
     store.commit(steps)
 }
 

@@ -2,7 +2,9 @@
 
 ghost use Rattle.coord_batch.specs.Batches.{IsNumbered};
 
-use crate::scripts::{adding, commit, created, node, order, resetting};
+use crate::scripts::{Host, adding, commit, created, node, order, resetting, same};
+use coord_disk::MemDisk;
+use coord_store::Store;
 use coord_types::{Command, DataPacket, Msg, Step};
 
 fn joining() -> Step
@@ -24,12 +26,18 @@ fn taking() -> Step
     })
 }
 
+// It is not taken with the steps that give it out, and is behind them.
+fn takes_behind(rt: &impl Host, store: &mut Store<MemDisk>) {
+    let together = [adding(1), adding(2), joining(), resetting(4), taking()];
+    same(rt, &store.takes(&together), &Ok(false));
+    let first = [adding(1), adding(2), joining(), resetting(4)];
+    commit(rt, store, &first).expect(rt, "not committed");
+    same(rt, &store.takes(&[taking()]), &Ok(true));
+}
+
 #[test]
 fn a_packet_is_taken_once_it_is_settled(rt: HostRuntime) {
     let mut store = created(&rt, 1);
-    let together = [adding(1), adding(2), joining(), resetting(4), taking()];
-    assert_eq!(rt; store.takes(&together), Ok(false));
-    let first = [adding(1), adding(2), joining(), resetting(4)];
-    commit(&rt, &mut store, &first).expect(&rt, "not committed");
-    assert_eq!(rt; store.takes(&[taking()]), Ok(true));
+    takes_behind(&rt, &mut store);
+    drop(store);
 }
