@@ -1,6 +1,7 @@
 //! Tests of coord_disk.
 
 use coord_disk::{Choice, CrashDisk, Disk, GateDisk, MemDisk};
+use std::fmt::Debug;
 use std::process::Abort;
 use std::sync::Arc;
 use std::sync::atomic::{AtomicBool, Ordering};
@@ -9,6 +10,12 @@ use std::sync::atomic::{AtomicBool, Ordering};
 pub(crate) trait Host: Abort + AllocGlobal {}
 
 impl<R: Abort + AllocGlobal> Host for R {}
+
+/// What was found is what was wanted. A call of this costs its caller's proof a fraction of what
+/// `assert_eq!` costs where it stands.
+pub(crate) fn same<T: PartialEq + Debug>(rt: &impl Abort, found: &T, wanted: &T) {
+    assert_eq!(rt; found, wanted);
+}
 
 /// How many choices there are of what a crash leaves.
 pub(crate) const CHOICES: usize = 5;
@@ -40,12 +47,9 @@ fn left_of_five(rt: &impl Host, which: usize) -> MemDisk {
 
 // The three are there, and these bytes behind them.
 fn goes_on(rt: &impl Host, disk: &MemDisk, behind: &[u8], which: usize) {
-    assert!(rt; disk.bytes().starts_with(&[1, 2, 3]), "choice {which}");
-    assert_eq!(rt;
-        disk.bytes().get(3..).unwrap_or(&[9]),
-        behind,
-        "choice {which}"
-    );
+    assert!(rt; disk.bytes().starts_with(&[1, 2, 3]));
+    let found = disk.bytes().get(3..).unwrap_or(&[9]);
+    same(rt, &(which, found), &(which, behind));
 }
 
 #[test]
@@ -68,12 +72,12 @@ fn written_twice(rt: &impl Host) -> MemDisk {
     let mut read = [0; 2];
     disk.read(1, &mut read).expect(rt, "not read");
     let len = disk.len();
-    assert_eq!(rt; (read, len), ([5, 3], Ok(4)));
+    same(rt, &(read, len), &([5, 3], Ok(4)));
     disk
 }
 
 fn has(rt: &impl Host, disk: &MemDisk, bytes: &[u8]) {
-    assert_eq!(rt; disk.bytes(), bytes);
+    same(rt, &disk.bytes(), &bytes);
 }
 
 #[test]
@@ -109,6 +113,6 @@ fn synced_at(rt: &impl Host, is_open: bool) -> (bool, bool, bool, usize) {
 fn a_sync_waits_at_a_gate(rt: HostRuntime) {
     for is_open in [true, false] {
         let wanted = (false, is_open, true, usize::from(is_open));
-        assert_eq!(rt; synced_at(&rt, is_open), wanted);
+        same(&rt, &synced_at(&rt, is_open), &wanted);
     }
 }

@@ -1,6 +1,6 @@
 //! Tests of files as disks.
 
-use crate::disk::Host;
+use crate::disk::{Host, same};
 use coord_disk::{Choice, Disk, DiskFault, FileDisk, MemFile, RawDisk, RawFile, Syncs, SystemFile};
 use std::fs::{File, Metadata, OpenFile};
 use std::os::unix::fs::FileExt;
@@ -38,7 +38,7 @@ fn a_disk_over_a_file_syncs_what_it_has_to(rt: HostRuntime) {
         all: 2,
         folder: 1,
     };
-    assert_eq!(rt; syncs, wanted);
+    same(&rt, &syncs, &wanted);
 }
 
 /// A file that has no bytes, and notes its calls.
@@ -118,8 +118,8 @@ fn a_file_of_the_system_passes_calls_on(rt: HostRuntime) {
     }
     assert!(rt; file.len().is_err());
     let (file, folder) = file.into_parts();
-    assert_eq!(rt; file.notes(), [5, 6, 1, 2]);
-    assert_eq!(rt; folder.expect(&rt, "no folder").notes(), [0, 0, 0, 3]);
+    same(&rt, &file.notes(), &[5, 6, 1, 2]);
+    same(&rt, &folder.expect(&rt, "no folder").notes(), &[0, 0, 0, 3]);
 }
 
 // Two bytes are written behind a gap of two, and are read so, and not past their end.
@@ -128,9 +128,9 @@ fn is_written(rt: &impl Host, disk: &mut FileDisk) {
     disk.sync().expect(rt, "not synced");
     let mut read = [9; 4];
     disk.read(0, &mut read).expect(rt, "not read");
-    assert_eq!(rt; (read, disk.len()), ([0, 0, 7, 8], Ok(4)));
-    assert_eq!(rt; disk.read(1, &mut read), Err(DiskFault));
-    assert_eq!(rt; disk.write_at(1 << 63, &[1]), Err(DiskFault));
+    same(rt, &(read, disk.len()), &([0, 0, 7, 8], Ok(4)));
+    same(rt, &disk.read(1, &mut read), &Err(DiskFault));
+    same(rt, &disk.write_at(1 << 63, &[1]), &Err(DiskFault));
 }
 
 // What reads and writes of a disk that is open to be read answer.
@@ -159,7 +159,7 @@ fn is_disk<R: Files<File = File> + Abort + AllocGlobal>(rt: &R, path: &str) {
     let is_open = opens(rt, path);
     let read = read_alone(rt, path);
     drop(disk);
-    assert_eq!(rt; (is_open, read), (false, [Ok(()), Err(DiskFault)]));
+    same(rt, &(is_open, read), &(false, [Ok(()), Err(DiskFault)]));
 }
 
 #[test]

@@ -1,6 +1,6 @@
 //! Tests of coord_journal.
 
-use crate::disk::{CHOICES, Host, choosing};
+use crate::disk::{CHOICES, Host, choosing, same};
 use coord_disk::{BlipDisk, CrashDisk, Disk, FailingDisk, FuseDisk, MemDisk, Rule, TornDisk};
 use coord_journal::{Contents, Journal, JournalFault, format, laws, open};
 
@@ -62,16 +62,20 @@ fn append<D: Disk>(rt: &impl Host, journal: &mut Journal<D>) -> Result<(), Journ
 fn made(rt: &impl Host) -> MemDisk {
     let mut disk = FuseDisk::new(MemDisk::new(rt.alloc()), u64::MAX);
     format(rt.alloc(), &mut disk, 32_768, 1, &[0; 11]).expect(rt, "not made");
-    assert_eq!(rt; disk.calls(), 3);
+    same(rt, &disk.calls(), &3);
     disk.into_inner()
 }
 
 // What is read of a device: a snapshot of eleven zeros, and so many batches, each with that body.
 fn holds(rt: &impl Host, contents: &Contents, batches: usize) {
-    assert_eq!(rt; (contents.version, contents.batches.len()), (1, batches));
-    assert_eq!(rt; contents.snapshot.as_slice(), [0; 11].as_slice());
+    same(
+        rt,
+        &(contents.version, contents.batches.len()),
+        &(1, batches),
+    );
+    same(rt, &contents.snapshot.as_slice(), &[0; 11].as_slice());
     for batch in &contents.batches {
-        assert_eq!(rt; batch.as_slice(), body().as_slice());
+        same(rt, &batch.as_slice(), &body().as_slice());
     }
 }
 
@@ -79,9 +83,10 @@ fn holds(rt: &impl Host, contents: &Contents, batches: usize) {
 fn added(rt: &impl Host, disk: MemDisk) -> MemDisk {
     let (mut journal, contents) = opened(rt, disk);
     holds(rt, &contents, 0);
-    assert_eq!(rt; journal.room(), 32_746);
+    drop(contents);
+    same(rt, &journal.room(), &32_746);
     append(rt, &mut journal).expect(rt, "not added");
-    assert_eq!(rt; journal.room(), 32_718);
+    same(rt, &journal.room(), &32_718);
     journal.into_disk()
 }
 
@@ -89,11 +94,13 @@ fn added(rt: &impl Host, disk: MemDisk) -> MemDisk {
 fn a_journal_is_made_and_added_to(rt: HostRuntime) {
     laws::one_content();
     let disk = made(&rt);
-    assert_eq!(rt; disk.bytes(), created().as_slice());
+    same(&rt, &disk.bytes(), &created().as_slice());
     let disk = added(&rt, disk);
-    assert_eq!(rt; disk.bytes(), committed().as_slice());
-    let (_journal, contents) = opened(&rt, disk);
+    same(&rt, &disk.bytes(), &committed().as_slice());
+    let (journal, contents) = opened(&rt, disk);
+    drop(journal);
     holds(&rt, &contents, 1);
+    drop(contents);
 }
 
 // A device with these bytes is refused, and left as it is.
@@ -102,7 +109,7 @@ fn is_refused(rt: &impl Host, bytes: &[u8], half_size: u64, why: JournalFault) {
     let answer = format(rt.alloc(), &mut disk, half_size, 1, &[]);
     let is_left = disk.bytes() == bytes;
     drop(disk);
-    assert_eq!(rt; (answer, is_left), (Err(why), true));
+    same(rt, &(answer, is_left), &(Err(why), true));
 }
 
 #[test]
@@ -113,12 +120,13 @@ fn a_device_that_cannot_be_formatted_is_left(rt: HostRuntime) {
     let mut disk = MemDisk::new(rt.alloc());
     let made = format(rt.alloc(), &mut disk, 16_777_216, 1, &[]);
     drop(disk);
-    assert_eq!(rt; made, Ok(()));
+    same(&rt, &made, &Ok(()));
 }
 
 // What a replace leaves: all that was written but the selector, and the second half behind zeros.
 fn are_moved(rt: &impl Host, bytes: &[u8]) {
-    assert_eq!(rt; (bytes.len(), bytes.first().copied()), (32_802, Some(1)));
+    assert!(rt; bytes.len() == 32_802);
+    same(rt, &bytes.first().copied(), &Some(1));
     assert!(rt; bytes[1..62] == committed()[1..]);
     assert!(rt; bytes[62..32_785].iter().all(|it| *it == 0));
     assert!(rt; bytes[32_785..] == created()[17..]);
@@ -127,12 +135,13 @@ fn are_moved(rt: &impl Host, bytes: &[u8]) {
 // The device once it is replaced by this version, and a batch is added.
 fn moved(rt: &impl Host, disk: MemDisk, version: u8, batches: usize) -> MemDisk {
     let (mut journal, contents) = opened(rt, disk);
-    assert_eq!(rt; contents.version, version.saturating_sub(1));
-    assert_eq!(rt; contents.batches.len(), batches);
+    same(rt, &contents.version, &version.saturating_sub(1));
+    same(rt, &contents.batches.len(), &batches);
+    drop(contents);
     journal
         .replace(version, &[version; 3])
         .expect(rt, "not moved");
-    assert_eq!(rt; journal.room(), 32_754);
+    same(rt, &journal.room(), &32_754);
     append(rt, &mut journal).expect(rt, "not added");
     journal.into_disk()
 }
@@ -140,16 +149,18 @@ fn moved(rt: &impl Host, disk: MemDisk, version: u8, batches: usize) -> MemDisk 
 // The same with a second batch, behind an opening.
 fn moved_on(rt: &impl Host, disk: MemDisk, version: u8) -> MemDisk {
     let (mut journal, contents) = opened(rt, disk);
-    assert_eq!(rt; contents.snapshot.as_slice(), [version; 3].as_slice());
+    same(rt, &contents.snapshot.as_slice(), &[version; 3].as_slice());
+    drop(contents);
     append(rt, &mut journal).expect(rt, "not added");
-    assert_eq!(rt; journal.room(), 32_698);
+    same(rt, &journal.room(), &32_698);
     journal.into_disk()
 }
 
 // Back and forth, with a body at once and one behind an opening.
 #[test]
 fn a_journal_moves_into_its_other_half(rt: HostRuntime) {
-    let (mut journal, _contents) = opened_on(&rt, &committed());
+    let (mut journal, contents) = opened_on(&rt, &committed());
+    drop(contents);
     journal.replace(1, &[0; 11]).expect(&rt, "not moved");
     let mut disk = journal.into_disk();
     are_moved(&rt, disk.bytes());
@@ -173,7 +184,8 @@ const ACTS: [Act; 3] = [Act::Append, Act::Replace, Act::ReplaceAgain];
 
 // The device before the act: version 1 in the first half, or version 2 in the second.
 fn before(rt: &impl Host, act: Act, which: usize) -> MemDisk {
-    let (mut journal, _contents) = opened(rt, choosing(rt, &created(), which));
+    let (mut journal, contents) = opened(rt, choosing(rt, &created(), which));
+    drop(contents);
     if let Act::ReplaceAgain = act {
         journal.replace(2, &[]).expect(rt, "not replaced");
     }
@@ -182,14 +194,15 @@ fn before(rt: &impl Host, act: Act, which: usize) -> MemDisk {
 
 // What an act over this device answers, and the device. Nothing is written behind a fault.
 fn done<D: Disk>(rt: &impl Host, disk: D, act: Act) -> (Result<(), JournalFault>, D) {
-    let (mut journal, _contents) = opened(rt, disk);
+    let (mut journal, contents) = opened(rt, disk);
+    drop(contents);
     let answer = match act {
         Act::Append => append(rt, &mut journal),
         Act::Replace | Act::ReplaceAgain => journal.replace(3, &[]),
     };
     if answer.is_err() {
-        assert_eq!(rt; append(rt, &mut journal), Err(JournalFault::Stopped));
-        assert_eq!(rt; journal.replace(3, &[]), Err(JournalFault::Stopped));
+        same(rt, &append(rt, &mut journal), &Err(JournalFault::Stopped));
+        same(rt, &journal.replace(3, &[]), &Err(JournalFault::Stopped));
     }
     (answer, journal.into_disk())
 }
@@ -241,11 +254,11 @@ fn leaves<R: Rule>(
     let (answer, device) = done(rt, device, act);
     let calls = device.calls();
     let found = found_on(rt, device.into_inner().crash());
-    assert_eq!(rt; (answer, calls), wanted(passed), "{act:?}");
-    assert_eq!(rt;
-        found,
-        left(act, reached, which),
-        "{act:?}, {passed} passed, choice {which}"
+    same(rt, &(answer, calls), &wanted(passed));
+    same(
+        rt,
+        &(passed, which, found),
+        &(passed, which, left(act, reached, which)),
     );
 }
 

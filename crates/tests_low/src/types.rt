@@ -1,5 +1,6 @@
 //! Tests of coord_types: the ends of the ranges, and sets of nodes.
 
+use crate::disk::same;
 use coord_types::{Client, Group, NodeId, NodeSet};
 
 #[test]
@@ -9,11 +10,11 @@ fn numbers_and_sets(rt: HostRuntime) {
     assert!(rt; Client::new(0).is_none() && Client::new(17).is_none());
     // bit 0 is node 1, and bit 63 is node 64
     let mut set = NodeSet::from_bits((1 << 63) + 3);
-    assert_eq!(rt; set.len(), 3);
+    same(&rt, &set.len(), &3);
     for number in [1, 2, 64] {
         let first = set.first().expect(&rt, "no more nodes");
-        assert_eq!(rt; first.number(), number);
+        same(&rt, &first.number(), &number);
         set = set.without(first);
     }
-    assert_eq!(rt; set, NodeSet::new());
+    same(&rt, &set, &NodeSet::new());
 }
