@@ -1,4 +1,4 @@
 pub mod machine
 pub mod follows
 pub mod runs
-pub mod simulates
+pub mod Simulates

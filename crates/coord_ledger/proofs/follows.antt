@@ -1,12 +1,8 @@
 -- How a ledger and its flight follow the event machine.
 pub mod SameSteps
 pub mod Granted
-pub mod Collectable
-pub mod Given
 pub mod Kept
 pub mod IsOut
 pub mod Follows
 pub mod FollowsAnswers
 pub mod FollowsTickets
-pub mod FollowsCrashes
-pub mod FollowsCalls

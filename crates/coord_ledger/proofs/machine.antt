@@ -2,10 +2,8 @@
 pub mod Lists
 pub mod Verdicts
 pub mod Logs
-pub mod Releases
+pub mod SignalsOnce
 pub mod Replies
-pub mod ReplyKinds
-pub mod ConsistentTold
 pub mod ConsistentSteps
 pub mod ConsistentFlights
 pub mod Consistent
@@ -13,4 +11,3 @@ pub mod SettledStays
 pub mod Safe
 pub mod Silent
 pub mod Rebased
-pub mod SignalsOnce

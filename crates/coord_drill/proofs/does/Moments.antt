@@ -9,7 +9,7 @@ use Rattle.coord_types.specs.declared.refusals.Refusal.TheVariants.{OutOfMemory}
 use Rattle.coord_ledger.specs.Facade.{Answered, DiskEffect, DiskSurvives, DriverState, EachMoment, EventInRange, HasFailed, IsConsistent, Machine, MayBegin, Represents, Simulates, Touches, after, disk_held, failed_at, failed_until, found_by_crash, is_crash, model_held, run, started, touches_disk}
 use Rattle.coord_ledger.proofs.runs.EachMoment.{answered_without_disk}
 use Rattle.coord_ledger.proofs.machine.Consistent.{stays_consistent}
-use Rattle.coord_ledger.proofs.simulates.Represents.{represents_allowed, represents_to}
+use Rattle.coord_ledger.proofs.Simulates.{represents_allowed, represents_to}
 use Rattle.coord_ledger.proofs.machine.Lists.{all_both}
 use Rattle.coord_drill.specs.Answered.{asked_lines}
 use Rattle.coord_drill.specs.Drill.{after_asked, line_events}

@@ -9,7 +9,7 @@ use Rattle.coord_store.specs.declared.faults.CommitFault.TheVariants as fault
 use Rattle.coord_ledger.proofs.follows.Follows.{flight_is, pending_is, settled_is, verdict_is}
 use Rattle.coord_ledger.proofs.follows.Granted.{granted_back, granted_later, granted_new, granted_repeat, holds_later, holds_push}
 use Rattle.coord_ledger.proofs.machine.ConsistentSteps.{reply_is}
-use Rattle.coord_ledger.proofs.simulates.Represents.{represents_allowed, represents_to}
+use Rattle.coord_ledger.proofs.Simulates.{represents_allowed, represents_to}
 
 -- what is held beside a driver with this log is the machine's
 abbrev Keeps : Log → List (Option Claim) → ℕ → List Release → Machine → Type 0

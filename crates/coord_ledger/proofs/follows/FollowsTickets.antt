@@ -73,10 +73,7 @@ module _ {D : Type 0} (h : Run D) (s : Machine) (is : IsConsistent s) (follows :
 
   -- the machine has released as much
   pub resent_releases : IsOneOf (Resent (length (again (settled_world log)))) (answers s Resend) × (s.released ++ resent (settled_world s.log) ≡ h.released.items ++ resent (settled_world log))
-  resent_releases = (
-    inl (ap (λ w. Resent (length (again w))) (settled_is h.driver s is follows.represents)),
-    λ i. sym follows.released i ++ resent (sym (settled_is h.driver s is follows.represents) i),
-  )
+  resent_releases = grind (arith, nat_tests, settled_is)
 
   pub follows_resent : (released : Vec Release Global) → released.items ≡ h.released.items ++ resent (settled_world log) → FollowsTo s Resend (Resent (length (again (settled_world log)))) (record h { released = released })
   follows_resent released given =

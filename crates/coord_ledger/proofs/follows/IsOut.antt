@@ -1,11 +1,12 @@
 -- A flight that is the ledger's own, and how the ledger takes it back.
-use Rattle.std.proofs.Common.{◌≡◌, ℕ, ◌+◌, false, List, ◌≤◌, length, take, drop, Option, Some, None, Vec, is_some, refl, sym, ap, ◌∙◌, subst, arith, Global}
+use Rattle.std.proofs.Common.{◌≡◌, ℕ, ◌+◌, false, List, ◌≤◌, length, take, drop, Option, Some, None, Vec, is_some, refl, sym, ap, ◌∙◌, arith, Global}
+use Rattle.std.proofs.lemmas.Bool.Decides.{nat_tests}
 use Rattle.std.proofs.lemmas.List.{length-take}
 use Rattle.coord_store.specs.Kept.{Kept}
 use Rattle.coord_ledger.specs.Facade.{FlightState, Good, IsOut, Kind, LedgerState, Log, Mark, Output, Step, Torn, pending, releases_of, settled_count, settled_world, with_doubt, with_settled}
 use Rattle.coord_world.specs.Facade.{World, fold, outs}
 use Rattle.coord_ledger.specs.code.Holding.{IsCarried, IsLedger, disk_at, listed, out_of, outputs_of, released_from}
-use Rattle.coord_ledger.proofs.follows.Given.{listed-length, outputs_of-length, outputs_of-take, released_are}
+use Rattle.coord_ledger.proofs.follows.Granted.{listed-length, outputs_of-length, outputs_of-take, released_are}
 use Rattle.coord_ledger.proofs.follows.Kept.{back_good, back_torn}
 use Rattle.coord_ledger.proofs.machine.Logs.{count_after}
 
@@ -44,16 +45,7 @@ module _ {D : Type 0} where
 
   module _ (log : Log) (kinds : List Kind) (given : List (List Output)) (front settled : World) (out : ℕ) (store : Option (Kept D)) (is : IsLedger log kinds given front settled out store) (first : ℕ) (steps : List Step) (world : World) (mark : Mark) (kept : Kept D) where
     pub own_is : is_some store ≡ false → length steps ≡ out → first ≡ settled_count log + 1 → world ≡ settled → steps ≡ take out (drop log.settled log.trail) → IsOut (ledger_of log out store) (flight_of first steps world mark kept)
-    own_is gone size number at same = record {
-      size = out_is store gone ∙ ap Some (sym size);
-      first = number;
-      steps = same ∙ ap (λ n. take n (pending log)) (sym size);
-      world = at ∙ is.settled_is;
-    }
-      where
-        out_is : (o : Option (Kept D)) → is_some o ≡ false → out_of o out ≡ Some out
-        out_is None gone = refl
-        out_is (Some kept) gone = cc
+    own_is gone size number at same = grind (arith, nat_tests)
 
     pub own_steps : length steps ≡ out → IsOut (ledger_of log out store) (flight_of first steps world mark kept) → steps ≡ take out (drop log.settled log.trail)
     own_steps size own = own.steps ∙ ap (λ n. take n (pending log)) size
@@ -68,9 +60,4 @@ module _ {D : Type 0} where
 
     -- and that is what it releases
     pub gives_out : (given : List (List Output)) (first size : ℕ) → IsLedger log kinds given front settled out store → first ≡ settled_count log + 1 → size ≡ length f.steps → released_from first (take size given) ≡ releases_of (outs f.world f.steps)
-    gives_out given first size is number all =
-        let w = settled_world log in
-        let steps : take size (pending log) ≡ f.steps = ap (λ n. take n (pending log)) all ∙ sym own.steps in
-        ap (λ n. released_from n (take size given)) (number ∙ ap (λ n. n + 1) (sym (count_after log log.settled is.consistent.within)))
-        ∙ ap (released_from (w.count + 1)) (ap (take size) is.given_is ∙ outputs_of-take size (pending log) w ∙ ap (outputs_of w) steps)
-        ∙ released_are f.steps w ∙ ap (λ v. releases_of (outs v f.steps)) (sym own.world)
+    gives_out given first size is number all = grind (arith, nat_tests, count_after, outputs_of-take, released_are)

@@ -1,5 +1,6 @@
 -- What the types of a ledger and of a flight keep, through each call.
 use Rattle.std.proofs.Common.{◌≡◌, ℕ, ◌+◌, ◌≤◌, List, [], ◌∷◌, ◌++◌, length, take, drop, Option, Some, None, IfSome, IfNone, Ok, refl, sym, ap, ◌∙◌, subst, arith}
+use Rattle.std.proofs.lemmas.Bool.Decides.{nat_tests}
 use Rattle.std.proofs.Math.Seq.{take-length}
 use Rattle.std.proofs.lemmas.List.{drop-drop, length-append, length-drop, length-take, take-append-le}
 use Rattle.std.specs.List.{AllByRecursion}
@@ -8,15 +9,15 @@ use Rattle.coord_node.specs.Steps.{kind}
 use Rattle.coord_store.proofs.Freshness.{fold-push}
 use Rattle.coord_store.specs.Facade.{AllFresh, Kept}
 use Rattle.coord_types.specs.declared.limits.TheConstants.{MAX_BATCH_STEPS}
-use Rattle.coord_ledger.specs.Facade.{FitsOut, FlightState, Fresh, Good, IsConsistentLog, Kind, Log, New, Output, Step, Torn, accepted_count, front_world, pending, settled_count, settled_world, verdict, with_doubt, with_settled, with_step, world_after}
+use Rattle.coord_ledger.specs.Facade.{FitsOut, FlightState, Fresh, Good, IsConsistentLog, Kind, Log, New, Output, Step, Torn, accepted_count, front_world, pending, settled_count, settled_world, verdict, with_doubt, with_settled, with_step}
 use Rattle.coord_types.specs.declared.steps.Step.TheVariants.{Order, Take, Clear}
 use Rattle.coord_world.proofs.Facade.{fresh_number, itself, trail_keeps_worlds, verdict_fresh, verdict_kind}
 use Rattle.coord_world.specs.Facade.{IsFresh, Legal, StepInRange, World, fold, next, outputs, state}
-use Rattle.coord_ledger.specs.code.Holding.{IsAway, IsCarried, IsFlight, IsHome, IsLedger, carried_torn, carried_world, doubted, kinds_of, outputs_of}
-use Rattle.coord_ledger.proofs.follows.Given.{outputs_of-drop, outputs_of-push}
+use Rattle.coord_ledger.specs.code.Holding.{IsAway, IsCarried, IsFlight, IsHome, IsLedger, doubted, kinds_of, outputs_of}
+use Rattle.coord_ledger.proofs.follows.Granted.{outputs_of-drop, outputs_of-push}
 use Rattle.coord_ledger.proofs.machine.ConsistentSteps.{accepted_stays}
 use Rattle.coord_ledger.proofs.machine.Verdicts.{verdict_accepts}
-use Rattle.coord_ledger.proofs.machine.ReplyKinds.{kinds_of-length, kinds_of-push}
+use Rattle.coord_ledger.proofs.machine.Replies.{kinds_of-length, kinds_of-push}
 use Rattle.coord_ledger.proofs.machine.Logs.{count_after, count_front, doubted_stays, fresh_first, front_is, log_stays, pending_with, world-add}
 
 -- an order that is fresh is numbered from 1
@@ -31,10 +32,7 @@ numbered (s ∷ steps) settled w fresh = (numbered_one w settled s fresh.0, numb
 
 -- no step of a flight goes away
 away_with : (log : Log) (s : Step) (out : ℕ) → IsAway log out → IsAway (with_step log s) out
-away_with log s out away = record {
-  fits = record { some = away.fits.some; most = away.fits.most; within = omega (arith, away.fits.within, length-append log.trail (s ∷ [])) };
-  going = away.going;
-}
+away_with log s out away = grind (arith, nat_tests, length-append)
 
 -- the next steps are not too many
 length_next : (xs : List Step) → length (take MAX_BATCH_STEPS xs) ≤ MAX_BATCH_STEPS
@@ -43,17 +41,11 @@ length_next xs = omega (arith, length-take MAX_BATCH_STEPS xs)
 -- what is given out with one step more
 given_with : (log : Log) (s : Step) (given : List (List Output)) (front : World) → log.settled ≤ length log.trail → IsConsistentLog log → given ≡ outputs_of (settled_world log) (pending log) → front ≡ front_world log
     → given ++ outputs front s ∷ [] ≡ outputs_of (settled_world (with_step log s)) (pending (with_step log s))
-given_with log s given front le is same led =
-    let w = settled_world log in
-    let behind : front ≡ fold w (pending log) = led ∙ sym (front_is log is) in
-    ap (λ l. l ++ outputs front s ∷ []) same ∙ ap (λ v. outputs_of w (pending log) ++ outputs v s ∷ []) behind ∙ sym (outputs_of-push (pending log) w s)
-    ∙ ap (outputs_of w) (sym (pending_with log s is)) ∙ ap (λ v. outputs_of v (pending (with_step log s))) (sym (ap (fold log.base) (take-append-le log.settled log.trail (s ∷ []) le)))
+given_with log s given front le is same led = grind (arith, nat_tests, front_is, outputs_of-push, pending_with, take-append-le)
 
 -- and what is left once the next n steps are settled
 given_behind : (log : Log) (n : ℕ) (given : List (List Output)) → given ≡ outputs_of (settled_world log) (pending log) → drop n given ≡ outputs_of (settled_world (with_settled log n)) (pending (with_settled log n))
-given_behind log n given same =
-    ap (drop n) same ∙ outputs_of-drop n (pending log) (settled_world log) ∙ ap (λ v. outputs_of v (drop n (pending log))) (sym (world-add log log.settled n))
-    ∙ ap (outputs_of (world_after log (log.settled + n))) (drop-drop n log.settled log.trail)
+given_behind log n given same = grind (arith, nat_tests, outputs_of-drop, world-add, drop-drop)
 
 module _ {D : Type 0} where
   -- ---- one step more
@@ -129,43 +121,12 @@ module _ {D : Type 0} where
   -- a flight comes back that was torn
   pub back_torn : (log : Log) (kinds : List Kind) (given : List (List Output)) (front settled : World) (out any : ℕ) (kept : Kept D) (f : FlightState D) → IsLedger {D = D} log kinds given front settled out None → IsCarried f kept → f.mark ≡ Torn
       → f.world ≡ settled_world log → out ≡ length f.steps → f.steps ≡ take (length f.steps) (pending log) → IsLedger (with_doubt log (length f.steps)) kinds given front settled any (Some kept)
-  back_torn log kinds given front settled out any kept f is carried torn at size same =
-      let flown : fold f.world f.steps ≡ world_after log (log.settled + length f.steps) = ap (λ w. fold w f.steps) at ∙ ap (fold (settled_world log)) same ∙ sym (world-add log log.settled (length f.steps)) in
-      record {
-        consistent = doubted_stays log (length f.steps) is.consistent;
-        kinds_are = is.kinds_are;
-        given_is = is.given_is;
-        front_is = is.front_is;
-        settled_is = is.settled_is;
-        doubt_within = (carried.some, omega (arith, is.away.fits.within, size));
-        home = record {
-          world_is = carried.world_is ∙ ap (λ m. carried_world m f.world f.steps) torn ∙ at;
-          torn_is = carried.torn_is ∙ ap (λ m. carried_torn m f.world f.steps) torn ∙ ap Some flown;
-        };
-        away = tt;
-      }
+  back_torn log kinds given front settled out any kept f is carried torn at size same = grind (arith, nat_tests, world-add, doubted_stays, front_is)
 
   -- one that was committed
   pub back_good : (log : Log) (kinds : List Kind) (given left : List (List Output)) (front settled later : World) (out any : ℕ) (kept : Kept D) (f : FlightState D) → IsLedger {D = D} log kinds given front settled out None → IsCarried f kept → f.mark ≡ Good
       → f.world ≡ settled_world log → out ≡ length f.steps → f.steps ≡ take (length f.steps) (pending log) → left ≡ drop (length f.steps) given → later ≡ fold f.world f.steps → IsLedger (with_settled log (length f.steps)) kinds left front later any (Some kept)
-  back_good log kinds given left front settled later out any kept f is carried good at size same rest led =
-      let n = length f.steps in
-      let within : log.settled + n ≤ length log.trail = omega (arith, is.away.fits.within, size) in
-      let flown : fold f.world f.steps ≡ settled_world (with_settled log n) = ap (λ w. fold w f.steps) at ∙ ap (fold (settled_world log)) same ∙ sym (world-add log log.settled n) in
-      let none = is.away.going in
-      record {
-        consistent = log_stays.settled log n is.consistent within;
-        kinds_are = is.kinds_are;
-        given_is = rest ∙ given_behind log n given is.given_is;
-        front_is = is.front_is;
-        settled_is = led ∙ flown;
-        doubt_within = rw none tt;
-        home = record {
-          world_is = carried.world_is ∙ ap (λ m. carried_world m f.world f.steps) good ∙ flown;
-          torn_is = carried.torn_is ∙ ap (λ m. carried_torn m f.world f.steps) good ∙ sym (ap (doubted (with_settled log n)) none);
-        };
-        away = tt;
-      }
+  back_good log kinds given left front settled later out any kept f is carried good at size same rest led = grind (arith, nat_tests, world-add, log_stays, given_behind, front_is)
 
   -- ---- what the front takes
 
@@ -186,9 +147,7 @@ module _ {D : Type 0} where
   -- the next steps are fresh over the settled world
   pub fresh_next : (log : Log) (kinds : List Kind) (given : List (List Output)) (front settled : World) (out : ℕ) (store : Option (Kept D)) (steps : List Step) → IsLedger log kinds given front settled out store → steps ≡ take (length steps) (pending log)
       → AllFresh settled settled steps
-  fresh_next log kinds given front settled out store steps is same =
-      let w = settled_world log in
-      subst (AllFresh settled settled) (sym same) (rw is.settled_is (fresh_first (length steps) (pending log) w w is.consistent.fresh))
+  fresh_next log kinds given front settled out store steps is same = grind (arith, nat_tests, fresh_first)
 
   -- and where no others are behind them, they lead to the front
   pub front_behind : (log : Log) (kinds : List Kind) (given : List (List Output)) (front settled : World) (out : ℕ) (store : Option (Kept D)) (steps : List Step) → IsLedger log kinds given front settled out store → steps ≡ take (length steps) (pending log)

@@ -5,24 +5,14 @@ use Rattle.std.specs.Bool.{Decides}
 use Rattle.coord_types.specs.contracts.steps.CommandPartialEq.TheImpl as same_commands
 use Rattle.coord_types.specs.contracts.steps.StepPartialEq.TheImpl as same
 use Rattle.coord_types.specs.declared.steps.Command.{Command}
-use Rattle.coord_types.specs.declared.steps.Command.TheVariants.{Add, Remove, Join, Drop, Reset, Confirm}
 use Rattle.coord_ledger.specs.Facade.{Step}
 use Rattle.coord_types.specs.declared.steps.Step.TheVariants.{Order, Take, Clear}
 
 command_eq : (x y : Command) → Decides (same_commands.eq-value.it x y) (x ≡ y)
-command_eq (Add u g) (Add v h) = (λ e. grind (arith, nat_tests, e), λ e. grind (arith, nat_tests, e))
-command_eq (Remove u) (Remove v) = (λ e. grind (arith, nat_tests, e), λ e. grind (arith, nat_tests, e))
-command_eq (Join a b) (Join c d) = (λ e. grind (arith, nat_tests, e), λ e. grind (arith, nat_tests, e))
-command_eq (Drop a b) (Drop c d) = (λ e. grind (arith, nat_tests, e), λ e. grind (arith, nat_tests, e))
-command_eq (Reset u) (Reset v) = (λ e. grind (arith, nat_tests, e), λ e. grind (arith, nat_tests, e))
-command_eq (Confirm u n) (Confirm v m) = (λ e. grind (arith, nat_tests, e), λ e. grind (arith, nat_tests, e))
-command_eq x y = (λ e. cc, λ e. cc)
+command_eq x y = grind arith
 
 order_eq : (c n d m : ℕ) (x y : Command) → Decides (same.eq-value.it (Order c n x) (Order d m y)) (Order c n x ≡ Order d m y)
-order_eq c n d m x y = (
-  λ e. let command = (command_eq x y).0 in grind (arith, nat_tests, e, command),
-  λ e. let command = (command_eq x y).1 in grind (arith, nat_tests, e, command),
-)
+order_eq c n d m x y = grind arith
 
 pub step_eq : (a b : Step) → Decides (same.eq-value.it a b) (a ≡ b)
 step_eq (Order c n x) (Order d m y) = order_eq c n d m x y

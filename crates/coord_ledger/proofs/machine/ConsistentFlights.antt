@@ -1,14 +1,13 @@
 -- The machine stays consistent as flights go out and come back, and over a crash.
-use Rattle.std.proofs.Common.{◌≡◌, ℕ, ◌+◌, ◌-◌, ◌≤◌, false, List, [], ◌∷◌, map, length, Option, Some, None, refl, sym, subst, arith, cond, is_some}
+use Rattle.std.proofs.Common.{◌≡◌, ℕ, ◌+◌, ◌-◌, ◌≤◌, List, [], ◌∷◌, map, length, Option, Some, None, refl, sym, subst, arith}
 use Rattle.std.specs.List.{AllByRecursion}
 use Rattle.std.proofs.lemmas.Bool.Decides.{nat_tests}
 use Rattle.std.proofs.lemmas.List.{length-drop, take-take}
-use Rattle.coord_types.specs.declared.refusals.Refusal.TheVariants.{OutOfMemory}
 use Rattle.coord_world.proofs.Facade.{by_test}
-use Rattle.coord_ledger.specs.Facade.{Begin, Begun, Commit, Crash, DoubtFits, Finish, FlightFits, FlightOut, Good, IsConsistent, IsOneOf, Log, Machine, Mark, New, Nothing, Opened, Refused, Torn, after, after_finish, crashed, cut_to, finished, kept, kept_by, kept_with, marked, next_size, pending, settled_count, cannot_flush, to_begin, to_commit, to_finish, with_doubt, with_flight, with_settled}
+use Rattle.coord_ledger.specs.Facade.{Begin, Commit, Crash, DoubtFits, Finish, FlightFits, FlightOut, Good, IsConsistent, IsOneOf, Log, Machine, Mark, New, Opened, Torn, after, after_finish, crashed, cut_to, finished, kept, kept_by, settled_count, to_begin, to_commit, to_finish, with_flight, with_settled}
 use Rattle.coord_ledger.proofs.machine.Lists.{each_one}
 use Rattle.coord_ledger.proofs.machine.Logs.{doubted_stays, log_stays}
-use Rattle.coord_ledger.proofs.machine.ConsistentTold.{told_releasing, told_same, told_settled}
+use Rattle.coord_ledger.proofs.machine.ConsistentSteps.{told_releasing, told_same, told_settled}
 
 -- ---- flights
 
@@ -16,41 +15,11 @@ stays_flight : (s : Machine) (f : Option FlightOut) → IsConsistent s → Fligh
 stays_flight s f is fits doubt = record { log = is.log; flight = fits; doubt = doubt; seen = is.seen; tickets = is.tickets; told = is.told }
 
 pub all_begin : (s : Machine) → IsConsistent s → AllByRecursion (λ a. IsConsistent (after s Begin a)) (to_begin s)
-all_begin s is =
-    by_test (cannot_flush (is_some s.flight) s.log)
-    (λ b. AllByRecursion (λ a. IsConsistent (after s Begin a)) (cond b (Nothing ∷ []) (Begun (next_size s.log) ∷ Refused OutOfMemory ∷ [])))
-    (λ _. (is, tt))
-    (λ free.
-    let f : FlightOut = record { size = next_size s.log; mark = New } in
-    let rest : length (pending s.log) ≡ length s.log.trail - s.log.settled = length-drop s.log.settled s.log.trail in
-    let some : 1 ≤ length (pending s.log) = grind (arith, nat_tests, free) in
-    (stays_flight s (Some f) is (record { some = grind (arith, some); most = grind (arith, some); within = grind (arith, some, rest, is.log.within) }) (going s.log f s.log.doubt (grind (arith, nat_tests, free))), (is, tt)))
-  where
-    going : (log : Log) (f : FlightOut) (o : Option ℕ) → is_some o ≡ false → DoubtFits log (Some f) o
-    going log f None none = tt
-    going log f (Some b) none = cc
+all_begin s is = grind (arith, nat_tests, by_test, length-drop, stays_flight)
 
 -- the mark of the flight
 pub all_commit : (s : Machine) (f : Option FlightOut) → IsConsistent s → AllByRecursion (λ a. IsConsistent (after s Commit a)) (with_flight f (λ g. to_commit g.mark))
-all_commit s None is = (is, tt)
-all_commit s (Some f) is = by_mark f.mark
-  where
-    fits : (log : Log) (m : Mark) (o : Option FlightOut) → FlightFits log o → FlightFits log (marked m o)
-    fits log m None h = h
-    fits log m (Some g) h = h
-
-    doubts : (log : Log) (m : Mark) (o : Option FlightOut) (b : Option ℕ) → DoubtFits log o b → DoubtFits log (marked m o) b
-    doubts log m o None h = tt
-    doubts log m None (Some b) h = h
-    doubts log m (Some g) (Some b) h = h
-
-    with_mark : (m : Mark) → IsConsistent (record s { flight = marked m s.flight })
-    with_mark m = stays_flight s (marked m s.flight) is (fits s.log m s.flight is.flight) (doubts s.log m s.flight s.log.doubt is.doubt)
-
-    by_mark : (m : Mark) → AllByRecursion (λ a. IsConsistent (after s Commit a)) (to_commit m)
-    by_mark New = (with_mark Good, (with_mark Torn, (is, tt)))
-    by_mark Good = (is, tt)
-    by_mark Torn = (is, tt)
+all_commit s f h1 = grind (arith, nat_tests, stays_flight)
 
 -- where a flight is out, nothing is in doubt
 pub no_doubt : (log : Log) (f : FlightOut) (o : Option ℕ) → DoubtFits log (Some f) o → o ≡ None
@@ -69,14 +38,7 @@ stays_settled s b is le none =
     }
 
 stays_torn : (s : Machine) (b : ℕ) → IsConsistent s → s.log.settled + b ≤ length s.log.trail → IsConsistent (after_finish s b Torn)
-stays_torn s b is le = record {
-  log = doubted_stays s.log b is.log;
-  flight = tt;
-  doubt = le;
-  seen = is.seen;
-  tickets = is.tickets;
-  told = told_same s.log (with_doubt s.log b) s.released s.replied refl refl refl is.told;
-}
+stays_torn s b is le = grind (arith, nat_tests, doubted_stays, told_same)
 
 pub all_finish : (s : Machine) (f : Option FlightOut) → IsConsistent s → s.flight ≡ f → AllByRecursion (λ a. IsConsistent (after s Finish a)) (with_flight f (λ g. to_finish (settled_count s.log) g.size g.mark))
 all_finish s None is out = (is, tt)
@@ -105,20 +67,7 @@ pub record KeepsMore (s : Machine) (n : ℕ) : Type 0 where
   pub within : s.log.settled + more ≤ length s.log.trail
 
 pub all_keep_more : (s : Machine) (f : Option FlightOut) (o : Option ℕ) → s.log.settled ≤ length s.log.trail → FlightFits s.log f → DoubtFits s.log f o → AllByRecursion (KeepsMore s) (kept_by s.log.settled f o)
-all_keep_more s None None within fits doubt = (record { more = 0; is = omega arith; within = omega (arith, within) }, tt)
-all_keep_more s None (Some b) within fits doubt = (record { more = 0; is = omega arith; within = omega (arith, within) }, (record { more = b; is = refl; within = doubt }, tt))
-all_keep_more s (Some f) o within fits doubt = by_mark f.mark
-  where
-    none : KeepsMore s s.log.settled
-    none = record { more = 0; is = omega arith; within = omega (arith, within) }
-
-    all : KeepsMore s (s.log.settled + f.size)
-    all = record { more = f.size; is = refl; within = fits.within }
-
-    by_mark : (m : Mark) → AllByRecursion (KeepsMore s) (kept_with s.log.settled f.size m)
-    by_mark New = (none, tt)
-    by_mark Good = (all, tt)
-    by_mark Torn = (none, (all, tt))
+all_keep_more s f o h1 h2 h3 = grind (arith, nat_tests)
 
 pub kept_more : (s : Machine) (n : ℕ) → IsConsistent s → IsOneOf n (kept s) → KeepsMore s n
 kept_more s n is one = each_one (KeepsMore s) (kept s) n one (all_keep_more s s.flight s.log.doubt is.log.within is.flight is.doubt)

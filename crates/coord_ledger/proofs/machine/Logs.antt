@@ -7,7 +7,7 @@ use Rattle.coord_types.specs.declared.refusals.Refusal.TheVariants.{NotReleased}
 use Rattle.coord_ledger.specs.Facade.{IsConsistentLog, Log, Step, accepted_count, cut_to, front_world, is_full, pending, rebased, settled_count, settled_world, with_doubt, with_settled, with_step, world_after}
 use Rattle.coord_store.proofs.Freshness.{fold-push, fresh-push}
 use Rattle.coord_store.specs.Recovered.{AllFresh}
-use Rattle.coord_world.proofs.Facade.{fold_counts, release_stays, trail_goes_on, trail_is_cut}
+use Rattle.coord_world.proofs.Facade.{fold-append, fold_counts, release_stays, trail_goes_on, trail_is_cut}
 use Rattle.coord_world.specs.laws.Trails.{IsTrail}
 use Rattle.coord_world.specs.Facade.{IsFresh, StepInRange, World, accepts, fold, next}
 use Rattle.coord_ledger.specs.laws.Laws.{LogStays}
@@ -25,11 +25,7 @@ count_after log n le = omega (arith, fold_counts log.base (take n log.trail), le
 
 -- steps in two parts
 pub world-add : (log : Log) (n m : ℕ) → world_after log (n + m) ≡ fold (world_after log n) (take m (drop n log.trail))
-world-add log n m = ap (fold log.base) (take-add n m log.trail) ∙ fold_both (take n log.trail) (take m (drop n log.trail)) log.base
-  where
-    fold_both : (xs ys : List Step) (w : World) → fold w (xs ++ ys) ≡ fold (fold w xs) ys
-    fold_both [] ys w = refl
-    fold_both (x ∷ xs) ys w = fold_both xs ys (next w x)
+world-add log n m = ap (fold log.base) (take-add n m log.trail) ∙ fold-append (take n log.trail) (take m (drop n log.trail)) log.base
 
 -- the settled steps lead to the settled world, and the pending ones from there to the front
 pub front_is : (log : Log) → IsConsistentLog log → fold (settled_world log) (pending log) ≡ front_world log
@@ -171,10 +167,4 @@ module _ (log : Log) (n : ℕ) (le : n ≤ log.settled) where
     rebased_within = omega (arith, length-drop n log.trail, le, is.within)
 
 pub rebased_is_consistent : RebasedIsConsistent
-rebased_is_consistent log n is le =
-    record {
-      trail = (trail_is_cut log.base log.trail n is.trail).others;
-      within = rebased_within log n le is;
-      few = omega (arith, ap length (rebased_pending log n le), is.few);
-      fresh = rw (rebased_settled log n le) (subst (AllFresh (settled_world log) (settled_world log)) (sym (rebased_pending log n le)) is.fresh);
-    }
+rebased_is_consistent = grind (arith, trail_is_cut, rebased_within, rebased_pending, rebased_settled)

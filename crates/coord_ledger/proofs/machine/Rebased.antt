@@ -1,13 +1,14 @@
 -- A machine whose base is moved along its settled steps gives the same answers.
-use Rattle.std.proofs.Common.{◌∙◌, ◌≡◌, ℕ, ◌+◌, ◌-◌, ◌≤◌, false, List, [], ◌∷◌, ◌++◌, map, length, take, drop, Option, Some, None, Ok, Err, refl, sym, ap, subst, arith, cond, is_some, nat_le, Result, ◌||◌, ◌==◌, min}
+use Rattle.std.proofs.Common.{◌∙◌, ◌≡◌, ℕ, ◌+◌, ◌-◌, ◌≤◌, false, List, [], ◌∷◌, ◌++◌, map, length, take, drop, Option, Some, None, Err, refl, sym, ap, arith, cond, is_some, nat_le, Result, ◌||◌, ◌==◌, min}
+use Rattle.std.proofs.lemmas.Bool.Decides.{nat_tests}
 use Rattle.std.specs.List.{AllByRecursion}
 use Rattle.std.proofs.lemmas.Simd.{map-map}
 use Rattle.std.proofs.lemmas.List.{drop-append-le, take-append-le, take-take}
 use Rattle.coord_types.specs.declared.limits.TheConstants.{MAX_BATCH_STEPS, MAX_PENDING}
-use Rattle.coord_ledger.specs.Facade.{Answer, Begin, Begun, Collect, Collected, Commit, Crash, Event, Finish, FlightOut, Fresh, Good, IsConsistent, IsConsistentLog, Log, Machine, Mark, New, NoFlight, Nothing, Opened, Refusal, Refused, Repeat, Reply, Resend, Resent, Show, Shown, Step, Submit, Torn, Verdict, Waiting, accepted_count, after, after_finish, after_submit, answers, crashed, finished, has_stopped, is_crash, kept_by, kept_with, log_back, next_size, pending, rebased, releases_of, resent, settled_count, settled_world, cannot_flush, ticket, to_collect, to_commit, to_finish, to_submit, unless_full, verdict, with_flight, with_settled, with_step, world_after}
+use Rattle.coord_ledger.specs.Facade.{Answer, Begin, Begun, Collect, Commit, Crash, Event, Finish, FlightOut, IsConsistent, IsConsistentLog, Log, Machine, Mark, NoFlight, Nothing, Opened, Refusal, Refused, Reply, Resend, Resent, Show, Shown, Step, Submit, Verdict, accepted_count, after, after_finish, after_submit, answers, finished, has_stopped, is_crash, kept_by, next_size, pending, rebased, resent, settled_count, settled_world, cannot_flush, ticket, to_collect, to_commit, to_finish, to_submit, unless_full, verdict, with_flight, with_settled, with_step, world_after}
 use Rattle.coord_types.specs.declared.refusals.Refusal.TheVariants.{OutOfMemory, Stopped}
 use Rattle.coord_world.proofs.Facade.{by_test}
-use Rattle.coord_world.specs.Facade.{accepts, again, fold, outs}
+use Rattle.coord_world.specs.Facade.{accepts, again, fold}
 use Rattle.coord_ledger.specs.laws.Rebasing.{CrashReopens, RebasedAnswersAlike, RebasedGoesOn, rebased_machine}
 use Rattle.coord_view.specs.Shown.{shown}
 use Rattle.coord_ledger.proofs.machine.Lists.{each_one}
@@ -15,20 +16,7 @@ use Rattle.coord_ledger.proofs.machine.Logs.{rebased_accepted, rebased_base, reb
 
 -- what a crash may keep behind c more steps
 pub kept_later : (c d : ℕ) (f : Option FlightOut) (o : Option ℕ) → kept_by (c + d) f o ≡ map (λ n. c + n) (kept_by d f o)
-kept_later c d f o = by_flight f o
-  where
-    more : (b : ℕ) → c + d + b ≡ c + (d + b)
-    more b = omega arith
-
-    by_mark : (b : ℕ) (m : Mark) → kept_with (c + d) b m ≡ map (λ n. c + n) (kept_with d b m)
-    by_mark b New = refl
-    by_mark b Good = λ i. more b i ∷ []
-    by_mark b Torn = λ i. (c + d) ∷ more b i ∷ []
-
-    by_flight : (f : Option FlightOut) (o : Option ℕ) → kept_by (c + d) f o ≡ map (λ n. c + n) (kept_by d f o)
-    by_flight None None = refl
-    by_flight None (Some b) = λ i. (c + d) ∷ more b i ∷ []
-    by_flight (Some f) o = by_mark f.size f.mark
+kept_later c d f o = grind (arith, nat_tests)
 
 -- the verdict on a step
 pub rebased_verdict : (log : Log) (n : ℕ) (le : n ≤ log.settled) (is : IsConsistentLog log) (x : Step) → verdict (rebased log n) x ≡ verdict log x
@@ -80,30 +68,20 @@ module _ (s : Machine) (n : ℕ) (is : IsConsistent s) (le : n ≤ s.log.settled
       ∙ ap (map (λ k. Opened (s.log.base.count + k))) (sym (kept_later n (s.log.settled - n) s.flight s.log.doubt) ∙ ap (λ d. kept_by d s.flight s.log.doubt) there)
 
   on_submit : (x : Step) (v : Result Verdict Refusal) → AllByRecursion (λ a. after_submit (rebased_machine s n) x v a ≡ rebased_machine (after_submit s x v a) n) (to_submit (accepted_count s.log + 1) v)
-  on_submit x (Ok (Fresh k)) =
-      let new : Reply = record { step = accepted_count s.log + 1; kind = k } in
-      ((λ i. record s { log = rebased_step s.log n x (omega (arith, le, is.log.within)) i; tickets = s.tickets ++ Some new ∷ [] }), (refl, tt))
-  on_submit x (Ok (Repeat r)) = (refl, tt)
-  on_submit x (Err e) = (refl, tt)
+  on_submit x v = grind (arith, nat_tests, rebased_step)
 
   on_mark : (b : ℕ) (m : Mark) → after_finish (rebased_machine s n) b m ≡ rebased_machine (after_finish s b m) n
-  on_mark b New = refl
-  on_mark b Good = λ i. record s { log = rebased_more s.log n b le i; flight = None; released = s.released ++ releases_of (outs (settled i) (take b (waiting i))) }
-  on_mark b Torn = refl
+  on_mark b m = grind (arith, nat_tests, rebased_more, settled, waiting)
 
   on_finish : (f : Option FlightOut) → finished (rebased_machine s n) f ≡ rebased_machine (finished s f) n
   on_finish None = refl
   on_finish (Some f) = on_mark f.size f.mark
 
   on_finished : (b : ℕ) (m : Mark) → AllByRecursion (λ a. after (rebased_machine s n) Finish a ≡ rebased_machine (after s Finish a) n) (to_finish (settled_count s.log) b m)
-  on_finished b New = (on_finish s.flight, tt)
-  on_finished b Good = (on_finish s.flight, (refl, tt))
-  on_finished b Torn = (on_finish s.flight, tt)
+  on_finished b m = grind (arith, nat_tests, on_finish)
 
   on_committed : (m : Mark) → AllByRecursion (λ a. after (rebased_machine s n) Commit a ≡ rebased_machine (after s Commit a) n) (to_commit m)
-  on_committed New = (refl, (refl, (refl, tt)))
-  on_committed Good = (refl, tt)
-  on_committed Torn = (refl, tt)
+  on_committed m = grind (arith, nat_tests)
 
   on_flight : (e : Event) (f : Option FlightOut) (given : FlightOut → List Answer) → after (rebased_machine s n) e NoFlight ≡ rebased_machine (after s e NoFlight) n → ((g : FlightOut) → AllByRecursion (λ a. after (rebased_machine s n) e a ≡ rebased_machine (after s e a) n) (given g)) →
       AllByRecursion (λ a. after (rebased_machine s n) e a ≡ rebased_machine (after s e a) n) (with_flight f given)
@@ -111,9 +89,7 @@ module _ (s : Machine) (n : ℕ) (is : IsConsistent s) (le : n ≤ s.log.settled
   on_flight e (Some f) given none all = all f
 
   on_collect : (j : ℕ) (t : Option Reply) → AllByRecursion (λ a. after (rebased_machine s n) (Collect j) a ≡ rebased_machine (after s (Collect j) a) n) (to_collect (settled_count s.log) t)
-  on_collect j None = (refl, tt)
-  on_collect j (Some r) =
-      by_test (nat_le r.step (settled_count s.log)) (λ b. AllByRecursion (λ a. after (rebased_machine s n) (Collect j) a ≡ rebased_machine (after s (Collect j) a) n) (cond b (Collected r) Waiting ∷ [])) (λ _. (refl, tt)) (λ _. (refl, tt))
+  on_collect j t = grind (arith, nat_tests, by_test)
 
   on_event : (e : Event) → is_crash e ≡ false → AllByRecursion (λ a. after (rebased_machine s n) e a ≡ rebased_machine (after s e a) n) (answers s e)
   on_event (Submit x) calm =
@@ -139,6 +115,4 @@ pub rebased_goes_on : RebasedGoesOn
 rebased_goes_on s n e a is le calm one = each_one (λ b. after (rebased_machine s n) e b ≡ rebased_machine (after s e b) n) (answers s e) a one (on_event s n is le e calm)
 
 pub crash_reopens : CrashReopens
-crash_reopens s n =
-    let none : n - n ≡ 0 = omega arith in
-    λ i. record (crashed s n) { log = record { base = fold s.log.base (take-take n n s.log.trail (omega arith) i); trail = none_behind n s.log.trail i; settled = none i; doubt = None } }
+crash_reopens = grind (arith, nat_tests, take-take, none_behind, settled)

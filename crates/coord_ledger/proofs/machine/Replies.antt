@@ -1,9 +1,30 @@
--- Replies: those to steps, and those that a world keeps.
-use Rattle.std.proofs.Common.{◌≡◌, ℕ, zero, suc, ◌+◌, ◌≤◌, List, [], ◌∷◌, ◌++◌, map, length, take, Some, refl, sym, ap, ◌∙◌, arith, inl, inr, slice_get}
+-- Replies: those to steps, those that a world keeps, and their kinds.
+use Rattle.std.proofs.Common.{◌≡◌, ℕ, zero, suc, List, [], ◌∷◌, ◌++◌, length, take, Some, slice_get, refl, ap, ◌+◌, ◌≤◌, map, sym, ◌∙◌, arith, inl, inr}
+use Rattle.coord_node.specs.Steps.{kind}
+use Rattle.coord_ledger.specs.Facade.{Step, IsOneOf, IsReplyOf, Reply, Session}
+use Rattle.coord_world.specs.Facade.{World, fold, next, state, StepOutcome, outs, reply}
+use Rattle.coord_ledger.specs.code.Holding.{kinds_of}
 use Rattle.coord_types.specs.Table.{get}
-use Rattle.coord_ledger.specs.Facade.{IsOneOf, IsReplyOf, Reply, Session, Step}
 use Rattle.coord_world.proofs.Facade.{kept_reply_law}
-use Rattle.coord_world.specs.Facade.{StepOutcome, World, fold, next, outs, reply}
+
+-- ---- kinds
+
+-- with one step more
+pub kinds_of-push : (xs : List Step) (w : World) (s : Step) → kinds_of w (xs ++ s ∷ []) ≡ kinds_of w xs ++ kind (state (fold w xs)) s ∷ []
+kinds_of-push [] w s = refl
+kinds_of-push (x ∷ xs) w s = ap (λ l. kind (state w) x ∷ l) (kinds_of-push xs (next w x) s)
+
+-- the kind at the place of a step
+pub kinds_of-at : (i : ℕ) (xs : List Step) (w : World) (s : Step) → slice_get xs i ≡ Some s → slice_get (kinds_of w xs) i ≡ Some (kind (state (fold w (take i xs))) s)
+kinds_of-at i [] w s there = cc
+kinds_of-at zero (x ∷ xs) w s there = let same : x ≡ s = cc in ap (λ y. Some (kind (state w) y)) same
+kinds_of-at (suc i) (x ∷ xs) w s there = kinds_of-at i xs (next w x) s there
+
+pub kinds_of-length : (xs : List Step) (w : World) → length (kinds_of w xs) ≡ length xs
+kinds_of-length [] w = refl
+kinds_of-length (x ∷ xs) w = ap suc (kinds_of-length xs (next w x))
+
+-- ---- to steps, and of a world
 
 abbrev replies : World → List Step → List Reply
 replies w steps = map (λ q. q.reply) (outs w steps)

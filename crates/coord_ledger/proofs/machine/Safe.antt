@@ -1,10 +1,11 @@
 -- What follows where the machine is consistent.
-use Rattle.std.proofs.Common.{◌≡◌, ℕ, ◌+◌, ◌≤◌, List, length, Option, Some, None, refl, ap, arith}
-use Rattle.coord_ledger.specs.Facade.{DoubtFits, FlightOut, GivesOneOf, Good, IsConsistent, Machine, Mark, New, Release, Reply, Survives, Torn, after_finish, finished, kept, kept_by, settled_count, world_after}
+use Rattle.std.proofs.Common.{◌≡◌, ℕ, ◌+◌, ◌≤◌, List, length, Option, refl, arith}
+use Rattle.std.proofs.lemmas.Bool.Decides.{nat_tests}
+use Rattle.coord_ledger.specs.Facade.{DoubtFits, FlightOut, GivesOneOf, IsConsistent, Machine, Release, Reply, Survives, finished, kept, kept_by, settled_count, world_after}
 use Rattle.coord_world.proofs.Facade.{trail_keeps_worlds}
 use Rattle.coord_ledger.specs.laws.Laws.{FinishKeepsKept, KeptIsSafe, PrefixFromImages}
 use Rattle.coord_ledger.proofs.machine.ConsistentFlights.{kept_more, no_doubt}
-use Rattle.coord_ledger.proofs.machine.ConsistentTold.{again_later}
+use Rattle.coord_ledger.proofs.machine.ConsistentSteps.{again_later}
 use Rattle.coord_ledger.proofs.machine.Lists.{all_raised}
 use Rattle.coord_ledger.proofs.machine.Logs.{count_after}
 
@@ -27,16 +28,7 @@ kept_is_safe s n is one =
 
 -- a flight that comes back changes nothing of that
 finish_keeps : (s : Machine) (f : Option FlightOut) → s.flight ≡ f → DoubtFits s.log f s.log.doubt → kept (finished s f) ≡ kept_by s.log.settled f s.log.doubt
-finish_keeps s None is fits = ap (λ o. kept_by s.log.settled o s.log.doubt) is
-finish_keeps s (Some f) is fits = by_mark f.mark
-  where
-    none : s.log.doubt ≡ None
-    none = no_doubt s.log f s.log.doubt fits
-
-    by_mark : (m : Mark) → kept (after_finish s f.size m) ≡ kept_by s.log.settled (Some (record { size = f.size; mark = m })) s.log.doubt
-    by_mark New = ap (kept_by s.log.settled None) none
-    by_mark Good = ap (kept_by (s.log.settled + f.size) None) none
-    by_mark Torn = refl
+finish_keeps s f h1 h2 = grind (arith, nat_tests, no_doubt)
 
 pub finish_keeps_kept : FinishKeepsKept
 finish_keeps_kept s is = finish_keeps s s.flight refl is.doubt

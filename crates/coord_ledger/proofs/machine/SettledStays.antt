@@ -1,8 +1,9 @@
 -- The settled steps stay.
-use Rattle.std.proofs.Common.{◌≡◌, ℕ, ◌+◌, ◌-◌, ◌≤◌, List, [], ◌∷◌, map, length, Option, Some, None, Ok, Err, refl, sym, subst, arith, cond, is_some, nat_le, Result}
+use Rattle.std.proofs.Common.{ℕ, ◌+◌, ◌-◌, ◌≤◌, List, [], ◌∷◌, map, length, Option, Some, None, refl, arith, cond, is_some, Result}
+use Rattle.std.proofs.lemmas.Bool.Decides.{nat_tests}
 use Rattle.std.specs.List.{AllByRecursion}
 use Rattle.std.proofs.lemmas.List.{take-append-le, take-take}
-use Rattle.coord_ledger.specs.Facade.{Answer, Begin, Begun, Collect, Collected, Commit, Crash, Event, Finish, FlightOut, Fresh, Good, IsConsistent, Machine, Mark, New, NoFlight, Nothing, Opened, Refusal, Refused, Repeat, Reply, Resend, Show, Shown, Step, Submit, Torn, Verdict, Waiting, accepted_count, after, after_finish, after_submit, answers, crashed, finished, has_stopped, kept, next_size, settled_count, settled_world, cannot_flush, ticket, to_collect, to_commit, to_finish, to_submit, verdict, with_flight}
+use Rattle.coord_ledger.specs.Facade.{Answer, Begin, Begun, Collect, Commit, Crash, Event, Finish, FlightOut, IsConsistent, Machine, Mark, NoFlight, Nothing, Opened, Refusal, Refused, Reply, Resend, Show, Shown, Step, Submit, Verdict, accepted_count, after, after_finish, after_submit, answers, finished, has_stopped, kept, next_size, settled_count, settled_world, cannot_flush, ticket, to_collect, to_commit, to_finish, to_submit, verdict, with_flight}
 use Rattle.coord_types.specs.declared.refusals.Refusal.TheVariants.{OutOfMemory, Stopped}
 use Rattle.coord_world.proofs.Facade.{by_test}
 use Rattle.coord_ledger.specs.laws.Laws.{KeepsSettled, SettledStays}
@@ -15,28 +16,20 @@ same : (s : Machine) → KeepsSettled s s
 same s = record { base = refl; settled = omega arith; steps = refl }
 
 keeps_submit : (s : Machine) (x : Step) (v : Result Verdict Refusal) → s.log.settled ≤ length s.log.trail → AllByRecursion (λ a. KeepsSettled s (after_submit s x v a)) (to_submit (accepted_count s.log + 1) v)
-keeps_submit s x (Ok (Fresh k)) le = (record { base = refl; settled = omega arith; steps = take-append-le s.log.settled s.log.trail (x ∷ []) le }, (same s, tt))
-keeps_submit s x (Ok (Repeat r)) le = (record { base = refl; settled = omega arith; steps = refl }, tt)
-keeps_submit s x (Err e) le = (same s, tt)
+keeps_submit s x v h1 = grind (arith, nat_tests, take-append-le, same)
 
 keeps_commit : (s : Machine) (m : Mark) → AllByRecursion (λ a. KeepsSettled s (after s Commit a)) (to_commit m)
-keeps_commit s New = (record { base = refl; settled = omega arith; steps = refl }, (record { base = refl; settled = omega arith; steps = refl }, (same s, tt)))
-keeps_commit s Good = (same s, tt)
-keeps_commit s Torn = (same s, tt)
+keeps_commit s m = grind (arith, nat_tests, same)
 
 after_keeps : (s : Machine) (b : ℕ) (m : Mark) → KeepsSettled s (after_finish s b m)
-after_keeps s b New = record { base = refl; settled = omega arith; steps = refl }
-after_keeps s b Good = record { base = refl; settled = omega arith; steps = refl }
-after_keeps s b Torn = record { base = refl; settled = omega arith; steps = refl }
+after_keeps s b m = grind (arith, nat_tests)
 
 finish_keeps : (s : Machine) (f : Option FlightOut) → KeepsSettled s (finished s f)
 finish_keeps s None = same s
 finish_keeps s (Some f) = after_keeps s f.size f.mark
 
 keeps_finish : (s : Machine) (m : Mark) (b : ℕ) → AllByRecursion (λ a. KeepsSettled s (after s Finish a)) (to_finish (settled_count s.log) b m)
-keeps_finish s New b = (finish_keeps s s.flight, tt)
-keeps_finish s Good b = (finish_keeps s s.flight, (same s, tt))
-keeps_finish s Torn b = (finish_keeps s s.flight, tt)
+keeps_finish s m b = grind (arith, nat_tests, finish_keeps, same)
 
 -- where a flight is out
 keeps_flight : (s : Machine) (e : Event) (f : Option FlightOut) (given : FlightOut → List Answer) → KeepsSettled s (after s e NoFlight) → ((g : FlightOut) → AllByRecursion (λ a. KeepsSettled s (after s e a)) (given g)) → AllByRecursion (λ a. KeepsSettled s (after s e a)) (with_flight f given)
@@ -44,16 +37,10 @@ keeps_flight s e None given none all = (none, tt)
 keeps_flight s e (Some f) given none all = all f
 
 keeps_collect : (s : Machine) (i : ℕ) (t : Option Reply) → AllByRecursion (λ a. KeepsSettled s (after s (Collect i) a)) (to_collect (settled_count s.log) t)
-keeps_collect s i None = (same s, tt)
-keeps_collect s i (Some r) =
-    by_test (nat_le r.step (settled_count s.log)) (λ b. AllByRecursion (λ a. KeepsSettled s (after s (Collect i) a)) (cond b (Collected r) Waiting ∷ []))
-    (λ _. (record { base = refl; settled = omega arith; steps = refl }, tt)) (λ _. (same s, tt))
+keeps_collect s i t = grind (arith, nat_tests, same, by_test)
 
 crash_keeps : (s : Machine) (n : ℕ) → KeepsMore s n → KeepsSettled s (after s Crash (Opened (s.log.base.count + n)))
-crash_keeps s n keeps =
-    let more = keeps.more in
-    let is : s.log.base.count + n - s.log.base.count ≡ s.log.settled + more = omega (arith, keeps.is) in
-    rw is (record { base = refl; settled = omega arith; steps = take-take s.log.settled (s.log.settled + more) s.log.trail (omega arith) })
+crash_keeps s n keeps = grind (arith, nat_tests, take-take)
 
 keeps_crash : (s : Machine) (ns : List ℕ) → AllByRecursion (KeepsMore s) ns → AllByRecursion (λ a. KeepsSettled s (after s Crash a)) (map (λ n. Opened (s.log.base.count + n)) ns)
 keeps_crash s [] all = tt

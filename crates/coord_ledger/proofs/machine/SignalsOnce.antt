@@ -1,16 +1,63 @@
--- No step signals a node twice.
-use Rattle.std.proofs.Common.{◌≡◌, ◌≢◌, ℕ, ◌+◌, ◌≤◌, Bool, List, [], ◌∷◌, map, refl, ap, arith, cond, inl, inr, count_by, ◌==◌, not}
+-- What settled steps release, and that no step signals a node twice.
+use Rattle.std.proofs.Common.{◌≡◌, ℕ, ◌+◌, ◌≤◌, List, [], ◌∷◌, ◌++◌, map, length, refl, ap, ◌∙◌, arith, not, ◌==◌, ◌≢◌, Bool, cond, inl, inr, count_by}
+use Rattle.std.specs.List.{AllByRecursion}
+use Rattle.std.proofs.lemmas.Grind.{flat_map-append}
+use Rattle.std.proofs.lemmas.List.Elements.{filter-append}
 use Rattle.std.proofs.lemmas.Bool.Decides.{nat_tests}
 use Rattle.std.proofs.lemmas.List.Sums.{sum_by-append, sum_by-cons}
+use Rattle.coord_ledger.specs.Facade.{Output, Step, release_of, released_first, releases_of, IsPartOf, Release, is_signal, settled_steps}
+use Rattle.coord_world.specs.Facade.{StepOutcome, World, fold, next, outputs, outs, reply, IsFresh, signals, state}
+use Rattle.coord_ledger.proofs.machine.Lists.{all_both}
 use Rattle.coord_node.specs.Facade.{Transition, lost, request, transition, transitions}
-use Rattle.coord_ledger.specs.Facade.{IsPartOf, Output, Release, Step, is_signal, release_of, released_first, releases_of, settled_steps}
 use Rattle.coord_types.specs.declared.outputs.Output.TheVariants.{Signalled}
 use Rattle.coord_types.specs.declared.steps.Command.TheVariants.{Add, Remove, Join, Drop, Reset, Confirm}
 use Rattle.coord_types.specs.declared.steps.Step.TheVariants.{Order, Take, Clear}
 use Rattle.coord_world.proofs.Facade.{EachFresh, by_test, fresh_order, same_or_apart, signals_given, trail_each_fresh, trail_is_cut}
 use Rattle.coord_world.specs.laws.Waves.{is_signal_of}
-use Rattle.coord_world.specs.Facade.{IsFresh, World, next, outputs, outs, signals, state}
 use Rattle.coord_ledger.specs.laws.Laws.{SignalsOnce}
+
+-- ---- releases
+
+-- steps one after the other
+pub outs_both : (w : World) (ss ts : List Step) → outs w (ss ++ ts) ≡ outs w ss ++ outs (fold w ss) ts
+outs_both w [] ts = refl
+outs_both w (s ∷ ss) ts = ap (λ l. record { reply = reply w s; outputs = outputs w s } ∷ l) (outs_both (next w s) ss ts)
+
+pub released_both : (w : World) (ss ts : List Step) → releases_of (outs w (ss ++ ts)) ≡ releases_of (outs w ss) ++ releases_of (outs (fold w ss) ts)
+released_both w ss ts = ap releases_of (outs_both w ss ts) ∙ flat_map-append (λ (r : StepOutcome). map (release_of r.reply.step) r.outputs) (outs w ss) (outs (fold w ss) ts)
+
+-- the outputs of one step
+of_one : (n m : ℕ) (os : List Output) → n ≤ m → AllByRecursion (λ r. r.step ≤ m) (map (release_of n) os)
+of_one n m [] le = tt
+of_one n m (o ∷ os) le = (le, of_one n m os le)
+
+-- no number is above that of the last step
+pub none_above : (w : World) (ss : List Step) (m : ℕ) → w.count + length ss ≤ m → AllByRecursion (λ r. r.step ≤ m) (releases_of (outs w ss))
+none_above w [] m le = tt
+none_above w (s ∷ ss) m le =
+    all_both (λ r. r.step ≤ m) (map (release_of (w.count + 1)) (outputs w s)) (releases_of (outs (next w s) ss)) (of_one (w.count + 1) m (outputs w s) (omega (arith, le))) (none_above (next w s) ss m (omega (arith, le)))
+
+-- what is sent again has no number
+pub again_is_new : (os : List Output) → released_first (map (release_of 0) os) ≡ []
+again_is_new [] = refl
+again_is_new (o ∷ os) = again_is_new os
+
+pub again_bound : (m : ℕ) (os : List Output) → AllByRecursion (λ r. r.step ≤ m) (map (release_of 0) os)
+again_bound m os = of_one 0 m os (omega arith)
+
+-- and the rest has one
+numbered : (n : ℕ) (os : List Output) → released_first (map (release_of (n + 1)) os) ≡ map (release_of (n + 1)) os
+numbered n [] = refl
+numbered n (o ∷ os) = grind (arith, nat_tests, numbered n os)
+
+pub all_numbered : (w : World) (ss : List Step) → released_first (releases_of (outs w ss)) ≡ releases_of (outs w ss)
+all_numbered w [] = refl
+all_numbered w (s ∷ ss) =
+    filter-append (λ r. not (r.step == 0)) (map (release_of (w.count + 1)) (outputs w s)) (releases_of (outs (next w s) ss))
+    ∙ ap (λ l. l ++ released_first (releases_of (outs (next w s) ss))) (numbered w.count (outputs w s))
+    ∙ ap (λ l. map (release_of (w.count + 1)) (outputs w s) ++ l) (all_numbered (next w s) ss)
+
+-- ---- signals
 
 -- ---- one step
 
@@ -19,10 +66,7 @@ of_transition : (v u : ℕ) (d : Transition) → count_by (is_signal_of v) (sign
 of_transition v u d = by_test d.finished (λ b. count_by (is_signal_of v) (cond b (Signalled u d.state.epoch ∷ []) []) ≤ cond (u == v) 1 0) (λ _. grind (arith, nat_tests)) (λ _. grind (arith, nat_tests))
 
 of_two : (v a b : ℕ) (d e : Transition) → count_by (is_signal_of v) (signals ((a, d) ∷ (b, e) ∷ [])) ≤ cond (a == v) 1 0 + cond (b == v) 1 0
-of_two v a b d e =
-    by_test d.finished (λ t. count_by (is_signal_of v) (cond t (Signalled a d.state.epoch ∷ signals ((b, e) ∷ [])) (signals ((b, e) ∷ []))) ≤ cond (a == v) 1 0 + cond (b == v) 1 0)
-    (λ _. omega (arith, sum_by-cons (λ (o : Output). cond (is_signal_of v o) 1 0) (Signalled a d.state.epoch) (signals ((b, e) ∷ [])), of_transition v b e))
-    (λ _. omega (arith, of_transition v b e))
+of_two v a b d e = grind arith
 
 at_most_one : (u v : ℕ) → cond (u == v) 1 0 ≤ 1
 at_most_one u v = grind (arith, nat_tests)

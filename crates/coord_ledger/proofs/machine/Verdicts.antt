@@ -1,5 +1,5 @@
 -- How a ledger judges a step.
-use Rattle.std.proofs.Common.{◌≡◌, ℕ, ◌==◌, ◌&&◌, Bool, true, false, [], ◌∷◌, Option, Some, None, Ok, Err, refl, sym, ap, ◌∙◌, cond}
+use Rattle.std.proofs.Common.{◌≡◌, ℕ, ◌==◌, ◌&&◌, Bool, true, false, [], ◌∷◌, Option, Some, None, Ok, Err, refl, sym, ap, cond}
 use Rattle.std.proofs.Common.{arith}
 use Rattle.std.proofs.lemmas.Bool.Decides.{nat_tests}
 use Rattle.std.specs.Prelude.{Result}
@@ -11,7 +11,7 @@ use Rattle.coord_ledger.specs.Facade.{Fresh, Kind, Log, Refusal, Repeat, Reply, 
 use Rattle.coord_types.specs.declared.refusals.Refusal.TheVariants.{Exhausted, PendingFull, Stopped}
 use Rattle.coord_types.specs.declared.steps.Command.{Command}
 use Rattle.coord_types.specs.declared.steps.Step.TheVariants.{Order, Take, Clear}
-use Rattle.coord_world.proofs.Facade.{by_test}
+use Rattle.coord_world.proofs.Facade.{both, by_test}
 use Rattle.coord_world.specs.Facade.{World, accepts, against, is_exhausted, judged, or_repeat, state}
 use Rattle.coord_ledger.specs.laws.Laws.{SubmitOrder, judged_in_order, unless_repeat}
 
@@ -24,18 +24,10 @@ full_first full k (t ∷ ts) = by_test t.0 (λ b. unless_full full (cond b (Err 
 
 -- but behind a repeat
 behind_repeat : (full : Bool) (o : Option Session) (n : ℕ) (x : Command) (v : Result Verdict Refusal) → unless_full full (or_repeat o n x v) ≡ or_repeat o n x (unless_full full v)
-behind_repeat full None n x v = refl
-behind_repeat full (Some o) n x v =
-    by_test ((o.number == n) && same_command o.command x) (λ b. unless_full full (cond b (Ok (Repeat o.reply)) v) ≡ cond b (Ok (Repeat o.reply)) (unless_full full v)) (λ _. refl) (λ _. refl)
+behind_repeat full o n x v = grind arith
 
 going_order : (log : Log) (s : Step) → unless_full (is_full log) (accepts (front_world log) (settled_world log) s) ≡ unless_repeat (front_world log) s (judged_in_order log s)
-going_order log (Order c n x) =
-    let front = front_world log in
-    let s = Order c n x in
-    behind_repeat (is_full log) (get front.sessions c) n x (judged front (settled_world log) s)
-    ∙ ap (or_repeat (get front.sessions c) n x) (full_first (is_full log) (kind (state front) s) ((is_exhausted front, Exhausted) ∷ against front (settled_world log) s))
-going_order log (Take p) = full_first (is_full log) (kind (state (front_world log)) (Take p)) ((is_exhausted (front_world log), Exhausted) ∷ against (front_world log) (settled_world log) (Take p))
-going_order log (Clear p) = full_first (is_full log) (kind (state (front_world log)) (Clear p)) ((is_exhausted (front_world log), Exhausted) ∷ against (front_world log) (settled_world log) (Clear p))
+going_order log s = grind (arith, behind_repeat, full_first)
 
 pub submit_order : SubmitOrder
 submit_order log s = ap (cond (has_stopped log) (Err Stopped)) (going_order log s)
@@ -63,11 +55,7 @@ verdict_accepts log s k is = by_stop (has_stopped log) is
 
 -- a repeat is one for the front world
 repeat_passes : (full : Bool) (v : Result Verdict Refusal) (r : Reply) → unless_full full v ≡ Ok (Repeat r) → v ≡ Ok (Repeat r)
-repeat_passes full (Ok (Repeat q)) r is = is
-repeat_passes true (Ok (Fresh j)) r is = cc
-repeat_passes false (Ok (Fresh j)) r is = cc
-repeat_passes true (Err e) r is = cc
-repeat_passes false (Err e) r is = cc
+repeat_passes full v r h1 = grind arith
 
 -- the world keeps this reply for this order
 pub record KeepsReply (w : World) (s : Step) (r : Reply) : Type 0 where
@@ -80,11 +68,6 @@ pub record KeepsReply (w : World) (s : Step) (r : Reply) : Type 0 where
 never_repeats : (k : Kind) (r : Reply) (ts : Tests) → refused_or (Fresh k) ts ≡ Ok (Repeat r) → ⊥
 never_repeats k r [] is = cc
 never_repeats k r (t ∷ ts) is = by_test t.0 (λ b. cond b (Err t.1) (refused_or (Fresh k) ts) ≡ Ok (Repeat r) → ⊥) (λ _ e. cc) (λ _ e. never_repeats k r ts e) is
-
--- a test of two
-both : (a b : Bool) → (a && b) ≡ true → (a ≡ true) × (b ≡ true)
-both true b e = (refl, e)
-both false b e = cc
 
 accepted_repeat : (front settled : World) (s : Step) (r : Reply) → accepts front settled s ≡ Ok (Repeat r) → KeepsReply front s r
 accepted_repeat front settled (Order c n x) r is = by_session (get front.sessions c) refl is

@@ -1,5 +1,5 @@
 -- What a driver makes of each event follows the event machine.
-use Rattle.std.proofs.Common.{◌≡◌, ℕ, ◌≤◌, Bool, true, false, length, Ok, Err, refl, sym, ap, ◌∙◌, subst, Result, MatchResult, OnErr, IfOk, is_err, is_some}
+use Rattle.std.proofs.Common.{◌≡◌, ℕ, ◌≤◌, Bool, true, false, length, Ok, Err, refl, ap, ◌∙◌, subst, Result, MatchResult, OnErr, IfOk, is_err, is_some}
 use Rattle.std.proofs.lemmas.List.{length-map}
 use Rattle.coord_ledger.specs.Facade.{Answer, Follows, FollowsTo, IsConsistent, Machine, Refusal, Refused, Run, Show, Shown, accepted_count, release_of, resent, settled_count, settled_world}
 use Rattle.coord_types.specs.declared.refusals.Refusal.TheVariants.{OutOfMemory, Stopped}

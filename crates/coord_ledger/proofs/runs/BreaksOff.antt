@@ -1,12 +1,21 @@
--- A run that ends early: at an event, before the first one or behind the last one.
-use Rattle.std.proofs.Common.{◌≡◌, ℕ, ◌<◌, Bool, List, [], length, get_or, Option, Some, None, refl, sym, ap, ◌∙◌, subst, arith, inl, inr, slice_get, take, IsSomeAnd}
+-- A run that ends early: within an event, before the first one or behind the last one.
+use Rattle.std.proofs.Common.{◌≡◌, ◌≤◌, List, ◌++◌, length, ap, ◌∙◌, ℕ, ◌<◌, Bool, [], get_or, Option, Some, None, refl, sym, subst, arith, inl, inr, slice_get, take, IsSomeAnd}
 use Rattle.std.specs.Option.{option_map}
 use Rattle.std.proofs.lemmas.Option.{slice_get_past}
+use Rattle.coord_ledger.specs.Facade.{Answer, Event, Follows, IsLeftOut, IsOneOf, Machine, Release, Run, after, answers, EndedEarly, EndsAt, FlightOut, FlightState, Good, HasCause, IsCommitted, IsConsistent, IsCutShort, IsEventFault, IsGivenBack, IsGivenUp, IsLost, IsPromised, LedgerState, Promised, RunFaultKind, disk_held, flight_out, model_held, run, started}
 use Rattle.coord_disk.specs.Model.DiskModel.{DiskModel}
-use Rattle.coord_ledger.specs.Facade.{Answer, EndedEarly, EndsAt, Event, FlightOut, FlightState, Follows, Good, HasCause, IsCommitted, IsConsistent, IsCutShort, IsEventFault, IsGivenBack, IsGivenUp, IsLost, IsPromised, LedgerState, Machine, Promised, Release, Run, RunFaultKind, disk_held, flight_out, model_held, run, started}
 use Rattle.coord_ledger.specs.declared.trace.RunFaultKind.TheVariants.{OutOfMemory, Store}
 use Rattle.coord_ledger.proofs.follows.Follows.{flight_is}
 use Rattle.coord_ledger.proofs.runs.SoFar.{Holds, LoopInvariant, event_promised, event_there, model_there, same_model}
+
+-- ---- within an event
+
+-- some of what it releases was released, and some not
+pub cut_within : {D : Type 0} (h : Run D) (s : Machine) (e : Event) (a : Answer) (released more rest : List Release) → Follows h s → IsOneOf a (answers s e) → released ≡ h.released.items ++ more → (after s e a).released ≡ released ++ rest → 1 ≤ length rest → IsLeftOut s e released
+cut_within h s e a released more rest follows allowed begins ends some =
+    record { answer = a; allowed = allowed; more = more; rest = rest; begins = begins ∙ ap (λ l. l ++ more) follows.released; ends = ends; some = some }
+
+-- ---- before or behind one
 
 -- the flight that is held was committed
 committed : {D : Type 0} (f : Option (FlightState D)) (o : Option FlightOut) → option_map flight_out f ≡ o → IsSomeAnd f (λ g. g.mark ≡ Good) → IsCommitted o

@@ -1,5 +1,6 @@
 -- What a crash may leave at each moment of an event, and of a run.
-use Rattle.std.proofs.Common.{◌≡◌, ◌⊎◌, ℕ, ◌+◌, Bool, true, false, List, [], ◌∷◌, ◌++◌, length, Option, Some, None, Result, Ok, Err, refl, sym, ap, ◌∙◌, subst, inl, inr, IfErr, IfSome, IsErrOf, MatchResult}
+use Rattle.std.proofs.Common.{◌≡◌, ◌⊎◌, ℕ, ◌+◌, Bool, true, false, List, [], ◌∷◌, ◌++◌, length, Option, Some, None, Result, Ok, Err, refl, sym, ap, ◌∙◌, subst, inl, inr, IfErr, IfSome, IsErrOf, MatchResult, arith}
+use Rattle.std.proofs.lemmas.Bool.Decides.{nat_tests}
 use Rattle.std.specs.Option.{option_map}
 use Rattle.coord_disk.specs.Model.Moments.{LeavesOnly}
 use Rattle.coord_disk.specs.Model.Present.{Present, IsImage}
@@ -9,21 +10,17 @@ use Rattle.coord_store.specs.Kept.{GivesEither, IsOnlyWorld}
 use Rattle.coord_store.specs.declared.faults.CommitFault.{CommitFault}
 use Rattle.coord_store.specs.declared.faults.CommitFault.TheVariants as fault
 use Rattle.coord_world.specs.protocol.Next.{fold}
-use Rattle.coord_ledger.specs.Facade.{Answer, Commit, Committed, Crash, CrashPrefix, DiskEffect, DiskSurvives, DriverState, EachMoment, Event, Failed, FlightGives, FlightOut, FlightState, GivesFlown, GivesOneOf, Good, HoldsFlight, IsConsistent, IsLost, IsOneOf, IsOut, IsReopenFault, IsReopened, IsSafe, LeavesWithin, LedgerGives, LedgerState, Machine, Mark, New, Reopens, Represents, RunFaultKind, Survives, Torn, Touches, after, answers, disk_held, disk_with, flight_out, found_by_crash, is_crash, kept, kept_by, marked, run, to_commit, touches_disk, with_flight}
+use Rattle.coord_ledger.specs.Facade.{Answer, Commit, Committed, Crash, CrashPrefix, DiskEffect, DiskSurvives, DriverState, EachMoment, Event, Failed, FlightGives, FlightState, Good, HoldsFlight, IsConsistent, IsLost, IsOneOf, IsOut, IsReopenFault, IsReopened, IsSafe, LeavesWithin, LedgerGives, LedgerState, Machine, Mark, New, Reopens, Represents, RunFaultKind, Survives, Torn, Touches, after, disk_held, disk_with, flight_out, found_by_crash, is_crash, kept, marked, run, touches_disk}
 use Rattle.coord_ledger.specs.laws.Commits.{CommitIsSafe}
-use Rattle.coord_ledger.proofs.follows.FollowsCalls.{flight_gives, ledger_images}
+use Rattle.coord_ledger.proofs.follows.Follows.{flight_gives, ledger_images, flight_is, log_rebased, given_follows}
 use Rattle.coord_ledger.proofs.machine.Consistent.{stays_consistent}
-use Rattle.coord_ledger.proofs.follows.Follows.{flight_is, log_rebased}
-use Rattle.coord_ledger.proofs.follows.FollowsCrashes.{given_follows}
 use Rattle.coord_ledger.proofs.machine.Safe.{given_survives, kept_is_safe}
 
 -- ---- a commit
 
 -- while a new flight is committed, the machine is consistent as it is once the device has failed
 torn_is_consistent : (s : Machine) (b : ℕ) → IsConsistent s → s.flight ≡ Some (record { size = b; mark = New }) → IsConsistent (after s Commit (Failed fault.Device))
-torn_is_consistent s b is out =
-    let allowed : IsOneOf (Failed fault.Device) (answers s Commit) = rw out (inr (inl refl)) in
-    stays_consistent s Commit (Failed fault.Device) tt is allowed
+torn_is_consistent s b is out = grind (arith, nat_tests, stays_consistent)
 
 pub commit_is_safe : CommitIsSafe
 commit_is_safe s b is out = (safe s.log.settled (inl refl), safe (s.log.settled + b) (inr (inl refl)))
@@ -173,11 +170,7 @@ module _ {D : Type 0} (model : DiskModel D) (crashes : D → D → Type 0) where
 
   pub answered_commit : {E : Type 0} (s : Machine) (e : Event) (said : Answer) (answer : Result Answer E) (a : Answer) (was now new : Option D) → e ≡ Commit → answer ≡ Ok said → answer ≡ Ok a → now ≡ new →
       DiskEffect model crashes (found_by_crash s Commit said) (touches_disk Commit said) Commit was new → DiskEffect model crashes (found_by_crash s e a) (touches_disk e a) e was now
-  answered_commit s e said answer a was now new event says ok is touches =
-      let same : said ≡ a = cc (says, ok) in
-      rw event
-      (subst (DiskEffect model crashes (found_by_crash s Commit a) (touches_disk Commit a) Commit was) (sym is)
-      (rw (sym same) touches))
+  answered_commit s e said answer a was now new event says ok is touches = grind (arith, nat_tests)
 
   -- the disk is given back as it was held
   pub lost_as_it_was : (s : Machine) (e : Event) (kind : RunFaultKind) (was : Option D) (lost : D) → is_crash e ≡ false → was ≡ Some lost → IsLost model crashes s e kind was lost
@@ -188,15 +181,7 @@ module _ {D : Type 0} (model : DiskModel D) (crashes : D → D → Type 0) where
 
   -- what has P has Q
   pub reopens_more : (P Q : List ℕ → Type 0) (old new : D) → Reopens model crashes P old new → ((bytes : List ℕ) → P bytes → Q bytes) → Reopens model crashes Q old new
-  reopens_more P Q old new reopens more =
-      record {
-        taken = reopens.taken;
-        crash = reopens.crash;
-        image = reopens.image;
-        synced = reopens.synced;
-        opening = reopens.opening;
-        each = λ bytes here. more bytes (reopens.each bytes here);
-      }
+  reopens_more P Q old new h1 h2 = grind (arith, nat_tests)
 
   -- the disk was crashed and opened again
   module _ (was : Option D) (s : Machine) (d : D) (held : was ≡ Some d) (survives : DiskSurvives model.keeps_model model.present was s) where

@@ -1,17 +1,14 @@
 -- The end of a run: the flight that was out has come back, and the headline holds.
-use Rattle.std.proofs.Common.{◌≡◌, ℕ, Bool, true, List, Option, Some, None, refl, sym, ap, ◌∙◌, subst, IfSome, length, take}
-use Rattle.std.specs.Option.{option_map}
+use Rattle.std.proofs.Common.{◌≡◌, ℕ, Bool, true, List, Option, Some, None, sym, ap, ◌∙◌, subst, IfSome, length, take, arith}
+use Rattle.std.proofs.lemmas.Bool.Decides.{nat_tests}
 use Rattle.std.proofs.Math.Seq.{take-length}
 use Rattle.coord_disk.specs.Model.Present.{Present}
 use Rattle.coord_disk.specs.Model.DiskModel.{DiskModel}
 use Rattle.coord_store.specs.Recovered.{Recovered}
-use Rattle.coord_ledger.specs.Facade.{Answer, Completed, DriverState, EachMoment, Event, Finish, Finished, FlightOut, FlightState, Follows, Good, ImagesGive, IsConsistent, IsLeft, IsOneOf, LedgerGives, LedgerState, Machine, Mark, New, Promised, Release, Represents, Run, RunSoFar, Torn, after_finish, at_home, brought_home, disk_held, disk_with, ended, finished, flight_out, kept, kept_by, run, settled_count, started, taken_back, world_after}
-use Rattle.coord_ledger.proofs.follows.FollowsCalls.{ledger_images}
-use Rattle.coord_ledger.proofs.follows.Follows.{flight_is, log_rebased}
-use Rattle.coord_ledger.proofs.simulates.Finish.{simulates_back}
-use Rattle.coord_ledger.proofs.simulates.Represents.{represents_to}
+use Rattle.coord_ledger.specs.Facade.{Answer, Completed, DriverState, EachMoment, Event, FlightOut, FlightState, Follows, ImagesGive, IsConsistent, IsLeft, IsOneOf, LedgerGives, LedgerState, Machine, Promised, Release, Represents, Run, RunSoFar, at_home, brought_home, disk_held, disk_with, ended, finished, kept, kept_by, run, started, world_after}
+use Rattle.coord_ledger.proofs.follows.Follows.{ledger_images, flight_is, log_rebased, images_follow}
+use Rattle.coord_ledger.proofs.Simulates.{simulates_back, represents_to}
 use Rattle.coord_ledger.proofs.runs.SoFar.{Holds, LoopInvariant, same_model}
-use Rattle.coord_ledger.proofs.follows.FollowsCrashes.{images_follow}
 use Rattle.coord_ledger.proofs.machine.Safe.{finish_keeps_kept, prefix_from_images}
 use Rattle.coord_ledger.proofs.machine.SignalsOnce.{signals_once}
 
@@ -19,15 +16,7 @@ use Rattle.coord_ledger.proofs.machine.SignalsOnce.{signals_once}
 
 -- with its store at home, a ledger is where the machine is
 is_back : {D : Type 0} (d : DriverState D) (s : Machine) → IsConsistent s → Represents d s → Represents (at_home (brought_home d.ledger d.flight)) (ended s)
-is_back {D} d s is represents = by_flight d.flight refl
-  where
-    by_flight : (f : Option (FlightState D)) → d.flight ≡ f → Represents (at_home (brought_home d.ledger f)) (ended s)
-    by_flight None none =
-        let home : Represents (at_home d.ledger) s = subst (λ (o : Option (FlightState D)). Represents (record { ledger = d.ledger; flight = o }) s) none represents in
-        subst (λ o. Represents (at_home d.ledger) (finished s o)) (sym (sym (flight_is d s represents) ∙ ap (option_map flight_out) none)) home
-    by_flight (Some f) out =
-        let back = taken_back d.ledger (length f.steps) f.mark f.disk in
-        represents_to d (at_home back) s is represents Finish (Finished (settled_count back.log)) (simulates_back d f out back refl)
+is_back d s h1 h2 = grind (arith, nat_tests, flight_is, represents_to, simulates_back)
 
 is_left : {D : Type 0} (l : LedgerState D) (t : Machine) → Represents (at_home l) t → IsLeft t l
 is_left l t back = record { by = back.by; within = back.within; log = log_rebased (at_home l) t back; home = back.own }
@@ -36,13 +25,7 @@ is_left l t back = record { by = back.by; within = back.within; log = log_rebase
 
 -- a flight that comes back leaves all worlds on the way
 same_worlds : (s : Machine) (f : Option FlightOut) (n : ℕ) → world_after (finished s f).log n ≡ world_after s.log n
-same_worlds s None n = refl
-same_worlds s (Some f) n = by_mark f.mark
-  where
-    by_mark : (m : Mark) → world_after (after_finish s f.size m).log n ≡ world_after s.log n
-    by_mark New = refl
-    by_mark Good = refl
-    by_mark Torn = refl
+same_worlds s f n = grind (arith, nat_tests)
 
 -- the images of a ledger at home give what the machine may keep
 home_images : {D : Type 0} (l : LedgerState D) (s : Machine) (keeps_model : Bool) (present : Present) → IsConsistent s → Represents (at_home l) (ended s) → ImagesGive keeps_model present l.log (kept_by l.log.settled None l.log.doubt) → ImagesGive keeps_model present s.log (kept s)
@@ -56,13 +39,7 @@ home_images l s keeps_model present is back images model image here =
 
 -- the disk stays as it is
 home_disk : {D : Type 0} (l : LedgerState D) (f : Option (FlightState D)) → (brought_home l f).disk ≡ disk_with l.disk f
-home_disk l None = refl
-home_disk {D} l (Some f) = by_mark f.mark
-  where
-    by_mark : (m : Mark) → (taken_back l (length f.steps) m f.disk).disk ≡ Some f.disk
-    by_mark New = refl
-    by_mark Good = refl
-    by_mark Torn = refl
+home_disk l f = grind (arith, nat_tests)
 
 module _ {D : Type 0} (model : DiskModel D) (crashes : D → D → Type 0) where
   -- a run whose ledger is left at home
@@ -91,8 +68,4 @@ module _ {D : Type 0} (model : DiskModel D) (crashes : D → D → Type 0) where
   -- once all events were answered
   pub completed_all : (start : LedgerState D) (events : List Event) (at : ℕ) (given : List Answer) (h : Run D) (after : D) (Promise : D → Type 0) → LoopInvariant model crashes start events at given h → at ≡ length events → disk_held h.driver ≡ Some after →
       ((first : D) → RunSoFar model crashes (model.keeps_model after) first start events given h.driver → Follows h (run (started start) events given) → Promise first) → (before : D) → start.disk ≡ Some before → Promised (model.keeps_model before) events (Promise before)
-  completed_all start events at given h after Promise loop last there gives before disk promised =
-      let all : take at events ≡ events = ap (λ n. take n events) last ∙ take-length events in
-      let same = same_model model crashes start events at given h loop before after disk there in
-      let all_held = subst (λ l. Holds model crashes (model.keeps_model before) before start l given h) all (loop.holds before disk promised) in
-      gives before (rw same all_held.so_far) all_held.follows
+  completed_all start events at given h after Promise h1 h2 h3 h4 before h5 = grind (arith, nat_tests, take-length, same_model, Holds)

@@ -1,11 +1,12 @@
 -- A run of events, from its first to its last: what a driver keeps before each event.
 use Rattle.std.proofs.Common.{◌≡◌, ◌⊎◌, ℕ, ◌+◌, ◌-◌, ◌<◌, Bool, true, false, List, [], ◌∷◌, ◌++◌, length, take, get_or, zero, suc, None, Some, refl, sym, ap, ◌∙◌, subst, arith, inl, inr, slice_get}
+use Rattle.std.proofs.lemmas.Bool.Decides.{nat_tests}
 use Rattle.std.specs.List.{AllByRecursion}
 use Rattle.std.specs.Option.{option_map}
 use Rattle.std.proofs.lemmas.Option.{slice_get_read}
 use Rattle.coord_disk.specs.Model.DiskModel.{DiskModel}
 use Rattle.coord_store.proofs.Freshness.{take-push}
-use Rattle.coord_ledger.specs.Facade.{Answer, CrashPrefix, DiskEffect, DiskSurvives, DriverState, Event, EventInRange, Follows, FollowsTo, HoldsFlight, HoldsTickets, IsConsistent, IsOneOf, IsPromised, LedgerState, Machine, MayBegin, Promised, Represents, Run, RunSoFar, Touches, after, answers, at_home, disk_held, disk_with, flight_out, found_by_crash, is_crash, machine_of, model_held, run, started, touches_disk}
+use Rattle.coord_ledger.specs.Facade.{Answer, CrashPrefix, DiskEffect, DiskSurvives, DriverState, Event, EventInRange, Follows, FollowsTo, HoldsFlight, IsConsistent, IsOneOf, IsPromised, LedgerState, Machine, MayBegin, Promised, Represents, Run, RunSoFar, after, answers, at_home, disk_held, disk_with, flight_out, found_by_crash, is_crash, machine_of, model_held, run, started, touches_disk}
 use Rattle.coord_ledger.proofs.machine.Consistent.{run_goes_on, stays_consistent}
 use Rattle.coord_ledger.proofs.runs.EachMoment.{moments_on}
 
@@ -84,9 +85,7 @@ module _ {D : Type 0} (model : DiskModel D) (crashes : D → D → Type 0) where
   module _ (start : LedgerState D) (events : List Event) (at : ℕ) (given : List Answer) (h : Run D) (loop : LoopInvariant start events at given h) where
     -- the disk that is held keeps the model as the first one does
     pub same_model : (before disk : D) → start.disk ≡ Some before → disk_held h.driver ≡ Some disk → model.keeps_model disk ≡ model.keeps_model before
-    same_model before disk first there =
-        let is : option_map model.keeps_model (Some disk) ≡ option_map model.keeps_model (Some before) = sym (ap (option_map model.keeps_model) there) ∙ loop.same_model ∙ ap (option_map model.keeps_model) first in
-        cc
+    same_model before disk first there = grind (arith, nat_tests)
 
     module _ (e : Event) (below : at < length events) (is : e ≡ get_or events at e) where
       pub event_there : slice_get events at ≡ Some e

@@ -4,9 +4,9 @@ use Rattle.std.proofs.lemmas.List.{length-take-le, length_push}
 use Rattle.coord_store.proofs.Freshness.{take-push}
 use Rattle.coord_ledger.specs.Facade.{Completed, IsCutShort, IsEventFault, IsLost, RunFaultKind, disk_held, disk_with, failed_at, failed_in, failed_until, model_held, started}
 use Rattle.coord_ledger.proofs.runs.BreaksOff.{ended_after, ended_first, ended_at, caused}
-use Rattle.coord_ledger.proofs.runs.SoFar.{LoopInvariant, invariant_first, invariant_on}
+use Rattle.coord_ledger.proofs.runs.SoFar.{invariant_first, invariant_on}
 use Rattle.coord_ledger.proofs.runs.Ends.{completed_all}
-use Rattle.coord_ledger.proofs.runs.Failures.{failed_as, failed_giving_up, failed_on, failed_same}
+use Rattle.coord_ledger.proofs.runs.Calls.{failed_as, failed_giving_up, failed_on, failed_same}
 use Rattle.coord_ledger.proofs.event_driver.run_events_keeping_disk.Goals as goal
 
 -- what a call ensures where it succeeds

@@ -1,6 +1,6 @@
 use Rattle.std.proofs.Common.{◌≡◌, drop, ap, ◌∙◌, arith}
 use Rattle.coord_ledger.specs.code.Holding.{listed}
-use Rattle.coord_ledger.proofs.follows.Given.{listed-drop}
+use Rattle.coord_ledger.proofs.follows.Granted.{listed-drop}
 use Rattle.coord_ledger.proofs.settling.drop_first.Goals as goal
 
 pub returns : goal.returns

@@ -2,7 +2,7 @@ use Rattle.std.proofs.Common.{◌≡◌, ◌<◌, ◌+◌, ◌++◌, length, map
 use Rattle.std.proofs.lemmas.List.{length-take-le}
 use Rattle.coord_ledger.specs.code.Holding.{listed, released_from}
 use Rattle.coord_ledger.specs.machine.After.{release_of}
-use Rattle.coord_ledger.proofs.follows.Given.{listed-length, listed_more, released_from-push}
+use Rattle.coord_ledger.proofs.follows.Granted.{listed-length, listed_more, released_from-push}
 use Rattle.coord_ledger.proofs.settling.released.Goals as goal
 
 pub loop-place-preserved : goal.loop-place-preserved

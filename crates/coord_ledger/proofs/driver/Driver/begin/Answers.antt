@@ -1,8 +1,7 @@
 use Rattle.std.proofs.Common.{◌≡◌, length, Option, Some, None, Ok, sym, ap, ◌∙◌, subst, rules}
-use Rattle.coord_types.specs.declared.refusals.Refusal.TheVariants.{OutOfMemory}
-use Rattle.coord_ledger.specs.Facade.{Answer, Begin, Begun, DriverState, FlightState, HoldsFlight, LedgerState, Nothing, Refused, Simulates, at_home}
-use Rattle.coord_ledger.proofs.runs.Flights.{begun_err, begun_none, begun_some, departs_own}
-use Rattle.coord_ledger.proofs.simulates.Begin.{simulates_next, simulates_not_begun, simulates_nothing}
+use Rattle.coord_ledger.specs.Facade.{Answer, Begin, FlightState, HoldsFlight, LedgerState, Simulates, at_home}
+use Rattle.coord_ledger.proofs.runs.Calls.{begun_err, begun_none, begun_some, departs_own}
+use Rattle.coord_ledger.proofs.Simulates.{simulates_next, simulates_not_begun, simulates_nothing}
 use Rattle.coord_ledger.proofs.driver.Driver.begin.Goals as goal
 use Rattle.coord_ledger.proofs.driver.Driver.begin.Goals.{in-Ok-Some, in-Ok-None, in-Err}
 

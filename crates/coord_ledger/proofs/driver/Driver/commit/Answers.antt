@@ -1,7 +1,7 @@
 use Rattle.std.proofs.Common.{false, refl, sym, ap, ◌∙◌, subst}
 use Rattle.coord_ledger.specs.Facade.{Answer, Commit, DiskEffect, DriverState, disk_held, disk_with, failed_at, found_by_crash, touches_disk}
 use Rattle.coord_ledger.proofs.runs.EachMoment.{commit_touches, kept_untouched, commit_answer}
-use Rattle.coord_ledger.proofs.runs.Failures.{failed_aside, failed_committing}
+use Rattle.coord_ledger.proofs.runs.Calls.{failed_aside, failed_committing}
 use Rattle.coord_ledger.proofs.driver.Driver.commit.Goals as goal
 use Rattle.coord_ledger.proofs.driver.Driver.commit.Goals.{in-None, in-Some+in-Ok, in-Some+in-Err}
 

@@ -2,11 +2,9 @@ use Rattle.std.proofs.Common.{◌≡◌, ◌+◌, true, sym, ap, ◌∙◌, subs
 use Rattle.std.specs.Option.{option_map}
 use Rattle.coord_world.specs.protocol.NumberedWorld.{World}
 use Rattle.coord_ledger.specs.Facade.{Crash, DriverState, ImagesGive, Opened, Simulates, at_home, disk_held, failed_in, flight_out, kept_by, model_held, settled_world}
-use Rattle.coord_ledger.proofs.runs.FollowsTo.{crash_fault, some_is}
+use Rattle.coord_ledger.proofs.runs.Calls.{crash_fault, some_is, failed_as, failed_same, failed_so}
 use Rattle.coord_ledger.proofs.runs.EachMoment.{crash_lost, crash_touches}
-use Rattle.coord_ledger.proofs.runs.Failures.{failed_as, failed_same, failed_so}
-use Rattle.coord_ledger.proofs.simulates.Crash.{simulates_opened}
-use Rattle.coord_ledger.proofs.simulates.Own.{own_consistent}
+use Rattle.coord_ledger.proofs.Simulates.{simulates_opened, own_consistent}
 use Rattle.coord_ledger.proofs.driver.Driver.crash.Goals as goal
 
 pub returns-in-Ok-clause-anew : goal.returns-in-Ok-clause-anew

@@ -1,7 +1,7 @@
-use Rattle.std.proofs.Common.{◌≡◌, ◌-◌, sym, ap, ◌∙◌, subst}
-use Rattle.coord_ledger.specs.Facade.{DriverState, Finish, Finished, Simulates, at_home, settled_count, settling_releases}
-use Rattle.coord_ledger.proofs.simulates.Finish.{simulates_back}
-use Rattle.coord_ledger.proofs.runs.Flights.{gave, same_base}
+use Rattle.std.proofs.Common.{◌≡◌, ◌-◌, sym, ap, ◌∙◌}
+use Rattle.coord_ledger.specs.Facade.{DriverState, settling_releases}
+use Rattle.coord_ledger.proofs.Simulates.{simulates_back}
+use Rattle.coord_ledger.proofs.runs.Calls.{gave, same_base}
 use Rattle.coord_ledger.proofs.driver.Driver.finish.Goals as goal
 
 pub returns-in-Ok-clause-base : goal.returns-in-Ok-clause-base

@@ -1,7 +1,6 @@
-use Rattle.std.proofs.Common.{◌≡◌, true, Option, Some, None, sym, subst, IfSome}
-use Rattle.std.specs.Option.{option_map}
-use Rattle.coord_ledger.specs.Facade.{DriverState, FlightState, HoldsFlight, ImagesGive, LedgerGives, flight_out, kept_by}
-use Rattle.coord_ledger.proofs.follows.FollowsCalls.{flight_images, ledger_images}
+use Rattle.std.proofs.Common.{◌≡◌, true, Some, None, sym, subst, IfSome}
+use Rattle.coord_ledger.specs.Facade.{HoldsFlight, LedgerGives}
+use Rattle.coord_ledger.proofs.follows.Follows.{flight_images, ledger_images}
 use Rattle.coord_ledger.proofs.driver.Driver.into_disk.Goals as goal
 
 pub returns-in-Some-clause-images : goal.returns-in-Some-clause-images

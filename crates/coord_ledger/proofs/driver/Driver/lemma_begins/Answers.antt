@@ -1,7 +1,7 @@
 use Rattle.std.proofs.Common.{◌≡◌, false, None, Option, Some, is_none, is_some, refl, sym, ap, ◌∙◌, subst}
-use Rattle.coord_ledger.specs.Facade.{DriverState, HoldsFlight, IsConsistent, LedgerState, machine_of, started}
+use Rattle.coord_ledger.specs.Facade.{DriverState, HoldsFlight, IsConsistent, machine_of, started}
 use Rattle.coord_ledger.proofs.runs.SoFar.{so_far_first}
-use Rattle.coord_ledger.proofs.simulates.Own.{own_consistent}
+use Rattle.coord_ledger.proofs.Simulates.{own_consistent}
 use Rattle.coord_ledger.proofs.driver.Driver.lemma_begins.Goals as goal
 
 some_disk : {D : Type 0} (o : Option D) → is_none o ≡ false → (disk : D) × (o ≡ Some disk)

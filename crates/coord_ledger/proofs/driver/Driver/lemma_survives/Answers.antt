@@ -1,5 +1,5 @@
-use Rattle.std.proofs.Common.{true, sym, ap, ◌∙◌, subst, ◌≡◌, IfSome}
-use Rattle.coord_ledger.specs.Facade.{DriverState, LedgerGives, LedgerState}
+use Rattle.std.proofs.Common.{sym, ap, ◌∙◌}
+use Rattle.coord_ledger.specs.Facade.{DriverState}
 use Rattle.coord_ledger.proofs.runs.EachMoment.{flight_survives, home_survives}
 use Rattle.coord_ledger.proofs.driver.Driver.lemma_survives.Goals as goal
 

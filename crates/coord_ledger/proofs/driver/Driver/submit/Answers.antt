@@ -1,7 +1,7 @@
 use Rattle.std.proofs.Common.{subst}
 use Rattle.coord_ledger.specs.Facade.{DriverState, Simulates, Submit, answer_to}
-use Rattle.coord_ledger.proofs.runs.HandedTo.{submitted}
-use Rattle.coord_ledger.proofs.simulates.Submit.{simulates_handed}
+use Rattle.coord_ledger.proofs.runs.Calls.{submitted}
+use Rattle.coord_ledger.proofs.Simulates.{simulates_handed}
 use Rattle.coord_ledger.proofs.driver.Driver.submit.Goals as goal
 
 pub returns-clause-simulates : goal.returns-clause-simulates

@@ -3,9 +3,8 @@ use Rattle.std.proofs.lemmas.Result.{IfErr-weaker, IfOk-weaker, MatchResult-from
 use Rattle.std.specs.Option.{option_map}
 use Rattle.coord_disk.proofs.TornWrites.{whole_image}
 use Rattle.coord_disk.specs.Model.Present.{IsImage, Present}
-use Rattle.coord_store.specs.Recovered.{Recovered}
 use Rattle.coord_store.specs.Refused.{failed_in as failed_in_opening}
-use Rattle.coord_ledger.specs.Facade.{IsReopenFault, LedgerState, Reopens, failed_in}
+use Rattle.coord_ledger.specs.Facade.{IsReopenFault, LedgerState, failed_in}
 use Rattle.coord_ledger.specs.ledger.Driver.{IsOpenedOnce}
 use Rattle.coord_ledger.proofs.driver.crashing.reopen.Goals as goal
 

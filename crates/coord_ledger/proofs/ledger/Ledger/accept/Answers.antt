@@ -1,7 +1,7 @@
 use Rattle.std.proofs.Common.{◌≡◌, ◌++◌, ◌∷◌, [], Ok, sym, ap, ◌∙◌, subst}
 use Rattle.coord_ledger.specs.Facade.{Fresh, LedgerState, verdict}
 use Rattle.coord_ledger.specs.code.Holding.{listed}
-use Rattle.coord_ledger.proofs.follows.Given.{listed-push}
+use Rattle.coord_ledger.proofs.follows.Granted.{listed-push}
 use Rattle.coord_ledger.proofs.follows.Kept.{fresh_front, legal_front, took_step}
 use Rattle.coord_ledger.proofs.ledger.Ledger.accept.Goals as goal
 

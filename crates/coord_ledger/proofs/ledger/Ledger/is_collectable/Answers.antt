@@ -1,6 +1,6 @@
 use Rattle.std.proofs.Common.{◌≤◌, ap, subst, sym, arith}
 use Rattle.coord_ledger.specs.Facade.{Claim, IsCollectable, LedgerState, Log}
-use Rattle.coord_ledger.proofs.follows.Collectable.{kept_collectable, old_kept}
+use Rattle.coord_ledger.proofs.follows.Granted.{kept_collectable, old_kept}
 use Rattle.coord_ledger.proofs.ledger.Ledger.is_collectable.Goals as goal
 
 pub returns-then-ticket-count : goal.returns-then-ticket-count

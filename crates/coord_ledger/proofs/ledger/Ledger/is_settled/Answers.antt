@@ -1,6 +1,6 @@
 use Rattle.std.proofs.Common.{◌≡◌, ◌+◌, ◌-◌, length, slice_get, ap, subst, sym, arith, ◌∙◌}
 use Rattle.coord_ledger.specs.Facade.{Claim, IsCollectable, LedgerState, Log}
-use Rattle.coord_ledger.proofs.follows.Collectable.{StandsAt, collectable_stands, stands_collectable}
+use Rattle.coord_ledger.proofs.follows.Granted.{StandsAt, collectable_stands, stands_collectable}
 use Rattle.coord_ledger.proofs.follows.Kept.{kinds_within}
 use Rattle.coord_ledger.proofs.ledger.Ledger.is_settled.Goals as goal
 

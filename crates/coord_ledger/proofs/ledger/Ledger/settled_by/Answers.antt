@@ -1,4 +1,4 @@
-use Rattle.std.proofs.Common.{◌+◌, rules, ◌≡◌, length, sym, ap, ◌∙◌, subst, arith}
+use Rattle.std.proofs.Common.{◌+◌, rules, ◌≡◌, length, ap, ◌∙◌, arith}
 use Rattle.coord_ledger.specs.code.Holding.{listed}
 use Rattle.coord_ledger.specs.Facade.{FlightState, IsOut, LedgerState, Log, settled_count}
 use Rattle.coord_ledger.proofs.follows.IsOut.{given_within, gives_out, ledger_of}

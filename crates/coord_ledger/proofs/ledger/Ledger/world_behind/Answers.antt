@@ -1,5 +1,4 @@
 use Rattle.std.proofs.Common.{IfOk, arith, ap, ◌∙◌, ◌≡◌, length, take, sym, subst}
-use Rattle.coord_store.specs.Recovered.{AllFresh}
 use Rattle.coord_world.specs.Facade.{Legal, World, fold}
 use Rattle.coord_ledger.specs.Facade.{LedgerState, Log, pending, settled_world}
 use Rattle.coord_ledger.proofs.follows.Kept.{fresh_next, front_behind, legal_settled}

@@ -1,7 +1,7 @@
-use Rattle.std.proofs.Common.{◌≡◌, ◌<◌, ◌≤◌, length, Option, Some, None, refl, sym, ap, ◌∙◌, subst, rules, slice_index_or, slice_set}
-use Rattle.coord_ledger.specs.Facade.{Claim, IsCollectable, LedgerState, reply_of}
+use Rattle.std.proofs.Common.{◌≡◌, ◌<◌, ◌≤◌, length, Some, None, refl, sym, ap, ◌∙◌, subst, rules, slice_index_or, slice_set}
+use Rattle.coord_ledger.specs.Facade.{IsCollectable, LedgerState, reply_of}
 use Rattle.coord_ledger.proofs.follows.FollowsTickets.{follows_collected, follows_no_ticket, follows_waiting}
-use Rattle.coord_ledger.proofs.runs.Tickets.{put_back, set_same, spent_is, ticket_past, ticket_within}
+use Rattle.coord_ledger.proofs.runs.Calls.{put_back, set_same, spent_is, ticket_past, ticket_within}
 use Rattle.coord_ledger.proofs.event_driver.run.Run.collect.Goals as goal
 
 pub returns-then-index-len-clause-answered : goal.returns-then-index-len-clause-answered

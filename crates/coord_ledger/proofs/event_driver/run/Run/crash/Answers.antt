@@ -1,6 +1,6 @@
 use Rattle.std.proofs.Common.{refl}
 use Rattle.coord_ledger.specs.Facade.{model_held}
-use Rattle.coord_ledger.proofs.runs.FollowsTo.{crash_on}
+use Rattle.coord_ledger.proofs.runs.Calls.{crash_on}
 use Rattle.coord_ledger.proofs.follows.FollowsAnswers.{follows_opened}
 use Rattle.coord_ledger.proofs.event_driver.run.Run.crash.Goals as goal
 

@@ -1,7 +1,7 @@
 use Rattle.std.proofs.Common.{◌≡◌, List, Vec, Global, ◌++◌, Some, None, Ok, Err, Result, Option, true, false, refl, sym, ap, ◌∙◌, subst, rules, is_err}
 use Rattle.std.proofs.lemmas.List.{append_assoc}
 use Rattle.coord_ledger.specs.Facade.{Answer, Finish, Finished, FollowsTo, LedgerState, NoFlight, Refusal, Refused, Release, Simulates, finish_answer, settled_count}
-use Rattle.coord_ledger.proofs.runs.CutShort.{cut_within}
+use Rattle.coord_ledger.proofs.runs.BreaksOff.{cut_within}
 use Rattle.coord_ledger.proofs.runs.Answers.{err_gives, ok_gives}
 use Rattle.coord_ledger.proofs.follows.FollowsAnswers.{follows_landed, follows_not_landed, landed_releases}
 use Rattle.coord_ledger.proofs.event_driver.run.Run.finish.Goals as goal

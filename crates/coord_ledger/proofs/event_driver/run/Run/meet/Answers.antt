@@ -1,8 +1,7 @@
-use Rattle.std.proofs.Common.{◌≡◌, ◌+◌, Vec, Global, Some, refl, sym, ap, ◌∙◌, subst, arith, MatchResult}
-use Rattle.coord_ledger.specs.Facade.{Begin, Collect, Commit, DiskEffect, Finish, HasFailed, IsLost, Release, Resend, Run, Show, Submit, disk_held, failed_at, found_by_crash, is_crash, touches_disk}
-use Rattle.coord_ledger.proofs.runs.FollowsTo.{answered, cut_short, on_err_map}
+use Rattle.std.proofs.Common.{◌≡◌, ◌+◌, Vec, Global, Some, refl, sym, ap, ◌∙◌, arith}
+use Rattle.coord_ledger.specs.Facade.{Begin, Collect, Commit, Finish, Release, Resend, Run, Show, Submit, disk_held, failed_at, is_crash}
+use Rattle.coord_ledger.proofs.runs.Calls.{answered, cut_short, on_err_map, failed_as, failed_aside, failed_giving_up}
 use Rattle.coord_ledger.proofs.runs.EachMoment.{lost_as_it_was, match_both, match_map, answered_without_disk, answered_commit}
-use Rattle.coord_ledger.proofs.runs.Failures.{failed_as, failed_aside, failed_giving_up}
 use Rattle.coord_ledger.proofs.event_driver.run.Run.meet.Goals as goal
 use Rattle.coord_ledger.proofs.event_driver.run.Run.meet.Goals.{in-Submit, in-Commit, in-Collect, in-Resend, in-Show}
 

@@ -1,7 +1,7 @@
-use Rattle.std.proofs.Common.{◌++◌, length, sym, ap, ◌∙◌, subst}
+use Rattle.std.proofs.Common.{◌++◌, length, sym, ap, ◌∙◌}
 use Rattle.std.proofs.lemmas.List.{append_assoc}
-use Rattle.coord_ledger.specs.Facade.{FollowsTo, LedgerState, Resend, Resent, resent, settled_world}
-use Rattle.coord_ledger.proofs.runs.CutShort.{cut_within}
+use Rattle.coord_ledger.specs.Facade.{LedgerState, Resend, resent, settled_world}
+use Rattle.coord_ledger.proofs.runs.BreaksOff.{cut_within}
 use Rattle.coord_ledger.proofs.follows.FollowsTickets.{follows_resent, resent_releases}
 use Rattle.coord_ledger.proofs.runs.Answers.{on_err, resent_count}
 use Rattle.coord_ledger.proofs.event_driver.run.Run.resend.Goals as goal
