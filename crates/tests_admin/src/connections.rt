@@ -1,6 +1,6 @@
 //! Connections over loopback.
 
-use crate::lines::{WORKED_REPLIES, worked_lines};
+use crate::lines::{WORKED_REPLIES, same, worked_lines};
 use coord_admin::{Accepted, CountDesk, Duplex, Patience, TimedStream, serve_connections};
 use std::io::{Read, Write};
 use std::net::{Net, Shutdown, SocketAddr, TcpListener, TcpStream};
@@ -76,7 +76,7 @@ fn is_told<
         + AllocGlobal,
 >(rt: &R, mut stream: TcpStream, replies: &str) {
     let told = io::read_to_string(rt.alloc(), &mut stream).expect(rt, "no replies");
-    assert_eq!(rt; told.as_str(), replies);
+    same(rt, &told.as_str(), &replies);
 }
 
 /// Serves clients until one of them closes the desk. How long that took.
@@ -256,7 +256,7 @@ fn answers_on<
         || serves(rt, &listener, patience),
     );
     drop(listener);
-    assert_eq!(rt; asked, ASKED);
+    same(rt, &asked, &ASKED);
     is_told(rt, closing, CLOSED);
 }
 
@@ -309,10 +309,10 @@ fn begins_anew<
     let (mut client, mut line) = accepted(rt, patience);
     client.write_all(b"123").expect(rt, "not sent");
     let mut byte = [0];
-    assert_eq!(rt; line.receive(&mut byte, true), Ok(1));
+    same(rt, &line.receive(&mut byte, true), &Ok(1));
     thread::sleep(rt, Duration::from_millis(150));
-    assert_eq!(rt; line.receive(&mut byte, false), Ok(1));
-    assert_eq!(rt; line.receive(&mut byte, true), Ok(1));
+    same(rt, &line.receive(&mut byte, false), &Ok(1));
+    same(rt, &line.receive(&mut byte, true), &Ok(1));
 }
 
 #[test]
@@ -342,7 +342,7 @@ fn says_what_is_there<
     }
     assert!(rt; line.has_more());
     let mut byte = [0];
-    assert_eq!(rt; line.receive(&mut byte, false), Ok(1));
+    same(rt, &line.receive(&mut byte, false), &Ok(1));
     assert!(rt; !line.has_more());
     let start = Instant::now(rt).expect(rt, "no time");
     assert!(rt; line.receive(&mut byte, false).is_err());

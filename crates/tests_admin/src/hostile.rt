@@ -1,6 +1,6 @@
 //! Readers and writers that give or take little, and that fail.
 
-use crate::lines::{WORKED_REPLIES, serve_halves, serves, worked_lines};
+use crate::lines::{WORKED_REPLIES, same, serve_halves, serves, worked_lines};
 use coord_admin::{CountDesk, Ended, ServeFault};
 use std::io;
 use std::io::{Read, Write};
@@ -65,8 +65,8 @@ fn endless_line(rt: HostRuntime) {
     let mut output = Vec::new(rt.alloc());
     let mut desk = CountDesk::new(rt.alloc(), 0);
     let ended = serve_halves(&rt, &mut reader, &mut output, &mut desk);
-    assert_eq!(rt; (ended, output.len()), (Err(ServeFault::Turns), 0));
-    assert_eq!(rt; (reader.reads, reader.longest), (1_048_576, 512));
+    same(&rt, &(ended, output.len()), &(Err(ServeFault::Turns), 0));
+    same(&rt, &(reader.reads, reader.longest), &(1_048_576, 512));
 }
 
 /// Fails at the first read.
@@ -118,12 +118,14 @@ fn replies_byte_by_byte(rt: HostRuntime) {
         kept: Vec::new(rt.alloc()),
     };
     let mut desk = CountDesk::new(rt.alloc(), 0);
-    assert_eq!(rt;
-        serve_halves(&rt, &mut lines, &mut writer, &mut desk),
-        Ok(Ended::Input)
+    same(
+        &rt,
+        &serve_halves(&rt, &mut lines, &mut writer, &mut desk),
+        &Ok(Ended::Input),
     );
-    assert_eq!(rt;
-        writer.kept.as_slice(),
-        b"{\"count\":0,\"kind\":\"resent\"}\n".as_slice()
+    same(
+        &rt,
+        &writer.kept.as_slice(),
+        &b"{\"count\":0,\"kind\":\"resent\"}\n".as_slice(),
     );
 }

@@ -1,6 +1,7 @@
 //! Lines and their replies.
 
 use coord_admin::{CountDesk, Desk, Ended, Halves, ServeFault, serve};
+use std::fmt::Debug;
 use std::io::{Read, Write};
 use std::process::Abort;
 use std::str;
@@ -9,6 +10,12 @@ use std::str;
 pub(crate) trait Host: Abort + AllocGlobal {}
 
 impl<R: Abort + AllocGlobal> Host for R {}
+
+/// What was found is what was wanted. A call of this costs its caller's proof a fraction of what
+/// `assert_eq!` costs where it stands.
+pub(crate) fn same<T: PartialEq + Debug>(rt: &impl Abort, found: &T, wanted: &T) {
+    assert_eq!(rt; found, wanted);
+}
 
 /// Serves a reader and a writer as one connection.
 pub(crate) fn serve_halves<R: Read, W: Write, D: Desk>(
@@ -31,8 +38,8 @@ pub(crate) fn serves<R: Read + Drop, D: Desk + Drop>(
 ) {
     let mut output = Vec::new(rt.alloc());
     let ended = serve_halves(rt, &mut lines, &mut output, &mut desk);
-    assert_eq!(rt; ended, end);
-    assert_eq!(rt; str::from_utf8(&output).unwrap_or("no text"), replies);
+    same(rt, &ended, &end);
+    same(rt, &str::from_utf8(&output).unwrap_or("no text"), &replies);
 }
 
 /// Whether they get them from a new desk, up to their end.

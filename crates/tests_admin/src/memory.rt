@@ -1,7 +1,7 @@
 //! Replies where memory may be refused. The test says the same with memory and where any one
 //! allocation fails.
 
-use crate::lines::serve_halves;
+use crate::lines::{same, serve_halves};
 use coord_admin::{CountDesk, Desk, Ended, ServeFault};
 use std::str;
 
@@ -64,9 +64,9 @@ fn each_reply_or_no_memory(rt: HostRuntime) {
     let ended = serve_halves(&rt, &mut lines, &mut output, &mut desk);
     let count = desk.show().expect(&rt, "not shown").settled;
     if ended == Err(ServeFault::OutOfMemory) {
-        assert_eq!(rt; (output.len(), count), (0, 0));
+        same(&rt, &(output.len(), count), &(0, 0));
     } else {
-        assert_eq!(rt; ended, Ok(Ended::Input));
+        same(&rt, &ended, &Ok(Ended::Input));
         let text = str::from_utf8(&output).unwrap_or("no text");
         let count = usize::try_from(count).unwrap_or(usize::MAX);
         assert!(rt; are_allowed(text, count), "{count}: {text}");

@@ -1,5 +1,6 @@
 //! Clients by a script, and a listener that fails.
 
+use crate::lines::same;
 use coord_admin::{
     ACCEPT_TRIES, Accepted, CountDesk, DISCARD_READS, Patience, Stop, serve_connections,
 };
@@ -250,7 +251,7 @@ fn a_close_behind_clients_that_fail(rt: HostRuntime) {
         Client::Silent,
         Client::Closes,
     ];
-    assert_eq!(rt; ended(&rt, clients, patience()), closed_as(6));
+    same(&rt, &ended(&rt, clients, patience()), &closed_as(6));
 }
 
 #[test]
@@ -258,7 +259,7 @@ fn a_listener_that_fails(rt: HostRuntime) {
     let mut clients = [Client::Closes; 6];
     clients[0] = Client::Silent;
     clients[1] = Client::Breaks;
-    assert_eq!(rt; ended(&rt, clients, patience()), broken_as(2));
+    same(&rt, &ended(&rt, clients, patience()), &broken_as(2));
 }
 
 /// A reply that is taken a little at a time is given up once its time in all is over, and then the
@@ -268,7 +269,7 @@ fn a_reply_that_is_taken_slowly(rt: HostRuntime) {
     let mut short = patience();
     short.reply = Duration::from_millis(100);
     let met = ended_behind(&rt, Client::TakesSlowly, short);
-    assert_eq!(rt; (met.is_closed, met.come), (true, 2));
+    same(&rt, &(met.is_closed, met.come), &(true, 2));
 }
 
 /// Behind a close so much is read at the most, and nothing once its time is over.
@@ -277,7 +278,11 @@ fn a_client_that_sends_on(rt: HostRuntime) {
     for (seconds, reads) in [(60, DISCARD_READS), (0, 0)] {
         let mut patience = patience();
         patience.discard = Duration::from_secs(seconds);
-        assert_eq!(rt; ended(&rt, [Client::SendsOn; 6], patience).read_on, reads);
+        same(
+            &rt,
+            &ended(&rt, [Client::SendsOn; 6], patience).read_on,
+            &reads,
+        );
     }
 }
 
@@ -287,7 +292,7 @@ fn a_line_without_a_pause(rt: HostRuntime) {
     let mut short = patience();
     short.line = Duration::from_millis(20);
     let met = ended_behind(&rt, Client::Floods(1_000), short);
-    assert_eq!(rt; (met.is_closed, met.come), (true, 2));
+    same(&rt, &(met.is_closed, met.come), &(true, 2));
     assert!(rt; met.read_on < 1_000);
 }
 
@@ -296,8 +301,8 @@ fn a_line_without_a_pause(rt: HostRuntime) {
 fn no_room_for_a_connection(rt: HostRuntime) {
     let waits = [Client::Waits(ACCEPT_TRIES); 6];
     let gives_up = [Client::Waits(ACCEPT_TRIES + 1); 6];
-    assert_eq!(rt; ended(&rt, waits, patience()), closed_as(1));
-    assert_eq!(rt; ended(&rt, gives_up, patience()), broken_as(0));
+    same(&rt, &ended(&rt, waits, patience()), &closed_as(1));
+    same(&rt, &ended(&rt, gives_up, patience()), &broken_as(0));
 }
 
 /// What accept(2) has fail with one connection alone: EPERM, EINTR, ENONET, EPROTO, ENOPROTOOPT,
@@ -314,18 +319,12 @@ const LASTING: [i32; 4] = [9, 14, 22, 88];
 #[test]
 fn failures_to_accept(rt: HostRuntime) {
     for code in PASSING {
-        assert_eq!(rt;
-            ended_behind(&rt, Client::Fails(code), patience()),
-            closed_as(2),
-            "{code}"
-        );
+        let met = ended_behind(&rt, Client::Fails(code), patience());
+        same(&rt, &(code, met), &(code, closed_as(2)));
     }
     for code in LASTING {
-        assert_eq!(rt;
-            ended_behind(&rt, Client::Fails(code), patience()),
-            broken_as(1),
-            "{code}"
-        );
+        let met = ended_behind(&rt, Client::Fails(code), patience());
+        same(&rt, &(code, met), &(code, broken_as(1)));
     }
 }
 

@@ -2,7 +2,7 @@
 
 ghost use Rattle.std.specs.Prelude.{⊤};
 
-use crate::lines::Host;
+use crate::lines::{Host, same};
 use coord_admin::{CountDesk, Desk, Duplex, Ended, NotRead, NotWritten, ServeFault, serve};
 use coord_types::{Client, Command, Kind, Refusal, Reply};
 use coord_view::View;
@@ -162,15 +162,13 @@ fn told_of_mixed(rt: &impl Host, size: usize, says_more: bool) -> String {
     let mut pieces = Pieces::new(rt.alloc(), &lines, size);
     pieces.says_more = says_more;
     let mut desk = Told::new(rt.alloc());
-    assert_eq!(rt;
-        serve(rt.alloc(), usize::MAX, &mut pieces, &mut desk),
-        Ok(Ended::Closed)
+    same(
+        rt,
+        &serve(rt.alloc(), usize::MAX, &mut pieces, &mut desk),
+        &Ok(Ended::Closed),
     );
-    assert_eq!(rt;
-        str::from_utf8(&pieces.written).unwrap_or("no text"),
-        MIXED_REPLIES,
-        "pieces of {size}"
-    );
+    let written = str::from_utf8(&pieces.written).unwrap_or("no text");
+    same(rt, &(size, written), &(size, MIXED_REPLIES));
     let Told { letters, .. } = desk;
     letters
 }
@@ -193,8 +191,16 @@ const POSTED_TOGETHER: &str = "ppprrrspprrprc";
 /// answered before them; what comes alone is answered alone.
 #[test]
 fn what_comes_together_is_posted_together(rt: HostRuntime) {
-    assert_eq!(rt; told_of_mixed(&rt, 512, false).as_str(), POSTED_TOGETHER);
-    assert_eq!(rt; told_of_mixed(&rt, 1, false).as_str(), "prprprsprprprc");
+    same(
+        &rt,
+        &told_of_mixed(&rt, 512, false).as_str(),
+        &POSTED_TOGETHER,
+    );
+    same(
+        &rt,
+        &told_of_mixed(&rt, 1, false).as_str(),
+        &"prprprsprprprc",
+    );
 }
 
 /// However the lines are cut, orders that are there already are posted together, and what is written is
@@ -202,11 +208,8 @@ fn what_comes_together_is_posted_together(rt: HostRuntime) {
 #[test]
 fn what_is_there_is_posted_together(rt: HostRuntime) {
     for size in 1..600 {
-        assert_eq!(rt;
-            told_of_mixed(&rt, size, true).as_str(),
-            POSTED_TOGETHER,
-            "pieces of {size}"
-        );
+        let told = told_of_mixed(&rt, size, true);
+        same(&rt, &(size, told.as_str()), &(size, POSTED_TOGETHER));
         told_of_mixed(&rt, size, false);
     }
 }
@@ -225,7 +228,7 @@ fn written(rt: &impl Host, count: usize, room: usize) -> (Result<Ended, ServeFau
     let mut desk = CountDesk::new(rt.alloc(), 0);
     let ended = serve(rt.alloc(), usize::MAX, &mut pieces, &mut desk);
     let right = &replies.as_bytes()[..room.min(replies.len())];
-    assert!(rt; pieces.written.as_slice() == right, "{count} orders");
+    same(rt, &pieces.written.as_slice(), &right);
     (
         ended,
         pieces.writes,
@@ -236,18 +239,26 @@ fn written(rt: &impl Host, count: usize, room: usize) -> (Result<Ended, ServeFau
 /// Ten orders in one packet get their replies in one write.
 #[test]
 fn ten_replies_in_one_write(rt: HostRuntime) {
-    assert_eq!(rt; written(&rt, 10, usize::MAX), (Ok(Ended::Input), 1, 10));
+    same(
+        &rt,
+        &written(&rt, 10, usize::MAX),
+        &(Ok(Ended::Input), 1, 10),
+    );
 }
 
 /// Orders of many reads, of which none is lost, by three flights.
 #[test]
 fn orders_of_many_reads(rt: HostRuntime) {
-    assert_eq!(rt; written(&rt, 600, usize::MAX), (Ok(Ended::Input), 3, 600));
+    same(
+        &rt,
+        &written(&rt, 600, usize::MAX),
+        &(Ok(Ended::Input), 3, 600),
+    );
 }
 
 /// A writer that fails at the third of ten replies has the first two and a part of that; all ten were
 /// posted together, and so carried out.
 #[test]
 fn a_write_that_fails_at_the_third_reply(rt: HostRuntime) {
-    assert_eq!(rt; written(&rt, 10, 60), (Err(ServeFault::Write), 1, 10));
+    same(&rt, &written(&rt, 10, 60), &(Err(ServeFault::Write), 1, 10));
 }
