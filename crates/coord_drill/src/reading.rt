@@ -118,7 +118,7 @@ fn read_version(words: &mut Words<'_>) -> Option<Request>
 }
 
 /// A command alone is an order of the operator.
-#[tactic(auto, using(crate::proofs::requests::NextRows::read_by_next))]
+#[tactic(auto, using(crate::proofs::requests::Spelled::read_by_next))]
 fn read_next(verb: &str, words: &mut Words<'_>) -> Option<Request>
     ensures { Reads (read_by (map next_row commands) verb.now words.old) result words.new }
 {

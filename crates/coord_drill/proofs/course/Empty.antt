@@ -1,5 +1,5 @@
 -- As long as no step was accepted the world of a drill is empty.
-use Rattle.std.proofs.Common.{◌≡◌, ◌≢◌, ℕ, ◌+◌, ◌-◌, Bool, false, List, [], ◌∷◌, None, Result, Ok, Err, refl, sym, ap, ◌∙◌, subst, arith, inl, inr, is_some}
+use Rattle.std.proofs.Common.{◌≡◌, ◌≢◌, ℕ, ◌-◌, Bool, false, List, [], ◌∷◌, None, Result, refl, sym, ap, ◌∙◌, subst, arith, inr, is_some}
 use Rattle.std.specs.Cmp.{nat_cmp_total}
 use Rattle.coord_types.specs.Facade.{get}
 use Rattle.coord_types.specs.Table as table
@@ -8,11 +8,11 @@ use Rattle.coord_store.specs.Migrating.{risen}
 use Rattle.coord_world.proofs.Facade.{no_lane}
 use Rattle.coord_world.specs.Facade.{Legal, World, is_linked, lane_at, no_world}
 use Rattle.coord_ledger.specs.declared.events.Event.TheVariants as event
-use Rattle.coord_ledger.specs.Facade.{Answered, Log, after_submit, cut_to, log_over, machine_over, rebased, run, verdict}
+use Rattle.coord_ledger.specs.Facade.{Answered, Log, after_submit, log_over, machine_over, rebased, run}
 use Rattle.coord_drill.specs.Answered.{IsAnswered}
 use Rattle.coord_drill.specs.Drill.{DrillState, after_asked, begun_after, flight_events, machine_of, step_events}
 use Rattle.coord_drill.specs.declared.asked.Asked.TheVariants as ask
-use Rattle.coord_drill.specs.Facade.{Accepted, Answer, Asked, Begun, Fresh, IsEmptyLog, Refusal, Repeat, Repeated, Step, Verdict}
+use Rattle.coord_drill.specs.Facade.{Accepted, Answer, Asked, IsEmptyLog, Refusal, Step, Verdict}
 
 -- nothing is illegal in the empty world
 pub no_world_legal : (version : ℕ) → Legal (no_world version)
@@ -28,43 +28,23 @@ risen_empty = refl
 
 -- nothing is pending: no flight goes out
 empty_flight : (w : World) (given : List Answer) → Answered (machine_over (log_over w)) (flight_events given) given → (run (machine_over (log_over w)) (flight_events given) given).log ≡ log_over w
-empty_flight w [] answered = absurd answered
-empty_flight w (Begun b ∷ given) answered = elim answered.0 [
-  | inl same ↦ let no : ⊥ = cc in absurd no
-  | inr never ↦ absurd never
-]
-empty_flight w (a ∷ given) answered = refl
+empty_flight w given h1 = grind arith
 
 -- a crash keeps no step
 empty_crash : (w : World) (given : List Answer) → Answered (machine_over (log_over w)) (event.Crash ∷ []) given →
     rebased (run (machine_over (log_over w)) (event.Crash ∷ []) given).log (run (machine_over (log_over w)) (event.Crash ∷ []) given).log.settled ≡ log_over w
-empty_crash w [] answered = absurd answered
-empty_crash w (a ∷ given) answered = elim answered.0 [
-  | inl same ↦
-      let none : w.count + 0 - w.count ≡ 0 = omega arith in
-      ap (λ b. rebased (run (machine_over (log_over w)) (event.Crash ∷ []) (b ∷ given)).log (run (machine_over (log_over w)) (event.Crash ∷ []) (b ∷ given)).log.settled) same
-      ∙ ap (λ n. rebased (cut_to (log_over w) n) n) none
-  | inr never ↦ absurd never
-]
+empty_crash w given h1 = grind arith
 
 -- a step that is not accepted leaves the log
 module _ (s : DrillState) (x : Step) where
   not_accepted : (v : Result Verdict Refusal) (a : Answer) → ((n : ℕ) → a ≢ Accepted n) → (after_submit (machine_of s) x v a).log ≡ s.log
-  not_accepted (Ok (Fresh kind)) (Accepted n) other = absurd (other n refl)
-  not_accepted (Ok (Fresh kind)) a other = refl
-  not_accepted (Ok (Repeat reply)) (Repeated n) other = refl
-  not_accepted (Ok (Repeat reply)) a other = refl
-  not_accepted (Err refusal) a other = refl
+  not_accepted v a h1 = grind arith
 
   step_leaves : (given : List Answer) → Answered (machine_of s) (step_events s.holds x given) given → begun_after s.has_begun (ask.Submit x) given ≡ false → (run (machine_of s) (step_events s.holds x given) given).log ≡ s.log
-  step_leaves [] answered begun = absurd answered
-  step_leaves (Accepted n ∷ given) answered begun = let no : ⊥ = cc in absurd no
-  step_leaves (a ∷ given) answered begun = not_accepted (verdict s.log x) a (λ n same. let no : ⊥ = cc in no)
+  step_leaves given h1 h2 = grind (arith, not_accepted)
 
 never_begun : (begun : Bool) (x : Step) (given : List Answer) → begun_after begun (ask.Submit x) given ≡ false → begun ≡ false
-never_begun begun x [] is = is
-never_begun begun x (Accepted n ∷ given) is = let no : ⊥ = cc in absurd no
-never_begun begun x (a ∷ given) is = is
+never_begun begun x given h1 = grind arith
 
 -- ---- a line
 
@@ -75,10 +55,7 @@ module _ (s t : DrillState) (given : List Answer) (told : List ℕ) (empty : s.h
 
   -- what it makes of the empty log is that again
   by_world : (f : Log → Log) → t.log ≡ f s.log → s.has_begun ≡ false → ((w : World) → s.log ≡ log_over w → f (log_over w) ≡ log_over w) → IsEmptyLog t.log
-  by_world f is before stays = elim (empty before) [
-    | inl one ↦ inl (is ∙ ap f one ∙ stays (no_world 1) one)
-    | inr two ↦ inr (is ∙ ap f two ∙ stays (no_world 2) two)
-  ]
+  by_world f is before stays = grind arith
 
   pub stays_empty : (a : Asked) → IsAnswered s a given told t → IsEmptyLog t.log
   unfolding after_asked

@@ -1,21 +1,82 @@
--- Lines, one after the other.
-use Rattle.std.proofs.Common.{◌≡◌, ℕ, ◌+◌, Bool, true, false, cond, List, [], ◌∷◌, ◌++◌, length, option_map, Option, Some, None, Result, Ok, Err, IfOk, OnOk, refl, sym, ap, ◌∙◌, subst, arith, inl, inr, append-nil, append_assoc}
-use Rattle.std.specs.Option.{option_map as map_option}
+-- Lines, one after the other: each leaves the disk as the course says, also where it is cut short.
+use Rattle.std.proofs.Common.{◌≡◌, ◌+◌, Bool, true, false, List, [], length, take, Some, refl, sym, ap, ◌∙◌, arith, subst, inl, inr, ℕ, cond, ◌∷◌, ◌++◌, Option, None, Result, Ok, Err, IfOk, OnOk, append-nil, append_assoc}
+use Rattle.std.specs.Option.{option_map}
 use Rattle.coord_disk.specs.Model.DiskModel.{DiskModel}
+use Rattle.coord_ledger.specs.declared.events.Event.{Event}
+use Rattle.coord_ledger.specs.Facade.{Machine, Survives, disk_held, failed_until, model_held, run, front_world}
+use Rattle.coord_ledger.proofs.runs.EachMoment.{reopens_more}
+use Rattle.coord_drill.specs.Drill.{DrillState, line_events}
+use Rattle.coord_drill.specs.declared.asked.Asked.TheVariants.{Crash, Version2}
+use Rattle.coord_drill.specs.Facade.{Answer, Asked, CutShort, Cuts, Drill, Fault, IsEmptyLog, IsKept, IsLeftBy, IsLostInCrash, IsOfMemory, IsPromised, LeadsPart, MayCutShort, Place, RaisesPart, Stands, failed_by, opens_disk, AllKept, Carries, CarriesIf, CarriesLine, CutsIf, FirstCutShort, Goes, LineGoes, Moves, Prints, Refusal, Request, Responds, Step, Tells, UnlessSkipped, asked_in, bad_line, front_of, state_of, told_in}
+use Rattle.coord_drill.proofs.does.Moments.{is_version}
+use Rattle.coord_drill.proofs.course.Kept.{kept_of, passes}
+use Rattle.coord_drill.proofs.course.Standing.{failed_is, raises, reached_by}
 use Rattle.coord_lines.specs.Lines.{Line}
 use Rattle.coord_types.specs.declared.packets.DataPacket.{DataPacket}
 use Rattle.coord_world.specs.Facade.{World}
-use Rattle.coord_ledger.specs.Facade.{disk_held, front_world}
 use Rattle.coord_drill.specs.Answered.{IsAnswered}
 use Rattle.coord_drill.specs.Asked.{asked, asked_of_front, front}
-use Rattle.coord_drill.specs.Drill.{DrillState, version_of}
-use Rattle.coord_drill.specs.Drilled.{asked_by, is_skipped, parsed, unless_late}
-use Rattle.coord_drill.specs.Format.{◌>>=◌}
-use Rattle.coord_drill.specs.declared.asked.Asked.TheVariants.{Version2}
+use Rattle.coord_drill.specs.Drilled.{asked_by, is_skipped, unless_late}
 use Rattle.coord_drill.specs.declared.request.Request.TheVariants as request
-use Rattle.coord_drill.specs.Facade.{AllKept, Answer, Carries, CarriesIf, CarriesLine, CutsIf, Drill, Fault, FirstCutShort, Goes, IsEmptyLog, IsOfMemory, IsPromised, LineCutShort, LineGoes, Moves, Place, Prints, Refusal, Request, Responds, Stands, Step, Tells, UnlessSkipped, asked_in, bad_line, front_of, state_of, told_in}
-use Rattle.coord_drill.proofs.course.Cutting.{cut_by}
-use Rattle.coord_drill.proofs.course.Standing.{reached_by}
+
+-- ---- a line that is cut short
+
+of_memory : (opens : Bool) (why : Fault) → IsOfMemory why → MayCutShort opens why
+of_memory true why memory = inl memory
+of_memory false why memory = memory
+
+module _ {D : Type 0} (disk : DiskModel D) (crashes : D → D → Type 0) (d : Drill D) (p : Place D) (at : Stands disk d p) where
+  -- the events that were answered
+  abbrev so_far : Asked → List Answer → List Event
+  so_far a given = take (length given) (line_events p.state.holds a given)
+
+  left_as : (a : Asked) (m : Machine) (mid lost : D) → is_version a ≡ false → lost ≡ mid → IsLeftBy disk crashes p a m mid lost
+  left_as a m mid lost h1 h2 = grind arith
+
+  cut_part : (a : Asked) (why : Fault) (lost : D) → is_version a ≡ false → IsOfMemory why → LeadsPart disk crashes d.driver (line_events d.holds a) lost → CutShort disk crashes p a why lost
+  cut_part a why lost other memory part =
+      let given = part.given in
+      let led = part.moments p.machine at.consistent at.represents in
+      let there = led.moments p.disk at.holds at.keeps in
+      let same : lost ≡ there.new = cc (there.holds, part.left) in
+      let es = take (length given) (line_events d.holds a given) in
+      let count = failed_is disk crashes p.disk there.new (disk_held d.driver) (disk_held part.mid) es given led.failed at.holds there.holds in
+      let none : failed_by why ≡ 0 = ap failed_by memory in
+      let all : disk.failures lost ≡ disk.failures p.disk + (failed_until es given + failed_by why) = omega (arith, ap disk.failures same, count, none) in
+      record {
+        cause = of_memory (opens_disk a) why memory;
+        given = given;
+        mid = there.new;
+        moments = rw at.state
+            (passes disk crashes p.machine p.told (take (length given) (line_events d.holds a given)) given p.disk there.new led.in_range at.consistent led.answered at.told there.moments);
+        left = left_as a (run p.machine (so_far a given) given) there.new lost other same;
+        failed = rw at.state all;
+      }
+
+  -- behind no event
+  cut_before_events : (a : Asked) (why : Fault) (lost : D) → MayCutShort (opens_disk a) why → IsLeftBy disk crashes p a p.machine p.disk lost → disk.failures lost ≡ disk.failures p.disk + failed_by why → CutShort disk crashes p a why lost
+  cut_before_events a why lost cause left failed = record { cause = cause; given = []; mid = p.disk; moments = (refl, at.kept); left = left; failed = omega (arith, failed) }
+
+  -- in a crash
+  cut_crash : (why : Fault) (lost : D) → model_held disk.keeps_model d.driver ≡ Some true → IsLostInCrash disk crashes d.driver why lost → CutShort disk crashes p Crash why lost
+  cut_crash why lost model part =
+      let reopens = part.moments p.machine at.consistent at.represents p.disk at.holds at.keeps in
+      let kept = reopens_more disk crashes (Survives p.machine) (IsKept p.machine p.told) p.disk lost reopens (λ bytes survives. kept_of p.machine p.told bytes at.consistent at.told survives) in
+      cut_before_events Crash why lost (part.cause model) (inr kept) (part.failed (disk.failures p.disk) (ap (option_map disk.failures) at.holds))
+
+  -- in `version 2`
+  cut_raising : (why : Fault) (lost : D) → IsEmptyLog d.driver.ledger.log → RaisesPart disk d.driver why lost → CutShort disk crashes p Version2 why lost
+  cut_raising why lost empty part =
+      let same : part.old ≡ p.disk = cc (part.there, at.holds) in
+      cut_before_events Version2 why lost (part.cause empty) (raises disk crashes d d p at empty part.old lost part.there part.moments) (part.failed ∙ ap (λ x. disk.failures x + failed_by why) same)
+
+  pub cut_by : (a : Asked) (why : Fault) (lost : D) → IsPromised disk d a → Cuts disk crashes a d why lost → CutShort disk crashes p a why lost
+  cut_by Version2 why lost promised part = cut_raising why lost (promised.1 refl) part
+  cut_by Crash why lost promised (inl part) = cut_part Crash why lost refl part.0 part.1
+  cut_by Crash why lost promised (inr part) = cut_crash why lost promised.0 part
+  cut_by a why lost promised part = cut_part a why lost refl part.0 part.1
+
+-- ---- lines in turn
 
 -- ---- what a line asks for
 
@@ -24,30 +85,16 @@ asked_is s line o kept is = ap (λ b. cond b None (option_map (asked (front_worl
 
 -- only the request for it asks for version 2
 never_of_front : (f : DataPacket → Step) (r : Result (Option DataPacket) Refusal) → asked_of_front f r ≡ Version2 → ⊥
-never_of_front f (Err refusal) is = cc
-never_of_front f (Ok None) is = cc
-never_of_front f (Ok (Some p)) is = cc
+never_of_front f r h1 = grind arith
 
 only_request : (w : World) (r : Request) → asked w r ≡ Version2 → r ≡ request.Version2
-only_request w (request.Take u v) is = absurd (never_of_front _ (front w u v) is)
-only_request w (request.Clear u v) is = absurd (never_of_front _ (front w u v) is)
-only_request w request.Version2 is = refl
-only_request w r is = let no : ⊥ = cc in absurd no
+only_request w r h1 = grind (arith, never_of_front)
 
 in_time : (s : DrillState) (r : Request) → unless_late s r ≡ Some request.Version2 → s.has_begun ≡ false
-in_time s request.Version2 is = by_begun s.has_begun refl is
-  where
-    by_begun : (b : Bool) → s.has_begun ≡ b → cond b None (Some request.Version2) ≡ Some request.Version2 → s.has_begun ≡ false
-    by_begun true begun is = let no : ⊥ = cc in absurd no
-    by_begun false begun is = begun
-in_time s r is = let no : ⊥ = cc in absurd no
+in_time s r h1 = grind arith
 
 not_late : (s : DrillState) (line : List ℕ) → asked_by s line ≡ Some request.Version2 → s.has_begun ≡ false
-not_late s line is = by_request (parsed (version_of s) line) is
-  where
-    by_request : (o : Option Request) → (o >>= unless_late s) ≡ Some request.Version2 → s.has_begun ≡ false
-    by_request None is = let no : ⊥ = cc in absurd no
-    by_request (Some r) is = in_time s r is
+not_late s line is = grind (arith, in_time)
 
 -- ---- one line
 
@@ -79,12 +126,7 @@ module _ {D : Type 0} (disk : DiskModel D) (crashes : D → D → Type 0) where
 
     -- what it asks for is promised
     promised : (line : List ℕ) (r : Request) → asked_by (state_of d) line ≡ Some r → IsPromised disk d (asked (front_of d) r)
-    promised line r is = (
-      ap (map_option disk.keeps_model) at.holds ∙ ap Some at.keeps,
-      λ version.
-          let own : asked_by p.state line ≡ Some request.Version2 = ap (λ (s : DrillState). asked_by s line) at.state ∙ is ∙ ap Some (only_request (front_of d) r version) in
-          subst (λ (s : DrillState). IsEmptyLog s.log) at.state (at.empty (not_late p.state line own)),
-    )
+    promised line r is = grind (arith, only_request, not_late)
 
     pub goes_asked : (line : List ℕ) (r : Request) (told : List ℕ) (new : Drill D) → is_skipped line ≡ false → asked_by (state_of d) line ≡ Some r → CarriesIf disk crashes d (asked (front_of d) r) told new → (q : Place D) × (Stands disk new q × LineGoes disk crashes p n (Some line) told q)
     goes_asked line r told new kept is carries =

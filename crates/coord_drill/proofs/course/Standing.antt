@@ -6,7 +6,6 @@ use Rattle.std.specs.Option.{option_map}
 use Rattle.coord_disk.proofs.MomentLemmas.{weaker}
 use Rattle.coord_disk.specs.Model.DiskModel.{DiskModel}
 use Rattle.coord_disk.specs.Model.Moments.{LeavesOnly}
-use Rattle.coord_disk.specs.Model.Present.{IsImage}
 use Rattle.coord_store.specs.Facade.{Recovered}
 use Rattle.coord_store.specs.Migrating.{risen}
 use Rattle.coord_world.proofs.Facade.{trail_keeps_worlds}
@@ -23,8 +22,7 @@ use Rattle.coord_drill.specs.declared.asked.Asked.TheVariants.{Version2}
 use Rattle.coord_drill.specs.Facade.{AllKept, Answer, Asked, Carries, Drill, GivesRaised, IsEmptyLog, IsKept, IsPromised, Leads, Moves, Passes, Place, Raises, RaisesTo, Stands, start, state_of}
 use Rattle.coord_drill.proofs.does.Moments.{is_version}
 use Rattle.coord_drill.proofs.course.Empty.{no_world_legal, risen_empty, stays_empty}
-use Rattle.coord_drill.proofs.course.Kept.{Settled, kept_behind, kept_of, passes, settled_grows}
-use Rattle.coord_drill.proofs.course.Told.{told_settled}
+use Rattle.coord_drill.proofs.course.Kept.{Settled, kept_behind, kept_of, passes, settled_grows, told_settled}
 
 -- ---- a store that was just made
 
@@ -86,18 +84,7 @@ module _ {D : Type 0} (disk : DiskModel D) (crashes : D → D → Type 0) where
   -- the line `version 2` goes by no answer
   pub carries_raised : (d new : Drill D) → IsEmptyLog d.driver.ledger.log → RaisesTo disk crashes d.driver new.driver → new.holds ≡ d.holds → new.has_begun ≡ d.has_begun → Carries disk crashes d Version2 [] new
   unfolding asked_lines after_asked
-  carries_raised d new empty to holds begun = record {
-    given = [];
-    answered = record {
-      answered = tt;
-      with_memory = tt;
-      printed = refl;
-      goes_on =
-          let log = ap (λ (l : LedgerState D). l.log) to.is ∙ ap log_over (raised_to d.driver.ledger.log empty) in
-          λ i. record { log = log i; holds = holds i; has_begun = begun i };
-    };
-    moments = to;
-  }
+  carries_raised d new empty to holds begun = grind (arith, raised_to)
 
   module _ (d new : Drill D) (p : Place D) (at : Stands disk d p) where
     -- what the events of a line do

@@ -1,15 +1,14 @@
 -- What flights, steps and crashes print, and what becomes of the drill, by the answers to their events.
-use Rattle.std.proofs.Common.{Bool, ◌≡◌, ℕ, true, false, cond, List, [], ◌∷◌, Ok, Err, Some, refl, sym, ap, ◌∙◌}
+use Rattle.std.proofs.Common.{Bool, ◌≡◌, ℕ, true, false, cond, List, [], ◌∷◌, Ok, Err, Some, refl, ap, ◌∙◌, arith}
 use Rattle.coord_types.specs.declared.steps.Kind.{Kind}
 use Rattle.coord_disk.specs.Model.DiskModel.{DiskModel}
-use Rattle.coord_world.specs.protocol.NumberedWorld.{World}
 use Rattle.coord_ledger.specs.declared.events.Event.TheVariants as event
-use Rattle.coord_ledger.specs.Facade.{Claim, DriverState, IsAnew, LedgerState, after_submit, ledger_over, pending, run as after_run, settled_count, settled_world, started, verdict, with_step}
+use Rattle.coord_ledger.specs.Facade.{DriverState, IsAnew, after_submit, pending, run as after_run, settled_count, verdict, with_step}
 use Rattle.coord_ledger.proofs.follows.Follows.{log_behind}
 use Rattle.coord_drill.specs.Answered.{asked_lines, flight_lines, kept_line, repeat_line}
 use Rattle.coord_drill.specs.Drill.{DrillState, after_asked, flight_events, machine_of, seen_as}
 use Rattle.coord_drill.specs.declared.asked.Asked.TheVariants.{Crash, Submit}
-use Rattle.coord_drill.specs.Facade.{Accepted, Answer, Fresh, IsHeld, IsRun, Opened, Refusal, Refused, Repeat, Repeated, Reply, Step, claims_of, drill_of, opened_line, pending_line, refusal_line}
+use Rattle.coord_drill.specs.Facade.{Accepted, Answer, Fresh, IsRun, Opened, Refusal, Refused, Repeat, Repeated, Reply, Step, drill_of, opened_line, pending_line, refusal_line}
 
 -- ---- steps
 
@@ -65,7 +64,4 @@ crash_line s count = refl
 -- it is seen from the world that was opened
 pub crash_after : {D : Type 0} (disk : DiskModel D) (crashes : D → D → Type 0) (v w : DriverState D) (holds begun : Bool) (count : ℕ) → IsRun disk crashes v (event.Crash ∷ []) (Opened count ∷ []) w → IsAnew w → drill_of w.ledger false begun ≡ after_asked (drill_of v.ledger holds begun) Crash (Opened count ∷ [])
 unfolding after_asked
-crash_after {D} disk crashes v w holds begun count run anew =
-    let m = after_run (started v.ledger) (event.Crash ∷ []) (Opened count ∷ []) in
-    let none = ap (λ (d : DriverState D). d.ledger.log.settled) anew.is in
-    ap (λ g. record { log = g; holds = false; has_begun = begun }) (log_behind w m run.consistent run.represents none)
+crash_after disk crashes v w holds begun count h1 h2 = grind (arith, log_behind)

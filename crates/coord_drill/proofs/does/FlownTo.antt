@@ -1,5 +1,5 @@
 -- What a flight makes of a drill, what is printed of it, and the tickets that stay.
-use Rattle.std.proofs.Common.{◌≡◌, ◌≢◌, ℕ, Bool, true, false, cond, List, [], ◌∷◌, drop, length, take, Option, Some, None, refl, sym, ap, ◌∙◌, subst, arith, inl, inr, is_some, ◌-◌}
+use Rattle.std.proofs.Common.{◌≡◌, ◌≢◌, ℕ, Bool, true, false, cond, List, [], ◌∷◌, drop, length, take, Option, Some, None, refl, sym, ap, ◌∙◌, arith, inl, inr, is_some, ◌-◌}
 use Rattle.std.specs.List.{AllByRecursion}
 use Rattle.std.specs.Option.{option_map}
 use Rattle.std.proofs.lemmas.List.{drop-drop, take-append-drop}
@@ -10,7 +10,7 @@ use Rattle.coord_world.specs.Facade.{World, fold, outs}
 use Rattle.coord_ledger.proofs.follows.Follows.{flight_is, log_is}
 use Rattle.coord_ledger.proofs.machine.Logs.{world-add}
 use Rattle.coord_ledger.specs.declared.events.Event.TheVariants.{Begin}
-use Rattle.coord_ledger.specs.Facade.{Claim, DriverState, IsGranted, IsOneOf, Log, Machine, flight_out, next_size, pending, run as after_run, settled_count, settled_world, settling_releases, started, cannot_flush, to_begin, with_doubt, with_settled}
+use Rattle.coord_ledger.specs.Facade.{Claim, DriverState, IsGranted, IsOneOf, Log, Machine, next_size, pending, run as after_run, settled_count, settled_world, settling_releases, started, cannot_flush, to_begin, with_doubt, with_settled}
 use Rattle.coord_drill.specs.Facade.{AreGranted, Begins, Begun, Drill, Flies, Flown, FlownTo, GoesBy, Lands, IsHeld, IsReadyWith, IsRun, Leads, LeadsPart, Nothing, Refused, Release, Reply, claims_of, collected_lines, drill_of, flight_events, flight_lines, flown_answers, flown_lines, landed_answers, landing_events, left_by, machine_of, seen_as, settled_lines, waiting}
 use Rattle.coord_drill.specs.declared.drill.flying.Flown.TheVariants as flown
 use Rattle.coord_drill.proofs.does.Moments.{leads_then}
@@ -66,10 +66,7 @@ flew_log log (flown.Failed fault) b = log
 
 -- whatever tickets it has given before
 flew : (m : Machine) (r : Flown) (b count : ℕ) → (after_run m (flight_events (flown_answers r b count)) (flown_answers r b count)).log ≡ flew_log m.log r b
-flew m flown.Nothing b count = refl
-flew m (flown.Settled rs) b count = refl
-flew m (flown.Failed commit.Device) b count = refl
-flew m (flown.Failed fault) b count = refl
+flew m r b count = grind arith
 
 -- ---- the drill that goes by it
 
@@ -90,10 +87,7 @@ module _ {D : Type 0} (disk : DiskModel D) (crashes : D → D → Type 0) (v w :
   by_base r run same = log_is w (After r) run.consistent run.represents same
 
   is : (r : Flown) → Runs r → FlownTo log r w.ledger.log → w.ledger.log ≡ flew_log log r b
-  is flown.Nothing run to = to
-  is (flown.Settled rs) run to = by_base (flown.Settled rs) run to.base
-  is (flown.Failed commit.Device) run to = by_base (flown.Failed commit.Device) run to
-  is (flown.Failed fault) run to = by_base (flown.Failed fault) run to
+  is r h1 h2 = grind (arith, by_base)
 
   none_out : {A B : Type 0} (f : A → B) (o : Option A) → option_map f o ≡ None → o ≡ None
   none_out f None same = refl
@@ -101,10 +95,7 @@ module _ {D : Type 0} (disk : DiskModel D) (crashes : D → D → Type 0) (v w :
 
   -- no flight is out
   home : (r : Flown) → Runs r → w.flight ≡ None
-  home flown.Nothing run = none_out flight_out w.flight (flight_is w (After flown.Nothing) run.represents)
-  home (flown.Settled rs) run = none_out flight_out w.flight (flight_is w (After (flown.Settled rs)) run.represents)
-  home (flown.Failed commit.Device) run = none_out flight_out w.flight (flight_is w (After (flown.Failed commit.Device)) run.represents)
-  home (flown.Failed fault) run = none_out flight_out w.flight (flight_is w (After (flown.Failed fault)) run.represents)
+  home r h1 = grind (arith, none_out, flight_is)
 
   -- ---- of a flight that is settled
 
@@ -119,19 +110,13 @@ module _ {D : Type 0} (disk : DiskModel D) (crashes : D → D → Type 0) (v w :
     same = ap (λ (v : World). v.version) settles ∙ fold_version (settled_world log) (take b (pending log))
 
     released : rs ≡ settling_releases log b
-    released =
-        let more : w.ledger.log.settled - log.settled ≡ b = omega (arith, ap (λ (g : Log). g.settled) settled) in
-        to.released ∙ ap (settling_releases log) more
+    released = grind (arith, settled)
 
     granted : AllByRecursion (IsGranted w.ledger.log) claims
-    granted =
-        rw all (rw settled
-        (granted_from (with_settled log b) (take log.settled log.trail) (drop log.settled log.trail) (sym (take-append-drop log.settled log.trail))))
+    granted = grind (arith, settled, granted_from, take-append-drop)
 
     lines : collected_lines (settled_world w.ledger.log).version (settled_world w.ledger.log).count claims rs ≡ settled_lines (settled_world log).version (outs (settled_world log) (take b (pending log)))
-    lines =
-        (λ i. collected_lines (same i) (settles i).count (all i) (released i))
-        ∙ collected_are (settled_world log).version (settled_world log) b (pending log)
+    lines = grind (arith, same, settles, released, collected_are)
 
     rest : waiting (settled_world w.ledger.log).count claims ≡ claims_of (settled_world w.ledger.log) (pending w.ledger.log)
     rest =

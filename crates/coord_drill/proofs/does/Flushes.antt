@@ -1,9 +1,9 @@
 -- A flush.
-use Rattle.std.proofs.Common.{◌≡◌, List, ℕ, [], ◌++◌, refl, ap, ◌∙◌}
+use Rattle.std.proofs.Common.{◌≡◌, List, ℕ, [], ◌++◌, refl, arith}
 use Rattle.coord_disk.specs.Model.DiskModel.{DiskModel}
 use Rattle.coord_ledger.specs.machine.Log.{settled_world}
-use Rattle.coord_drill.specs.Answered.{asked_lines, flight_lines}
-use Rattle.coord_drill.specs.Drill.{DrillState, after_asked}
+use Rattle.coord_drill.specs.Answered.{asked_lines}
+use Rattle.coord_drill.specs.Drill.{after_asked}
 use Rattle.coord_drill.specs.declared.asked.Asked.TheVariants.{Flush}
 use Rattle.coord_drill.specs.Facade.{Begins, Carries, Drill, Flies, count_line, state_of}
 use Rattle.coord_drill.proofs.does.Moments.{carries}
@@ -15,9 +15,7 @@ module _ {D : Type 0} (disk : DiskModel D) (crashes : D → D → Type 0) (d new
 
   flush_line : told ++ count_line (settled_world (state_of new).log).count ≡ asked_lines (state_of d) Flush flown.given
   unfolding asked_lines
-  flush_line =
-      ap (λ l. l ++ count_line (settled_world (state_of new).log).count) flown.printed
-      ∙ ap (λ (t : DrillState). flight_lines (state_of d).log flown.given ++ count_line (settled_world t.log).count) flushed
+  flush_line = grind (arith, flushed)
 
   pub flushes : Begins d.driver → Carries disk crashes d Flush (told ++ count_line (settled_world (state_of new).log).count) new
   flushes begins = carries disk crashes d new Flush flown.given (told ++ count_line (settled_world (state_of new).log).count) refl begins flown.moments flown.with_memory flush_line flushed

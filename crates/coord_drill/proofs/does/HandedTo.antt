@@ -1,5 +1,5 @@
 -- What a step that is handed in makes of a drill: its tickets, and what is printed.
-use Rattle.std.proofs.Common.{◌≡◌, ◌≢◌, ℕ, true, false, cond, List, Option, Some, [], ◌∷◌, ◌++◌, Result, Ok, Err, refl, sym, ap, ◌∙◌, subst, ◌≤◌, length, take}
+use Rattle.std.proofs.Common.{◌≡◌, ◌≢◌, ℕ, true, false, List, Option, Some, [], ◌∷◌, ◌++◌, Result, Ok, Err, refl, sym, ap, ◌∙◌, subst, ◌≤◌, length, take, arith}
 use Rattle.std.specs.List.{AllByRecursion}
 use Rattle.coord_disk.specs.Model.DiskModel.{DiskModel}
 use Rattle.std.proofs.lemmas.List.{drop-append-le, take-append-le}
@@ -14,8 +14,8 @@ use Rattle.coord_ledger.specs.Facade.{Claim, DriverState, HandedTo, IsGranted, L
 use Rattle.coord_drill.specs.declared.asked.Asked.TheVariants.{Submit}
 use Rattle.coord_ledger.specs.declared.handed.Handed.{Handed}
 use Rattle.coord_drill.specs.Answered.{asked_lines}
-use Rattle.coord_drill.specs.Drill.{after_asked, line_events, step_events}
-use Rattle.coord_drill.specs.Facade.{Answer, Begins, Carries, Drill, DrillState, Flies, Fresh, Hands, IsHeld, IsReady, IsReadyWith, Leads, LeadsPart, Refusal, Repeat, Reply, Step, Verdict, claims_of, drill_of, flight_events, flight_lines, kept_line, machine_of, pending_line, refusal_line, seen_as, state_of}
+use Rattle.coord_drill.specs.Drill.{after_asked, line_events}
+use Rattle.coord_drill.specs.Facade.{Answer, Begins, Carries, Drill, DrillState, Flies, Hands, IsHeld, IsReady, IsReadyWith, Leads, LeadsPart, Refusal, Repeat, Reply, Step, Verdict, claims_of, drill_of, flight_events, flight_lines, kept_line, machine_of, pending_line, refusal_line, seen_as, state_of}
 use Rattle.coord_drill.proofs.does.Does.{flown_after, flown_line, held_after, held_line, refused_after, refused_line, repeat_after, repeat_lines}
 use Rattle.coord_drill.proofs.does.Moments.{Survive, carries, leads_then, none_led}
 use Rattle.coord_drill.proofs.does.Verdicts.{no_refusal, other_refusal}
@@ -24,9 +24,7 @@ use Rattle.coord_drill.proofs.does.Verdicts.{no_refusal, other_refusal}
 
 -- a refusal but for want of memory is what it says to the step
 pub refused_said : (e : Refusal) (v : Result Verdict Refusal) → RefusesStep e v → e ≢ OutOfMemory → v ≡ Err e
-refused_said e (Ok (Fresh kind)) why other = absurd (other why)
-refused_said e (Ok (Repeat reply)) why other = absurd why
-refused_said e (Err w) why other = ap (λ x. Err x) (sym why)
+refused_said e v h1 h2 = grind arith
 
 -- ---- tickets
 
@@ -36,15 +34,7 @@ claims_push w (s ∷ ss) x = ap (λ cs. claimed s (reply w s) ∷ cs) (claims_pu
 
 -- that of an accepted step joins the others
 accepted_held : {D : Type 0} (l new : LedgerState D) (claims : List Claim) (x : Step) (t : Claim) → l.log.settled ≤ length l.log.trail → IsHeld l claims → HandedTo l x (Ok (Accepted t)) new → IsHeld new (claims ++ t ∷ [])
-accepted_held {D} l new claims x t within held to =
-    let n = l.log.settled in
-    let trail = l.log.trail in
-    let w = settled_world l.log in
-    let p = pending l.log in
-    let front : t ≡ claimed x (reply (fold w p) x) = to.claims ∙ ap (λ v. claimed x (reply v x)) (sym (fold-take_drop n trail l.log.base)) in
-    (λ i. held i ++ front i ∷ []) ∙ sym (claims_push w p x)
-    ∙ (λ i. claims_of (fold l.log.base (sym (take-append-le n trail (x ∷ []) within) i)) (sym (drop-append-le n trail (x ∷ []) within) i))
-    ∙ ap (λ (m : LedgerState D). claims_of (settled_world m.log) (pending m.log)) (sym to.now)
+accepted_held l new claims x t h1 h2 h3 = grind (arith, fold-take_drop, claims_push, take-append-le, drop-append-le)
 
 pub repeated_granted : {D : Type 0} (l new : LedgerState D) (x : Step) (t : Claim) → HandedTo l x (Ok (Repeated t)) new → IsGranted new.log t
 repeated_granted {D} l new x t to =

@@ -3,10 +3,9 @@ use Rattle.std.proofs.Common.{◌≡◌, ◌≢◌, ℕ, ◌+◌, arith, Bool, t
 use Rattle.std.proofs.lemmas.Bool.{false≢true}
 use Rattle.std.specs.List.{AllByRecursion}
 use Rattle.std.specs.Option.{option_map}
-use Rattle.coord_disk.specs.Model.Present.{IsImage}
 use Rattle.coord_disk.specs.Model.DiskModel.{DiskModel, IsModel}
 use Rattle.coord_types.specs.declared.refusals.Refusal.TheVariants.{OutOfMemory}
-use Rattle.coord_ledger.specs.Facade.{Answered, DiskEffect, DiskSurvives, DriverState, EachMoment, EventInRange, HasFailed, IsConsistent, Machine, MayBegin, Represents, Simulates, Touches, after, disk_held, failed_at, failed_until, found_by_crash, is_crash, model_held, run, started, touches_disk}
+use Rattle.coord_ledger.specs.Facade.{Answered, DiskEffect, DiskSurvives, DriverState, EachMoment, EventInRange, HasFailed, IsConsistent, Machine, MayBegin, Represents, Simulates, after, disk_held, failed_at, failed_until, found_by_crash, is_crash, model_held, run, started, touches_disk}
 use Rattle.coord_ledger.proofs.runs.EachMoment.{answered_without_disk}
 use Rattle.coord_ledger.proofs.machine.Consistent.{stays_consistent}
 use Rattle.coord_ledger.proofs.Simulates.{represents_allowed, represents_to}
@@ -181,8 +180,4 @@ module _ {D : Type 0} (disk : DiskModel D) (crashes : D → D → Type 0) where
   module _ (d new : Drill D) (a : Asked) (given : List Answer) (told : List ℕ) where
     pub carries : is_version a ≡ false → Begins d.driver → Leads disk crashes d.driver (line_events d.holds a given) given new.driver → AllByRecursion (λ x. x ≢ Refused OutOfMemory) given →
         told ≡ asked_lines (state_of d) a given → state_of new ≡ after_asked (state_of d) a given → Carries disk crashes d a told new
-    carries other begins leads memory printed on = record {
-      given = given;
-      answered = record { answered = (run_of d.driver new.driver (line_events d.holds a given) given begins leads).answered; with_memory = memory; printed = printed; goes_on = on };
-      moments = by_asked d new given a other leads;
-    }
+    carries other begins leads memory printed on = grind (arith, run_of, by_asked)

@@ -1,5 +1,5 @@
 -- What a flight settles: of each step the reply and the releases, in order, and the tickets behind.
-use Rattle.std.proofs.Common.{◌≡◌, ℕ, zero, suc, ◌+◌, ◌≤◌, ◌==◌, true, cond, List, [], ◌∷◌, ◌++◌, map, length, take, drop, Some, refl, sym, ap, ◌∙◌, subst, append-nil, append_assoc, arith, inl, nat_le, slice_get}
+use Rattle.std.proofs.Common.{◌≡◌, ℕ, zero, suc, ◌+◌, ◌≤◌, ◌==◌, true, cond, List, [], ◌∷◌, ◌++◌, map, length, take, drop, refl, sym, ap, ◌∙◌, append-nil, append_assoc, arith, inl, nat_le, slice_get}
 use Rattle.std.proofs.lemmas.Bool.Decides.{nat_tests}
 use Rattle.std.proofs.lemmas.List.{length-take}
 use Rattle.std.proofs.Math.Seq.{take-append_seam}
@@ -9,6 +9,7 @@ use Rattle.coord_world.proofs.Facade.{by_test, fold-append, fold_counts, same_ve
 use Rattle.coord_world.specs.Facade.{World, again, fold, next, outputs, outs, reply}
 use Rattle.coord_ledger.specs.Facade.{Claim, IsCollectable, IsGranted, Log, release_of, releases_of, resent, settled_world}
 use Rattle.coord_drill.specs.Facade.{Release, Step, behind, claims_of, collected_lines, left, output_line, output_lines, released_lines, reply_line, settled_lines, waiting}
+use Rattle.coord_ledger.proofs.follows.Granted.{slice_get-middle}
 
 -- ---- the releases of one step
 
@@ -98,10 +99,6 @@ waiting_are w (suc b) (s ∷ ss) =
 
 -- ---- grants
 
-at_middle : {A : Type 0} (xs ys : List A) (x : A) → slice_get (xs ++ x ∷ ys) (length xs) ≡ Some x
-at_middle [] ys x = refl
-at_middle (y ∷ xs) ys x = at_middle xs ys x
-
 -- the tickets of the last steps are granted
 pub granted_from : (log : Log) (before after : List Step) → log.trail ≡ before ++ after → AllByRecursion (IsGranted log) (claims_of (fold log.base before) after)
 granted_from log before [] is = tt
@@ -110,7 +107,7 @@ granted_from log before (s ∷ after) is =
     let one : fold log.base (before ++ s ∷ []) ≡ next (fold log.base before) s = fold-append before (s ∷ []) log.base in (
       inl (record {
         place = length before;
-        there = ap (λ l. slice_get l (length before)) is ∙ at_middle before after s;
+        there = ap (λ l. slice_get l (length before)) is ∙ slice_get-middle before after s;
         answered = ap (λ l. reply (fold log.base l) s) first;
       }),
       rw (sym one) (granted_from log (before ++ s ∷ []) after (is ∙ sym (append_assoc before (s ∷ []) after))),

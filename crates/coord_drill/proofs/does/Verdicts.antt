@@ -1,18 +1,17 @@
 -- A ledger never says to a step that memory lacks, and which answers do not tell so.
-use Rattle.std.proofs.Common.{◌≡◌, ◌≢◌, Bool, true, false, cond, [], ◌∷◌, Option, Some, None, Result, Ok, Err, refl, sym, ap, ◌∙◌, ◌==◌, ◌&&◌}
+use Rattle.std.proofs.Common.{◌≡◌, ◌≢◌, Bool, true, false, cond, [], ◌∷◌, Option, Some, None, Result, Ok, Err, refl, sym, ap, ◌∙◌, ◌==◌, ◌&&◌, arith}
 use Rattle.std.proofs.lemmas.Bool.{false≢true}
 use Rattle.std.specs.List.{AllByRecursion}
 use Rattle.coord_types.specs.Facade.{get, same_command}
-use Rattle.coord_types.specs.declared.refusals.Refusal.TheVariants.{Exhausted, OutOfMemory, Stopped}
+use Rattle.coord_types.specs.declared.refusals.Refusal.TheVariants.{Exhausted, OutOfMemory}
 use Rattle.coord_types.specs.declared.steps.Command.{Command}
-use Rattle.coord_types.specs.declared.steps.Command.TheVariants.{Add, Remove, Join, Drop, Reset, Confirm}
 use Rattle.coord_types.specs.declared.steps.Session.{Session}
 use Rattle.coord_types.specs.declared.steps.Step.TheVariants.{Order, Take, Clear}
-use Rattle.coord_link.specs.LaneMachine.{Lane, Tests, refused_or}
+use Rattle.coord_link.specs.LaneMachine.{Tests, refused_or}
 use Rattle.coord_world.proofs.Facade.{by_test}
-use Rattle.coord_world.specs.Facade.{World, accepts, against, against_command, against_data, against_receipt, is_exhausted, judged, lane, or_repeat}
-use Rattle.coord_drill.specs.Facade.{Answer, Fresh, Refusal, Refused, Repeat, Step, Verdict}
-use Rattle.coord_ledger.specs.Facade.{Log, front_world, has_stopped, is_full, settled_world, unless_full, verdict}
+use Rattle.coord_world.specs.Facade.{World, accepts, against, against_command, is_exhausted, judged, or_repeat}
+use Rattle.coord_drill.specs.Facade.{Answer, Refusal, Refused, Repeat, Step, Verdict}
+use Rattle.coord_ledger.specs.Facade.{Log, unless_full, verdict}
 
 -- Tests that compute stand for what differs from want of memory: with a world in scope `cc` costs a second each time.
 abbrev is_memory : Refusal → Bool
@@ -31,25 +30,10 @@ first_other v [] all = refl
 first_other v (t ∷ ts) all = by_test t.0 (λ b. lacks (cond b (Err t.1) (refused_or v ts)) ≡ false) (λ _. all.0) (λ _. first_other v ts all.1)
 
 command_other : (w : World) (x : Command) → Other (against_command w x)
-command_other w (Add u g) = (refl, tt)
-command_other w (Remove u) = (refl, (refl, tt))
-command_other w (Join a b) = (refl, (refl, (refl, (refl, (refl, (refl, tt))))))
-command_other w (Drop a b) = (refl, (refl, (refl, tt)))
-command_other w (Reset u) = (refl, tt)
-command_other w (Confirm u e) = (refl, (refl, tt))
+command_other w x = grind arith
 
 against_other : (front settled : World) (x : Step) → Other (against front settled x)
-against_other front settled (Order c n x) = (refl, (refl, command_other front x))
-against_other front settled (Take p) = by_lane (lane front p.from p.to p.inc)
-  where
-    by_lane : (o : Option Lane) → Other (against_data o (lane settled p.from p.to p.inc) p)
-    by_lane None = (refl, tt)
-    by_lane (Some l) = (refl, (refl, (refl, (refl, tt))))
-against_other front settled (Clear p) = by_lane (lane front p.from p.to p.inc)
-  where
-    by_lane : (o : Option Lane) → Other (against_receipt o (lane settled p.from p.to p.inc) p)
-    by_lane None = (refl, tt)
-    by_lane (Some l) = (refl, (refl, (refl, tt)))
+against_other front settled x = grind (arith, command_other)
 
 judged_other : (front settled : World) (x : Step) → lacks (judged front settled x) ≡ false
 judged_other front settled x = first_other _ ((is_exhausted front, Exhausted) ∷ against front settled x) (refl, against_other front settled x)
@@ -65,17 +49,10 @@ accepts_other front settled (Take p) = judged_other front settled (Take p)
 accepts_other front settled (Clear p) = judged_other front settled (Clear p)
 
 full_other : (full : Bool) (v : Result Verdict Refusal) → lacks v ≡ false → lacks (unless_full full v) ≡ false
-full_other full (Ok (Repeat r)) other = refl
-full_other true (Ok (Fresh k)) other = refl
-full_other false (Ok (Fresh k)) other = refl
-full_other true (Err e) other = refl
-full_other false (Err e) other = other
+full_other full v h1 = grind arith
 
 verdict_other : (log : Log) (x : Step) → lacks (verdict log x) ≡ false
-verdict_other log x =
-    by_test (has_stopped log) (λ b. lacks (cond b (Err Stopped) (unless_full (is_full log) (accepts (front_world log) (settled_world log) x))) ≡ false)
-    (λ _. refl)
-    (λ _. full_other (is_full log) _ (accepts_other (front_world log) (settled_world log) x))
+verdict_other log x = grind (arith, by_test, full_other, accepts_other)
 
 pub never_memory : (log : Log) (x : Step) → verdict log x ≢ Err OutOfMemory
 never_memory log x same = false≢true (sym (verdict_other log x) ∙ ap lacks same)

@@ -1,5 +1,5 @@
 -- What is printed of a whole input, and which faults come of what.
-use Rattle.std.proofs.Common.{refl, ◌≡◌, ℕ, ◌+◌, List, [], ◌++◌, length, Option, Some, sym, ap, ◌∙◌, subst, append-nil, take, inl, inr, Bool, true, false}
+use Rattle.std.proofs.Common.{refl, ◌≡◌, ℕ, ◌+◌, List, [], ◌++◌, length, Option, Some, sym, ap, ◌∙◌, subst, append-nil, take, inl, inr}
 use Rattle.std.specs.Io.KnownBytes.{Appends, Consumes}
 use Rattle.std.proofs.KnownBytes.{Consumes-nil, Consumes-trans}
 use Rattle.coord_disk.specs.Model.DiskModel.{DiskModel}
@@ -7,7 +7,7 @@ use Rattle.coord_lines.specs.Lines.{Line, lines_of, lines_on}
 use Rattle.coord_lines.proofs.LinesOn.{lines_on-empty}
 use Rattle.coord_store.specs.declared.faults.StoreFault.{StoreFault}
 use Rattle.coord_store.specs.declared.faults.StoreFault.TheVariants.{OutOfMemory}
-use Rattle.coord_drill.specs.Facade.{BrokeOff, Drill, Ended, EndsEarly, EndsWith, Fault, Goes, IsBegun, IsOfDisk, IsOfMemory, IsOfWork, MayEndBy, Place, Prints, Stops, WritesFirstPart, drill_over, start, store_fault}
+use Rattle.coord_drill.specs.Facade.{BrokeOff, Drill, Ended, EndsEarly, EndsWith, Fault, IsBegun, Place, Stops, WritesFirstPart, drill_over, start, store_fault}
 use Rattle.coord_drill.specs.declared.fault.Fault.TheVariants.{TooManyReads}
 use Rattle.coord_drill.specs.Drilled.{IsDrilled}
 use Rattle.coord_world.specs.Facade.{no_world}

@@ -5,6 +5,7 @@ use Rattle.std.proofs.lemmas.Option.{none-some}
 use Rattle.std.proofs.lemmas.List.Splits.{slice_split_at, slice_split_none}
 use Rattle.std.proofs.lemmas.List.Sums.{fails_before_first}
 use Rattle.std.proofs.lemmas.Slice.Eq.{bytes_eq-Decides}
+use Rattle.coord_world.proofs.Facade.{both as both_true}
 use Rattle.coord_drill.specs.Format.{◌>>=◌, Word, Format, Row, field, nothing, ◌&◌, made, one_of, or_else, read_by, read_first, read_word, spell_by}
 use Rattle.coord_drill.specs.Grammar.{is_space, words_of}
 
@@ -43,10 +44,7 @@ pub record IsFormat {A : Type 0} (f : Format A) : Type 0 where
 -- a field, where each word that is spelled is read so and holds no space
 module _ {A : Type 0} (word_of : A → Option Word) (of_word : Word → Option A) (h : (x : A) (w : Word) → word_of x ≡ Some w → (of_word w ≡ Some x) × IsPlain w) where
   field_again : (x : A) (ws rest : List Word) (o : Option Word) → word_of x ≡ o → (o >>= λ w. Some (w ∷ [])) ≡ Some ws → read_word of_word (ws ++ rest) ≡ Some (x, rest)
-  field_again x ws rest None e f = absurd (none-some ws f)
-  field_again x ws rest (Some w) e f =
-      let same : w ∷ [] ≡ ws = cc in
-      rw (sym same) (ap (λ o. o >>= λ y. Some (y, rest)) (h x w e).0)
+  field_again x ws rest o h1 h2 = grind (arith, none-some)
 
   field_plain : (x : A) (ws : List Word) (o : Option Word) → word_of x ≡ o → (o >>= λ w. Some (w ∷ [])) ≡ Some ws → ArePlain ws
   field_plain x ws None e f = absurd (none-some ws f)
@@ -57,10 +55,7 @@ module _ {A : Type 0} (word_of : A → Option Word) (of_word : Word → Option A
 
 -- no word
 pub nothing_format : IsFormat nothing
-nothing_format = record {
-  again = λ x ws rest e. let none : [] ≡ ws = cc in rw (sym none) refl;
-  plain = λ x ws e. let none : [] ≡ ws = cc in subst ArePlain none tt;
-}
+nothing_format = grind arith
 
 -- one after the other
 module _ {A B : Type 0} (f : Format A) (g : Format B) (first : IsFormat f) (second : IsFormat g) where
@@ -120,10 +115,6 @@ other_parts : (b c : Bool) → (not b && c) ≡ true → (b ≡ false) × (c ≡
 other_parts true c e = absurd cc
 other_parts false c e = (refl, e)
 
-both_true : (b c : Bool) → (b && c) ≡ true → (b ≡ true) × (c ≡ true)
-both_true true c e = (refl, e)
-both_true false c e = absurd cc
-
 abbrev pub are_apart : {A : Type 0} → List (Row A) → Bool
 are_apart [] = true
 are_apart (r ∷ rs) = is_other r rs && are_apart rs
@@ -152,24 +143,10 @@ same_bytes w = (bytes_eq-Decides w w).1 refl
 -- a spelling by a table is of one of its rows, whose verb reads it
 module _ {A : Type 0} where
   found_later : (r : Row A) (rs : List (Row A)) (x : A) (ws rest : List Word) → is_other r rs ≡ true → Found A rs x ws rest → Found A (r ∷ rs) x ws rest
-  found_later r rs x ws rest others f = record {
-    verb = f.verb;
-    behind = f.behind;
-    is = f.is;
-    reads = ap (λ b. cond b (r.fields.read (f.behind ++ rest)) (read_by rs f.verb (f.behind ++ rest))) (f.apart r others) ∙ f.reads;
-    plain = f.plain;
-    apart = λ s o. f.apart s (other_parts (bytes_eq r.verb s.verb) (is_other s rs) o).1;
-  }
+  found_later r rs x ws rest others f = grind (arith, other_parts)
 
   found_here : (r : Row A) (rs : List (Row A)) (x : A) (vs ws rest : List Word) → IsFormat r.fields → IsPlain r.verb → r.fields.spell x ≡ Some vs → r.verb ∷ vs ≡ ws → Found A (r ∷ rs) x ws rest
-  found_here r rs x vs ws rest format plain e same = record {
-    verb = r.verb;
-    behind = vs;
-    is = sym same;
-    reads = ap (λ b. cond b (r.fields.read (vs ++ rest)) (read_by rs r.verb (vs ++ rest))) (same_bytes r.verb) ∙ format.again x vs rest e;
-    plain = (plain, format.plain x vs e);
-    apart = λ s o. (other_parts (bytes_eq r.verb s.verb) (is_other s rs) o).0;
-  }
+  found_here r rs x vs ws rest format plain e same = grind (arith, same_bytes, other_parts)
 
   pub found_by : (rows : List (Row A)) → IsTable rows → (x : A) (ws rest : List Word) → spell_by rows x ≡ Some ws → Found A rows x ws rest
   found_by [] table x ws rest e = absurd (none-some ws e)

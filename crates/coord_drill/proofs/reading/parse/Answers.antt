@@ -1,7 +1,7 @@
 use Rattle.std.proofs.Common.{sym, ap, ◌∙◌}
 use Rattle.std.proofs.lemmas.Str.{is_utf8-from_IsUtf8}
 use Rattle.coord_drill.specs.Grammar.{request_of}
-use Rattle.coord_drill.proofs.requests.NoText.{no_text}
+use Rattle.coord_drill.proofs.requests.Spelled.{no_text}
 use Rattle.coord_drill.proofs.reading.parse.Goals as goal
 
 pub returns-in-Ok : goal.returns-in-Ok

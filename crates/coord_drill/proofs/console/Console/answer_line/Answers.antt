@@ -1,7 +1,5 @@
-use Rattle.std.proofs.Common.{◌≡◌, ◌+◌, ◌++◌, sym, ap, ◌∙◌, subst, rules, string_bytes}
+use Rattle.std.proofs.Common.{◌≡◌, ◌+◌, ◌++◌, sym, ap, ◌∙◌, rules, string_bytes}
 use Rattle.std.specs.Option.{option_copied}
-use Rattle.coord_lines.specs.Lines.{Line}
-use Rattle.coord_drill.specs.Facade.{CarriesLine, CutsLine}
 use Rattle.coord_drill.proofs.does.Moments.{passed_on}
 use Rattle.coord_drill.proofs.console.Console.answer_line.Goals as goal
 

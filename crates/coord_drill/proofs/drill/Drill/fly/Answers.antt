@@ -1,6 +1,6 @@
-use Rattle.std.proofs.Common.{◌++◌, ap, ◌∙◌, sym, subst, refl, string_bytes}
+use Rattle.std.proofs.Common.{◌++◌, ap, ◌∙◌, refl, string_bytes}
 use Rattle.coord_ledger.specs.Facade.{LedgerState, next_size, settled_count, settled_world, started}
-use Rattle.coord_drill.specs.Facade.{AreGranted, flight_events, flown_answers, flown_lines, left_by}
+use Rattle.coord_drill.specs.Facade.{flight_events, flown_answers, flown_lines, left_by}
 use Rattle.coord_drill.proofs.does.Moments.{all_led, begins_by}
 use Rattle.coord_drill.proofs.does.FlownTo.{flies, flown_granted, flown_ready}
 use Rattle.coord_drill.proofs.drill.Drill.fly.Goals as goal

@@ -1,7 +1,7 @@
-use Rattle.std.proofs.Common.{Ok, ◌≡◌, ◌≢◌, ◌++◌, refl, ap, ◌∙◌, rules, false, true, sym, subst, string_bytes}
+use Rattle.std.proofs.Common.{Ok, ◌≡◌, ◌≢◌, ◌++◌, refl, ap, ◌∙◌, rules, false, true, subst, string_bytes}
 use Rattle.std.proofs.lemmas.Result.{IfErr-weaker, IfOk-weaker}
 use Rattle.coord_types.specs.declared.refusals.Refusal.TheVariants.{OutOfMemory}
-use Rattle.coord_ledger.specs.Facade.{IsGranted, LedgerState, reply_of, settled_count}
+use Rattle.coord_ledger.specs.Facade.{LedgerState, reply_of, settled_count}
 use Rattle.coord_drill.specs.declared.asked.Asked.TheVariants.{Submit}
 use Rattle.coord_drill.specs.Facade.{Hands, kept_line, pending_line, refusal_line}
 use Rattle.coord_drill.proofs.does.Cuts.{cut_before}

@@ -1,6 +1,6 @@
 use Rattle.std.proofs.Common.{◌≡◌, ◌+◌, false, true, None, refl, sym, ap, ◌∙◌, arith, subst, is_some, inl}
 use Rattle.coord_disk.specs.Model.Moments.{LeavesOnly}
-use Rattle.coord_store.specs.Facade.{GivesEither, Kept, risen}
+use Rattle.coord_store.specs.Facade.{Kept, risen}
 use Rattle.coord_store.specs.Refused.{failed_in}
 use Rattle.coord_ledger.specs.Facade.{DriverState, LedgerState, disk_held, has_stopped, ledger_over, settled_world}
 use Rattle.coord_drill.specs.Facade.{GivesRaised, IsPassing, failed_by}

@@ -1,6 +1,6 @@
 use Rattle.std.proofs.Common.{◌≡◌, rules, ◌∙◌, lit<}
 use Rattle.coord_drill.specs.Grammar.{words_of}
-use Rattle.coord_drill.proofs.requests.WordsOf.{words_of-first, words_of-one}
+use Rattle.coord_drill.proofs.requests.Spelled.{words_of-first, words_of-one}
 use Rattle.coord_drill.proofs.words.Words.next.Goals as goal
 
 pub returns-in-Some : goal.returns-in-Some
