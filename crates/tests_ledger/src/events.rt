@@ -1,6 +1,6 @@
 //! Runs of events whose answers are known.
 
-use crate::runs::{OPENING, add, choosing, made, push, ran, released, reset, tells};
+use crate::runs::{OPENING, add, choosing, made, push, ran, released, reset, same, tells};
 use coord_disk::BlipDisk;
 use coord_ledger::Event;
 
@@ -50,7 +50,8 @@ fn a_torn_flight_stops_the_ledger(rt: HostRuntime) {
                 Repeated(1), Refused(NumberReused), Collected(Reply { step: 1, kind: Done })]";
     for (which, wanted) in [(0, lost), (1, kept)] {
         let disk = choosing(&rt, made(&rt).bytes(), which);
-        let (trace, _disk) = ran(&rt, BlipDisk::new(disk, OPENING + 3), &events);
+        let (trace, disk) = ran(&rt, BlipDisk::new(disk, OPENING + 3), &events);
+        drop(disk);
         tells(&rt, &trace, 0, wanted);
     }
 }
@@ -75,10 +76,11 @@ fn a_full_ledger_refuses_all_but_a_repeat(rt: HostRuntime) {
     events
         .push(Event::Submit(reset(1_026)))
         .expect(&rt, "no place");
-    let (trace, _disk) = ran(&rt, made(&rt), &events);
+    let (trace, disk) = ran(&rt, made(&rt), &events);
+    drop(disk);
     let answers =
         "[Refused(PendingFull), Refused(PendingFull), Repeated(1025), Begun(256), Committed, Finished(257), \
                    Accepted(1026)]";
     tells(&rt, &trace, 1_028, answers);
-    assert_eq!(rt; trace.released.len(), 256);
+    same(&rt, &trace.released.len(), &256);
 }

@@ -1,7 +1,9 @@
 //! What a device that stops or fails once in a commit leaves of a ledger: after an opening its steps
 //! are those that were settled, or those of the flight too.
 
-use crate::runs::{Host, OPENING, add, choosing, linking, made, opened, push, ran, reset, tells};
+use crate::runs::{
+    Host, OPENING, add, choosing, linking, made, opened, push, ran, reset, same, tells,
+};
 use coord_disk::{BlipDisk, CrashDisk, Disk, FailingDisk, FuseDisk, MemDisk, Rule};
 use coord_ledger::{Driver, Event, RunFault, RunFaultKind, Trace, run_events};
 use coord_store::StoreFault;
@@ -20,7 +22,8 @@ struct Case {
 fn small(rt: &impl Host) -> Case {
     let mut events = Vec::new(rt.alloc());
     push(rt, &mut events, &linking());
-    let (_trace, disk) = ran(rt, made(rt), &events);
+    let (trace, disk) = ran(rt, made(rt), &events);
+    drop(trace);
     let steps = [reset(4), add(5, 3), add(6, 4)]
         .to_vec(rt.alloc())
         .expect(rt, "no steps");
@@ -48,7 +51,8 @@ fn full(rt: &impl Host) -> Case {
     for batch in 0..10u64 {
         push(rt, &mut events, &resets(rt, 2 + 256 * batch));
     }
-    let (_trace, disk) = ran(rt, made(rt), &events);
+    let (trace, disk) = ran(rt, made(rt), &events);
+    drop(trace);
     Case {
         disk,
         settled: 2_561,
@@ -114,11 +118,11 @@ fn is_left<R: Rule>(
     case.is_told(rt, &trace, is_done);
     drop(trace);
     let made = case.calls.min(passed.saturating_add(1));
-    assert_eq!(rt; disk.calls(), OPENING.saturating_add(made));
+    same(rt, &disk.calls(), &OPENING.saturating_add(made));
     let left = accepted_on(rt, disk.into_inner().crash());
     let is_kept = is_done || is_opened && passed.saturating_add(1) == case.calls;
     let wanted = if is_kept { case.last() } else { case.settled };
-    assert_eq!(rt; left, wanted, "{passed} passed");
+    same(rt, &(passed, left), &(passed, wanted));
 }
 
 // How many steps the ledger over a device has.
@@ -167,8 +171,8 @@ fn a_run_breaks_off_at_a_crash_that_is_not_opened(rt: HostRuntime) {
         Ok(_ran) => panic!(rt; "it came to its end"),
         Err(RunFault { at, trace, kind }) => {
             let (number, answered) = (kind.number(), trace.answers.len());
-            assert_eq!(rt; (at, answered, number), (2, 2, 2));
-            assert_eq!(rt; kind, RunFaultKind::Store(StoreFault::Device));
+            same(&rt, &(at, answered, number), &(2, 2, 2));
+            same(&rt, &kind, &RunFaultKind::Store(StoreFault::Device));
         }
     }
 }
@@ -178,7 +182,7 @@ fn not_reopened<D: CrashDisk>(rt: &impl Host, disk: D) -> D {
     match Driver::over(opened(rt, disk)).crash(rt.alloc()) {
         Ok((count, _driver)) => panic!(rt; "opened with {count} steps"),
         Err((kind, disk)) => {
-            assert_eq!(rt; kind, RunFaultKind::Store(StoreFault::Device));
+            same(rt, &kind, &RunFaultKind::Store(StoreFault::Device));
             disk
         }
     }
@@ -188,5 +192,5 @@ fn not_reopened<D: CrashDisk>(rt: &impl Host, disk: D) -> D {
 #[test]
 fn a_device_that_is_not_opened_comes_back_as_it_was(rt: HostRuntime) {
     let disk = BlipDisk::new(made(&rt), OPENING);
-    assert_eq!(rt; accepted_on(&rt, not_reopened(&rt, disk)), 0);
+    same(&rt, &accepted_on(&rt, not_reopened(&rt, disk)), &0);
 }

@@ -1,6 +1,6 @@
 //! A reset of two linked nodes: what it releases, in order, and what is kept of it.
 
-use crate::runs::{LINK, abort, linking, node, order, push, released, reset};
+use crate::runs::{LINK, abort, linking, node, order, push, released, reset, same};
 use coord_ledger::{Event, Release};
 use coord_types::{Command, DataPacket, Msg, Output, ReceiptPacket, Step};
 
@@ -51,9 +51,10 @@ fn releases_come_in_order(rt: HostRuntime) {
         release(0, receipted()),
         release(0, answered()),
     ];
-    assert_eq!(rt;
-        released(&rt, &events, answers).as_slice(),
-        wanted.as_slice()
+    same(
+        &rt,
+        &released(&rt, &events, answers).as_slice(),
+        &wanted.as_slice(),
     );
 }
 

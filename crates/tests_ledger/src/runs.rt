@@ -6,12 +6,19 @@ use coord_disk::{Choice, CrashDisk, Disk, MemDisk};
 use coord_ledger::{Event, Ledger, Release, Trace, run_events};
 use coord_store::Store;
 use coord_types::{Client, Command, DataPacket, Group, Msg, NodeId, Step};
+use std::fmt::Debug;
 use std::process::Abort;
 
 /// What a test asks for memory, and what ends it.
 pub(crate) trait Host: Abort + AllocGlobal {}
 
 impl<R: Abort + AllocGlobal> Host for R {}
+
+/// What was found is what was wanted. A call of this costs its caller's proof a fraction of what
+/// `assert_eq!` costs where it stands.
+pub(crate) fn same<T: PartialEq + Debug>(rt: &impl Abort, found: &T, wanted: &T) {
+    assert_eq!(rt; found, wanted);
+}
 
 /// How many calls of the device an opening takes.
 pub(crate) const OPENING: u64 = 3;
@@ -126,12 +133,13 @@ pub(crate) fn ran<D: CrashDisk>(rt: &impl Host, disk: D, events: &[Event]) -> (T
 pub(crate) fn tells(rt: &impl Host, trace: &Trace, behind: usize, wanted: &str) {
     let last = trace.answers.get(behind..).unwrap_or(&[]);
     let told = format!(in rt.alloc(); "{last:?}").expect(rt, "not printed");
-    assert_eq!(rt; told.as_str(), wanted);
+    same(rt, &told.as_str(), &wanted);
 }
 
 /// Whether events on a store without steps are answered so. What they release.
 pub(crate) fn released(rt: &impl Host, events: &[Event], wanted: &str) -> Vec<Release> {
-    let (trace, _disk) = ran(rt, made(rt), events);
+    let (trace, disk) = ran(rt, made(rt), events);
+    drop(disk);
     tells(rt, &trace, 0, wanted);
     trace.released
 }

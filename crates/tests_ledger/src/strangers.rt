@@ -3,7 +3,7 @@
 
 ghost use Rattle.std.specs.Prelude.{◌≡◌, None};
 
-use crate::runs::{Host, add, disk_of, made, opened};
+use crate::runs::{Host, add, disk_of, made, opened, same};
 use coord_disk::MemDisk;
 use coord_ledger::{Event, Flight, Ledger, Seen, run_events};
 use coord_types::{Refusal, Step};
@@ -21,7 +21,7 @@ fn out(rt: &impl Host, ledger: &mut Ledger<MemDisk>) -> Flight<MemDisk> {
 // Takes a flight back that was not committed.
 fn take_back(rt: &impl Host, own: &mut Ledger<MemDisk>, flight: Flight<MemDisk>) {
     match own.end_flush(flight) {
-        Ok(releases) => assert_eq!(rt; releases.lose_rest(), 0),
+        Ok(releases) => same(rt, &releases.lose_rest(), &0),
         Err((refusal, _flight)) => panic!(rt; "its own ledger refuses a flight: {refusal:?}"),
     }
 }
@@ -31,7 +31,7 @@ fn refuses(rt: &impl Host, own: &mut Ledger<MemDisk>, other: &mut Ledger<MemDisk
     match other.end_flush(out(rt, own)) {
         Ok(_releases) => panic!(rt; "another ledger takes it"),
         Err((refusal, flight)) => {
-            assert_eq!(rt; refusal, Refusal::Stranger);
+            same(rt, &refusal, &Refusal::Stranger);
             take_back(rt, own, flight);
         }
     }
@@ -85,10 +85,10 @@ fn a_flight_and_a_ticket_of_another_ledger_come_back(rt: HostRuntime) {
 fn shows_one(rt: &impl Host, ledger: &Ledger<MemDisk>) {
     let mut seen = Seen::new();
     let view = ledger.show(&mut seen).expect(rt, "not shown");
-    assert_eq!(rt; view.settled, 1);
+    same(rt, &view.settled, &1);
     seen.note(2);
     let refusal = ledger.show(&mut seen).err();
-    assert_eq!(rt; refusal, Some(Refusal::Behind { settled: 1 }));
+    same(rt, &refusal, &Some(Refusal::Behind { settled: 1 }));
 }
 
 #[test]

@@ -1,6 +1,6 @@
 //! Runs of events whose answers and releases are known from the protocol.
 
-use crate::runs::{abort, add, linking, push, released, reset};
+use crate::runs::{abort, add, linking, push, released, reset, same};
 use coord_ledger::{Event, Release};
 use coord_types::{Output, Step};
 
@@ -34,9 +34,10 @@ fn a_packet_is_taken_once_its_step_is_settled(rt: HostRuntime) {
         step: 0,
         output: Output::Sent(abort()),
     };
-    assert_eq!(rt;
-        released(&rt, &events, answers).as_slice(),
-        [resent].as_slice()
+    same(
+        &rt,
+        &released(&rt, &events, answers).as_slice(),
+        &[resent].as_slice(),
     );
 }
 
@@ -62,5 +63,5 @@ fn a_flight_that_was_not_committed_goes_out_again(rt: HostRuntime) {
     let answers =
         "[Accepted(1), Accepted(2), Begun(2), Finished(0), Begun(2), Committed, Finished(2), \
                    Collected(Reply { step: 2, kind: Finished }), Accepted(3), Opened(2), Resent(0), Repeated(2), Nothing]";
-    assert_eq!(rt; released(&rt, &events, answers).len(), 1);
+    same(&rt, &released(&rt, &events, answers).len(), &1);
 }
