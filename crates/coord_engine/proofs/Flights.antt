@@ -1,9 +1,8 @@
 -- Flights that go out and come back.
-use Rattle.std.proofs.Common.{◌≡◌, Bool, true, false, Option, Some, None, Result, Ok, Err, List, length, refl, sym, ap, ◌∙◌, subst, IfOk, IsSomeAnd}
-use Rattle.coord_world.specs.protocol.Outputs.{outs}
+use Rattle.std.proofs.Common.{◌≡◌, Bool, true, false, Option, Some, None, Result, Ok, Err, List, length, refl, sym, subst, IfOk, IsSomeAnd, arith}
 use Rattle.coord_ledger.specs.declared.mark.Mark.TheVariants.{New, Good}
 use Rattle.coord_ledger.specs.declared.release.Release.{Release}
-use Rattle.coord_ledger.specs.Facade.{FlightState, keeps_store, next_flight, releases_in, releases_of, with_out}
+use Rattle.coord_ledger.specs.Facade.{FlightState, keeps_store, next_flight, releases_in, with_out}
 use Rattle.coord_engine.specs.Facade.{AnswersBegin, Basis, CanHold, Flushes, GuardedState, Leaves, with_ledger}
 
 module _ {D E : Type 0} (b : Basis D) (g later : GuardedState D) (is : CanHold b g) where
@@ -29,8 +28,4 @@ module _ {D E : Type 0} (b : Basis D) (g later : GuardedState D) (is : CanHold b
 module _ {D : Type 0} where
   -- a flight that was committed and taken back gives its releases
   pub flushed : (flight later : FlightState D) (g : GuardedState D) (released : List Release) → Leaves flight g → (flight.mark ≡ New → later.mark ≡ Good) → later.steps ≡ flight.steps → later.world ≡ flight.world → released ≡ releases_in later later.mark → Flushes released g
-  flushed flight later g released left tried steps world is =
-      let good = tried (ap (λ (f : FlightState D). f.mark) left.1) in
-      let same_steps = steps ∙ ap (λ (f : FlightState D). f.steps) left.1 in
-      let same_world = world ∙ ap (λ (f : FlightState D). f.world) left.1 in
-      (left.0, is ∙ ap (releases_in later) good ∙ ap (λ w. releases_of (outs w later.steps)) same_world ∙ ap (λ s. releases_of (outs (next_flight g.ledger.log flight.disk).world s)) same_steps)
+  flushed flight later g released left tried steps world is = grind arith

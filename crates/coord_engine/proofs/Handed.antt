@@ -1,5 +1,5 @@
 -- One delivery more.
-use Rattle.std.proofs.Common.{◌≡◌, ℕ, zero, suc, Bool, List, [], ◌∷◌, ◌++◌, ◌+◌, ◌∙◌, Option, Some, None, drop, take, length, ◌<◌, refl, sym, ap, subst, arith, slice_get}
+use Rattle.std.proofs.Common.{◌≡◌, ℕ, zero, suc, Bool, List, [], ◌∷◌, ◌++◌, ◌+◌, ◌∙◌, Option, Some, None, drop, take, length, ◌<◌, refl, sym, ap, arith, slice_get}
 use Rattle.coord_types.specs.declared.packets.Packet.{Packet}
 use Rattle.coord_ledger.specs.declared.release.Release.{Release}
 use Rattle.coord_engine.specs.Facade.{AreAsked, IsAsked, deliveries_of, delivery_of}
@@ -34,7 +34,4 @@ module _ {P : Type 0} (carried : P → ℕ → Packet → Bool → P → Type 0)
   -- one more is handed over
   pub hands_next : (s m t u : P) (k : ℕ) (released left : List Release) (r : Release) (d : Delivery) → left ≡ drop k released → AreAsked carried signalled s (deliveries_of (take k released)) m
       → slice_get left 0 ≡ Some r → d ≡ delivery_of r.output → IsAsked carried signalled m d u → t ≡ u → AreAsked carried signalled s (deliveries_of (take (k + 1) released)) t
-  hands_next s m t u k released left r d at is next asked last same =
-      let now : slice_get (drop k released) 0 ≡ Some r = ap (λ l. slice_get l 0) (sym at) ∙ next in
-      let all : AreAsked carried signalled s (deliveries_of (take k released) ++ delivery_of r.output ∷ []) u = asked_last s m u (deliveries_of (take k released)) (delivery_of r.output) is (rw (sym asked) last) in
-      subst (AreAsked carried signalled s (deliveries_of (take (k + 1) released))) (sym same) (rw (next_asked k released r now) all)
+  hands_next s m t u k released left r d at is next asked last same = grind (arith, asked_last, next_asked)

@@ -1,15 +1,14 @@
 -- Notes of packets' steps.
-use Rattle.std.proofs.Common.{◌≡◌, List, [], ◌∷◌, ◌++◌, Result, Ok, Err, sym, ap, ◌∙◌, subst, All}
+use Rattle.std.proofs.Common.{◌≡◌, List, [], ◌++◌, Result, sym, ap, ◌∙◌, subst, All, arith}
 use Rattle.std.proofs.lemmas.List.{append-nil, append_assoc}
 use Rattle.std.proofs.lemmas.List.Elements.{All-append, All-nil, All-push}
 use Rattle.coord_types.specs.declared.packets.Packet.{Packet}
 use Rattle.coord_types.specs.declared.refusals.Refusal.{Refusal}
 use Rattle.coord_types.specs.declared.steps.Step.{Step}
 use Rattle.coord_world.specs.declared.verdicts.Verdict.{Verdict}
-use Rattle.coord_world.specs.declared.verdicts.Verdict.TheVariants.{Fresh, Repeat}
 use Rattle.coord_ledger.specs.declared.ticket.Note.{Note}
 use Rattle.coord_ledger.specs.ledger.State.{Claim}
-use Rattle.coord_engine.specs.Facade.{AddsPackets, AnswersStep, Basis, IsOfPacket, LedgerAndNotes, engine_verdict, note_of, step_of}
+use Rattle.coord_engine.specs.Facade.{AddsPackets, AnswersStep, Basis, IsOfPacket, LedgerAndNotes, engine_verdict, step_of}
 use Rattle.coord_engine.specs.Threads.{AtSomeMoment, Submits}
 
 -- no note was added
@@ -31,17 +30,7 @@ all_of_packets notes later adds all = subst (All IsOfPacket) (sym adds.are) (All
 
 -- what is added with an answer to a packet's step
 answered : (D : Type 0) (p : Packet) (s : Step) → s ≡ step_of p → (v : Result Verdict Refusal) (before : LedgerAndNotes D) (answer : Result Claim Refusal) (after : LedgerAndNotes D) → AnswersStep s v before answer after → AddsPackets before.notes after.notes
-answered D p s is (Ok (Fresh kind)) before (Ok claim) after a =
-    record {
-      added = note_of claim ∷ [];
-      are = ap (λ (x : LedgerAndNotes D). x.notes) a.1;
-      packets = All-push IsOfPacket [] (note_of claim) (All-nil IsOfPacket) (p, ap (λ (c : Claim). c.what) a.0 ∙ is);
-    }
-answered D p s is (Ok (Repeat kept)) before (Ok claim) after a = adds_none before.notes after.notes (ap (λ (x : LedgerAndNotes D). x.notes) a.1)
-answered D p s is (Err why) before (Ok claim) after a = absurd a
-answered D p s is (Ok (Fresh kind)) before (Err refusal) after a = adds_none before.notes after.notes (ap (λ (x : LedgerAndNotes D). x.notes) a.1)
-answered D p s is (Ok (Repeat kept)) before (Err refusal) after a = adds_none before.notes after.notes (ap (λ (x : LedgerAndNotes D). x.notes) a.1)
-answered D p s is (Err why) before (Err refusal) after a = adds_none before.notes after.notes (ap (λ (x : LedgerAndNotes D). x.notes) a.1)
+answered D p s h1 v before answer after h2 = grind (arith, All-push, All-nil, adds_none)
 
 -- what is added where it was submitted
 pub adds_packet : {D : Type 0} (b : Basis D) (p : Packet) (s : Step) → s ≡ step_of p → (answer : Result Claim Refusal) (notes later : List Note) → AtSomeMoment b (Submits {D = D} s answer notes later) → AddsPackets notes later

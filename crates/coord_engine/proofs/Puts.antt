@@ -1,50 +1,33 @@
 -- A map from lanes and kinds to packets, once a packet was put into it.
-use Rattle.std.proofs.Common.{◌≡◌, ◌==◌, List, [], ◌∷◌, Bool, true, false, ◌&&◌, refl, sym, ap, ◌∙◌, if◌then◌else◌}
+use Rattle.std.proofs.Common.{◌≡◌, List, [], ◌∷◌, Bool, true, false, ◌&&◌, refl, sym, ap, ◌∙◌, if◌then◌else◌, arith}
 use Rattle.std.proofs.Math.Bool.{beq}
 use Rattle.std.proofs.lemmas.Bool.Decides.{Decides-eqb}
 use Rattle.std.specs.Map.{values_of}
 use Rattle.indexmap.specs.IndexMap.{insert_entry}
 use Rattle.coord_types.specs.declared.packets.Packet.{Packet}
-use Rattle.coord_types.specs.declared.packets.Packet.TheVariants.{Carried, Receipted}
 use Rattle.coord_engine.specs.declared.waiting.Slot.{Slot}
 use Rattle.coord_engine.specs.Waiting.{is_alike, with_packet}
 use Rattle.coord_engine.specs.code.Slots.{slot_of, is_same_slot, SlotsMatch}
 
 beq_same : (a b : Bool) → beq a b ≡ true → a ≡ b
-beq_same true true e = refl
-beq_same true false e = cc
-beq_same false true e = cc
-beq_same false false e = refl
+beq_same a b h1 = grind arith
 
 both : (a b : Bool) → (a && b) ≡ true → (a ≡ true) × (b ≡ true)
 both true b e = (refl, e)
 both false b e = cc
 
 same_slot : (a b : Slot) → is_same_slot a b ≡ true → a ≡ b
-same_slot a b e =
-    let p = both (a.from == b.from) ((a.to == b.to) && beq a.is_receipt b.is_receipt) e in
-    let q = both (a.to == b.to) (beq a.is_receipt b.is_receipt) p.1 in
-    let x = (Decides-eqb a.from b.from).0 p.0 in
-    let y = (Decides-eqb a.to b.to).0 q.0 in
-    let z = beq_same a.is_receipt b.is_receipt q.1 in
-    (λ i. record { from = x i; to = y i; is_receipt = z i })
+same_slot a b e = grind (arith, both, beq, Decides-eqb, beq_same)
 
 and_true : (a b : Bool) → (a && (b && true)) ≡ (a && b)
-and_true true true = refl
-and_true true false = refl
-and_true false b = refl
+and_true a b = grind arith
 
 and_false : (a b : Bool) → (a && (b && false)) ≡ false
-and_false true true = refl
-and_false true false = refl
-and_false false b = refl
+and_false a b = grind arith
 
 -- two packets are alike where they are kept under the same
 alike : (p q : Packet) → is_same_slot (slot_of p) (slot_of q) ≡ is_alike p q
-alike (Carried p) (Carried q) = and_true (p.from == q.from) (p.to == q.to)
-alike (Receipted p) (Receipted q) = and_true (p.from == q.from) (p.to == q.to)
-alike (Carried p) (Receipted q) = and_false (p.from == q.from) (p.to == q.to)
-alike (Receipted p) (Carried q) = and_false (p.from == q.from) (p.to == q.to)
+alike p q = grind (arith, and_true, and_false)
 
 match_by : (e : Slot × Packet) (es : List (Slot × Packet)) (p : Packet) → SlotsMatch (insert_entry is_same_slot es (slot_of p) p) → e.0 ≡ slot_of e.1 → SlotsMatch es → (b : Bool) → is_same_slot (slot_of p) e.0 ≡ b → SlotsMatch (if b then (e.0, p) ∷ es else e ∷ insert_entry is_same_slot es (slot_of p) p)
 match_by e es p h k ks true same = (sym (same_slot _ _ same), ks)

@@ -1,5 +1,5 @@
 -- What is left of an engine against the ledger that it was made over.
-use Rattle.std.proofs.Common.{◌≡◌, ℕ, ◌+◌, List, drop, length, take, sym, ap, ◌∙◌, subst}
+use Rattle.std.proofs.Common.{◌≡◌, ℕ, ◌+◌, List, drop, length, take, arith}
 use Rattle.coord_types.specs.declared.steps.Step.{Step}
 use Rattle.coord_world.specs.protocol.NumberedWorld.{World}
 use Rattle.coord_ledger.specs.declared.ticket.Note.{Note}
@@ -8,8 +8,4 @@ use Rattle.coord_engine.specs.Facade.{IsNamed, IsSince}
 
 pub since : (base : World) (before : List Step) (shares : List (List Note)) (log : Log) (start : ℕ) (left : World) (trail : List Step)
     → log.base ≡ base → start ≡ length before → take start log.trail ≡ before → IsNamed shares (log.base.count + start) (drop start log.trail) → left ≡ log.base → trail ≡ log.trail → IsSince base before shares left trail
-since base before shares log start left trail same_base at begins named is_left is_trail = record {
-  same_base = is_left ∙ same_base;
-  begins = ap (λ n. take n trail) (sym at) ∙ ap (take start) is_trail ∙ begins;
-  named = rw (sym same_base) (rw (sym at) (rw is_trail named));
-}
+since base before shares log start left trail same_base at begins named is_left is_trail = grind arith

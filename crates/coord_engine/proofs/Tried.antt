@@ -1,5 +1,5 @@
 -- Packets that wait, tried one after the other.
-use Rattle.std.proofs.Common.{◌≡◌, ◌+◌, true, false, Bool, List, [], ◌∷◌, Option, Some, None, drop, length, refl, sym, ap, arith, subst, inl, inr, slice_get}
+use Rattle.std.proofs.Common.{◌≡◌, ◌+◌, true, false, Bool, List, [], ◌∷◌, Option, Some, None, drop, length, refl, ap, arith, inl, inr, slice_get}
 use Rattle.coord_types.specs.declared.packets.Packet.{Packet}
 use Rattle.coord_ledger.specs.declared.ticket.Note.{Note}
 use Rattle.coord_engine.specs.Facade.{Basis, Tries, TriesAll}

@@ -1,5 +1,5 @@
-use Rattle.std.proofs.Common.{length, sym, ap, arith, subst, ◌∙◌}
-use Rattle.coord_engine.specs.Facade.{TriesAll, based_on}
+use Rattle.std.proofs.Common.{length, sym, ap, arith, ◌∙◌}
+use Rattle.coord_engine.specs.Facade.{based_on}
 use Rattle.coord_engine.proofs.Tried.{drops_one, tries_on, tries_stuck}
 use Rattle.coord_engine.proofs.working.try_waiting.Goals as goal
 

@@ -1,4 +1,3 @@
-use Rattle.std.proofs.Common.{sym, subst}
 use Rattle.coord_engine.specs.Facade.{IsTold, based_on}
 use Rattle.coord_engine.proofs.Moments.{then}
 use Rattle.coord_engine.proofs.engine.Engine.collect.Goals as goal
