@@ -1,5 +1,5 @@
 -- Reply lines, requests and replies computed through the definitions.
-use Rattle.std.proofs.Common.{refl}
+use Rattle.std.proofs.Common.{refl, arith}
 use Rattle.serde_json.proofs.OnLiterals.{serde_json_on_literals}
 use Rattle.std.specs.Str.{is_utf8, chars}
 use Rattle.std.specs.Fmt.{digits}
@@ -8,26 +8,7 @@ use Rattle.coord_admin.specs.WorkedLines.{WorkedRequests, WorkedReplies}
 
 pub requests_compute : WorkedRequests
 unfolding serde_json_on_literals asked_in is_utf8 chars
-requests_compute = record {
-  reset = refl;
-  join = refl;
-  confirm = refl;
-  show = refl;
-  resend = refl;
-  close = refl;
-  repeated_name = refl;
-  too_long = refl;
-  bad_text = refl;
-  empty = refl;
-  unended = refl;
-  no_object = refl;
-  no_name = refl;
-  unknown_op = refl;
-  one_too_many = refl;
-  text_number = refl;
-  negative_number = refl;
-  client_17 = refl;
-}
+requests_compute = grind arith
 
 pub replies_compute : WorkedReplies
 unfolding serde_json_on_literals digits

@@ -1,5 +1,5 @@
 -- What was read so far: its lines have replies or await them; and what more makes of it.
-use Rattle.std.proofs.Common.{◌≡◌, ℕ, List, [], ◌++◌, Result, Err, IsErrAnd, sym, ap, ◌∙◌, subst, take, append_assoc, append-nil}
+use Rattle.std.proofs.Common.{◌≡◌, ℕ, List, [], ◌++◌, Result, Err, IsErrAnd, sym, ap, ◌∙◌, take, append_assoc, append-nil}
 use Rattle.std.proofs.lemmas.Result.{err_from_is_err_and}
 use Rattle.coord_lines.specs.Lines.{Line, lines_of, lines_on}
 use Rattle.coord_admin.specs.declared.request.Request.{Request}

@@ -13,9 +13,9 @@ use Rattle.coord_types.specs.declared.refusals.Refusal.TheVariants as refusal
 use Rattle.coord_types.specs.declared.steps.Reply.{Reply}
 use Rattle.coord_admin.specs.declared.request.Request.{Request}
 use Rattle.coord_admin.specs.declared.answer.Answer.{Answer}
-use Rattle.coord_admin.specs.declared.answer.Answer.TheVariants.{Replied, Refused, Shown, Resent, Closed, Faulted}
+use Rattle.coord_admin.specs.declared.answer.Answer.TheVariants.{Closed, Faulted}
 use Rattle.coord_admin.specs.declared.fault.LineFault.{LineFault}
-use Rattle.coord_admin.specs.declared.fault.LineFault.TheVariants.{Unfinished, TooLong, BadText, BadJson, BadRequest, UnknownOp, OutOfMemory}
+use Rattle.coord_admin.specs.declared.fault.LineFault.TheVariants.{Unfinished, OutOfMemory}
 use Rattle.coord_admin.specs.Requests.{asked_by}
 use Rattle.coord_admin.specs.Replies.{made_bytes, order_answer, reply_line, reply_lines}
 use Rattle.coord_admin.specs.Together.{AllAnswered, ArePosted, AskFor}
@@ -116,66 +116,22 @@ part-within answers told a out part text line i w so_far is p =
 
 -- an order closes no desk
 order-open : (x : Result Reply Refusal) → is_closed (order_answer x) ≡ false
-order-open (Ok r) = refl
-order-open (Err refusal.Stopped) = refl
-order-open (Err refusal.OutOfMemory) = refl
-order-open (Err refusal.Exhausted) = refl
-order-open (Err refusal.OutOfTurn) = refl
-order-open (Err refusal.NumberReused) = refl
-order-open (Err refusal.UnknownNode) = refl
-order-open (Err refusal.NodeExists) = refl
-order-open (Err refusal.HasLinks) = refl
-order-open (Err refusal.SameNode) = refl
-order-open (Err refusal.OtherGroup) = refl
-order-open (Err refusal.LinkExists) = refl
-order-open (Err refusal.NoLink) = refl
-order-open (Err refusal.DegreeFull) = refl
-order-open (Err refusal.LinksFull) = refl
-order-open (Err refusal.BadEpoch) = refl
-order-open (Err refusal.Old) = refl
-order-open (Err refusal.Early) = refl
-order-open (Err refusal.Differs) = refl
-order-open (Err refusal.NotReleased) = refl
-order-open (Err refusal.PendingFull) = refl
-order-open (Err (refusal.Behind settled)) = refl
-order-open (Err refusal.Stranger) = refl
+order-open x = grind arith
 
 stays_open : (answer : Answer) → takes_memory answer ≡ true → is_closed answer ≡ false
-stays_open (Replied r) e = refl
-stays_open (Refused r) e = refl
-stays_open (Shown v) e = refl
-stays_open (Resent n) e = refl
-stays_open Closed e = absurd cc
-stays_open (Faulted f) e = refl
+stays_open answer h1 = grind arith
 
 pub closed-told : (answer told : Answer) → IsWritten answer told → is_closed told ≡ is_closed answer
 closed-told answer told (inl same) = ap is_closed same
 closed-told answer told (inr h) = ap is_closed h.0 ∙ sym (stays_open answer h.1)
 
 pub closes-told : (told : Answer) → is_closed told ≡ true → told ≡ Closed
-closes-told (Replied r) e = absurd cc
-closes-told (Refused r) e = absurd cc
-closes-told (Shown v) e = absurd cc
-closes-told (Resent n) e = absurd cc
-closes-told Closed e = refl
-closes-told (Faulted f) e = absurd cc
+closes-told told h1 = grind arith
 
 module _ {D : Type 0} (answers : D → Request → Answer → D → Type 0) where
   -- a fault that was found is that of the line, or there was no memory
   pub gets-fault : (d : D) (line : Line) (fault : LineFault) (r : Result Request LineFault) → r ≡ Err fault → (r ≢ Err OutOfMemory → r ≡ asked_by line) → (r ≡ Err OutOfMemory → IsText line) → Gets answers d line (Faulted fault) d
-  gets-fault d line fault r e reads memory = by fault e
-    where
-      answered : (f : LineFault) → r ≡ Err f → r ≢ Err OutOfMemory → Gets answers d line (Faulted f) d
-      answered f is other = inl (subst (λ asked. MayAnswer answers d asked (Faulted f) d) (sym is ∙ reads other) (refl, refl))
-
-      by : (f : LineFault) → r ≡ Err f → Gets answers d line (Faulted f) d
-      by Unfinished is = answered Unfinished is (λ k. absurd cc)
-      by TooLong is = answered TooLong is (λ k. absurd cc)
-      by BadText is = answered BadText is (λ k. absurd cc)
-      by BadJson is = answered BadJson is (λ k. absurd cc)
-      by BadRequest is = answered BadRequest is (λ k. absurd cc)
-      by UnknownOp is = answered UnknownOp is (λ k. absurd cc)
-      by OutOfMemory is = inr (refl, inl (memory is, refl))
+  gets-fault d line fault r e reads memory = grind arith
 
   -- what a line asks for was answered, or its fault is the answer
   pub gets-asked : (d e : D) (line : Line) (r : Result Request LineFault) (a : Answer) → (r ≢ Err OutOfMemory → r ≡ asked_by line) → (r ≡ Err OutOfMemory → IsText line) → MayAnswer answers d r a e → Gets answers d line a e
@@ -183,9 +139,7 @@ module _ {D : Type 0} (answers : D → Request → Answer → D → Type 0) wher
   gets-asked d e line (Err f) a reads memory h = rw h.1 (rw h.0 (gets-fault d line f (Err f) refl reads memory))
 
   pub gets-told : (d e : D) (line : Line) (answer told : Answer) → Gets answers d line answer e → IsWritten answer told → Gets answers d line told e
-  gets-told d e line answer told h (inl same) = rw same h
-  gets-told d e line answer told (inl h) (inr w) = inr (w.0, inr (answer, w.1, h))
-  gets-told d e line answer told (inr h) (inr w) = inr (w.0, h.1)
+  gets-told d e line answer told h1 h2 = grind arith
 
   -- what is told of each answer
   pub all-told : (d e : D) (lines : List Line) (answered told : List Answer) → AllGet answers d lines answered e → AreWritten answered told → AllGet answers d lines told e
@@ -309,9 +263,7 @@ module _ {C : Type 0} (exchanged : C → List ℕ → List ℕ → C → Type 0)
 
   -- a read that gave no byte
   pub no-more : (a b c : C) (bytes_read bytes bytes_written : List ℕ) (count : ℕ) → exchanged a bytes_read bytes_written b → exchanged b (take count bytes) [] c → count ≡ 0 → exchanged a bytes_read bytes_written c
-  no-more a b c bytes_read bytes bytes_written count first second e =
-      let none : take count bytes ≡ [] = rw e refl in
-      still a b c bytes_read bytes_written first (subst (λ l. exchanged b l [] c) none second)
+  no-more a b c bytes_read bytes bytes_written count first second e = grind (arith, still)
 
   -- one more reply
   pub told-one : (a b c : C) (told : List Answer) (x : Answer) → exchanged a [] (reply_lines told) b → exchanged b [] (reply_line x) c → exchanged a [] (reply_lines (told ++ x ∷ [])) c
