@@ -140,6 +140,14 @@ class Connections(Case):
             self.assertEqual([connection.reply()["step"] for _ in sent], list(range(2, 1_002)))
             sender.join()
 
+    def test_more_bytes_than_reads(self):
+        """The bound of 1,048,576 for a connection is one of reads, and a read takes more than a byte."""
+        line = b'{"op":"resend"}'.ljust(511) + b"\n"
+        with self.serving() as server, server.connect() as connection:
+            for _ in range(33):
+                connection.send(line * 64)
+                self.assertEqual([connection.reply() for _ in range(64)], [RESENT] * 64)
+
     def test_a_second_connection_after_each_kind_of_end(self):
         """Behind a line that is too long, one that is cut, and one that was reset."""
         with self.serving() as server:

@@ -82,7 +82,11 @@ class Ends(Case):
 
     def test_an_address_of_several(self):
         """It listens at the one that is named, says so, and is at no other."""
-        with Serving(self.made(topology([(1, 1)])), address="127.0.0.2:0") as server:
+        store = self.made(topology([(1, 1)]))
+        with Serving(store, address="127.255.255.254:0") as server:
+            self.assertEqual(server.address.split(":")[0], "127.255.255.254")
+            self.assertEqual(server.close().status, 0)
+        with Serving(store, address="127.0.0.2:0") as server:
             host, port = server.address.split(":")
             self.assertEqual(host, "127.0.0.2")
             self.assertEqual(server.ask({"op": "resend"}), {"count": 0, "kind": "resent"})

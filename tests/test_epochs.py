@@ -44,6 +44,21 @@ class Epochs(Served):
             self.expect_each_signal_once(server)
             self.expect_closed(server, 64 * 2)
 
+    def test_signals_come_in_the_order_of_their_steps(self):
+        """Those of one flight too, whichever nodes they are of."""
+        nodes = [7, 64, 1, 8, 9, 33, 2, 63]
+        with Serving(self.made(topology([(node, 1) for node in nodes]))) as server, server.connect() as connection:
+            numbers = range(1, 1_001)
+            order = [nodes[number * number % 8] for number in numbers]
+            connection.send(*({"op": "reset", "client": 1, "number": number, "node": node}
+                              for number, node in zip(numbers, order)))
+            self.assertEqual([connection.reply() for _ in numbers], [answered(FINISHED, 8 + number) for number in numbers])
+            connection.socket.close()
+            signals = server.await_signals(1_000)
+            self.assertEqual([node for node, _ in signals], order)
+            self.expect_each_signal_once(server)
+            self.expect_closed(server, 1_000)
+
     def test_several_that_ask_at_once(self):
         """Those that begin or join one wave: as many signals of each node as its epoch says."""
         with Serving(self.made(ring(16))) as server:

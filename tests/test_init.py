@@ -39,6 +39,8 @@ UNREAD = [
 READ = [
     ("half = 65536 # the usual size\r\nnode = []\r\n", 0), ('"half" = 0x8000', 0), ("half = 32_768", 0),
     ("node = [{id = 1, group = 1}, {id = 2, group = 1}]\nlink = [{a = 2, b = 1}]", 3), (" " * 65_536, 0),
+    (topology([], [(1, 2)]) + topology([(2, 9), (1, 9)]), 3),
+    ("# b\u00e4r \u4e2d\n\t[[ node ]]\nid=1\n\n  group\t=\t0b1 # \U0001f600", 1),
 ]
 
 
@@ -62,6 +64,13 @@ class Init(Case):
     def test_the_usual_half(self):
         self.assertEqual(self.init(topology([(1, 1)]))[0], 0)
         self.assertEqual(self.read("store")[9:17], stores.wide(65_536))
+
+    def test_halves_of_every_size(self):
+        for half in (32_768, 32_769, 65_535, 1_000_000, 16_777_215, 16_777_216):
+            with self.subTest(half=half):
+                self.assertEqual(self.init(topology([(1, 1)], half=half), f"store{half}"), Ended(0, "created 1\n", ""))
+                self.assertEqual(self.read(f"store{half}")[9:17], stores.wide(half))
+                self.assertEqual(ran("check", self.path(f"store{half}")), Ended(0, "legal 1\n", ""))
 
     def test_the_longest_text(self):
         """A comment fills it up, to one byte less than is refused."""
@@ -98,6 +107,16 @@ class Init(Case):
             with self.subTest(refusal=name):
                 self.assertEqual(self.init(text, f"store{number}"), faulted(1, name))
                 self.assertEqual(ran("check", self.path(f"store{number}")), Ended(0, "legal 0\n", ""))
+
+    def test_more_entries_than_there_may_be(self):
+        """They are no fault of the text, be they all alike: the first order that is refused is told."""
+        pair = "node = [{id = 1, group = 1}, {id = 2, group = 1}]\n"
+        for name, text in (("7 NodeExists", "node = [" + "{id=1,group=1}," * 300 + "]"),
+                           ("11 LinkExists", pair + "link = [" + "{a=1,b=2}," * 300 + "]"),
+                           ("9 SameNode", "link = [" + "{a=1,b=1}," * 600 + "]\n" + pair)):
+            with self.subTest(refusal=name):
+                self.assertEqual(self.init(text, name), faulted(1, name))
+                self.assertEqual(ran("check", self.path(name)), Ended(0, "legal 0\n", ""))
 
     def test_topologies_that_are_not_read(self):
         """The file is not touched: it is not even made."""

@@ -85,9 +85,11 @@ class LastTry(Failing):
             self.assertGreater(time.monotonic() - begun, TRIES * REST / 2)
 
     def test_clients_that_leave_without_end(self):
-        """Their errors are not counted."""
+        """Their errors are not counted, and the next client does not wait for them."""
         with self.serving("ECONNABORTED", 10 * TRIES) as server:
+            begun = time.monotonic()
             self.assertEqual(server.ask({"op": "resend"}), {"count": 0, "kind": "resent"})
+            self.assertLess(time.monotonic() - begun, 10 * TRIES * REST / 2)
 
     def test_one_failure_more(self):
         with self.serving("EMFILE", TRIES + 1) as server:

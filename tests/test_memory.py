@@ -2,12 +2,13 @@
 
 import os
 import re
+import socket
 
 from support import preloaded, stores
 from support.case import Case, until
-from support.program import PROGRAM, Ended, faulted, ran
+from support.program import PROGRAM, SHORT, SHORT_STEPS, Ended, faulted, ran
 from support.refusing import WORKERS, Refusing
-from support.served import STARTED, answered
+from support.served import FINISHED, STARTED, answered
 from support.serving import Serving
 from support.stores import ABORT, batch, link, node, topology, world
 
@@ -135,3 +136,50 @@ class Wave(Case):
             self.assertEqual(server.close().status, 0)
         self.assertEqual(ran("check", store), Ended(0, "legal 10\n", ""))
         return count
+
+
+class Kept(Case):
+    """What a server takes of memory it gives back, however long it runs: counted in allocations."""
+
+    takes = 5
+    programs = ("RESETD", "RESETD_SHORT")
+
+    def expect_no_more(self, program, store, work, times=16):
+        """Doing something so often, once it was done a little, keeps fewer allocations than one each time."""
+        self.needs("a C compiler", preloaded.has_compiler())
+        refusing = Refusing(program, self.folder)
+        with Serving(store, program=program, env=refusing.environment()) as server:
+            for number in range(5 * times):
+                if number % times == 0:
+                    kept = refusing.kept()
+                work(server, number)
+            self.assertLess(refusing.kept() - kept, times // 2)
+            self.assertEqual(server.close().status, 0)
+
+    def test_of_a_connection_and_its_lines(self):
+        lines = [{"op": "show"}, {"op": "resend"}, b"x" * 600 + b"\n", b"{\n", b"\xff\n", {"op": "fly"}, {"op": "reset"},
+                 {"op": "reset", "client": 1, "number": 2, "node": 1}, b"{"]
+
+        def ask(server, _):
+            with server.connect() as connection:
+                connection.send(*lines)
+                connection.socket.shutdown(socket.SHUT_WR)
+                self.assertEqual(len(connection.rest()), len(lines))
+        self.expect_no_more(PROGRAM, self.made(PAIR), ask)
+
+    def test_of_orders_and_waves(self):
+        def reset(server, number):
+            self.assertEqual(server.order(number + 1, "reset", node=number % 2 + 1)["kind"], STARTED)
+            server.await_quiet(number + 1)
+            server.await_signals(2 * (number + 1))
+        self.expect_no_more(PROGRAM, self.made(PAIR), reset)
+
+    def test_of_lives(self):
+        """Each connection has one of its own."""
+        def reset(server, number):
+            with server.connect() as connection:
+                numbers = range(number * SHORT_STEPS + 1, (number + 1) * SHORT_STEPS + 1)
+                connection.send(*({"op": "reset", "client": 1, "number": each, "node": 1} for each in numbers))
+                self.assertEqual([connection.reply() for _ in numbers], [answered(FINISHED, 1 + each) for each in numbers])
+            server.await_signals(numbers[-1])
+        self.expect_no_more(SHORT, self.made(topology([(1, 1)])), reset)

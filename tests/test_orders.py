@@ -1,5 +1,7 @@
 """Orders and other lines: each kind's reply, its repeat and its refusals, and what a start finds in a store."""
 
+import itertools
+
 from support import stores
 from support.case import until
 from support.program import ran
@@ -27,6 +29,27 @@ class Orders(Served):
             self.assertEqual(server.show(), {"accepted": 7, "links": [], "nodes": [[1, 1, "ready", 0, 1, 1]], "settled": 7})
             self.expect_closed(server, 1)
             self.assertEqual(server.signals(), [(1, 1)])
+
+    def test_each_kind_by_each_client(self):
+        """All in one packet; each client has nodes of its own, up to the greatest, and its own numbers."""
+        with Serving(self.made("")) as server, server.connect() as connection:
+            step = 0
+            for client in range(1, 17):
+                first, second = client, 65 - client
+                orders = [("add", {"node": first, "group": client}, DONE), ("add", {"node": second, "group": client}, DONE),
+                          ("join", {"a": second, "b": first}, DONE), ("drop", {"a": first, "b": second}, DONE),
+                          ("reset", {"node": second}, FINISHED), ("confirm", {"node": second, "epoch": 1}, DONE),
+                          ("remove", {"node": first}, DONE)]
+                connection.send(*({"op": op, "client": client, "number": number, **members}
+                                  for number, (op, members, _) in enumerate(orders, 1)))
+                for _, _, kind in orders:
+                    step += 1
+                    self.assertEqual(connection.reply(), answered(kind, step))
+            connection.socket.close()
+            self.assertEqual(server.show(), {"accepted": step, "links": [], "settled": step, "nodes": [
+                [node, 65 - node, "ready", 0, 1, 1] for node in range(49, 65)]})
+            self.expect_closed(server, 16)
+            self.assertEqual(server.signals(), [(65 - client, 1) for client in range(1, 17)])
 
     def test_one_link_of_several(self):
         """It goes alone, and is another one when it is joined again."""
@@ -85,6 +108,15 @@ class Orders(Served):
             # a refused order's number stays free
             self.assertEqual(server.order(1, "remove", node=18), answered(DONE, len(nodes) + len(links) + 1))
 
+    def test_as_many_links_as_there_may_be(self):
+        """One more is refused, and there is room for it once another one is dropped."""
+        links = [(node, (node + far - 1) % 64 + 1) for far in (1, 2) for node in range(1, 65)]
+        with Serving(self.made(topology([(node, 1) for node in range(1, 65)], links))) as server:
+            self.assertEqual(server.order(1, "join", a=1, b=33), refused(14, "LinksFull"))
+            self.assertEqual(server.order(1, "drop", a=64, b=2), answered(DONE, 193))
+            self.assertEqual(server.order(2, "join", a=33, b=1), answered(DONE, 194))
+            self.assertEqual(server.order(3, "join", a=64, b=2), refused(14, "LinksFull"))
+
     def test_lines_with_a_fault(self):
         """Each has its reply, and the connection goes on."""
         lines = {
@@ -105,6 +137,12 @@ class Orders(Served):
             b'{"op":"reset","client":1,"number":18446744073709551616,"node":1}\n': "BadRequest",
             b'{"op":"reset","client":1,"number":1,"node":1,"node":65}\n': "BadRequest",
             b'{"op":"drop","client":1,"number":1,"a":1,"b":0}\n': "BadRequest",
+            # of the bytes that are no letters, JSON has but four as spaces
+            **{b'{"op":"show"}%c\n' % byte: "BadText" if byte > 127 else "BadJson"
+               for byte in (0, 1, 8, 11, 12, 27, 31, 127, 128, 160)},
+            b'\0{"op":"show"}\n': "BadJson", b'{"op":\0"show"}\n': "BadJson", b'{"op":"sh\0ow"}\n': "BadJson",
+            b"\0\n": "BadJson",
+            b'\xef\xbb\xbf{"op":"show"}\n': "BadJson", b'{"op":"show\\u0000"}\n': "UnknownOp",
         }
         with Serving(self.made("")) as server, server.connect() as connection:
             for line, name in lines.items():
@@ -114,6 +152,21 @@ class Orders(Served):
             self.assertEqual([connection.reply()["fault"] for _ in lines], list(lines.values()))
             connection.send({"op": "resend"})
             self.assertEqual(connection.line(), b'{"count":0,"kind":"resent"}\n')
+
+    def test_the_limit_of_a_line(self):
+        """A line of at most 512 bytes is read, be it an order, what is no order, or no JSON; a carriage return counts."""
+        order, unknown = b'{"op":"reset","client":1,"number":1,"node":1}', refused(6, "UnknownNode")
+        with Serving(self.made("")) as server, server.connect() as connection:
+            for behind in (b"\n", b"\r\n"):
+                for length, fault in ((511, None), (512, None), (513, "TooLong"), (1_025, "TooLong")):
+                    room = length - len(behind) + 1
+                    connection.send(order.ljust(room) + behind, b" " * (room - len(order)) + order + behind,
+                                    b"[".ljust(room) + behind, b"\xff" * room + behind, b"[" * room + behind,
+                                    b'{"op":"resend"}'.rjust(room) + behind)
+                    replies = [connection.reply() for _ in range(6)]
+                    wanted = [unknown, unknown, {"fault": "BadJson"}, {"fault": "BadText"}, {"fault": "BadJson"},
+                              {"count": 0, "kind": "resent"}]
+                    self.assertEqual((length, replies), (length, [{"fault": fault}] * 6 if fault else wanted))
 
     def test_other_spellings_of_a_line(self):
         """A carriage return is a space, an escape is its letter, and of two members with one name the last one counts."""
@@ -172,6 +225,19 @@ class Stores(Served):
                 self.assertEqual(server.ask({"op": "resend"}), {"count": 0, "kind": "resent"})
                 self.expect_closed(server, 0)
 
+    def test_packets_between_any_two_nodes(self):
+        """Each two of the 64 are linked once, as many at a time as there may be. Each lane's front is sent at the start, taken
+        and cleared."""
+        rows, lane = [stores.node(at, epoch=3, version=2) for at in range(1, 65)], (0, 0, [stores.IS_READY])
+        # those that are as far from each other on a ring stand together, so that no node has more than 16 links at a time
+        pairs = sorted(itertools.combinations(range(1, 65), 2), key=lambda ends: min(ends[1] - ends[0], 64 + ends[0] - ends[1]))
+        for first in range(0, len(pairs), 128):
+            some = sorted(pairs[first:first + 128])
+            links = [stores.link(a, b, 65 + place, lane, lane) for place, (a, b) in enumerate(some)]
+            with Serving(self.write("store", stores.store(stores.world(1_000, rows, links), version=2))) as server:
+                until("each packet", lambda: server.show()["settled"] == 1_000 + 4 * len(some), 60)
+                self.expect_closed(server, 0)
+
     def test_a_store_that_has_served_for_long(self):
         """Great numbers of steps, epochs, packets and orders: a wave goes on from them."""
         first, second, number, count = 2**39, 2**39 + 7, 2**36, 2**40 - 1_000
@@ -189,6 +255,57 @@ class Stores(Served):
             self.assertEqual(server.order(number + 2, "confirm", 3, node=64, epoch=second + 1), answered(DONE, accepted + 1))
             self.assertEqual([row[4:6] for row in server.show()["nodes"]], [[first + 1, first - 1], [second + 1] * 2])
             self.expect_closed(server, 2)
+
+    def test_the_last_steps_of_a_store(self):
+        """As many resets as steps are left are carried out, though they come together with more; then each order is refused."""
+        left, more = 256, 44
+        content = stores.store(stores.world(2**40 - left, [stores.node(1, version=2)]), version=2)
+        with Serving(self.write("store", content)) as server:
+            for _ in range(2):
+                with server.connect() as connection:
+                    connection.send(*({"op": "reset", "client": 1, "number": number, "node": 1}
+                                      for number in range(1, left + more + 1)))
+                    replies = [connection.reply() for _ in range(left + more)]
+                # the first order that is refused leaves its number free, and the others are out of turn
+                refusals = [refused(3, "Exhausted")] * more
+                self.assertEqual(replies[left:], refusals)
+                self.assertEqual(replies[left - 1], answered(FINISHED, 2**40))
+            self.expect_closed(server, left)
+        self.assertEqual(ran("show", server.store).printed, f"view {2**40} {2**40}\nnode 1 1 ready 0 {left} 0\n")
+
+    def test_the_longest_world(self):
+        """It is shown whole, and each lane has a packet and a receipt to be sent again. It takes no further step."""
+        with Serving(self.write("store", stores.store(stores.longest_world(), version=2))) as server, \
+                server.connect() as connection:
+            for _ in range(2):
+                connection.send({"op": "show"}, {"op": "resend"}, {"op": "reset", "client": 1, "number": 1_026, "node": 1})
+                shown = connection.reply()
+                self.assertEqual((shown["accepted"], shown["settled"]), (2**40, 2**40))
+                self.assertEqual(shown["nodes"], [[node, 1, "abort", 0, 512 + node, 256 + node] for node in range(1, 65)])
+                self.assertEqual(len(shown["links"]), 128)
+                self.assertEqual(connection.reply(), {"count": 512, "kind": "resent"})
+                self.assertEqual(connection.reply(), refused(3, "Exhausted"))
+            connection.socket.close()
+            self.expect_closed(server, 0)
+        self.assertEqual(len(ran("show", server.store).printed.splitlines()), 1 + 64 + 128)
+
+    def test_numbers_of_every_size(self):
+        """Of steps, epochs, packets, links and orders: a wave over a link crosses each power of ten, and some of two."""
+        sizes = [10**power for power in range(1, 13)] + [2**power for power in (8, 12, 15, 16, 20, 24, 28, 31, 32, 33, 36)]
+        for size in sizes:
+            rows = [stores.node(1, epoch=size - 1, confirmed=size - 2, version=2), stores.node(64, epoch=size, version=2)]
+            links = [stores.link(1, 64, size, (size - 1, size - 1, []), (size - 1, size - 1, []))]
+            asked = b"\4\1"  # a reset of node 1, which was finished
+            clients = [stores.client(3, size - 1, asked, size - 1, 2)]
+            content = stores.store(stores.world(size + 1, rows, links, clients), version=2)
+            with self.subTest(size=size), Serving(self.write("store", content), output=self.path(f"{size}")) as server:
+                self.assertEqual(server.order(size, "reset", 3, node=1), answered(STARTED, size + 2))
+                self.assertEqual(sorted(server.await_signals(2)), [(1, size), (64, size + 1)])
+                server.await_quiet()
+                self.assertEqual(server.show(), {"accepted": size + 8, "links": [[1, 64, size]], "settled": size + 8, "nodes": [
+                    [1, 1, "ready", 0, size, size - 2], [64, 1, "ready", 0, size + 1, 0]]})
+                self.assertEqual(server.order(size + 1, "confirm", 3, node=64, epoch=size + 1), answered(DONE, size + 9))
+                self.assertEqual(server.close().status, 0)
 
     def test_a_store_of_version_1_stays_so(self):
         path = self.write("store", stores.store())

@@ -1,9 +1,12 @@
 """Where output can't be written: `resetd: Write`, and what was done is done."""
 
+import contextlib
+import fcntl
+import os
 import subprocess
 
 from support import stores
-from support.case import Case
+from support.case import Case, until
 from support.program import PATIENCE, PROGRAM, Ended, ran
 from support.stores import topology
 
@@ -35,6 +38,32 @@ class Unprinted(Case):
         path = self.write("store", stores.store())
         self.assertEqual(by_shell(">/dev/full", "migrate", path), LOST)
         self.assertEqual(stores.version_of(path), 2)
+
+    def test_a_store_is_let_go_before_its_line_is_taken(self):
+        """Whoever reads what `init` or `migrate` prints may take long: the store can be served meanwhile."""
+        old = stores.store(stores.world(3, [stores.node(1), stores.node(2)], [stores.link(1, 2, 3)]))
+        for command, before, more in (("init", b"", [self.write("topology", PAIR)]), ("migrate", old, [])):
+            self.write("store", before)
+            reader, writer = os.pipe()
+            self.addCleanup(os.close, reader)
+            with open(writer, "wb", 0) as full:
+                full.write(b"x" * fcntl.fcntl(full, fcntl.F_GETPIPE_SZ))
+                waiting = subprocess.Popen([PROGRAM, command, self.path("store"), *more], stdout=full)
+            self.addCleanup(waiting.wait)
+            self.addCleanup(waiting.kill)
+            until(f"a free store after {command}", lambda: self.is_free("store"), 30)
+            self.assertIsNone(waiting.poll())
+            os.read(reader, 1 << 20)
+            self.assertEqual((waiting.wait(PATIENCE), os.read(reader, 100)[-2:]), (0, b"3\n"))
+
+    def is_free(self, name):
+        """Whether a store of version 2 stands there that nobody has locked."""
+        if ran("check", self.path(name)).printed != "legal 3\n" or stores.version_of(self.path(name)) != 2:
+            return False
+        with open(self.path(name), "rb") as file, contextlib.suppress(BlockingIOError):
+            fcntl.flock(file, fcntl.LOCK_EX | fcntl.LOCK_NB)
+            return True
+        return False
 
     def test_a_drill_ends_where_it_can_not_print(self):
         for redirected in (">/dev/full", ">&-"):

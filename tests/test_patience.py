@@ -14,6 +14,8 @@ from support.stores import ring, topology
 LINE, REPLY, SILENCE, CONNECTION, DISCARD = 10, 10, 15, 600, 1
 LATE = 10  # seconds by which a busy machine may be late
 SHOW = {"op": "show"}
+HALVES = (b'{"op":"re', b'send"}\n')
+RESENT = b'{"count":0,"kind":"resent"}\n'
 
 
 def await_end(connection):
@@ -209,6 +211,33 @@ class Patience(Case):
                     self.clock(begun + CONNECTION)
                     self.assertLessEqual(self.served_to_the_end(connection), 1)
 
+    def test_a_connection_that_lasts_with_half_a_line(self):
+        """The same of a client that has begun a line whenever it is waited for."""
+        self.needs("a C compiler", preloaded.has_compiler())
+        environment = preloaded.environment(self.folder, CLOCK=self.clock(0))
+        with self.serving(env=environment) as server, server.connect() as connection:
+            connection.send(HALVES[0])
+            for ahead in (0, CONNECTION - 5 * LATE):
+                self.clock(ahead)
+                for _ in range(3):
+                    connection.send(HALVES[1] + HALVES[0])
+                    self.assertEqual(connection.line(), RESENT)
+            self.clock(CONNECTION)
+            self.assertLessEqual(self.served_to_the_end(connection, HALVES[1] + HALVES[0]), 1)
+
+    def test_a_line_that_begins_behind_a_slow_one(self):
+        """It has its own time, which begins with its own first byte, though that came with the end of the other."""
+        self.needs("a C compiler", preloaded.has_compiler())
+        environment = preloaded.environment(self.folder, CLOCK=self.clock(0))
+        with self.serving(env=environment) as server, server.connect() as connection:
+            connection.send(HALVES[0])
+            for lines in range(1, 6):
+                self.expect_nothing(connection)
+                self.clock(lines * (LINE - 3))
+                connection.send(HALVES[1] + HALVES[0])
+                connection.socket.settimeout(30)
+                self.assertEqual(connection.line(), RESENT)
+
     def test_waits_that_are_interrupted(self):
         """Again and again, as by stops of the process. Each goes on, and by a clock that is put forward as long as it may."""
         self.needs("a C compiler", preloaded.has_compiler())
@@ -237,11 +266,11 @@ class Patience(Case):
         return self.path("clock")
 
     @staticmethod
-    def served_to_the_end(connection):
+    def served_to_the_end(connection, text=b'{"op":"resend"}\n'):
         """How many lines are answered before the connection is ended, three at most."""
         with contextlib.suppress(ConnectionError):
             for served in range(3):
-                connection.send({"op": "resend"})
+                connection.send(text)
                 if not connection.line():
                     return served
             return 3

@@ -1,14 +1,16 @@
 """A device whose syncs take long: what is accepted and not yet settled shows in a count alone."""
 
+import sys
 import time
 
 from support import preloaded
-from support.case import Case
+from support.case import Case, until
 from support.serving import Serving
 from support.stores import ring, topology
 
 SECONDS = 0.4  # of each sync, of which a flight has two
 LONGER = (3.0, 10.0)  # where the machine is busy
+WAITED = 2
 
 
 class SlowDevice(Case):
@@ -56,6 +58,23 @@ class SlowDevice(Case):
                 epochs = {row[0]: row[4] for row in server.show()["nodes"]}
                 self.assertEqual([(epoch, epochs[node]) for node, epoch in printed], [(1, 1)] * len(printed))
             self.assertEqual(server.close().status, 0)
+
+    def test_callers_that_do_not_come_again(self):
+        """They are waited for as long as a sixteenth of their flight took, by a clock that is put forward in its midst."""
+        self.needs("a C compiler", preloaded.has_compiler())
+        calls, clock = self.path("calls"), self.write("clock", bytes(8))
+        settings = preloaded.environment(self.folder, SYNC_MILLIS=500, CALLS=calls, CLOCK=clock)
+        with Serving(self.made(topology([(1, 1)])), env=settings) as server, server.connect() as connection:
+            connection.send(*({"op": "reset", "client": 1, "number": number, "node": 1} for number in (1, 2)))
+            until("a flight", lambda: b"\nwrite " in self.read("calls"))
+            with open(clock, "r+b") as file:
+                file.write((16 * WAITED).to_bytes(8, sys.byteorder))
+            self.assertEqual([connection.reply()["step"] for _ in range(2)], [2, 3])
+            begun = time.monotonic()
+            connection.send({"op": "reset", "client": 1, "number": 3, "node": 1})
+            connection.socket.settimeout(8 * WAITED)
+            self.assertEqual(connection.reply()["step"], 4)
+            self.assertGreaterEqual(time.monotonic() - begun, WAITED)
 
     def test_a_close_settles_what_was_accepted(self):
         """The close of one client does not wait for a wave, and no step of it that was accepted is lost."""

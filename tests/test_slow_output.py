@@ -84,6 +84,14 @@ class SlowOutput(Case):
             ended = server.close()
             self.assertEqual((ended.status, ended.told), (3, "resetd: Write\n"))
 
+    def test_a_last_line_that_no_one_takes(self):
+        """One signal alone is not printed, and no other comes behind it."""
+        with Piped(self.made(topology([(1, 1)]))) as server:
+            server.leave()
+            self.reset(server, range(1, 2))
+            ended = server.close()
+            self.assertEqual((ended.status, ended.told), (3, "resetd: Write\n"))
+
     def test_a_reader_that_leaves_a_server_that_waits_for_it(self):
         with Piped(self.made(topology([(1, 1)], half=stores.HALF))) as server:
             self.reset(server, range(1, SIGNALS + 1))

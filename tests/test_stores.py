@@ -163,6 +163,29 @@ class Refused(Case):
             self.assertEqual(server.close().status, 0)
         self.assertTrue(os.path.islink(self.path("name")))
 
+    def test_names_of_all_kinds(self):
+        """Long ones, and such as have spaces and other letters, below a folder or the folder that the program is in."""
+        ring = self.write("ring.toml", stores.ring(3))
+        folder = self.path("/".join(["l" * 200] * 12))
+        os.makedirs(folder)
+        for name in ("a store", "b\u00e4r \u4e2d.store", "./store", f"../{os.path.basename(self.folder)}/other", "s" * 255,
+                     f"{folder}/{'s' * 255}", "'\"$(x)\\\n", "."  * 3):
+            with self.subTest(name=name):
+                self.assertEqual(ran("init", name, ring, cwd=self.folder), Ended(0, "created 6\n", ""))
+                os.replace(os.path.join(self.folder, name), self.path("kept"))
+                self.assertEqual(ran("init", name, name, cwd=self.folder), faulted(3, "Read"))
+                os.replace(ring, os.path.join(self.folder, name))
+                self.assertEqual(ran("init", self.path("second"), name, cwd=self.folder), Ended(0, "created 6\n", ""))
+                os.replace(os.path.join(self.folder, name), ring)
+                os.replace(self.path("kept"), os.path.join(self.folder, name))
+                os.remove(self.path("second"))
+                for command, said in (("check", "legal 6"), ("migrate", "migrated 6"), ("show", "view 6 6")):
+                    ended = ran(command, name, cwd=self.folder)
+                    self.assertEqual((ended.status, ended.printed.split("\n")[0], ended.told), (0, said, ""))
+                with Serving(name, cwd=self.folder, output=self.path("output")) as server:
+                    self.assertEqual(server.order(1, "reset", node=1), answered(STARTED, 7))
+                    self.assertEqual(server.close().status, 0)
+
     def test_a_world_that_is_not_legal(self):
         """`check` alone says where, and nothing is written."""
         path = self.write("store", stores.store(UNAWAITED))
@@ -238,6 +261,15 @@ class Migrated(Case):
                 self.assertEqual((stores.version_of(path), ran("show", path)), (2, shown))
                 self.assertEqual(ran("check", path), Ended(0, f"legal {count}\n", ""))
 
+    def test_halves_of_every_size(self):
+        """The world is written into the second half, wherever that begins, and is there at the next start."""
+        for half in (32_768, 100_003, 16_777_216):
+            path = self.write("store", stores.store(bodies=[batch(1, add(64))], half=half))
+            with self.subTest(half=half):
+                self.assertEqual(ran("migrate", path), Ended(0, "migrated 1\n", ""))
+                self.assertEqual((os.path.getsize(path) > stores.HEADER + half, stores.version_of(path)), (True, 2))
+                self.assertEqual(ran("show", path), Ended(0, "view 1 1\nnode 64 1 ready 0 0 0\n", ""))
+
     def test_one_in_which_a_reset_came_to_its_end(self):
         """It has one batch a step: two nodes, their link, the reset, and the steps of its wave."""
         started = [add(1), add(2, number=2), order(3, 2, 1, 2), order(4, 4, 1)]
@@ -293,44 +325,24 @@ class Migrated(Case):
         self.assertEqual(ran("migrate", path), Ended(0, "migrated 4\n", ""))
 
 
-def at_the_limits(version, nodes, queue):
-    """A world of as many steps, nodes, links and clients as there can be: a ring of which each node is linked to the next and
-    the next but one. What was taken of each lane is one more than its base."""
-    links = []
-    for a in range(1, 65):
-        for b in range(a, 65):
-            if b - a in (1, 2, 62, 63):
-                number = 64 * a + b
-                lanes = [(number, number + 1, queue(number, sender)) for sender in (a, b)]
-                links.append(link(a, b, number, *lanes))
-    clients = [stores.client(c, 1_024 + c, b"\5" + bytes([c]) + stores.wide(256), 2_048 + c) for c in range(1, 17)]
-    return world(MOST_STEPS, nodes, links, clients)
-
-
-MOST_STEPS = 1 << 40
-
-
 class Limits(Case):
     def test_the_longest_legal_world(self):
         """All nodes are in a reset, and on each lane are an Abort that was taken, a Ready and an Abort."""
-        rows = []
-        for number in range(1, 65):
-            awaited = [(number - 1 + way) % 64 + 1 for way in (1, 2, 62, 63)]
-            rows.append(node(number, ABORT, 0, awaited, 512 + number, 256 + number, number, 2))
-        longest = at_the_limits(2, rows, lambda number, sender: [abort(number, 2), IS_READY, abort(sender + 1, 2)])
-        self.assertEqual((len(rows), len(longest)), (64, 13_259))
+        longest = stores.longest_world()
+        self.assertEqual(len(longest), 13_259)
         content = stores.store(longest, version=2)
         path = self.write("store", content)
-        self.assertEqual(ran("check", path), Ended(0, f"legal {MOST_STEPS}\n", ""))
+        self.assertEqual(ran("check", path), Ended(0, f"legal {stores.MOST_STEPS}\n", ""))
         self.assertEqual((ran("migrate", path).status, self.read("store")), (0, content))
 
     def test_a_world_at_the_limits_is_raised(self):
         """All nodes are Ready, and on each lane are a message that was taken and a Ready."""
         def ready(version):
             rows = [node(number, epoch=512 + number, confirmed=256 + number, version=version) for number in range(1, 65)]
-            return at_the_limits(version, rows, lambda _, sender: [(abort(0, version), ACK, IS_READY)[sender % 3], IS_READY])
+            front = (abort(0, version), ACK, IS_READY)
+            return stores.at_the_limits(version, rows, lambda _, sender: [front[sender % 3], IS_READY])
         path = self.write("store", stores.store(ready(1)))
-        self.assertEqual(ran("migrate", path), Ended(0, f"migrated {MOST_STEPS}\n", ""))
+        self.assertEqual(ran("migrate", path), Ended(0, f"migrated {stores.MOST_STEPS}\n", ""))
         raised = self.read("store")
         second = raised[stores.HEADER + stores.HALF:]
         wanted = stores.store(ready(2), version=2)[stores.HEADER:]

@@ -66,6 +66,27 @@ class Together(Served):
             self.assertLessEqual(self.flights(server, lambda: self.resets(server, range(2, 258))), 3)
             self.expect_closed(server, 257)
 
+    def test_fewer_than_the_last_flight_had(self):
+        """Orders that come together wake the flusher, be they more or fewer than it answered before."""
+        with self.serving(ALONE) as server, server.connect() as connection:
+            connection.socket.settimeout(60)
+            numbers = iter(range(1, 1_000))
+            for count in (20, 10, 30, 2, 1, 32, 3, 40, 33, 9):
+                each = [next(numbers) for _ in range(count)]
+                connection.send(*({"op": "reset", "client": 1, "number": number, "node": 1} for number in each))
+                self.assertEqual([connection.reply() for _ in each], [answered(FINISHED, 16 + number) for number in each])
+            connection.socket.close()
+            self.expect_closed(server, 180)
+
+    def test_refusals_of_a_whole_flight(self):
+        """The text of all replies to orders that came together is written whole, however long it is."""
+        with self.serving(ALONE) as server, server.connect() as connection:
+            for _ in range(4):
+                connection.send(*[b'{"op":"reset","client":1,"number":1,"node":64}\n'] * 512)
+                self.assertEqual([connection.reply() for _ in range(512)], [refused(6, "UnknownNode")] * 512)
+            connection.socket.close()
+            self.expect_closed(server, 0)
+
     def test_a_close_behind_nine_orders(self):
         with self.serving(ALONE) as server, server.connect() as connection:
             connection.send(*({"op": "reset", "client": 1, "number": number, "node": 1} for number in range(1, 10)),

@@ -13,6 +13,7 @@ WORD_LISTS = [
     ["show"], ["show", "store", "more"], ["show", "--version"],
     ["migrate"], ["migrate", "store", "2"], ["serve"], ["serve", "store"], ["serve", "store", "127.0.0.1:0", "more"],
     ["serve", "--store", "store", "127.0.0.1:0"], ["check", "store", "check", "store"],
+    ["check", *["store"] * 64], ["serve", "store", "127.0.0.1:0", *["more"] * 1_000],
 ]
 NO_ADDRESSES = [
     "", "127.0.0.1", "127.0.0.1:", ":4170", "4170", "localhost:4170", "127.0.0.1:65536", "127.0.0.1:-1", "127.0.0.1:+1",

@@ -1,16 +1,15 @@
 """A program to which chosen allocations are refused.
 
 All that the program allocates goes through two functions of its runtime, `rattle_alloc` and `rattle_realloc`, which call
-those of the C library. A library that is loaded with the program leads these two calls to its own, which count, and refuse
-the allocations from one number on, as many as are named. It may count those of some threads alone, whose numbers are 0 of
-the first one, and 1, 2 and so on in the order in which they were started. The places of the two functions are read from the
-program's file.
+those of the C library, and all that it gives back through `rattle_dealloc`. A library that is loaded with the program leads
+these calls to its own, which count, and refuse the allocations from one number on, as many as are named. It may count those
+of some threads alone, whose numbers are 0 of the first one, and 1, 2 and so on in the order in which they were started. The
+places of the functions are read from the program's file.
 """
 
 import os
 import struct
 import subprocess
-import sys
 
 from .program import ran
 
@@ -27,6 +26,7 @@ SOURCE = r"""
 #include <sys/mman.h>
 #include <unistd.h>
 static void *(*real_malloc)(size_t), *(*real_realloc)(void *, size_t);
+static void (*real_free)(void *);
 static long *calls, first, many, counted_from, counted_to, threads;
 static __thread long own;  // the number of this thread; 0 is the first one's
 static long setting(const char *name) { return getenv(name) ? atol(getenv(name)) : 0; }
@@ -48,15 +48,24 @@ static int refuses(void) {
     long call = __atomic_add_fetch(calls, 1, __ATOMIC_SEQ_CST);
     return first <= call && call < first + many;
 }
-static void *counted_malloc(size_t size) { return refuses() ? 0 : real_malloc(size); }
+// Behind the count of allocations stands how many were not given back.
+static void *counted_malloc(size_t size) {
+    void *given = refuses() ? 0 : real_malloc(size);
+    if (given) __atomic_add_fetch(calls + 1, 1, __ATOMIC_SEQ_CST);
+    return given;
+}
+static void counted_free(void *kept) {
+    if (kept) __atomic_sub_fetch(calls + 1, 1, __ATOMIC_SEQ_CST);
+    real_free(kept);
+}
 static void *counted_realloc(void *kept, size_t size) { return refuses() ? 0 : real_realloc(kept, size); }
 static int first_object(struct dl_phdr_info *info, size_t size, void *base) {
     *(unsigned char **)base = (unsigned char *)info->dlpi_addr;
     return 1;
 }
-// Leads the one call in a function to a target, by a jump on a page of its own near the program.
-static void lead(unsigned char *function, void *target) {
-    unsigned char *call = memchr(function, 0xe8, 40), *page = (unsigned char *)((long)function & ~4095L), *jump = MAP_FAILED;
+// Leads the one call in a function, or its jump, to a target, by a jump on a page of its own near the program.
+static void lead(unsigned char *function, int code, void *target) {
+    unsigned char *call = memchr(function, code, 40), *page = (unsigned char *)((long)function & ~4095L), *jump = MAP_FAILED;
     int all = PROT_READ | PROT_WRITE | PROT_EXEC, how = MAP_PRIVATE | MAP_ANONYMOUS | MAP_FIXED_NOREPLACE;
     for (long far = 1 << 20; call && jump == MAP_FAILED && far < 1 << 30; far += 1 << 16)
         jump = mmap(page - far, 4096, all, how, -1, 0);
@@ -70,7 +79,7 @@ static void lead(unsigned char *function, void *target) {
 __attribute__((constructor)) static void begin(void) {
     unsigned char *base = 0;
     // the count stands in a file, since the program ends without a farewell
-    calls = mmap(0, sizeof *calls, PROT_READ | PROT_WRITE, MAP_SHARED, open(getenv("ALLOCATIONS"), O_RDWR), 0);
+    calls = mmap(0, 2 * sizeof *calls, PROT_READ | PROT_WRITE, MAP_SHARED, open(getenv("ALLOCATIONS"), O_RDWR), 0);
     if (calls == MAP_FAILED) _exit(99);
     first = setting("REFUSE_FIRST");
     many = setting("REFUSE_MANY");
@@ -79,8 +88,10 @@ __attribute__((constructor)) static void begin(void) {
     real_malloc = dlsym(RTLD_DEFAULT, "malloc");
     real_realloc = dlsym(RTLD_DEFAULT, "realloc");
     dl_iterate_phdr(first_object, &base);
-    lead(base + setting("ALLOC_AT"), counted_malloc);
-    lead(base + setting("REALLOC_AT"), counted_realloc);
+    real_free = dlsym(RTLD_DEFAULT, "free");
+    lead(base + setting("ALLOC_AT"), 0xe8, counted_malloc);
+    lead(base + setting("REALLOC_AT"), 0xe8, counted_realloc);
+    lead(base + setting("DEALLOC_AT"), 0xe9, counted_free);
 }
 """
 
@@ -107,7 +118,7 @@ class Refusing:
 
     def __init__(self, program, folder):
         self.program, self.folder = program, folder
-        self.alloc, self.realloc = places(program, ["rattle_alloc", "rattle_realloc"])
+        self.alloc, self.realloc, self.dealloc = places(program, ["rattle_alloc", "rattle_realloc", "rattle_dealloc"])
         with open(f"{folder}/refusing.c", "w", encoding="ascii") as file:
             file.write(SOURCE)
         subprocess.run(["cc", "-O1", "-shared", "-fPIC", "-o", f"{folder}/refusing.so", f"{folder}/refusing.c"], check=True)
@@ -116,16 +127,23 @@ class Refusing:
         """What a program's environment is to have, so that so many allocations are refused from this number on, of those of
         these threads."""
         settings = {"REFUSE_FIRST": first, "REFUSE_MANY": many, "COUNTED_FROM": threads[0], "COUNTED_TO": threads[-1] + 1,
-                    "ALLOC_AT": self.alloc, "REALLOC_AT": self.realloc,
+                    "ALLOC_AT": self.alloc, "REALLOC_AT": self.realloc, "DEALLOC_AT": self.dealloc,
                     "ALLOCATIONS": f"{self.folder}/allocations", "LD_PRELOAD": f"{self.folder}/refusing.so"}
         with open(f"{self.folder}/allocations", "wb") as file:
-            file.write(bytes(8))
+            file.write(bytes(16))
         return {name: str(value) for name, value in settings.items()}
 
     def count(self):
         """How many allocations the program of that environment has asked for."""
+        return self.counts()[0]
+
+    def kept(self):
+        """How many of them it has not given back."""
+        return self.counts()[1]
+
+    def counts(self):
         with open(f"{self.folder}/allocations", "rb") as file:
-            return int.from_bytes(file.read(), sys.byteorder)
+            return struct.unpack("=2q", file.read())
 
     def ran(self, *words, first=0, many=1, **how):
         """Runs the program, so many of whose allocations are refused from this number on: how it ended, and how many

@@ -1,6 +1,7 @@
 """Stores and topologies as bytes, by docs/FORMATS.md."""
 
 HALF = 32_768
+MOST_STEPS = 1 << 40
 HEADER = 17
 READY, ABORT, CONVERGE = 0, 1, 2
 NO_LANE = (0, 0, ())
@@ -81,6 +82,29 @@ def clear(sender, taker, incarnation, number):
 def batch(first, *steps):
     """The body of a batch."""
     return wide(first) + len(steps).to_bytes(2, "big") + b"".join(steps)
+
+
+def at_the_limits(version, nodes, queue):
+    """A world of as many steps, nodes, links and clients as there can be: a ring of which each node is linked to the next and
+    the next but one. What was taken of each lane is one more than its base."""
+    links = []
+    for a in range(1, 65):
+        for b in range(a, 65):
+            if b - a in (1, 2, 62, 63):
+                number = 64 * a + b
+                lanes = [(number, number + 1, queue(number, sender)) for sender in (a, b)]
+                links.append(link(a, b, number, *lanes))
+    clients = [client(c, 1_024 + c, b"\5" + bytes([c]) + wide(256), 2_048 + c) for c in range(1, 17)]
+    return world(MOST_STEPS, nodes, links, clients)
+
+
+def longest_world():
+    """The longest legal world: all nodes are in a reset, and on each lane are an Abort that was taken, a Ready and an Abort."""
+    rows = []
+    for number in range(1, 65):
+        awaited = [(number - 1 + way) % 64 + 1 for way in (1, 2, 62, 63)]
+        rows.append(node(number, ABORT, 0, awaited, 512 + number, 256 + number, number, 2))
+    return at_the_limits(2, rows, lambda number, sender: [abort(number, 2), IS_READY, abort(sender + 1, 2)])
 
 
 def store(snapshot=EMPTY_WORLD, version=1, bodies=(), half=HALF):
