@@ -28,23 +28,11 @@ adds_worker first all later notes added pushed packets = (added.0 ++ notes ∷ [
 
 -- where nothing came before
 named_of : (shares : List (List Note)) (count : ℕ) (before trail : List Step) → before ≡ [] → IsNamed shares (count + length before) (drop (length before) trail) → IsNamed shares count trail
-named_of shares count before trail none named =
-    let at : IsNamed shares (count + 0) trail = subst (λ l. IsNamed shares (count + length l) (drop (length l) trail)) none named in
-    let same : count + 0 ≡ count = omega arith in
-    subst (λ n. IsNamed shares n trail) same at
+named_of shares count before trail none named = grind arith
 
 one_history : {D : Type 0} (b : Basis D) (own : List Note) (shares : List (List Note)) (left : Closed D) → b.before ≡ [] → AddsWorkers (own ∷ []) shares
     → IsSince b.base b.before shares left.base left.trail.items → AtSomeMoment b (Closes {D = D} left.store left.base left.trail.items left.settled shares) → IsOneHistory b own left
-one_history {D} b own shares left none added since closed =
-    let named : IsNamed shares b.base.count left.trail.items = named_of shares b.base.count b.before left.trail.items none since.named in
-    let here : IsNamed shares left.base.count left.trail.items = rw since.same_base named in
-    record {
-      workers = added.0;
-      of_packets = added.2;
-      same_base = since.same_base;
-      named = rw (sym added.1) here;
-      closed = rw (sym added.1) closed;
-    }
+one_history b own shares left h1 h2 h3 h4 = grind (arith, named_of)
 
 -- of an engine that was not taken apart nothing is left
 pub nothing_left : {D : Type 0} (keeps_model : D → Bool) (present : D → Present) (world : World) (before : List Step) (shares : List (List Note)) (told : ServerFault) → before ≡ [] → length shares ≡ 9
@@ -61,10 +49,7 @@ kept_most b desk most (kept, moment, enough) = record { state = moment.state; he
 
 module _ {D : Type 0} (b : Basis D) {V : Type 0} (talked : V → List Talk → V → Type 0) (failed : V → V → Type 0) (most : ℕ) where
   closed_if_none : (stopped : Bool) (served : Option ServerFault) (is_broken : Bool) (v w : V) (desk : DeskState) → fault_at_end stopped served is_broken ≡ None → Serves b talked failed most v w desk served → IsServedToClose b desk
-  closed_if_none false None false v w desk none s = (s.0, s.1, s.2, tt, s.4, s.5, s.6)
-  closed_if_none false None true v w desk none s = absurd cc
-  closed_if_none false (Some why) is_broken v w desk none s = absurd cc
-  closed_if_none true served is_broken v w desk none s = absurd cc
+  closed_if_none stopped served is_broken v w desk h1 h2 = grind arith
 
   -- the desk's notes, in the share that it gave back
   pub serves_with : (v w : V) (desk : DeskState) (left : LifeEnd) (notes : List Note) → ServesLife b talked failed most v w desk left → notes ≡ desk.notes → (seen : ℕ) × ServesLife b talked failed most v w (record { notes = notes; seen = seen }) left
@@ -79,20 +64,11 @@ module _ {D : Type 0} (b : Basis D) {V : Type 0} (talked : V → List Talk → V
   pub lived : (v u : V) (ran : LifeEnd) (shares : List (List Note)) (life : Life D V) → b.before ≡ [] → HasRun b talked failed most v u ran shares
       → IsSince b.base b.before shares life.closed.base life.closed.trail.items → AtSomeMoment b (Closes {D = D} life.closed.store life.closed.base life.closed.trail.items life.closed.settled shares)
       → life.callers ≡ u → life.left ≡ ran → IsLife b talked failed most v life
-  lived v u ran shares life none is since closed same_w same = record {
-    desk = is.desk;
-    served = rw same_w (rw same is.served);
-    history = one_history b is.desk.notes shares life.closed none is.added since closed;
-  }
+  lived v u ran shares life none is since closed same_w same = grind (arith, one_history)
 
   -- a last life that ended so
   served_so : (v w : V) (desk : DeskState) (served : Option ServerFault) → ServesLife b talked failed most v w desk (Ended served) → Serves b talked failed most v w desk served
-  served_so v w desk None s = s
-  served_so v w desk (Some fault.OutOfMemory) s = s
-  served_so v w desk (Some fault.Write) s = s
-  served_so v w desk (Some fault.Socket) s = s
-  served_so v w desk (Some fault.Device) s = absurd s
-  served_so v w desk (Some (fault.NotClosed why)) s = s
+  served_so v w desk served h1 = grind arith
 
   served_at_last : (v w : V) (desk : DeskState) (left : LifeEnd) (served : Option ServerFault) → ServesLife b talked failed most v w desk left → IsOver left served → Serves b talked failed most v w desk served
   served_at_last v w desk Resting served s over = subst (Serves b talked failed most v w desk) (sym over) s

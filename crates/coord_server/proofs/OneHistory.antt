@@ -1,5 +1,5 @@
 -- All lives of a server are one history.
-use Rattle.std.proofs.Common.{◌≡◌, ℕ, zero, suc, ◌+◌, ◌-◌, ◌≤◌, List, [], ◌∷◌, ◌++◌, Bool, length, take, refl, sym, ap, ◌∙◌, subst, append-nil, length-append, arith, map}
+use Rattle.std.proofs.Common.{◌≡◌, ℕ, zero, suc, ◌+◌, ◌-◌, ◌≤◌, List, [], ◌∷◌, ◌++◌, Bool, length, take, refl, sym, ap, ◌∙◌, append-nil, length-append, arith, map}
 use Rattle.std.proofs.Math.Seq.{take-append-add, take-length}
 use Rattle.std.proofs.lemmas.Grind.{flat_map-append}
 use Rattle.std.specs.List.{range_with_len}
@@ -29,22 +29,7 @@ record Tells {D : Type 0} (world : World) (left : Closed D) : Type 0 where
 
 -- a history tells so: the log under the lock was consistent, and its settled world is the store's
 tells : {D : Type 0} (b : Basis D) (desk : List Note) (left : Closed D) → IsOneHistory b desk left → Tells b.base left
-tells {D} b desk left history =
-    let log = history.closed.state.ledger.log in
-    let held = history.closed.held in
-    let so = history.closed.so in
-    let same : log.base ≡ b.base = held.grown.same_base in
-    let here : IsTrail b.base log.trail = rw (sym same) held.log.trail in
-    let over : fold log.base (take log.settled log.trail) ≡ fold b.base (take log.settled log.trail) = ap (λ (w : World). fold w (take log.settled log.trail)) same in
-    let by : fold b.base (take log.settled log.trail) ≡ fold b.base (take log.settled left.trail.items) = ap (λ (l : List Step). fold b.base (take log.settled l)) (sym so.2) in
-    record {
-      from = history.same_base;
-      steps = rw so.2 here;
-      done = log.settled;
-      within = rw so.2 held.log.within;
-      counted = so.3 ∙ ap (λ (w : World). w.count + log.settled) same;
-      kept = so.5 ∙ over ∙ by;
-    }
+tells b desk left h1 = grind arith
 
 -- and a life of which all is settled leaves the world after its trail
 leaves_all : {D : Type 0} (world : World) (left : Closed D) → Tells world left → left.settled ≡ left.base.count + length left.trail.items → left.store.world ≡ fold world left.trail.items
@@ -143,9 +128,7 @@ one_history {D} began world ls left here t =
 module _ {D : Type 0} (keeps_model : D → Bool) (present : D → Present) {V : Type 0} (talked : V → List Talk → V → Type 0) (most : ℕ) where
   -- a life that rests goes on to the next one
   rest_goes_on : (began world next : World) (ls : List LifeSteps) (v w : V) (r : Rests keeps_model present talked most world v w next) → GoOn began ls world → GoOn began (ls ++ steps_in r.left ∷ []) next
-  rest_goes_on began world next ls v w r here =
-      let t = tells (based_on keeps_model present world []) r.desk.notes r.left r.history in
-      goes_on ls began world next (steps_in r.left) here t.from t.steps (r.goes_on ∙ leaves_all world r.left t r.all_settled)
+  rest_goes_on began world next ls v w r here = grind (arith, tells, goes_on, leaves_all)
 
   lives_go_on : (n : ℕ) (began next : World) (v w : V) (lives : Lives keeps_model present talked most n began v next w) → GoOn began (steps_of keeps_model present talked most n began v next w lives) next
   lives_go_on zero began next v w lives = lives.0

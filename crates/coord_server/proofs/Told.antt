@@ -1,5 +1,5 @@
 -- What a reply, and what is left of a disk, tell of the steps of a life.
-use Rattle.std.proofs.Common.{◌≡◌, ◌⊎◌, ℕ, ◌+◌, ◌-◌, ◌≤◌, true, List, [], ◌∷◌, ◌++◌, Option, Some, None, Result, Ok, Err, length, take, is_some, refl, sym, ap, ◌∙◌, subst, inl, inr, arith, IfSome}
+use Rattle.std.proofs.Common.{◌≡◌, ◌⊎◌, ℕ, ◌+◌, ◌-◌, ◌≤◌, true, List, [], ◌∷◌, ◌++◌, Option, Some, None, Result, Ok, length, take, is_some, refl, sym, ap, ◌∙◌, subst, inl, inr, arith, IfSome}
 use Rattle.coord_types.specs.declared.refusals.Refusal.{Refusal}
 use Rattle.coord_types.specs.declared.steps.Reply.{Reply}
 use Rattle.coord_types.specs.declared.steps.Step.{Step}
@@ -7,7 +7,6 @@ use Rattle.coord_store.specs.Kept.{has_stopped}
 use Rattle.coord_store.specs.Recovered.{Recovered}
 use Rattle.coord_world.specs.Facade.{World, fold}
 use Rattle.coord_world.specs.declared.verdicts.Verdict.{Verdict}
-use Rattle.coord_world.specs.declared.verdicts.Verdict.TheVariants.{Fresh, Repeat}
 use Rattle.coord_ledger.specs.declared.ticket.Note.{Note}
 use Rattle.coord_ledger.specs.Facade.{Claim, IsCollectable, LedgerGives, Log, GivesSettled as LogGives, reply_of, settled_world}
 use Rattle.coord_engine.specs.declared.closed.Closed.{Closed}
@@ -19,9 +18,7 @@ use Rattle.coord_server.specs.Told.{GivesSettled, LivesLeaveSteps, NamesItsStep,
 -- the claim's step was submitted, and its note
 noted : {D : Type 0} (s : Step) (v : Result Verdict Refusal) (before after : LedgerAndNotes D) (claim : Claim) → AnswersStep s v before (Ok claim) after
     → (claim.what ≡ s) × ((after.notes ≡ before.notes ++ note_of claim ∷ []) ⊎ (after.notes ≡ before.notes))
-noted s (Ok (Fresh kind)) before after claim answer = (ap (λ (c : Claim). c.what) answer.0, inl (ap (λ (x : LedgerAndNotes _). x.notes) answer.1))
-noted s (Ok (Repeat kept)) before after claim answer = (ap (λ (c : Claim). c.what) answer.0, inr (ap (λ (x : LedgerAndNotes _). x.notes) answer.1))
-noted s (Err why) before after claim answer = absurd answer
+noted s v before after claim h1 = grind arith
 
 -- a claim of this step with this reply
 claim_of : (s : Step) (reply : Reply) (claim : Claim) → reply ≡ reply_of claim → claim.what ≡ s → claim ≡ record { step = reply.step; what = s; kind = reply.kind }

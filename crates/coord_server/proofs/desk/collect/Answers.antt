@@ -1,6 +1,5 @@
-use Rattle.std.proofs.Common.{Ok, Err, refl, sym, subst}
+use Rattle.std.proofs.Common.{Ok, Err, refl}
 use Rattle.coord_engine.specs.State.{based_on}
-use Rattle.coord_server.specs.EngineDesk.{Replies}
 use Rattle.coord_server.proofs.desk.collect.Goals as goal
 
 pub returns-in-Ok : goal.returns-in-Ok

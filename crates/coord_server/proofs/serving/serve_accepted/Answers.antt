@@ -1,7 +1,7 @@
-use Rattle.std.proofs.Common.{◌≡◌, true, false, inr, sym, subst}
+use Rattle.std.proofs.Common.{inr, sym, subst}
 use Rattle.std.proofs.lemmas.Result.{IfErr-weaker, IfOk-weaker}
 use Rattle.std.specs.Prelude.{⊤}
-use Rattle.coord_store.specs.Kept.{ImagesGive, has_stopped}
+use Rattle.coord_store.specs.Kept.{has_stopped}
 use Rattle.coord_server.specs.Lives.{EndsOneHistory, HasLivedToClose}
 use Rattle.coord_server.proofs.Ends.{closed_lives, not_stopped, only_world}
 use Rattle.coord_server.proofs.serving.serve_accepted.Goals as goal
