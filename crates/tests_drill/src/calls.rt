@@ -1,11 +1,11 @@
 //! The commands as calls of a library, each on the file that it names.
 
-use crate::program::Streams;
+use crate::program::{Host, Streams};
 use coord_commands::{check, init, migrate, serve, show};
 use std::fs::File;
 use std::net::Net;
 use std::process::Abort;
-use std::rt::Files;
+use std::rt::{Env, Files};
 use std::sync::Wait;
 use std::thread::Threads;
 use std::time::Clock;
@@ -53,15 +53,26 @@ fn end<S: Files<File = File> + Net + Threads + Wait + Clock + Sync + Abort + All
     it.are(rt, status, (3, "", "resetd: Socket\n"));
 }
 
+/// The path of a file in a folder.
+fn path_in(rt: &impl Host, folder: &str, name: &str) -> String {
+    format!(in rt.alloc(); "{folder}/{name}").expect(rt, "no name")
+}
+
+/// A folder that was just made.
+fn new_folder<R: Env + Files<File = File> + Abort + AllocGlobal>(rt: &R) -> String {
+    let parent = env::temp_dir(rt).expect(rt, "no folder");
+    let folder = path_in(rt, parent.as_str(), "resetd_calls");
+    drop(parent);
+    let _ = fs::remove_dir_all(rt, &folder);
+    fs::create_dir(rt, &folder).expect(rt, "no folder");
+    folder
+}
+
 #[test]
 fn commands_on_the_file_that_they_name(rt: HostRuntime) {
-    let parent = env::temp_dir(&rt).expect(&rt, "no folder");
-    let folder = format!(in rt.alloc(); "{}/resetd_calls", parent.as_str());
-    let folder = folder.expect(&rt, "no name");
-    let _ = fs::remove_dir_all(&rt, &folder);
-    fs::create_dir(&rt, &folder).expect(&rt, "no folder");
-    let store = format!(in rt.alloc(); "{}/store", folder.as_str()).expect(&rt, "no name");
-    let topology = format!(in rt.alloc(); "{}/pair", folder.as_str()).expect(&rt, "no name");
+    let folder = new_folder(&rt);
+    let store = path_in(&rt, &folder, "store");
+    let topology = path_in(&rt, &folder, "pair");
     fs::write(&rt, &topology, PAIR).expect(&rt, "no topology");
     end(&rt, &store, &topology);
     fs::remove_dir_all(&rt, &folder).expect(&rt, "not removed");

@@ -1,6 +1,6 @@
 //! Runs of the drill, through the program's words.
 
-use crate::program::{Ending, Host, Streams, words_of};
+use crate::program::{Ending, Host, Streams, same, words_of};
 use coord_commands::run_program;
 use std::fs::File;
 use std::io::{Read, Write};
@@ -55,7 +55,7 @@ fn input_in_pieces(rt: HostRuntime) {
         &mut reader,
         (0, "done 1\nfinished 2\nsignal 1 1\nbad line 3\n", ""),
     );
-    assert_eq!(rt; reader.reads, 22);
+    same(&rt, &reader.reads, &22);
 }
 
 /// Gives a byte at each read, and never ends.
@@ -85,7 +85,7 @@ fn endless_input(rt: HostRuntime) {
         longest: 0,
     };
     ends(&rt, &mut reader, (3, "", "resetd: Turns\n"));
-    assert_eq!(rt; (reader.reads, reader.longest), (1_048_576, 512));
+    same(&rt, &(reader.reads, reader.longest), &(1_048_576, 512));
 }
 
 /// Gives a line, and fails at the next read.
@@ -143,7 +143,7 @@ fn failed_write(rt: HostRuntime) {
     let mut told = Streams::new(&rt);
     let status = coord_commands::drill(rt.alloc(), &mut input, &mut output, &mut told.errors);
     told.are(&rt, status, (3, "", "resetd: Write\n"));
-    assert_eq!(rt; output.taken, 7);
+    same(&rt, &output.taken, &7);
 }
 
 /// Takes a byte in each call, none once it is full, and counts its flushes, which fail where it is
@@ -196,8 +196,12 @@ fn ends_slowly(
     let mut told = Streams::new(rt);
     let status = coord_commands::drill(rt.alloc(), &mut input, &mut output, &mut told.errors);
     told.are(rt, status, ending);
-    assert_eq!(rt; str::from_utf8(&output.taken).unwrap_or("no text"), written);
-    assert_eq!(rt; output.flushes, flushes);
+    same(
+        rt,
+        &str::from_utf8(&output.taken).unwrap_or("no text"),
+        &written,
+    );
+    same(rt, &output.flushes, &flushes);
 }
 
 /// A writer that takes a byte in each call gets all, and is flushed once; one that takes nothing more,

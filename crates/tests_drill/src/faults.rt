@@ -1,6 +1,6 @@
 //! Faults that no run of the program can be made to meet.
 
-use crate::program::Streams;
+use crate::program::{Streams, same};
 use coord_commands::run_program;
 use std::io;
 use std::io::ErrorKind;
@@ -20,6 +20,6 @@ fn words_that_could_not_be_had(rt: HostRuntime) {
         let mut told = Streams::new(&rt);
         let status = run_program(&rt, words, &mut input, &mut told.output, &mut told.errors);
         told.are(&rt, status, ending);
-        assert_eq!(rt; input.len(), 8);
+        same(&rt, &input.len(), &8);
     }
 }

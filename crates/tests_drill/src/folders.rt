@@ -1,7 +1,7 @@
 //! Runs of the commands on disks in memory.
 
 use crate::calls::{PAIR, SHOWN_PAIR};
-use crate::program::{Host, Streams, words_of};
+use crate::program::{Host, Streams, same, words_of};
 use coord_commands::{MemFolder, Named, run_in};
 use coord_disk::MemDisk;
 use std::io;
@@ -43,7 +43,7 @@ fn status_of<W: Write>(
     match run_in(rt.alloc(), folder, &words, &mut input, output, errors) {
         Ok(status) => status,
         Err(left) => {
-            assert_eq!(rt; (left.file, left.address), ("store", "127.0.0.1:0"));
+            same(rt, &(left.file, left.address), &("store", "127.0.0.1:0"));
             0
         }
     }
@@ -113,7 +113,7 @@ const PAIR_RUNS: [Run; 6] = [
 fn a_refused_store_stays(rt: HostRuntime) {
     let mut folder = folder_of(&rt, MemDisk::new(rt.alloc()));
     end(&rt, &mut folder, pair_runs());
-    assert_eq!(rt; bytes_in(&folder).get(17).copied(), Some(2));
+    same(&rt, &bytes_in(&folder).get(17).copied(), &Some(2));
 }
 
 /// A store of version 1, of an empty world.
@@ -160,5 +160,5 @@ fn a_line_that_is_not_printed(rt: HostRuntime) {
     end(&rt, &mut folder, raised_runs());
     let bytes = bytes_in(&folder);
     let second_half = (bytes.first().copied(), bytes.get(17 + 32_768).copied());
-    assert_eq!(rt; second_half, (Some(1), Some(2)));
+    same(&rt, &second_half, &(Some(1), Some(2)));
 }

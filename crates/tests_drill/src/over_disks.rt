@@ -1,6 +1,6 @@
 //! The drill over disks that crash: what was printed stands within what opens.
 
-use crate::program::Host;
+use crate::program::{Host, same};
 use coord_disk::{BlipDisk, Choice, CrashDisk, FailingDisk, FuseDisk, MemDisk, Rule};
 use coord_drill::{Fault, coord_drill_on};
 use coord_store::{Store, StoreFault};
@@ -61,7 +61,11 @@ fn disk(rt: &impl Host, which: usize) -> MemDisk {
 /// How many steps the store on a disk has, once that has crashed.
 fn opened(rt: &impl Host, disk: MemDisk) -> Result<u64, StoreFault> {
     match Store::open(rt.alloc(), disk.crash()) {
-        Ok(store) => Ok(store.world().count()),
+        Ok(store) => {
+            let count = store.world().count();
+            drop(store);
+            Ok(count)
+        }
         Err((fault, _disk)) => Err(fault),
     }
 }
@@ -103,18 +107,12 @@ fn drilled<D: CrashDisk>(rt: &impl Host, disk: D) -> (Option<Fault>, Vec<u8>, D)
 fn whatever_a_crash_leaves(rt: HostRuntime) {
     for which in 0..3 {
         let (fault, output, disk) = drilled(&rt, disk(&rt, which));
-        assert_eq!(rt; fault, None, "{which}");
-        assert_eq!(rt;
-            str::from_utf8(&output).unwrap_or("no text"),
-            PRINTED,
-            "{which}"
-        );
+        same(&rt, &(which, fault), &(which, None));
+        same(&rt, &str::from_utf8(&output).unwrap_or("no text"), &PRINTED);
+        drop(output);
         let header = disk.bytes().get(1..17).unwrap_or(&[]);
-        assert!(rt;
-            header == b"ACRRESET\0\0\0\0\0\x01\0\0".as_slice(),
-            "{which}"
-        );
-        assert_eq!(rt; opened(&rt, disk), Ok(STEPS), "{which}");
+        same(&rt, &header, &b"ACRRESET\0\0\0\0\0\x01\0\0".as_slice());
+        same(&rt, &(which, opened(&rt, disk)), &(which, Ok(STEPS)));
     }
 }
 
@@ -123,12 +121,21 @@ fn whatever_a_crash_leaves(rt: HostRuntime) {
 fn stands<R: Rule>(rt: &impl Host, device: FailingDisk<MemDisk, R>, calls: u64) {
     let (fault, output, disk) = drilled(rt, device);
     let told = greatest(&output);
+    drop(output);
     if fault.is_some() {
-        assert_eq!(rt; fault, Some(Fault::Store(StoreFault::Device)), "{calls}");
+        same(
+            rt,
+            &(calls, fault),
+            &(calls, Some(Fault::Store(StoreFault::Device))),
+        );
     }
     match opened(rt, disk.into_inner()) {
-        Ok(count) => assert!(rt; told <= count && count <= STEPS, "{calls}"),
-        Err(why) => assert_eq!(rt; told, 0, "{calls}: {why:?}"),
+        Ok(count) => same(
+            rt,
+            &(calls, told <= count && count <= STEPS),
+            &(calls, true),
+        ),
+        Err(_) => same(rt, &(calls, told), &(calls, 0)),
     }
 }
 
@@ -148,8 +155,8 @@ fn a_disk_that_is_not_empty(rt: HostRuntime) {
     let bytes = b"x".as_slice();
     let disk = MemDisk::from_bytes(rt.alloc(), bytes).expect(&rt, "no disk");
     let (fault, output, disk) = drilled(&rt, FuseDisk::new(disk, CALLS));
-    assert_eq!(rt; fault, Some(Fault::Store(StoreFault::NotEmpty)));
-    assert_eq!(rt; disk.calls(), 1);
+    same(&rt, &fault, &Some(Fault::Store(StoreFault::NotEmpty)));
+    same(&rt, &disk.calls(), &1);
     let inner = disk.into_inner();
     assert!(rt; output.is_empty() && inner.bytes() == bytes);
 }

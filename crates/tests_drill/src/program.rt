@@ -1,5 +1,6 @@
 //! Runs of the program.
 
+use std::fmt::Debug;
 use std::process::Abort;
 use std::str;
 
@@ -7,6 +8,12 @@ use std::str;
 pub(crate) trait Host: Abort + AllocGlobal {}
 
 impl<R: Abort + AllocGlobal> Host for R {}
+
+/// What was found is what was wanted. A call of this costs its caller's proof a fraction of what
+/// `assert_eq!` costs where it stands.
+pub(crate) fn same<T: PartialEq + Debug>(rt: &impl Abort, found: &T, wanted: &T) {
+    assert_eq!(rt; found, wanted);
+}
 
 /// What a run of the program is to end with: its exit status, what it prints, and its fault line.
 pub(crate) type Ending<'a> = (u8, &'a str, &'a str);
@@ -27,10 +34,11 @@ impl Streams {
     }
 
     /// A run that gives this status ended so.
-    pub(crate) fn are(&self, rt: &impl Host, status: u8, ending: Ending<'_>) {
+    pub(crate) fn are(self, rt: &impl Host, status: u8, ending: Ending<'_>) {
         let printed = str::from_utf8(&self.output).unwrap_or("no text");
         let told = str::from_utf8(&self.errors).unwrap_or("no text");
-        assert_eq!(rt; (status, printed, told), ending);
+        same(rt, &(status, printed, told), &ending);
+        drop(self);
     }
 }
 

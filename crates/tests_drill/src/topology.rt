@@ -1,6 +1,6 @@
 //! The longest topology file.
 
-use crate::program::Host;
+use crate::program::{Host, same};
 use coord_commands::{Fault, topology_from};
 use coord_config::ConfigFault;
 use std::io;
@@ -14,9 +14,9 @@ fn refused(rt: &impl Host, bytes: u64) -> Option<Fault> {
 /// One of 65,536 bytes is read, and one of a byte more is refused, as is one that never ends.
 #[test]
 fn the_longest_file(rt: HostRuntime) {
-    assert_eq!(rt; refused(&rt, 65_536), None);
+    same(&rt, &refused(&rt, 65_536), &None);
     for bytes in [65_537, u64::MAX] {
         let not_toml = Fault::Topology(ConfigFault::NotToml);
-        assert_eq!(rt; refused(&rt, bytes), Some(not_toml), "{bytes} bytes");
+        same(&rt, &(bytes, refused(&rt, bytes)), &(bytes, Some(not_toml)));
     }
 }
