@@ -4,6 +4,7 @@ ghost use Rattle.std.specs.Prelude.{◌≡◌};
 
 use crate::closing::gives_all;
 use crate::handed::{flushes_all, hands_each};
+use crate::kept::takes_new_first;
 use crate::long_life::{has_kept_all, keeps_all};
 use crate::retried::settles_one;
 use crate::threads::callers::{call_twice, is_history};
@@ -33,6 +34,7 @@ pub(crate) enum Doing<'a> {
     FlushesAll,
     KeepsAll,
     SettlesOne,
+    TakesNewFirst,
     CallTwice,
     AcceptsInSync(&'a AtomicBool, &'a AtomicBool),
     WaitsOnce,
@@ -52,6 +54,7 @@ fn done<D: Disk + Send, L: Origin + Send + Sync, R: Threads + Wait + Clock + Syn
         Doing::FlushesAll => flushes_all(rt, alloc, engine),
         Doing::KeepsAll => keeps_all(rt, alloc, engine),
         Doing::SettlesOne => settles_one(rt, alloc, engine),
+        Doing::TakesNewFirst => takes_new_first(rt, alloc, engine),
         Doing::CallTwice => call_twice(rt, alloc, engine),
         Doing::AcceptsInSync(entered, answered) => {
             accepts_in_sync(rt, alloc, engine, entered, answered)

@@ -8,6 +8,8 @@ mod engines;
 #[cfg(test)]
 mod handed;
 #[cfg(test)]
+mod kept;
+#[cfg(test)]
 mod long_life;
 #[cfg(test)]
 mod retried;

@@ -1,7 +1,7 @@
 //! Tests that start threads.
 
 pub(crate) mod callers;
-mod full;
+pub(crate) mod full;
 pub(crate) mod gates;
 pub(crate) mod patience;
 pub(crate) mod ports;

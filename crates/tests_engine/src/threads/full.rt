@@ -11,14 +11,14 @@ use std::thread;
 use std::time::{Clock, Duration};
 
 /// How many steps may be pending.
-pub(super) const MOST: u64 = 1_024;
+pub(crate) const MOST: u64 = 1_024;
 
 /// The node that is added and removed, by the client with its number.
 const OTHER: u8 = 9;
 
 /// Whether the engine accepts steps up to the one with this number, which it refuses since as many are
 /// pending as may be.
-pub(super) fn is_filled<D: Disk, L: Origin, R: Wait>(
+pub(crate) fn is_filled<D: Disk, L: Origin, R: Wait>(
     rt: &R,
     engine: &Engine<D, L>,
     share: &mut Share<L>,
