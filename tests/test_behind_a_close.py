@@ -25,13 +25,6 @@ class BehindAClose(Case):
                 connection.socket.close()
                 self.assertEqual((server.ended().status, server.ended().told), (0, ""))
 
-    def test_an_answer_that_is_read_late(self):
-        """Only once the server has ended, behind nearly as much as is discarded. What was left unread would tear it off."""
-        with Serving(self.made(topology([(1, 1)]))) as server, server.connect() as connection:
-            connection.send(b'{"op":"close"}\n' + b" " * 58_000)
-            self.assertEqual(server.ended().status, 0)
-            self.assertEqual(connection.rest(), [b'{"kind":"closed"}\n'])
-
     def test_lines_that_come_later_are_discarded(self):
         with Serving(self.made(topology([(1, 1)]))) as server, server.connect() as connection:
             connection.send({"op": "close"})

@@ -287,7 +287,6 @@ class Stores(Served):
                 self.assertEqual(connection.reply(), refused(3, "Exhausted"))
             connection.socket.close()
             self.expect_closed(server, 0)
-        self.assertEqual(len(ran("show", server.store).printed.splitlines()), 1 + 64 + 128)
 
     def test_numbers_of_every_size(self):
         """Of steps, epochs, packets, links and orders: a wave over a link crosses each power of ten, and some of two."""

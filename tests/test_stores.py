@@ -334,6 +334,9 @@ class Limits(Case):
         path = self.write("store", content)
         self.assertEqual(ran("check", path), Ended(0, f"legal {stores.MOST_STEPS}\n", ""))
         self.assertEqual((ran("migrate", path).status, self.read("store")), (0, content))
+        lines = ran("show", path).printed.splitlines()
+        rows = [f"node {number} 1 abort 0 {512 + number} {256 + number}" for number in range(1, 65)]
+        self.assertEqual((lines[:65], len(lines)), ([f"view {stores.MOST_STEPS} {stores.MOST_STEPS}", *rows], 1 + 64 + 128))
 
     def test_a_world_at_the_limits_is_raised(self):
         """All nodes are Ready, and on each lane are a message that was taken and a Ready."""
