@@ -1,12 +1,11 @@
 """A listener that fails: what may pass is waited for, and what does not pass ends the server. One to which nobody comes."""
 
 import errno
-import os
 import time
 
 from support import preloaded
 from support.case import Case
-from support.serving import Serving
+from support.serving import Serving, processor_seconds
 from support.stores import topology
 
 # accept(2): an error of the network that is already pending on the new socket is passed on, and is to be tried again.
@@ -100,12 +99,15 @@ class Idle(Case):
     takes = 3
 
     def test_a_server_that_nobody_asks(self):
-        """It waits, and takes no processor for that: before the first client, and behind an order of one that stays."""
+        """It waits, and takes no processor for that: before the first client, behind an order of one that stays,
+        and behind the first part of a line."""
         with Serving(self.made(topology([(1, 1)]))) as server:
             self.expect_rest(server)
             with server.connect() as connection:
                 connection.send({"op": "reset", "client": 1, "number": 1, "node": 1})
                 self.assertEqual(connection.reply()["step"], 2)
+                self.expect_rest(server)
+                connection.send(b'{"op":')
                 self.expect_rest(server)
             self.assertEqual(server.close().status, 0)
 
@@ -113,10 +115,3 @@ class Idle(Case):
         before = processor_seconds(server.process.pid)
         time.sleep(1)
         self.assertLess(processor_seconds(server.process.pid) - before, 0.05)
-
-
-def processor_seconds(process):
-    """What a process has used of the processors."""
-    with open(f"/proc/{process}/stat", encoding="ascii") as file:
-        words = file.read().rsplit(")", 1)[1].split()
-    return (int(words[11]) + int(words[12])) / os.sysconf("SC_CLK_TCK")

@@ -156,6 +156,19 @@ class Kept(Case):
             self.assertLess(refusing.kept() - kept, times // 2)
             self.assertEqual(server.close().status, 0)
 
+    def test_of_a_command(self):
+        """All of it is given back at the end, however many lines a drill had."""
+        self.needs("a C compiler", preloaded.has_compiler())
+        refusing, path = Refusing(PROGRAM, self.folder), self.write("store", stores.store(bodies=[batch(1, stores.add(1))]))
+        lines = b"add 1 1\nadd 2 1\njoin 1 2\nreset 1\n" + b"show\nresend\ncheck\nfly\nadd 1 1\n#\ncrash\n" * 20
+        for words, status in ((["init", self.path("made"), self.write("topology", PAIR)], 0), (["check", path], 0),
+                              (["show", path], 0), (["migrate", path], 0), (["check", self.write("none", "no")], 1),
+                              (["init", path, self.path("topology")], 1), (["fly"], 2), (["drill"], 0)):
+            ended, count = refusing.ran(*words, given=lines)
+            with self.subTest(words=words):
+                self.assertEqual((ended.status, refusing.kept()), (status, 0))
+                self.assertGreater(count, 0)
+
     def test_of_a_connection_and_its_lines(self):
         lines = [{"op": "show"}, {"op": "resend"}, b"x" * 600 + b"\n", b"{\n", b"\xff\n", {"op": "fly"}, {"op": "reset"},
                  {"op": "reset", "client": 1, "number": 2, "node": 1}, b"{"]

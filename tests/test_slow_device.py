@@ -5,7 +5,7 @@ import time
 
 from support import preloaded
 from support.case import Case, until
-from support.serving import Serving
+from support.serving import Serving, processor_seconds
 from support.stores import ring, topology
 
 SECONDS = 0.4  # of each sync, of which a flight has two
@@ -27,6 +27,14 @@ class SlowDevice(Case):
                 begun = time.monotonic()
                 self.assertEqual(server.order(number, "reset", node=1), {"kind": "finished", "step": 1 + number})
                 self.assertGreater(time.monotonic() - begun, 2 * SECONDS)
+            self.assertEqual(server.close().status, 0)
+
+    def test_a_client_waits_for_a_slow_sync_at_rest(self):
+        """The processor is nearly idle meanwhile."""
+        with self.serving(topology([(1, 1)]), 2 * SECONDS) as server:
+            before = processor_seconds(server.process.pid)
+            self.assertEqual(server.order(1, "reset", node=1), {"kind": "finished", "step": 2})
+            self.assertLess(processor_seconds(server.process.pid) - before, SECONDS)
             self.assertEqual(server.close().status, 0)
 
     def test_what_is_shown_and_sent_again_while_a_step_waits(self):

@@ -54,6 +54,13 @@ def spelled(request):
     return request if isinstance(request, bytes) else json.dumps(request).encode() + b"\n"
 
 
+def processor_seconds(process):
+    """What a process has used of the processors."""
+    with open(f"/proc/{process}/stat", encoding="ascii") as file:
+        words = file.read().rsplit(")", 1)[1].split()
+    return (int(words[11]) + int(words[12])) / os.sysconf("SC_CLK_TCK")
+
+
 class Serving:
     """`resetd serve` over a store, whose output goes to a file. It is killed at the end, unless it has ended."""
 
