@@ -1,7 +1,7 @@
 //! What is released, handed to a port: each delivery once, however many a flight releases. Nothing is
 //! known of a port, so no contract says it.
 
-use crate::engines::{Doing, does};
+use crate::engines::{Doing, does, same};
 use crate::scripts::{adding, pair_steps, resetting};
 use coord_disk::{Disk, MemDisk};
 use coord_engine::{Engine, Origin, Port, Share, flusher, hand_over};
@@ -53,7 +53,7 @@ pub(crate) fn hands_each<D: Disk, L: Origin, R: Wait + Clock + Abort>(
     let releases = flight.expect(rt, "no releases");
     let mut port = new_port();
     let count = hand_over(rt, engine, &mut port, releases);
-    assert_eq!(rt; (count, port.carried, port.signalled), (2, 1, 1));
+    same(rt, &(count, port.carried, port.signalled), &(2, 1, 1));
     Vec::new(alloc)
 }
 
@@ -92,7 +92,7 @@ pub(crate) fn flushes_all<D: Disk, L: Origin, R: Wait + Clock + Abort>(
     let mut port = new_port();
     engine.finish(rt);
     flusher(rt, engine, &mut port);
-    assert_eq!(rt; (port.carried, port.signalled), (0, u64::from(NODES)));
+    same(rt, &(port.carried, port.signalled), &(0, u64::from(NODES)));
     Vec::new(alloc)
 }
 

@@ -2,7 +2,7 @@
 
 ghost use Rattle.std.specs.Prelude.{◌<◌};
 
-use crate::engines::{Doing, does};
+use crate::engines::{Doing, does, same};
 use crate::scripts::{adding, resetting};
 use coord_disk::{Disk, MemDisk};
 use coord_engine::{Closed, Engine, Origin, Port, Share, hand_over};
@@ -59,7 +59,7 @@ fn flies<D: Disk, L: Origin, R: Wait + Clock + Abort>(
     }
     let releases = engine.flush_once(rt).expect(rt, "no flight");
     let releases = releases.expect(rt, "no releases");
-    assert_eq!(rt; hand_over(rt, engine, &mut { port }, releases), STEPS);
+    same(rt, &hand_over(rt, engine, &mut { port }, releases), &STEPS);
 }
 
 /// Each flight is settled and handed over, and the engine closes with the notes of them all.
@@ -80,12 +80,12 @@ pub(crate) fn keeps_all<D: Disk, L: Origin, R: Wait + Clock + Abort>(
     }
     let last = *port.last.lock(rt);
     drop(port);
-    assert_eq!(rt; last, FLIGHTS * STEPS);
+    same(rt, &last, &(FLIGHTS * STEPS));
     vec![in alloc; share].expect(rt, "no memory")
 }
 
 pub(crate) fn has_kept_all<D: Disk, R: Abort>(rt: &R, closed: &Closed<D>) {
-    assert_eq!(rt; closed.settled, FLIGHTS * STEPS + 1);
+    same(rt, &closed.settled, &(FLIGHTS * STEPS + 1));
 }
 
 /// 104,960 steps, and as many signals, each once and in order.

@@ -1,7 +1,7 @@
 //! One caller without threads. A flight that was committed is taken back again and again, until there is
 //! memory for it.
 
-use crate::engines::{Doing, does};
+use crate::engines::{Doing, does, same};
 use crate::scripts::adding;
 use coord_disk::{Disk, MemDisk};
 use coord_engine::{Engine, Origin, Share};
@@ -32,14 +32,18 @@ pub(crate) fn settles_one<D: Disk, L: Origin, R: Wait + Clock + Abort>(
     let step = adding(1, 1, 1).expect(rt, "no step");
     let ticket = engine.submit(rt, step, &mut share);
     ticket.expect(rt, "refused").forget();
-    assert_eq!(rt; (flushed(rt, engine), flushed(rt, engine)), (Some(0), None));
+    same(
+        rt,
+        &(flushed(rt, engine), flushed(rt, engine)),
+        &(Some(0), None),
+    );
     is_shown(rt, engine);
     engine.finish(rt);
     let mut other = engine.share(rt).expect(rt, "no share");
     let step = adding(1, 2, 2).expect(rt, "no step");
     match engine.submit(rt, step, &mut other) {
         Ok(_ticket) => panic!(rt; "accepted"),
-        Err(refusal) => assert_eq!(rt; refusal, Refusal::Stopped),
+        Err(refusal) => same(rt, &refusal, &Refusal::Stopped),
     }
     Vec::from_array(alloc, [share, other]).expect(rt, "no memory")
 }
@@ -49,14 +53,15 @@ pub(crate) fn settles_one<D: Disk, L: Origin, R: Wait + Clock + Abort>(
 fn is_shown<D: Disk, L: Origin, R: Wait + Abort>(rt: &R, engine: &Engine<D, L>) {
     let mut seen = Seen::new();
     let shown = engine.show(rt, &mut seen).expect(rt, "not shown");
-    assert_eq!(rt; shown.settled, 1);
+    same(rt, &shown.settled, &1);
     seen.note(2);
-    assert_eq!(rt;
-        engine.show(rt, &mut seen).err(),
-        Some(Refusal::Behind { settled: 1 })
+    same(
+        rt,
+        &engine.show(rt, &mut seen).err(),
+        &Some(Refusal::Behind { settled: 1 }),
     );
     let again = engine.resend(rt).expect(rt, "not sent again");
-    assert_eq!(rt; again.lose_rest(), 0);
+    same(rt, &again.lose_rest(), &0);
 }
 
 #[test]

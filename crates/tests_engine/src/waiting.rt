@@ -1,5 +1,6 @@
 //! A worker's packets that wait.
 
+use crate::engines::same;
 use coord_engine::Waiting;
 use coord_types::{DataPacket, Msg, NodeId, Packet};
 
@@ -22,7 +23,7 @@ fn a_later_packet_takes_its_place(rt: HostRuntime) {
         assert!(rt; put.is_ok(), "OutOfMemory");
     }
     for packet in [data(1, 2, 2), data(2, 1, 1), None] {
-        assert_eq!(rt; waiting.first(), packet);
+        same(&rt, &waiting.first(), &packet);
         waiting.drop_first();
     }
 }

@@ -1,6 +1,6 @@
 //! Two callers, each in a thread of its own, and what was accepted and settled of them.
 
-use crate::engines::{Doing, does};
+use crate::engines::{Doing, does, same};
 use crate::scripts::{adding, resetting};
 use coord_disk::{Disk, MemDisk};
 use coord_engine::{Closed, Engine, Origin, Share};
@@ -45,12 +45,12 @@ fn are_finished<D: Disk, L: Origin, R: Wait + Abort>(
     tickets: Vec<Ticket>,
 ) {
     let mut left = tickets;
-    assert_eq!(rt; left.len(), RESETS as usize);
+    same(rt, &left.len(), &(RESETS as usize));
     while let Some(ticket) = left.pop() {
         let step = ticket.step();
         let kind = Kind::Finished;
         match engine.collect(rt, ticket) {
-            Ok(reply) => assert_eq!(rt; reply, Reply { step, kind }),
+            Ok(reply) => same(rt, &reply, &Reply { step, kind }),
             Err((refusal, _ticket)) => panic!(rt; "step {step}: {refusal:?}"),
         }
     }
@@ -63,28 +63,31 @@ fn is_shown<D: Disk, L: Origin, R: Wait + Abort>(rt: &R, engine: &Engine<D, L>) 
     let mut seen = Seen::new();
     seen.note(STEPS as u64);
     let view = engine.show(rt, &mut seen).expect(rt, "not shown");
-    assert_eq!(rt;
-        (view.accepted, view.settled, view.nodes.len()),
-        (STEPS as u64, STEPS as u64, 2)
+    same(
+        rt,
+        &(view.accepted, view.settled, view.nodes.len()),
+        &(STEPS as u64, STEPS as u64, 2),
     );
     assert!(rt; view.nodes.iter().all(|node| node.epoch == RESETS));
-    assert_eq!(rt;
-        engine.resend(rt).expect(rt, "not sent again").lose_rest(),
-        0
+    same(
+        rt,
+        &engine.resend(rt).expect(rt, "not sent again").lose_rest(),
+        &0,
     );
 }
 
 // The trail has just these notes, behind the steps that added the nodes.
 pub(crate) fn is_history<D: Disk, R: Abort>(rt: &R, notes: &[Note], closed: &Closed<D>) {
-    assert_eq!(rt;
-        (notes.len(), closed.trail.len()),
-        (2 * RESETS as usize, STEPS)
+    same(
+        rt,
+        &(notes.len(), closed.trail.len()),
+        &(2 * RESETS as usize, STEPS),
     );
     for note in notes {
         assert!(rt; closed.names(note));
     }
     for (place, who) in [(0, 1), (1, 2)] {
-        assert_eq!(rt; closed.trail.get(place).copied(), adding(who, 1, who));
+        same(rt, &closed.trail.get(place).copied(), &adding(who, 1, who));
     }
 }
 

@@ -1,7 +1,7 @@
 //! An engine over a device whose syncs wait.
 
 use super::full::{MOST, is_filled};
-use crate::engines::{Doing, does};
+use crate::engines::{Doing, does, same};
 use crate::scripts::adding;
 use coord_disk::{Disk, GateDisk, MemDisk};
 use coord_engine::{Engine, Origin, Share};
@@ -64,7 +64,7 @@ pub(crate) fn accepts_in_sync<
             .map(|releases| releases.lose_rest()),
         move || accept_meanwhile(rt, engine, own, entered, answered),
     );
-    assert_eq!(rt; flushed, Some(0));
+    same(rt, &flushed, &Some(0));
     Vec::from_array(alloc, [mine, other]).expect(rt, "no memory")
 }
 
