@@ -125,11 +125,13 @@ fn a_device_that_cannot_be_formatted_is_left(rt: HostRuntime) {
 
 // What a replace leaves: all that was written but the selector, and the second half behind zeros.
 fn are_moved(rt: &impl Host, bytes: &[u8]) {
-    assert!(rt; bytes.len() == 32_802);
+    let (committed, created) = (committed(), created());
+    same(rt, &bytes.len(), &32_802);
     same(rt, &bytes.first().copied(), &Some(1));
-    assert!(rt; bytes[1..62] == committed()[1..]);
-    assert!(rt; bytes[62..32_785].iter().all(|it| *it == 0));
-    assert!(rt; bytes[32_785..] == created()[17..]);
+    same(rt, &bytes.get(1..62), &committed.get(1..));
+    same(rt, &bytes.get(32_785..), &created.get(17..));
+    let between = bytes.get(62..32_785).unwrap_or(&[1]);
+    assert!(rt; between.iter().all(|it| *it == 0));
 }
 
 // The device once it is replaced by this version, and a batch is added.
