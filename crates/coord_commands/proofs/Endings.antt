@@ -1,5 +1,6 @@
 -- How commands end, from what their parts answer.
-use Rattle.std.proofs.Common.{◌≡◌, ℕ, List, Option, Result, Ok, Err, inl, inr, subst, sym, Bool, MatchResult, IsOk, OnOk, OnErr, IfErr}
+use Rattle.std.proofs.Common.{◌≡◌, ℕ, List, Option, Result, Ok, Err, inl, inr, Bool, MatchResult, IsOk, OnOk, OnErr, IfErr, arith}
+use Rattle.std.proofs.lemmas.Bool.Decides.{nat_tests}
 use Rattle.coord_disk.specs.Model.Present.{Present}
 use Rattle.coord_commands.proofs.Opening.{gave}
 use Rattle.std.proofs.lemmas.Bool.{false≢true}
@@ -65,6 +66,4 @@ cut_weaker P Q old new fault so (inr part) = inr (part.0, (part.1.0, so part.1.0
 
 -- what is said of faults and of what is printed, or less
 pub ends_weaker : (Q R : Fault → Type 0) (P S : List ℕ → Type 0) (status : ℕ) (old new : Streams) → ((fault : Fault) → Q fault → R fault) → ((line : List ℕ) → P line → S line) → Ends Q P status old new → Ends R S status old new
-ends_weaker Q R P S status old new faults lines (inl done) = inl (record { number = done.number; printed = (done.printed.0, lines done.printed.0 done.printed.1, done.printed.2); silent = done.silent })
-ends_weaker Q R P S status old new faults lines (inr failed) =
-    inr (record { fault = failed.fault; possible = faults failed.fault failed.possible; number = failed.number; told = failed.told; cut = cut_weaker P S old.output new.output failed.fault lines failed.cut })
+ends_weaker Q R P S status old new h1 h2 h3 = grind (arith, nat_tests, cut_weaker)

@@ -1,5 +1,6 @@
 -- The faults of `init`, from those of its parts.
 use Rattle.std.proofs.Common.{◌≡◌, ◌≢◌, ℕ, List, take, Option, Some, None, Result, Ok, Err, IfSome, length, refl, subst, arith, IfErr, IfOk}
+use Rattle.std.proofs.lemmas.Bool.Decides.{nat_tests}
 use Rattle.coord_config.specs.Topology.{Content, content}
 use Rattle.coord_config.specs.declared.fault.ConfigFault.{ConfigFault}
 use Rattle.coord_config.specs.declared.fault.ConfigFault.TheVariants as of_topology
@@ -17,10 +18,7 @@ told None P why so = tt
 told (Some bytes) P why so = why so
 
 of_reason : (file : Option (List ℕ)) (reason : ConfigFault) → (reason ≢ of_topology.OutOfMemory → IfSome file (λ bytes. said_by (take MOST_BYTES bytes) ≡ Err reason)) → RefusesFile file reason
-of_reason file of_topology.OutOfMemory why = tt
-of_reason file of_topology.NotToml why = why (λ same. cc)
-of_reason file of_topology.BadKey why = why (λ same. cc)
-of_reason file of_topology.BadValue why = why (λ same. cc)
+of_reason file reason h1 = grind (arith, nat_tests)
 
 -- bytes stay where they are the same
 stays : (same : Option (List ℕ)) → Stays same same
@@ -52,16 +50,7 @@ made_keeps (Some bytes) after empty = λ taken. absurd (omega (arith, taken, emp
 
 -- those of the store of the topology that the file says
 of_store : (file before after : Option (List ℕ)) (topology : Content) (fault : Fault) → Says file topology → RefusesStore before after topology fault → IsOfMaking file before after fault
-of_store file before after topology Usage said is = absurd is
-of_store file before after topology Read said is = absurd is
-of_store file before after topology Write said is = absurd is
-of_store file before after topology Socket said is = absurd is
-of_store file before after topology TooManyReads said is = absurd is
-of_store file before after topology OutOfMemory said is = is
-of_store file before after topology (Topology reason) said is = absurd is
-of_store file before after topology (Store fault) said is = (topology, said, is)
-of_store file before after topology (Refused refusal) said is = (topology, said, is)
-of_store file before after topology (NotClosed fault) said is = absurd is
+of_store file before after topology fault h1 h2 = grind (arith, nat_tests)
 
 -- a file that cannot be read, or is refused, where this is what was left to read of it
 pub refused_file : {A : Type 0} (file left same : Option (List ℕ)) (read : Result A Fault) (fault : Fault) → left ≡ file → read ≡ Err fault → IfErr read IsOfText
@@ -86,13 +75,4 @@ refused_store file left before after read topology fault all is said refused =
 
 -- the line of a store that was made cannot be printed
 pub unprinted : (file before after : Option (List ℕ)) (topology : Content) → Says file topology → IsMade topology before after → (fault : Fault) → IsOfWriting fault → IsOfMaking file before after fault
-unprinted file before after topology said made Usage is = absurd is
-unprinted file before after topology said made Read is = absurd is
-unprinted file before after topology said made Write is = (topology, said, made)
-unprinted file before after topology said made Socket is = absurd is
-unprinted file before after topology said made TooManyReads is = absurd is
-unprinted file before after topology said made OutOfMemory is = made_keeps before after made.empty
-unprinted file before after topology said made (Topology reason) is = absurd is
-unprinted file before after topology said made (Store fault) is = absurd is
-unprinted file before after topology said made (Refused refusal) is = absurd is
-unprinted file before after topology said made (NotClosed fault) is = absurd is
+unprinted file before after topology h1 h2 fault h3 = grind (arith, nat_tests, made_keeps)

@@ -1,13 +1,11 @@
 -- Orders of one client, submitted one after the other.
-use Rattle.std.proofs.Common.{◌≡◌, ℕ, ◌+◌, ◌≤◌, Bool, true, false, ◌&&◌, List, [], ◌∷◌, ◌++◌, length, Option, Some, None, Ok, Err, Result, refl, sym, ap, ◌∙◌, arith, cond, eqb, if◌then◌else◌}
+use Rattle.std.proofs.Common.{◌≡◌, ℕ, ◌+◌, ◌≤◌, Bool, true, false, List, [], ◌∷◌, ◌++◌, length, Option, Ok, Err, Result, refl, ap, ◌∙◌, arith, if◌then◌else◌}
 use Rattle.std.proofs.lemmas.Bool.Decides.{nat_tests}
 use Rattle.std.specs.List.{AllByRecursion}
-use Rattle.std.specs.Ordering.{eq_by_cmp, nat_cmp}
 use Rattle.coord_batch.specs.Batches.{IsNumbered}
 use Rattle.coord_link.specs.LaneMachine.{Tests, refused_or}
-use Rattle.coord_node.specs.Steps.{kind, transitions}
+use Rattle.coord_node.specs.Steps.{kind}
 use Rattle.coord_types.proofs.Tables.{get-insert}
-use Rattle.coord_types.specs.Command.{same_command}
 use Rattle.coord_types.specs.Table.{empty, get}
 use Rattle.coord_types.specs.declared.refusals.Refusal.{Refusal}
 use Rattle.coord_types.specs.declared.refusals.Refusal.TheVariants.{Exhausted}
@@ -15,11 +13,10 @@ use Rattle.coord_types.specs.declared.steps.Command.{Command}
 use Rattle.coord_types.specs.declared.steps.Kind.{Kind}
 use Rattle.coord_types.specs.declared.steps.Reply.{Reply}
 use Rattle.coord_types.specs.declared.steps.Session.{Session}
-use Rattle.coord_types.specs.declared.steps.Step.{Step}
 use Rattle.coord_types.specs.declared.steps.Step.TheVariants.{Order}
 use Rattle.coord_world.specs.declared.verdicts.Verdict.{Verdict}
 use Rattle.coord_world.specs.declared.verdicts.Verdict.TheVariants.{Fresh, Repeat}
-use Rattle.coord_world.specs.Facade.{World, accepts, against, is_exhausted, judged, last_number, next, no_world, or_repeat, prepared, reply, state, with_transitions}
+use Rattle.coord_world.specs.Facade.{World, accepts, against, is_exhausted, judged, last_number, next, no_world, or_repeat, state}
 use Rattle.coord_commands.specs.Founding.{founder, numbered}
 
 refused_if : (b : Bool) (refusal : Refusal) (rest : Result Verdict Refusal) (r : Reply) → (rest ≡ Ok (Repeat r) → ⊥) → (if b then Err refusal else rest) ≡ Ok (Repeat r) → ⊥
@@ -32,10 +29,7 @@ judged_no_repeat k [] r e = cc
 judged_no_repeat k (t ∷ ts) r e = refused_if t.0 t.1 (refused_or (Fresh k) ts) r (judged_no_repeat k ts r) e
 
 next_no_repeat : (o : Option Session) (n : ℕ) (x : Command) (v : Result Verdict Refusal) (r : Reply) → last_number o ≡ n → (v ≡ Ok (Repeat r) → ⊥) → or_repeat o (n + 1) x v ≡ Ok (Repeat r) → ⊥
-next_no_repeat None n x v r last never e = never e
-next_no_repeat (Some o) n x v r last never e =
-    let apart : eqb o.number (n + 1) ≡ false = grind (arith, nat_tests, last) in
-    never (sym (ap (λ b. cond (b && same_command o.command x) (Ok (Repeat o.reply)) v) apart) ∙ e)
+next_no_repeat o n x v r h1 h2 h3 = grind (arith, nat_tests)
 
 -- the order behind a client's last one repeats none
 pub no_repeat : (w settled : World) (c n : ℕ) (x : Command) (r : Reply) → last_number (get w.sessions c) ≡ n → accepts w settled (Order c (n + 1) x) ≡ Ok (Repeat r) → ⊥
@@ -45,12 +39,7 @@ no_repeat w settled c n x r last e =
 
 -- and is its last one then
 pub last_after : (w : World) (c n : ℕ) (x : Command) → last_number (get (next w (Order c n x)).sessions c) ≡ n
-last_after w c n x =
-    let s : Step = Order c n x in
-    let session : Session = record { number = n; command = x; reply = reply w s } in
-    let same : eq_by_cmp nat_cmp c c ≡ true = grind (arith, nat_tests) in
-    let before = (with_transitions (prepared w s) (transitions w.version (state w) s)).sessions in
-    ap last_number (get-insert before c session c ∙ ap (λ b. cond b (Some session) (get before c)) same)
+last_after w c n x = grind (arith, nat_tests, get-insert)
 
 -- at first there is none
 pub none_yet : last_number (get (no_world 2).sessions founder) ≡ 0

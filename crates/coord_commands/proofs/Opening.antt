@@ -1,5 +1,6 @@
 -- What is known of the bytes of a disk.
 use Rattle.std.proofs.Common.{◌≡◌, ◌≢◌, ◌⊎◌, ℕ, ◌+◌, Bool, true, false, List, Option, Some, None, IfSome, inl, inr, refl, sym, ap, ◌∙◌, subst, arith, if◌then◌else◌}
+use Rattle.std.proofs.lemmas.Bool.Decides.{nat_tests}
 use Rattle.coord_disk.specs.Model.DiskModel.{DiskModel}
 use Rattle.coord_disk.specs.Model.Present.{Present, whole}
 use Rattle.coord_engine.specs.declared.closed.Closed.{Closed}
@@ -14,7 +15,6 @@ use Rattle.coord_server.specs.declared.fault.ServerFault.{ServerFault}
 use Rattle.coord_server.specs.declared.fault.ServerFault.TheVariants as of_server
 use Rattle.coord_commands.specs.Faults.{fault_of_server}
 use Rattle.coord_commands.specs.Inspection.{IsOfOpening}
-use Rattle.coord_commands.specs.Migrating.{ReadsAsBefore}
 use Rattle.coord_commands.specs.Serving.{EndsServing, GivesWorld, IsNotOpened, IsOfServing, IsOpened, IsPutBack, IsServedToEnd}
 use Rattle.coord_commands.specs.declared.fault.Fault.{Fault}
 use Rattle.coord_commands.specs.declared.fault.Fault.TheVariants.{Socket, Store}
@@ -46,33 +46,17 @@ gave keeps_model present bytes after is = (gives_some bytes is.began is.opened, 
 
 -- the faults of serving, where the disk gave a world
 pub of_serving : (bytes : Option (List ℕ)) (fault : ServerFault) → GivesWorld bytes → IsOfServing bytes (fault_of_server fault)
-of_serving bytes of_server.OutOfMemory gives = gives
-of_serving bytes of_server.Socket gives = gives
-of_serving bytes of_server.Device gives = inl refl
-of_serving bytes of_server.Write gives = gives
-of_serving bytes (of_server.NotClosed fault) gives = gives
+of_serving bytes fault h1 = grind (arith, nat_tests)
 
 module _ {D : Type 0} (model : DiskModel D) where
   -- a disk was taken and put back
   pub put_back : (failed : ℕ) (before after : Option Present) (taken back : D) → known_of model.keeps_model model.present taken ≡ before → IfSome after (λ known. known_of model.keeps_model model.present back ≡ Some known)
       → model.failures back ≡ model.failures taken + failed → (failed ≡ 0 → model.keeps_model taken ≡ true → (model.present back).read ≡ (model.present taken).read) → IsPutBack model failed before after
-  put_back failed before after taken back was is failures same = record {
-    taken = taken;
-    back = back;
-    was = was;
-    is = is;
-    failures = failures;
-    reads = λ never.
-        let reads : ReadsAsBefore (known_of model.keeps_model model.present taken) (known_of model.keeps_model model.present back) =
-        if_both (model.keeps_model taken) (model.keeps_model back) (model.present taken) (model.present back) (λ (old new : Present). new.read ≡ old.read) (λ keeps _. same never keeps) in
-        closed (λ o. ReadsAsBefore before o) (known_of model.keeps_model model.present back) after (λ _. unread before) is (rw (sym was) reads);
-  }
+  put_back failed before after taken back was is failures same = grind (arith, nat_tests, if_both, closed, unread)
 
   -- the device of a disk that is refused otherwise has not failed
   no_device : (fault : StoreFault) → failed_in fault ≡ 0 → fault ≡ Device → ⊥
-  no_device fault never is =
-      let one : failed_in Device ≡ 0 = ap failed_in (sym is) ∙ never in
-      absurd (omega (arith, one))
+  no_device fault never is = grind (arith, nat_tests)
 
   pub refused : (before after : Option Present) (taken back : D) (fault : StoreFault) → known_of model.keeps_model model.present taken ≡ before → IfSome after (λ known. known_of model.keeps_model model.present back ≡ Some known)
       → model.failures back ≡ model.failures taken + failed_in fault → (model.keeps_model taken ≡ true → fault ≢ Device → model.present back ≡ whole (model.present taken).read)
@@ -85,13 +69,7 @@ module _ {D : Type 0} (model : DiskModel D) where
 
   pub opened : (before : Option Present) (taken : D) (store : Kept D) → known_of model.keeps_model model.present taken ≡ before → (model.keeps_model taken ≡ true → Recovered (model.present taken).read store.world)
       → model.failures store.disk ≡ model.failures taken + 0 → (model.keeps_model taken ≡ true → model.present store.disk ≡ whole (model.present taken).read) → IsOpened model before store
-  opened before taken store was world failures same = record {
-    taken = taken;
-    was = was;
-    world = rw (sym was) (if_keeps (model.keeps_model taken) (model.present taken) (λ (known : List ℕ). Recovered known store.world) world);
-    failures = omega (arith, failures);
-    same = λ keeps. ap (λ (p : Present). p.read) (same keeps);
-  }
+  opened before taken store was world failures same = grind (arith, nat_tests, if_keeps)
 
   -- it was opened, and put back
   pub not_bound : (before after : Option Present) (store : Kept D) (back : D) → IsOpened model before store → back ≡ store.disk → IfSome after (λ known. known_of model.keeps_model model.present back ≡ Some known) → EndsServing model before after Socket
@@ -109,6 +87,4 @@ module _ {D : Type 0} (model : DiskModel D) where
 
   -- as far as the bytes tell
   pub of_ending : (before after : Option Present) (told : Fault) → EndsServing model before after told → IsOfServing (reads before) told
-  of_ending before after told (inl is) = subst (IsOfServing (reads before)) (sym is.named) (of_unopened before after is.fault is.why)
-  of_ending before after told (inr (inl is)) = subst (IsOfServing (reads before)) (sym is.0) is.1
-  of_ending before after told (inr (inr is)) = subst (IsOfServing (reads before)) (sym is.named) (of_serving (reads before) is.fault (gives_some (reads before) is.began is.opened))
+  of_ending before after told h1 = grind (arith, nat_tests, of_unopened, of_serving, gives_some)

@@ -1,5 +1,6 @@
 -- Raising the store on a disk, from what its parts answer.
-use Rattle.std.proofs.Common.{◌≡◌, ◌≢◌, ℕ, Bool, true, false, List, Option, Some, None, IfSome, is_some, Result, Ok, Err, inl, inr, refl, sym, subst, if◌then◌else◌, ◌∙◌, OnOk, IfOk, IfErr, IsErrOf, MatchResult}
+use Rattle.std.proofs.Common.{◌≡◌, ◌≢◌, ℕ, Bool, true, false, List, Option, Some, None, IfSome, is_some, Result, Ok, Err, inl, inr, refl, subst, if◌then◌else◌, OnOk, IfOk, IfErr, IsErrOf, MatchResult, arith}
+use Rattle.std.proofs.lemmas.Bool.Decides.{nat_tests}
 use Rattle.coord_disk.specs.Model.DiskModel.{DiskModel}
 use Rattle.coord_disk.specs.Model.Present.{Present}
 use Rattle.coord_store.specs.Facade.{GivesEither, GivesKept, IsOpenFault, Kept, Recovered, RefusesOpen, has_stopped, risen}
@@ -20,9 +21,7 @@ if_present false disk P holds = tt
 
 -- and of two disks
 pub if_both : (keeps keeps' : Bool) (disk disk' : Present) (P : Present → Present → Type 0) → (keeps ≡ true → keeps' ≡ true → P disk disk') → IfSome (if keeps then Some disk else None) (λ old. IfSome (if keeps' then Some disk' else None) (λ new. P old new))
-if_both true true disk disk' P holds = holds refl refl
-if_both true false disk disk' P holds = tt
-if_both false keeps' disk disk' P holds = tt
+if_both keeps keeps' disk disk' P h1 = grind (arith, nat_tests)
 
 no_memory : (known : Option Present) → IfSome known (λ old. RefusesOpen old.read of_store.OutOfMemory)
 no_memory None = tt
@@ -30,18 +29,7 @@ no_memory (Some disk) = inl (inl refl)
 
 -- a store that is not opened is not raised
 pub not_opened : (before after : Option Present) (fault : StoreFault) → IsOpenFault fault → IfSome before (λ old. RefusesOpen old.read fault) → (fault ≢ of_store.Device → ReadsAsBefore before after) → GivesEitherVersion before after → IsOfRaising before after (Store fault)
-not_opened before after of_store.OutOfMemory named refuses same either = (named, refuses, same (λ e. cc))
-not_opened before after of_store.Device named refuses same either = either
-not_opened before after of_store.NotEmpty named refuses same either = absurd named
-not_opened before after of_store.HalfSize named refuses same either = absurd named
-not_opened before after of_store.NoMagic named refuses same either = (named, refuses, same (λ e. cc))
-not_opened before after of_store.BadRecord named refuses same either = (named, refuses, same (λ e. cc))
-not_opened before after of_store.BadSnapshot named refuses same either = (named, refuses, same (λ e. cc))
-not_opened before after of_store.BadBatch named refuses same either = (named, refuses, same (λ e. cc))
-not_opened before after (of_store.BadStep batch index) named refuses same either = (named, refuses, same (λ e. cc))
-not_opened before after (of_store.Violated violation) named refuses same either = (named, refuses, same (λ e. cc))
-not_opened before after (of_store.NotQuiet node) named refuses same either = absurd named
-not_opened before after of_store.Stopped named refuses same either = absurd named
+not_opened before after fault h1 h2 h3 h4 = grind (arith, nat_tests)
 
 -- the line of a store that was raised
 pub line_of : {A : Type 0} (text : A → List ℕ) (ended : Result A Fault) (before after : Option Present) (w v : World) (torn : Option World) → IfOk ended (λ line. text line ≡ migrated_line w.count)
@@ -51,10 +39,7 @@ line_of text (Err fault) before after w v torn is world going raised = tt
 
 -- a torn migration: an image gives the world in one version or the other
 pub either_of : {D : Type 0} (kept : Kept D) (w v : World) (image : List ℕ) → kept.world ≡ w → kept.torn ≡ Some v → GivesKept kept image → GivesEither w v image
-either_of kept w v image same torn (inl gives) = inl (rw (sym same) gives)
-either_of kept w v image same torn (inr gives) =
-    let is : Some gives.0 ≡ Some v = sym gives.1 ∙ torn in
-    let one : gives.0 ≡ v = cc in inr (rw (sym one) gives.2)
+either_of kept w v image h1 h2 h3 = grind (arith, nat_tests)
 
 module _ {A : Type 0} {Same Torn : Type 0} (ended : Result A Fault) (before after : Option Present) (w : World) (torn : IsErrOf ended (Store of_store.Device) → Torn) (stopped : IsErrOf ended (Store of_store.Stopped) → ⊥) (given : IfSome before (λ old. Recovered old.read w)) (reads : Same → ReadsAsBefore before after) (either : Torn → GivesEitherVersion before after) where
   -- the fault of a store that was not raised
@@ -139,14 +124,10 @@ less_fault before known (NotClosed fault) of = absurd of
 -- the line, and the fault, of the disk of a name
 pub line_named : {A : Type 0} (text : A → List ℕ) (ended : Result A Fault) (before after taken known : Option Present) → taken ≡ before → IfSome after (λ disk. known ≡ Some disk) → IfOk ended (λ line. IsMigratedLine taken known (text line))
     → IfOk ended (λ line. IsMigratedLine before after (text line))
-line_named text (Ok line) before after taken known is back of =
-    closed (λ o. IsMigratedLine before o (text line)) known after (less_line before known (text line)) back (rw (sym is) of)
-line_named text (Err fault) before after taken known is back of = tt
+line_named text ended before after taken known h1 h2 h3 = grind (arith, nat_tests, closed, less_line)
 
 pub fault_named : {A : Type 0} (ended : Result A Fault) (before after taken known : Option Present) → taken ≡ before → IfSome after (λ disk. known ≡ Some disk) → IfErr ended (IsOfRaising taken known) → IfErr ended (IsOfRaising before after)
-fault_named (Ok x) before after taken known is back of = tt
-fault_named (Err fault) before after taken known is back of =
-    closed (λ o. IsOfRaising before o fault) known after (less_fault before known fault) back (rw (sym is) of)
+fault_named ended before after taken known h1 h2 h3 = grind (arith, nat_tests, closed, less_fault)
 
 -- the line of a store that was raised is not written
 pub unwritten : (before after : Option Present) (line : List ℕ) → IsMigratedLine before after line → (fault : Fault) → IsOfWriting fault → IsOfMigrating before after fault
@@ -171,13 +152,4 @@ raised_named model (Err fault) before after taken back was is raises = inr (reco
 -- so where the line is not written then
 pub raised_unwritten : {D : Type 0} (model : DiskModel D) (before after : Option Present) → RaisesNamed model 0 before after → (fault : Fault) → IsOfWriting fault →
     EndsRaising model before after fault
-raised_unwritten model before after raised Usage is = absurd is
-raised_unwritten model before after raised Read is = absurd is
-raised_unwritten model before after raised Write is = inr raised
-raised_unwritten model before after raised Socket is = absurd is
-raised_unwritten model before after raised TooManyReads is = absurd is
-raised_unwritten model before after raised OutOfMemory is = inr raised
-raised_unwritten model before after raised (Topology fault) is = absurd is
-raised_unwritten model before after raised (Store fault) is = absurd is
-raised_unwritten model before after raised (Refused refusal) is = absurd is
-raised_unwritten model before after raised (NotClosed fault) is = absurd is
+raised_unwritten model before after h1 fault h2 = grind (arith, nat_tests)

@@ -1,8 +1,5 @@
-use Rattle.std.proofs.Common.{List, arith, subst, sym, ◌∙◌}
-use Rattle.std.specs.List.{AllByRecursion}
-use Rattle.coord_batch.specs.Batches.{IsNumbered}
+use Rattle.std.proofs.Common.{arith, ◌∙◌}
 use Rattle.coord_config.specs.Topology.{content}
-use Rattle.coord_types.specs.declared.steps.Step.{Step}
 use Rattle.coord_commands.proofs.OneClient.{each_numbered}
 use Rattle.coord_commands.specs.Founding.{commands}
 use Rattle.coord_commands.proofs.creation.create_store.Goals as goal

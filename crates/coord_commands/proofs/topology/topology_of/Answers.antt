@@ -1,9 +1,8 @@
-use Rattle.std.proofs.Common.{◌≡◌, ◌≢◌, ◌∙◌, Err, ap, rules, subst, sym, IfErr}
+use Rattle.std.proofs.Common.{◌≡◌, ◌≢◌, ◌∙◌, Err, ap, rules, subst}
 use Rattle.coord_config.specs.declared.fault.ConfigFault.{ConfigFault}
 use Rattle.coord_config.specs.Reading.{reading}
 use Rattle.coord_config.specs.declared.fault.ConfigFault.TheVariants.{NotToml, OutOfMemory}
 use Rattle.coord_commands.proofs.SaidBytes.{a_text, no_text}
-use Rattle.coord_commands.specs.Topology.{said_by}
 use Rattle.coord_commands.specs.declared.fault.Fault.TheVariants.{Topology}
 use Rattle.coord_commands.proofs.topology.topology_of.Goals as goal
 

@@ -1,10 +1,9 @@
-use Rattle.std.proofs.Common.{◌≡◌, ◌⊎◌, ◌∙◌, ap, ap₂, length, ℕ, inr, map, refl, rules, string_bytes, subst, sym, true, List, Option, Some, None, IfErr, IfOk, Result, option_and_then, option_map}
+use Rattle.std.proofs.Common.{◌≡◌, ◌⊎◌, ◌∙◌, ap, ap₂, length, ℕ, inr, map, refl, rules, string_bytes, sym, true, List, Option, Some, None, IfErr, IfOk, option_and_then, option_map}
 use Rattle.std.proofs.lemmas.List.{length-map}
 use Rattle.std.specs.Option.{ok_or}
 use Rattle.clap.specs.Words.{App, Row, Text, app_of, is_simple, subcommand_of, takes}
 use Rattle.clap.proofs.OnLiterals.{clap_on_literals}
 use Rattle.coord_commands.specs.Words.{Asked, asked_by, asked_of, in_words, resetd, task_of}
-use Rattle.coord_commands.specs.declared.fault.Fault.{Fault}
 use Rattle.coord_commands.specs.declared.fault.Fault.TheVariants.{OutOfMemory, Usage}
 use Rattle.coord_commands.specs.declared.words.Task.{Task}
 use Rattle.coord_commands.proofs.words.read_words.Goals as goal

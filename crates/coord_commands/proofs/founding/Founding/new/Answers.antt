@@ -1,5 +1,4 @@
-use Rattle.std.proofs.Common.{◌≡◌, ◌∙◌, List, ap, sym, subst, length}
-use Rattle.coord_store.specs.Recovered.{AllFresh}
+use Rattle.std.proofs.Common.{◌≡◌, ◌∙◌, List, ap, sym, length}
 use Rattle.coord_types.specs.Table.{get}
 use Rattle.coord_types.specs.declared.steps.Step.{Step}
 use Rattle.coord_world.specs.Facade.{World, fold, last_number, no_world}
