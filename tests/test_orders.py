@@ -4,7 +4,7 @@ import itertools
 
 from support import stores
 from support.case import until
-from support.program import ran
+from support.program import Ended, ran
 from support.served import DONE, FINISHED, STARTED, Served, answered, refused
 from support.serving import Serving
 from support.stores import ring, topology
@@ -224,6 +224,20 @@ class Stores(Served):
                 until("each packet", lambda: server.show()["settled"] == 1_000 + 128 + 256)
                 self.assertEqual(server.ask({"op": "resend"}), {"count": 0, "kind": "resent"})
                 self.expect_closed(server, 0)
+
+    def test_the_longest_texts(self):
+        """Of as many nodes and links as there may be, with numbers of 13 digits: by `show`, and over the port."""
+        most, pairs = stores.MOST_STEPS, [(a, b) for a in range(1, 65) for b in range(a, 65) if b - a in (1, 2, 62, 63)]
+        rows = [stores.node(at, epoch=most - at, confirmed=most - 64 - at, version=2) for at in range(1, 65)]
+        links = [stores.link(a, b, most - place) for place, (a, b) in enumerate(pairs)]
+        path = self.write("store", stores.store(stores.world(most, rows, links), version=2))
+        nodes = [[at, 1, "ready", 0, most - at, most - 64 - at] for at in range(1, 65)]
+        links = [[a, b, most - place] for place, (a, b) in enumerate(pairs)]
+        lines = [["view", most, most], *(["node", *row] for row in nodes), *(["link", *row] for row in links)]
+        self.assertEqual(ran("show", path), Ended(0, "".join(" ".join(map(str, line)) + "\n" for line in lines), ""))
+        with Serving(path) as server:
+            self.assertEqual(server.show(), {"accepted": most, "links": links, "nodes": nodes, "settled": most})
+            self.expect_closed(server, 0)
 
     def test_packets_between_any_two_nodes(self):
         """Each two of the 64 are linked once, as many at a time as there may be. Each lane's front is sent at the start, taken
