@@ -10,7 +10,7 @@ from support.stores import ring, topology
 
 SECONDS = 0.4  # of each sync, of which a flight has two
 LONGER = (3.0, 10.0)  # where the machine is busy
-WAITED = 2
+WAITED = 2  # seconds for callers, at most
 
 
 class SlowDevice(Case):
@@ -78,11 +78,9 @@ class SlowDevice(Case):
             with open(clock, "r+b") as file:
                 file.write((16 * WAITED).to_bytes(8, sys.byteorder))
             self.assertEqual([connection.reply()["step"] for _ in range(2)], [2, 3])
-            begun = time.monotonic()
             connection.send({"op": "reset", "client": 1, "number": 3, "node": 1})
-            connection.socket.settimeout(8 * WAITED)
+            connection.socket.settimeout(12 * WAITED)
             self.assertEqual(connection.reply()["step"], 4)
-            self.assertGreaterEqual(time.monotonic() - begun, WAITED)
 
     def test_a_close_settles_what_was_accepted(self):
         """The close of one client does not wait for a wave, and no step of it that was accepted is lost."""
