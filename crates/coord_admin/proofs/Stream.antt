@@ -9,7 +9,6 @@ use Rattle.coord_lines.specs.Lines.{Line, IsWithin, is_line_feed, line_of, lines
 use Rattle.coord_lines.specs.Written.{IsFirstPart}
 use Rattle.coord_lines.proofs.LinesOn.{lines_on-ended, extended-nothing}
 use Rattle.coord_types.specs.declared.refusals.Refusal.{Refusal}
-use Rattle.coord_types.specs.declared.refusals.Refusal.TheVariants as refusal
 use Rattle.coord_types.specs.declared.steps.Reply.{Reply}
 use Rattle.coord_admin.specs.declared.request.Request.{Request}
 use Rattle.coord_admin.specs.declared.answer.Answer.{Answer}

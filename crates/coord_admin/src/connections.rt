@@ -1,7 +1,7 @@
 //! A server's connections, one after the other.
 
-ghost use Rattle.std.specs.Prelude.{◌≡◌, ◌∷◌, [], List, ℕ, Ok, OnErr};
-ghost use Rattle.coord_admin.specs.Connections.{ServedOpen, ServedToClose, has_closed};
+ghost use Rattle.std.specs.Prelude.{◌≡◌, ◌∷◌, [], Ok, OnErr};
+ghost use Rattle.coord_admin.specs.Connections.{IsServed, ServedOpen, ServedToClose, Talk, has_closed};
 ghost use Rattle.coord_admin.specs.LifeLimit.{HasKept, ends_here};
 ghost use Rattle.coord_admin.specs.declared.connections.Stop.TheVariants as StopAs;
 
@@ -46,12 +46,11 @@ pub fn serve_connections<C: Callers, D: Desk, R: Wait>(
         (ServedOpen D.answers C.talked callers.old desk.old callers.new desk.new) }
 {
     for _ in rt.forever() {
-        let mut line = match next_in_life(most, callers, desk)? {
+        let line = match next_in_life(most, callers, desk)? {
             Some(line) => line,
             None => return Ok(Stop::Old),
         };
-        let ended = serve(alloc, most, &mut line, desk);
-        end(callers, line, ended);
+        let ended = serve_connection(alloc, most, line, callers, desk);
         if has_closed(ended) {
             return Ok(Stop::Closed);
         }
@@ -59,14 +58,23 @@ pub fn serve_connections<C: Callers, D: Desk, R: Wait>(
     unreachable!()
 }
 
-/// Ends a connection that ended so for `serve`.
-fn end<C: Callers>(callers: &mut C, line: C::Line, ended: Result<Ended, ServeFault>)
-    ensures ended { C.ended callers.old line (ends_here ended) callers.new }
-    ensures talked { (first : C.Line) (bytes_read bytes_written : List ℕ) → C.begins first →
-        C.Line.exchanged first bytes_read bytes_written line →
-        C.talked callers.old (record { bytes_read = bytes_read; bytes_written = bytes_written } ∷ []) callers.new }
+/// Serves one connection, and ends it. Answers how it ended.
+fn serve_connection<C: Callers, D: Desk>(
+    alloc: Global,
+    most: usize,
+    line: C::Line,
+    callers: &mut C,
+    desk: &mut D,
+) -> Result<Ended, ServeFault>
+    requires { C.begins line }
+    ensures served { (talk : Talk) × C.talked callers.old (talk ∷ []) callers.new ×
+        IsServed D.answers desk.old (record { talk = talk; ended = result }) desk.new }
+    ensures ended { (last : C.Line) × C.ended callers.old last (ends_here result) callers.new }
 {
+    let mut line = line;
+    let ended = serve(alloc, most, &mut line, desk);
     callers.end(line, ends_here(ended));
+    ended
 }
 
 /// Whether a line closed the desk.

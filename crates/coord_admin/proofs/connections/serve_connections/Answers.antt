@@ -1,6 +1,6 @@
-use Rattle.std.proofs.Common.{[], sym, subst, ◌∙◌, refl, rules, IfNone, IfSome}
+use Rattle.std.proofs.Common.{[], sym, subst, ◌∙◌, refl, rules, IfNone}
 use Rattle.coord_admin.specs.Connections.{Connection}
-use Rattle.coord_admin.specs.LifeLimit.{HasKept, HasKeptFewer}
+use Rattle.coord_admin.specs.LifeLimit.{HasKept}
 use Rattle.coord_admin.proofs.Served.{closed_on, open_on, open_still}
 use Rattle.coord_admin.proofs.connections.serve_connections.Goals as goal
 
@@ -21,17 +21,15 @@ returns-in-None-2-clause-old g c = λ _. (
 
 pub returns-then-has_closed-clause-closed : goal.returns-then-has_closed-clause-closed
 returns-then-has_closed-clause-closed g c = λ _.
-    let now = c.serve-ended.ensures.served in
-    let last : Connection = record { talk = record { bytes_read = now.0; bytes_written = now.1 }; ended = c.serve-ended.result } in
-    let begun = (subst (λ o. IfSome o (λ line. g.C.Callers.begins line × HasKeptFewer g.D.Desk.keeps c.loop.desk c.args.most)) c.in-Some-2.is c.in_ok-line.ensures.begun).0 in
-    closed_on g.D.Desk.answers g.C.Callers.talked g.met.C.Callers.in_turn _ _ _ _ _ _ _ last c.loop.invariant.2 c.next_in_life.ensures.none_ended (c.end.ensures.talked _ now.0 now.1 begun now.2) now.3 (sym c.has_closed.ensures ∙ c.if-has_closed.true)
+    let now = c.serve_connection-ended.ensures.served in
+    let last : Connection = record { talk = now.0; ended = c.serve_connection-ended.result } in
+    closed_on g.D.Desk.answers g.C.Callers.talked g.met.C.Callers.in_turn _ _ _ _ _ _ _ last c.loop.invariant.2 c.next_in_life.ensures.none_ended now.1 now.2 (sym c.has_closed.ensures ∙ c.if-has_closed.true)
 
 pub loop-preserved : goal.loop-preserved
 loop-preserved g c =
-    let now = c.serve-ended.ensures.served in
-    let last : Connection = record { talk = record { bytes_read = now.0; bytes_written = now.1 }; ended = c.serve-ended.result } in
-    let begun = (subst (λ o. IfSome o (λ line. g.C.Callers.begins line × HasKeptFewer g.D.Desk.keeps c.loop.desk c.args.most)) c.in-Some-2.is c.in_ok-line.ensures.begun).0 in (
+    let now = c.serve_connection-ended.ensures.served in
+    let last : Connection = record { talk = now.0; ended = c.serve_connection-ended.result } in (
       tt,
       tt,
-      open_on g.D.Desk.answers g.C.Callers.talked g.met.C.Callers.in_turn _ _ _ _ _ _ _ last c.loop.invariant.2 c.next_in_life.ensures.none_ended (c.end.ensures.talked _ now.0 now.1 begun now.2) now.3 (sym c.has_closed.ensures ∙ c.if-has_closed.false),
+      open_on g.D.Desk.answers g.C.Callers.talked g.met.C.Callers.in_turn _ _ _ _ _ _ _ last c.loop.invariant.2 c.next_in_life.ensures.none_ended now.1 now.2 (sym c.has_closed.ensures ∙ c.if-has_closed.false),
     )
