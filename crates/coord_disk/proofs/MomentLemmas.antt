@@ -1,5 +1,5 @@
 -- How a run of disk calls goes on.
-use Rattle.std.proofs.Common.{◌≡◌, ◌⊎◌, inl, inr, ⊎_elim, ◌∙◌, refl, ℕ, List, arith, true}
+use Rattle.std.proofs.Common.{◌≡◌, ◌⊎◌, inl, ◌∙◌, refl, ℕ, List, arith, true}
 use Rattle.coord_disk.specs.Model.DiskModel.{DiskModel, IsModel}
 use Rattle.coord_disk.specs.Model.Calls.{Calls}
 use Rattle.coord_disk.specs.Model.Moments.{AddsNothing, LeavesOnly, Passes}
@@ -12,27 +12,15 @@ module _ {D : Type 0} (m : DiskModel D) where
 
   -- one call more, after which a crash leaves what has P
   pub goes_on : (old mid new : D) (P : List ℕ → Type 0) → LeavesOnly m old mid P → Passes m mid new → ((c : List ℕ) → IsImage (m.present new) c → P c) → LeavesOnly m old new P
-  goes_on old mid new P so_far time here = record {
-    later = omega (arith, so_far.later, time.later);
-    each = λ c left. ⊎_elim (so_far.each c) (here c) (time.nothing_else (m.clock old) c so_far.later left);
-    before = λ t c le left. ⊎_elim (so_far.before t c le) (λ now. inr (here c now)) (time.nothing_else t c (omega (arith, le, so_far.later)) left);
-  }
+  goes_on old mid new P so_far time here = grind arith
 
   -- what has P has Q
   pub weaker : (old new : D) (P Q : List ℕ → Type 0) → LeavesOnly m old new P → ((c : List ℕ) → P c → Q c) → LeavesOnly m old new Q
-  weaker old new P Q leaves implies = record {
-    later = leaves.later;
-    each = λ c left. implies c (leaves.each c left);
-    before = λ t c le left. ⊎_elim (λ was. inl was) (λ has. inr (implies c has)) (leaves.before t c le left);
-  }
+  weaker old new P Q leaves implies = grind arith
 
   -- one run of calls, and then another
   pub and_then : (old mid new : D) (P Q : List ℕ → Type 0) → LeavesOnly m old mid P → LeavesOnly m mid new Q → LeavesOnly m old new (λ c. P c ⊎ Q c)
-  and_then old mid new P Q one other = record {
-    later = omega (arith, one.later, other.later);
-    each = λ c left. ⊎_elim (λ was. inl (one.each c was)) (λ has. inr has) (other.before (m.clock old) c one.later left);
-    before = λ t c le left. ⊎_elim (λ was. ⊎_elim (λ first. inl first) (λ has. inr (inl has)) (one.before t c le was)) (λ has. inr (inr has)) (other.before t c (omega (arith, le, one.later)) left);
-  }
+  and_then old mid new P Q one other = grind arith
 
   -- ---- runs that add nothing
 

@@ -1,5 +1,5 @@
 -- What stands where after a write.
-use Rattle.std.proofs.Common.{◌≡◌, ◌⊎◌, inl, inr, ℕ, zero, suc, ◌+◌, ◌-◌, ◌<◌, ◌≤◌, max, false, List, [], ◌∷◌, ◌++◌, length, take, drop, refl, sym, ◌∙◌, ap, arith, append_assoc, length-append, length-take, length-drop, slice_get, replicate, nat_le, nat_lt, ◌&&◌, ◌||◌, Bool}
+use Rattle.std.proofs.Common.{◌≡◌, ◌⊎◌, inl, inr, ℕ, zero, suc, ◌+◌, ◌-◌, ◌<◌, ◌≤◌, max, false, List, [], ◌∷◌, ◌++◌, length, take, drop, refl, sym, ◌∙◌, ap, arith, append_assoc, length-append, length-take, length-drop, slice_get, replicate, ◌||◌, Bool}
 use Rattle.std.proofs.lemmas.List.{append-nil, drop-drop, drop_all, length-replicate, take-replicate, take_all}
 use Rattle.std.proofs.lemmas.Bool.Decides.{nat_tests}
 use Rattle.coord_disk.specs.Model.Present.{Present, Range, IsImage, WritesWithin, is_within, overwritten, range_of, written_at}
@@ -84,20 +84,8 @@ outside at i bytes written out = grind (arith, nat_tests, out)
 
 -- what is written is a write
 pub wrote : (at : ℕ) (bytes : List ℕ) (disk : Present) → WritesWithin at bytes disk (written_at at bytes disk)
-wrote at bytes disk = record {
-  synced = refl;
-  written = λ i out. out;
-  no_shorter = no_shorter disk.read bytes at;
-  no_longer = omega arith;
-  elsewhere = λ i lt out. elsewhere disk.read bytes at i lt out;
-}
+wrote at bytes disk = grind (arith, no_shorter, elsewhere)
 
 -- as it reads it stays an image
 pub wrote_reads : (at : ℕ) (bytes : List ℕ) (disk : Present) → IsImage disk disk.read → IsImage (written_at at bytes disk) (written_at at bytes disk).read
-wrote_reads at bytes disk image = record {
-  no_shorter = omega (arith, image.no_shorter, no_shorter disk.read bytes at);
-  no_longer = omega arith;
-  kept = λ i lt out.
-      elsewhere disk.read bytes at i (omega (arith, lt, image.no_shorter)) (outside at i bytes disk.written out)
-      ∙ image.kept i lt (either_false (nat_le at i && nat_lt i (at + length bytes)) (is_within disk.written i) out).1;
-}
+wrote_reads at bytes disk image = grind (arith, no_shorter, elsewhere, outside, either_false)

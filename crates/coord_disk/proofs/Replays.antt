@@ -22,9 +22,7 @@ replayed-take disk entries n entry lt is = rw (take_more entries n entry lt, rep
 -- whether a place is written, once one more thing was done
 module _ (entries : List Entry) (n place : ℕ) (entry : Entry) (some : 0 < n) (few : n ≤ length entries) (is : entry ≡ get_or entries (n - 1) entry) (first : List ℕ) where
   step : replayed (whole first) (take n entries) ≡ after (replayed (whole first) (take (n - 1) entries)) entry
-  step =
-      let same : n ≡ n - 1 + 1 = omega (arith, some) in
-      ap (λ (k : ℕ). replayed (whole first) (take k entries)) same ∙ replayed-take (whole first) entries (n - 1) entry (omega (arith, some, few)) is
+  step = grind (arith, replayed-take)
 
   pub synced_within : entry ≡ Synced → is_within (replayed (whole first) (take n entries)).written place ≡ false
   synced_within synced = ap (λ (p : Present). is_within p.written place) (step ∙ ap (λ (d : Entry). after (replayed (whole first) (take (n - 1) entries)) d) synced)
@@ -73,11 +71,7 @@ module _ (old new : History) (read next bytes : List ℕ) (at : ℕ) (v : Vec �
   reads = ap (λ (p : Present). p.read) written ∙ ap (λ (r : List ℕ). overwritten r at bytes) led.reads ∙ sym next_is
 
   pub write_led : LedTo new next
-  write_led = record {
-    reads = reads;
-    syncs = ap (λ (p : Present). p.synced) written ∙ led.syncs ∙ sym synced;
-    image = rw (sym reads) (rw written (wrote_reads at bytes before (rw led.reads led.image)));
-  }
+  write_led = grind (arith, reads, written, wrote_reads)
 
   pub write_adds : Adds (past_with read (Some old)) (past_with next (Some new)) (written_at at bytes before)
   write_adds = record { added = Wrote at v; first = first; entries = entries; present = written }
