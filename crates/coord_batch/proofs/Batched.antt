@@ -1,5 +1,5 @@
 -- Which values, steps and batches their formats can spell: those whose numbers are in range.
-use Rattle.std.proofs.Common.{ℕ, zero, suc, ◌<◌, ◌≤◌, ◌^◌, Bool, true, false, eqb, refl, arith, ◌-◌, List, [], ◌∷◌, ◌++◌, sym, subst}
+use Rattle.std.proofs.Common.{ℕ, zero, suc, ◌<◌, ◌≤◌, ◌^◌, refl, arith, ◌-◌, List, [], ◌∷◌, ◌++◌, sym, subst}
 use Rattle.std.proofs.lemmas.Bool.Decides.{nat_tests}
 use Rattle.std.specs.List.{AllByRecursion}
 use Rattle.coord_types.specs.Facade.{IsNode, carried}
@@ -60,17 +60,11 @@ message_fits version most msg.Ready fits = ((2, msg.Ready), ((omega arith, refl)
 -- without a distance it has one in any version
 no_distance_fits : (version most : ℕ) → most < 2 ^ 64 → (distance version most).Fits 0
 unfolding distance unless at_most
-no_distance_fits version most small = by_version (eqb version 1)
-  where
-    by_version : (b : Bool) → (unless b most).Fits 0
-    by_version true = refl
-    by_version false = (omega arith, grind (arith, nat_tests))
+no_distance_fits version most small = grind arith
 
 message_case_in_range : (version most t : ℕ) (m : Msg) → most < 2 ^ 64 → (message_case version most t).Fits m → (distance version most).Fits (carried m)
 unfolding message_case
-message_case_in_range version most zero m small fits = rw fits.2 fits.1
-message_case_in_range version most (suc zero) m small fits = rw fits.2 (no_distance_fits version most small)
-message_case_in_range version most (suc (suc n)) m small fits = rw fits.2 (no_distance_fits version most small)
+message_case_in_range version most t m h1 h2 = grind (arith, no_distance_fits)
 
 pub message_in_range : (version most : ℕ) (m : Msg) → most < 2 ^ 64 → (message version most).Fits m → (distance version most).Fits (carried m)
 unfolding message
@@ -106,12 +100,7 @@ how_many_fits most n small few = (omega (arith, small, few), grind (arith, nat_t
 
 case_in_range : (t : ℕ) (x : Command) → (command_case t).Fits x → CommandInRange x
 unfolding command_case
-case_in_range zero x fits = subst CommandInRange (sym fits.2) (node_in_range fits.0.0 fits.1.0, (group_in_range fits.0.1 fits.1.1).0, (group_in_range fits.0.1 fits.1.1).1)
-case_in_range (suc zero) x fits = subst CommandInRange (sym fits.2) (node_in_range fits.0 fits.1)
-case_in_range (suc (suc zero)) x fits = subst CommandInRange (sym fits.2) (node_in_range fits.0.0 fits.1.0, node_in_range fits.0.1 fits.1.1)
-case_in_range (suc (suc (suc zero))) x fits = subst CommandInRange (sym fits.2) (node_in_range fits.0.0 fits.1.0, node_in_range fits.0.1 fits.1.1)
-case_in_range (suc (suc (suc (suc zero)))) x fits = subst CommandInRange (sym fits.2) (node_in_range fits.0 fits.1)
-case_in_range (suc (suc (suc (suc (suc n))))) x fits = subst CommandInRange (sym fits.2) (node_in_range fits.0.0 fits.1.0, fits.1.1)
+case_in_range t x h1 = grind (arith, node_in_range, group_in_range)
 
 pub command_in_range : (x : Command) → command.Fits x → CommandInRange x
 unfolding command
@@ -175,13 +164,7 @@ each_fits version front (s ∷ ss) range = (step_fits version s range.0, each_fi
 
 pub batch_in_range : (version first : ℕ) (taken : List Step) → (batch version).Fits (first, taken) → IsBatch version first taken
 unfolding batch steps how_many_steps
-batch_in_range version first taken fits = record {
-  least = (from_one_to_in_range (2 ^ 40) first fits.0).0;
-  greatest = (from_one_to_in_range (2 ^ 40) first fits.0).1;
-  some = grind (arith, nat_tests, fits.1.0.1);
-  most = grind (arith, nat_tests, fits.1.0.1);
-  each = each_in_range version [] taken fits.1.1;
-}
+batch_in_range version first taken fits = grind (arith, from_one_to_in_range, each_in_range)
 
 pub batch_fits : (version first : ℕ) (taken : List Step) → IsBatch version first taken → (batch version).Fits (first, taken)
 unfolding batch steps how_many_steps

@@ -1,24 +1,18 @@
 -- What all of the bytes are read as is what they spell.
-use Rattle.std.proofs.Common.{◌≡◌, ◌↔◌, ℕ, ◌-◌, Bool, true, false, cond, List, length, Result, Ok, Err, refl, ap, subst, ◌∙◌, IfOk}
+use Rattle.std.proofs.Common.{◌≡◌, ◌↔◌, ℕ, Bool, true, false, cond, List, length, Result, Ok, Err, ap, subst, ◌∙◌, IfOk, arith}
 use Rattle.coord_batch.specs.declared.fault.CodecFault.{CodecFault}
 use Rattle.coord_batch.specs.declared.fault.FaultKind.TheVariants as kind
 use Rattle.coord_batch.specs.declared.fault.Flaw.{Flaw}
-use Rattle.coord_batch.specs.declared.fault.Flaw.TheVariants.{Short, BadByte, Extra}
-use Rattle.coord_batch.specs.Facade.{Answers, Format, bad_version, decoded, fault_at, is_version, or_fault, whole}
+use Rattle.coord_batch.specs.Facade.{Answers, Format, bad_version, decoded, is_version, or_fault, whole}
 use Rattle.coord_batch.proofs.Grammars.{IsBytes, IsGrammar, whole_found, whole_again}
 
 -- the value that is read, in the one version that there is
 read_in : {A : Type 0} (known : Bool) (n : ℕ) (read : Result A Flaw) (other : CodecFault) (x : A) → cond known (or_fault n read) (Err other) ≡ Ok x → (known ≡ true) × (read ≡ Ok x)
-read_in true n (Ok y) other x e = (refl, cc)
-read_in true n (Err f) other x e = absurd cc
-read_in false n read other x e = absurd cc
+read_in known n read other x h1 = grind arith
 
 -- in the version that there is, no fault is of the version
 no_version : {A : Type 0} (n : ℕ) (read : Result A Flaw) → or_fault n read ≡ Err bad_version → ⊥
-no_version n (Ok x) e = cc
-no_version n (Err Short) e = let same : fault_at kind.Short n ≡ bad_version = cc in let kinds : kind.Short ≡ kind.BadVersion = ap (λ f. f.kind) same in cc
-no_version n (Err (BadByte left)) e = let same : fault_at kind.BadByte (n - left) ≡ bad_version = cc in let kinds : kind.BadByte ≡ kind.BadVersion = ap (λ f. f.kind) same in cc
-no_version n (Err (Extra left)) e = let same : fault_at kind.Extra (n - left) ≡ bad_version = cc in let kinds : kind.Extra ≡ kind.BadVersion = ap (λ f. f.kind) same in cc
+no_version n read h1 = grind arith
 
 module _ {A : Type 0} (f : ℕ → Format A) (grammar : (v : ℕ) → IsGrammar (f v)) (version : ℕ) where
   decoded_found : (bytes : List ℕ) (x : A) → IsBytes bytes → decoded f version bytes ≡ Ok x → (is_version version ≡ true) × (f version).Fits x × (bytes ≡ (f version).text x)
@@ -43,13 +37,4 @@ module _ {A : Type 0} (f : ℕ → Format A) (grammar : (v : ℕ) → IsGrammar 
 
     -- the version is told where it is none, and nowhere else
     pub version_told : (result : Result X CodecFault) → (is_version version ≡ false → result ≡ Err bad_version) → Answers view result (decoded f version bytes) → (result ≡ Err bad_version) ↔ (is_version version ≡ false)
-    version_told result other answers = (
-      λ is.
-          let told : decoded f version bytes ≡ Err bad_version = subst (λ r. Answers view r (decoded f version bytes)) is answers in
-          of_test (is_version version) refl told,
-      other,
-    )
-      where
-        of_test : (b : Bool) → is_version version ≡ b → cond b (or_fault (length bytes) (whole (f version) bytes)) (Err bad_version) ≡ Err bad_version → is_version version ≡ false
-        of_test true is told = absurd (no_version (length bytes) (whole (f version) bytes) told)
-        of_test false is told = is
+    version_told result other answers = grind (arith, no_version)

@@ -72,11 +72,7 @@ IsBytes-drop : (n : ℕ) (bytes : List ℕ) → IsBytes bytes → IsBytes (drop 
 IsBytes-drop n bytes h i = rw get_or-drop (h (n + i))
 
 IsBytes-take : (n : ℕ) (bytes : List ℕ) → IsBytes bytes → IsBytes (take n bytes)
-IsBytes-take n bytes h i =
-    elim (cases_lt i n) [
-      | inl lt ↦ rw (get_or-take n bytes i 0 lt) (h i)
-      | inr le ↦ rw (get_or_past (take n bytes) i 0 (omega (arith, length-take n bytes))) (omega arith)
-    ]
+IsBytes-take n bytes h1 = grind (arith, cases_lt, get_or-take, get_or_past, length-take)
 
 byte_takes : (bytes : List ℕ) (x : ℕ) (rest : List ℕ) → IsBytes bytes → first_byte bytes ≡ Ok (x, rest) → Takes byte bytes x rest
 byte_takes [] x rest fits e = absurd cc
@@ -107,20 +103,10 @@ record IsWide (w : Width) (limit : ℕ) : Type 0 where
   pub below : (bytes : List ℕ) → IsBytes bytes → from_be_bytes w bytes < limit
 
 wide16 : IsWide w16 (2 ^ 16)
-wide16 = record {
-  len = λ n. refl;
-  back = λ bytes len fits. be_bytes_2 bytes _ len fits refl;
-  again = λ n lt. from_be_bytes-to_be_bytes_2 n lt;
-  below = λ bytes fits. omega (arith, fits 0, fits 1);
-}
+wide16 = grind (arith, be_bytes_2, from_be_bytes-to_be_bytes_2)
 
 wide64 : IsWide w64 (2 ^ 64)
-wide64 = record {
-  len = λ n. refl;
-  back = λ bytes len fits. be_bytes_8 bytes _ len fits refl;
-  again = λ n lt. from_be_bytes-to_be_bytes_8 n lt;
-  below = λ bytes fits. omega (arith, fits 0, fits 1, fits 2, fits 3, fits 4, fits 5, fits 6, fits 7);
-}
+wide64 = grind (arith, be_bytes_8, from_be_bytes-to_be_bytes_8)
 
 abbrev number : Width → ℕ → Format ℕ
 number w limit = record { text = to_be_bytes w; read = number_at w; Fits = λ n. n < limit }
@@ -198,11 +184,7 @@ module _ {A B : Type 0} (f : Format A) (g : A → Format B) (first : IsGrammar f
       ap (followed f g).read regrouped ∙ rw (first.again p.0 ((g p.0).text p.1 ++ rest) fits.0, (second p.0).again p.1 rest fits.1) refl
 
   both_cut : (p : A × B) (front rest : List ℕ) (b : ℕ) → (followed f g).Fits p → (followed f g).text p ≡ front ++ b ∷ rest → (followed f g).read front ≡ Err Short
-  both_cut p front rest b fits is =
-      elim (cut_in_two (f.text p.0) ((g p.0).text p.1) front rest b is) [
-        | inl c ↦ rw (first.cut p.0 front c.0 b fits.0 c.1) refl
-        | inr c ↦ ap (followed f g).read c.1 ∙ rw (first.again p.0 c.0 fits.0, (second p.0).cut p.1 c.0 rest b fits.1 c.2) refl
-      ]
+  both_cut p front rest b fits is = grind (arith, cut_in_two)
 
   pub followed_grammar : IsGrammar (followed f g)
   followed_grammar = record { takes = both_take; again = both_again; cut = both_cut }
@@ -221,16 +203,10 @@ module _ {A B : Type 0} (make : A → B) (parts : B → A) (f : Format A) (gramm
       })
 
   made_again : (y : B) (rest : List ℕ) → (made make parts f).Fits y → (made make parts f).read (f.text (parts y) ++ rest) ≡ Ok (y, rest)
-  made_again y rest fits =
-      let x = fits.0 in
-      let is : parts y ≡ x = ap parts fits.2 ∙ back x fits.1 in
-      rw (is, grammar.again x rest fits.1) (ap (λ z. done (z, rest)) (sym fits.2))
+  made_again y rest fits = grind arith
 
   made_cut : (y : B) (front rest : List ℕ) (b : ℕ) → (made make parts f).Fits y → f.text (parts y) ≡ front ++ b ∷ rest → (made make parts f).read front ≡ Err Short
-  made_cut y front rest b fits is =
-      let x = fits.0 in
-      let same : x ≡ parts y = sym (ap parts fits.2 ∙ back x fits.1) in
-      rw (grammar.cut x front rest b fits.1 (ap f.text same ∙ is)) refl
+  made_cut y front rest b fits is = grind arith
 
   pub made_grammar : IsGrammar (made make parts f)
   made_grammar = record { takes = made_takes; again = made_again; cut = made_cut }
@@ -347,6 +323,4 @@ module _ {A : Type 0} (f : Format A) (grammar : IsGrammar f) where
 
   -- no spelling begins another one
   pub prefix_free : (x y : A) (rest more : List ℕ) → f.Fits x → f.Fits y → f.text x ++ rest ≡ f.text y ++ more → (x ≡ y) × (rest ≡ more)
-  prefix_free x y rest more fits also same =
-      let pair : (x, rest) ≡ (y, more) = ok_is (x, rest) (y, more) (sym (grammar.again x rest fits) ∙ ap f.read same ∙ grammar.again y more also) in
-      (ap (λ (p : A × List ℕ). p.0) pair, ap (λ (p : A × List ℕ). p.1) pair)
+  prefix_free x y rest more fits also same = grind (arith, ok_is)

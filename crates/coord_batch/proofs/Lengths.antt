@@ -1,5 +1,5 @@
 -- How long spellings are.
-use Rattle.std.proofs.Common.{◌≡◌, ℕ, ◌+◌, ◌-◌, ◌^◌, ◌*◌, ◌≤◌, Bool, true, false, eqb, List, [], ◌∷◌, ◌++◌, length, ap, length-append, arith}
+use Rattle.std.proofs.Common.{◌≡◌, ℕ, ◌+◌, ◌-◌, ◌*◌, ◌≤◌, List, [], ◌∷◌, ◌++◌, length, ap, length-append, arith}
 use Rattle.std.specs.Int.{w16, w64, to_be_bytes}
 use Rattle.std.specs.List.{AllByRecursion, flat_map}
 use Rattle.std.proofs.lemmas.List.Concat.{flat_map-cons}
@@ -7,9 +7,7 @@ use Rattle.coord_types.specs.declared.messages.Msg.{Msg}
 use Rattle.coord_types.specs.declared.messages.Msg.TheVariants as msg
 use Rattle.coord_batch.specs.Facade.{StepFits}
 use Rattle.coord_types.specs.declared.steps.Command.{Command}
-use Rattle.coord_types.specs.declared.steps.Command.TheVariants.{Add, Remove, Join, Drop, Reset, Confirm}
 use Rattle.coord_types.specs.declared.steps.Step.{Step}
-use Rattle.coord_types.specs.declared.steps.Step.TheVariants.{Order, Take, Clear}
 use Rattle.coord_batch.specs.Fields.{at_most, node, group, client, distance, unless, message, message_case, from_one}
 use Rattle.coord_batch.specs.Steps.{command, command_case, data_packet, order, receipt_packet, step, step_case}
 
@@ -27,42 +25,27 @@ aborted msg.Ack = 0
 aborted msg.Ready = 0
 
 pub aborted_le : (m : Msg) → aborted m ≤ 1
-aborted_le (msg.Abort k) = omega arith
-aborted_le msg.Ack = omega arith
-aborted_le msg.Ready = omega arith
+aborted_le m = grind arith
 
 -- a distance has eight bytes, and in version 1 none
 pub length-distance : (version most n : ℕ) → length ((distance version most).text n) ≤ 8
 unfolding distance unless at_most
-length-distance version most n = by_version (eqb version 1)
-  where
-    by_version : (b : Bool) → length ((unless b most).text n) ≤ 8
-    by_version true = omega arith
-    by_version false = omega arith
+length-distance version most n = grind arith
 
 -- a message is a byte, and an Abort's distance
 pub length-message : (version most : ℕ) (m : Msg) → length ((message version most).text m) ≤ 1 + 8 * aborted m
 unfolding message message_case
-length-message version most (msg.Abort k) = omega (arith, length-distance version most k)
-length-message version most msg.Ack = omega arith
-length-message version most msg.Ready = omega arith
+length-message version most m = grind (arith, length-distance)
 
 -- a Confirm is the longest command: its form, a node and an epoch
 pub length-command : (x : Command) → length (command.text x) ≤ 10
 unfolding command command_case node group
-length-command (Add u g) = omega arith
-length-command (Remove u) = omega arith
-length-command (Join a b) = omega arith
-length-command (Drop a b) = omega arith
-length-command (Reset u) = omega arith
-length-command (Confirm u e) = omega arith
+length-command x = grind arith
 
 -- a client's Confirm and a data packet are the longest steps
 length-step : (version : ℕ) (s : Step) → length ((step version).text s) ≤ 28
 unfolding step step_case order client from_one data_packet receipt_packet node
-length-step version (Order c n x) = omega (arith, length-command x)
-length-step version (Take p) = let bytes = length-message version (2 ^ 64 - 1) p.msg in let most = aborted_le p.msg in omega (arith, bytes, most)
-length-step version (Clear r) = omega arith
+length-step version s = grind (arith, length-command, length-message, aborted_le)
 
 -- a spelling of at most 256 steps
 pub few_bytes : (version first count : ℕ) (ss : List Step) (out : List ℕ) → length ss ≤ 256 → AllByRecursion (StepFits version) ss → out ≡ (to_be_bytes w64 first ++ to_be_bytes w16 count) ++ flat_map (step version).text ss → length out ≤ 8192

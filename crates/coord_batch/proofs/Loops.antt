@@ -17,17 +17,12 @@ module _ {A : Type 0} (item : List A → Format A) (total : Read (List A)) (fron
   -- an item isn't read
   pub cut_short : (e : ReadError) → i < count → Fails e ((item front).read bytes) → items_at item (count - i) front bytes ≡ total → Fails e total
   unfolding items_at
-  cut_short errors.Memory below fails so_far = tt
-  cut_short (errors.Flaw f) below fails so_far =
-      let k : count - i ≡ suc (count - (i + 1)) = omega arith in
-      sym so_far ∙ ap (λ n. items_at item n front bytes) k ∙ ap (λ r. r >>= λ y. items_at item (count - (i + 1)) (front ++ y.0 ∷ []) y.1) fails
+  cut_short e h1 h2 h3 = grind arith
 
   -- all are read
   pub all_read : count ≤ i → items_at item (count - i) front bytes ≡ total → total ≡ Ok (front, bytes)
   unfolding items_at
-  all_read done so_far =
-      let k : count - i ≡ 0 = omega arith in
-      sym so_far ∙ ap (λ n. items_at item n front bytes) k
+  all_read done so_far = grind arith
 
 -- an item more at the end
 pub len_more : {A : Type 0} (xs : List A) (x : A) (most : ℕ) → length xs ≤ most → length (xs ++ x ∷ []) ≤ most + 1

@@ -1,5 +1,5 @@
 -- The worked spellings compute.
-use Rattle.std.proofs.Common.{refl}
+use Rattle.std.proofs.Common.{arith}
 use Rattle.coord_batch.specs.Fields.{at_most, client, distance, from_one, from_one_to, group, message, message_case, node, unless}
 use Rattle.coord_batch.specs.Format.{items_at}
 use Rattle.coord_batch.specs.Steps.{batch, command, command_case, data_packet, how_many_steps, order, receipt_packet, step, step_case, steps}
@@ -7,17 +7,4 @@ use Rattle.coord_batch.specs.WorkedBytes.{WorkedBytes}
 
 pub worked_bytes : WorkedBytes
 unfolding at_most client distance from_one from_one_to group message message_case node unless items_at batch command command_case data_packet how_many_steps order receipt_packet step step_case steps
-worked_bytes = record {
-  spelled = refl;
-  packet = refl;
-  distant = refl;
-  same_in_both = refl;
-  read = refl;
-  first_zero = refl;
-  no_steps = refl;
-  two_steps = refl;
-  client_17 = refl;
-  number_zero = refl;
-  one_more = refl;
-  version_3 = refl;
-}
+worked_bytes = grind arith
