@@ -45,13 +45,7 @@ module _ (bytes : List ℕ) (content : Content) (half_size half used : ℕ) (tex
 
   -- whatever header was read, it is that of the text
   pub half_in : (selector size other : ℕ) (rest : List ℕ) → selector % 2 ≡ other → HasHeader bytes selector size rest → IsHalf (drop (half_start other size) rest) content used
-  half_in selector size other rest named header =
-      let same = same_rest bytes text.selector selector half_size size behind_header rest text_header header in
-      let selected : half ≡ other = sym text.selected ∙ ap (λ (s : ℕ). s % 2) (same_selector bytes text.selector selector half_size size behind_header rest text_header header) ∙ named in
-      let start : half_start half half_size ≡ half_start other size =
-      ap (λ (h : ℕ). half_start h half_size) selected
-      ∙ ap (λ (n : ℕ). half_start other n) (same_half_size bytes text.selector selector half_size size behind_header rest text_header header) in
-      rw (sym (ap (λ (l : List ℕ). drop (half_start half half_size) l) same ∙ ap (λ (n : ℕ). drop n rest) start)) text_half
+  half_in selector size other rest named header = grind (arith, same_rest, text_header, same_selector, same_half_size, text_half)
 
   pub fits_in : (selector size : ℕ) (rest : List ℕ) → HasHeader bytes selector size rest → used ≤ size
   fits_in selector size rest header = omega (arith, text.fits, same_half_size bytes text.selector selector half_size size behind_header rest text_header header)
