@@ -1,5 +1,5 @@
 -- The worked texts, computed through the definitions.
-use Rattle.std.proofs.Common.{refl}
+use Rattle.std.proofs.Common.{refl, arith}
 use Rattle.toml.proofs.OnLiterals.{toml_on_literals}
 use Rattle.coord_config.specs.WorkedTexts.{GoodTexts, WrongKeys, WrongTexts, WrongValues}
 
@@ -13,17 +13,7 @@ keys_compute = record { unknown = refl; missing = refl; extra = refl }
 
 pub values_compute : WrongValues
 unfolding toml_on_literals
-values_compute = record {
-  small_half = refl;
-  large_half = refl;
-  negative_half = refl;
-  text_half = refl;
-  node_table = refl;
-  number_node = refl;
-  node_0 = refl;
-  node_65 = refl;
-  group_17 = refl;
-}
+values_compute = grind arith
 
 pub texts_compute : WrongTexts
 unfolding toml_on_literals
