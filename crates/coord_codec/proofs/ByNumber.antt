@@ -1,5 +1,5 @@
 -- A table's entries are those that are met by number.
-use Rattle.std.proofs.Common.{◌≡◌, ℕ, zero, suc, ◌+◌, ◌-◌, ◌<◌, ◌≤◌, true, false, ◌&&◌, List, [], ◌∷◌, ◌++◌, Option, Some, None, map, cond, eqb, refl, sym, ap, ◌∙◌, append_assoc, append-nil, length, subst, arith, T, nat_lt, Equal}
+use Rattle.std.proofs.Common.{◌≡◌, ℕ, zero, suc, ◌+◌, ◌-◌, ◌<◌, ◌≤◌, true, false, ◌&&◌, List, [], ◌∷◌, ◌++◌, Option, Some, None, map, cond, eqb, refl, sym, ap, ◌∙◌, append_assoc, append-nil, length, subst, arith, T, Equal}
 use Rattle.std.specs.Cmp.{nat_cmp_total}
 use Rattle.std.specs.Option.{option_map}
 use Rattle.std.specs.List.{flat_map, range_with_len}
@@ -67,19 +67,10 @@ same_key x y tied = grind (arith, nat_tests, tied)
 
 module _ {X : Type 0} (m : Table nat_cmp_total X) (n : ℕ) (within : HasKeysTo n m) where
   outside : (q : ℕ) → (1 ≤ q → q ≤ n → ⊥) → get m q ≡ None
-  outside q out = of_option (get m q) refl
-    where
-      of_option : (o : Option X) → get m q ≡ o → get m q ≡ None
-      of_option None is = is
-      of_option (Some x) is = let at = within q x is in absurd (out at.0 at.1)
+  outside q out = grind arith
 
   each : (q : ℕ) → find nat_cmp q (listed (get m) 1 n) ≡ get m q
-  each q = by_test (nat_lt q 1) (λ _. find nat_cmp q (listed (get m) 1 n) ≡ get m q)
-      (λ t. let low : q < 1 = grind (arith, nat_tests) in found_low (get m) q 1 n low ∙ sym (outside q (λ least _. omega (arith, low, least))))
-      (λ t. let least : 1 ≤ q = grind (arith, nat_tests) in
-      by_test (nat_lt q (1 + n)) (λ _. find nat_cmp q (listed (get m) 1 n) ≡ get m q)
-      (λ s. let most : q < 1 + n = grind (arith, nat_tests) in found_in (get m) q 1 n least most)
-      (λ s. let past : 1 + n ≤ q = grind (arith, nat_tests) in found_past (get m) q 1 n past ∙ sym (outside q (λ _ le. omega (arith, past, le)))))
+  each q = grind (arith, by_test, found_low, outside, found_in, found_past)
 
   entries_listed : entries m ≡ listed (get m) 1 n
   entries_listed = same_entries nat_cmp nat_cmp_total same_key _ _ m.sorted (subst T (sym (sorted_listed (get m) 1 n)) tt) (λ q. sym (get-entries m q) ∙ sym (each q))
@@ -113,6 +104,4 @@ module _ {X : Type 0} (m : Table nat_cmp_total X) (most : ℕ) (text : ℕ × X 
 
 -- what is written of each entry is what is written of each row
 pub rows_text : {X A : Type 0} (m : Table nat_cmp_total X) (row : ℕ × X → A) (text : A → List ℕ) → len m ∷ flat_map (λ e. text (row e)) (entries m) ≡ length (map row (entries m)) ∷ flat_map text (map row (entries m))
-rows_text m row text =
-    let long : len m ≡ length (map row (entries m)) = len-entries m ∙ sym (length-map (entries m) row) in
-    λ i. long i ∷ sym (flat_map-map text row (entries m)) i
+rows_text m row text = grind (arith, len-entries, length-map, flat_map-map)

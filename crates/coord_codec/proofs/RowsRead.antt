@@ -1,5 +1,5 @@
 -- What the rows that were read say of the next one: rows in order, and what one more row changes.
-use Rattle.std.proofs.Common.{◌≡◌, ℕ, ◌+◌, ◌≤◌, true, ◌&&◌, List, [], ◌∷◌, ◌++◌, map, length, refl, ap, ◌∙◌, arith, Ordering, is_lt, nat_cmp, Less, ◌≢◌, ◌-◌, ◌<◌, Bool, false, ◌||◌, Option, Some, None, get_or, set, cond, eqb, sym, subst, IsSome}
+use Rattle.std.proofs.Common.{◌≡◌, ℕ, ◌+◌, ◌≤◌, true, ◌&&◌, List, [], ◌∷◌, ◌++◌, map, length, refl, ap, ◌∙◌, arith, Ordering, is_lt, nat_cmp, Less, ◌≢◌, ◌-◌, ◌<◌, Bool, false, ◌||◌, Option, Some, None, get_or, set, cond, eqb, sym, IsSome}
 use Rattle.std.specs.Cmp.{IsTotalOrder}
 use Rattle.std.specs.List.{AllByRecursion}
 use Rattle.std.specs.FinMap.Entries.{below_all, is_sorted, find}
@@ -106,21 +106,11 @@ module _ (groups : List (Option ℕ)) (rows : List NodeRow) (r : NodeRow) (least
 
   -- one that has a group keeps it
   group_kept : (g : ℕ) → get_or groups (r.id - 1) None ≡ Some g → (u : ℕ) → 1 ≤ u → u ≤ 64 → get_or groups (u - 1) None ≡ group_of (rows ++ r ∷ []) u
-  group_kept g some u low high = known u low high ∙ by_test (eqb u r.id) (λ t. group_of rows u ≡ or_else (group_of rows u) (cond t (Some r.group) None))
-      (λ is.
-      let same : u ≡ r.id = grind (arith, nat_tests) in
-      let there : group_of rows u ≡ Some g = ap (group_of rows) same ∙ sym (known r.id least most) ∙ some in
-      there ∙ sym (ap (λ o. or_else o (Some r.group)) there))
-      (λ is. sym (else_none (group_of rows u)))
-      ∙ sym (group_push u rows r)
+  group_kept g some u low high = grind (arith, by_test, else_none, group_push)
 
   -- so the group is known where it was noted in either way
   pub group_noted : (new : List (Option ℕ)) → (get_or groups (r.id - 1) None ≡ None → new ≡ set groups (r.id - 1) (Some r.group)) → (IsSome (get_or groups (r.id - 1) None) → new ≡ groups) → (u : ℕ) → 1 ≤ u → u ≤ 64 → get_or new (u - 1) None ≡ group_of (rows ++ r ∷ []) u
-  group_noted new fresh kept u low high = of_option (get_or groups (r.id - 1) None) refl
-    where
-      of_option : (o : Option ℕ) → get_or groups (r.id - 1) None ≡ o → get_or new (u - 1) None ≡ group_of (rows ++ r ∷ []) u
-      of_option None is = ap (λ l. get_or l (u - 1) None) (fresh is) ∙ group_set is u low high
-      of_option (Some g) is = ap (λ l. get_or l (u - 1) None) (kept (subst IsSome (sym is) refl)) ∙ group_kept g is u low high
+  group_noted new fresh kept u low high = grind (arith, group_set, group_kept)
 
 -- ---- the last ends
 
@@ -154,9 +144,7 @@ degree_most u (x ∷ rows) =
 
 -- what stands at each place then
 pub get_raised : (ds : List ℕ) (i j : ℕ) → i < length ds → get_or (raised ds i) j 0 ≡ get_or ds j 0 + one (eqb j i)
-get_raised ds i j within = by_test (eqb j i) (λ t. get_or (raised ds i) j 0 ≡ get_or ds j 0 + one t)
-    (λ is. let same : j ≡ i = grind (arith, nat_tests) in ap (λ k. get_or (raised ds i) k 0) same ∙ get_or-set_same ds i (get_or ds i 0 + 1) 0 within ∙ ap (λ k. get_or ds k 0 + 1) (sym same))
-    (λ is. let apart : j ≢ i = λ e. let tested : eqb j i ≡ true = grind (arith, nat_tests) in cc in get_or-set_other ds i j (get_or ds i 0 + 1) 0 apart ∙ omega arith)
+get_raised ds i j within = grind (arith, by_test, get_or-set_same, get_or-set_other)
 
 place : (u a : ℕ) → 1 ≤ u → 1 ≤ a → eqb (u - 1) (a - 1) ≡ eqb u a
 place u a low least = by_test (eqb u a) (λ t. eqb (u - 1) (a - 1) ≡ t) (λ is. let same : u ≡ a = grind (arith, nat_tests) in let e : u - 1 ≡ a - 1 = omega arith in grind (arith, nat_tests))
@@ -164,10 +152,7 @@ place u a low least = by_test (eqb u a) (λ t. eqb (u - 1) (a - 1) ≡ t) (λ is
 
 -- one of two tests that do not both hold
 either : (p q : Bool) → (p ≡ true → q ≡ false) → one p + one q ≡ one (p || q)
-either true true apart = let never = apart refl in cc
-either true false apart = omega arith
-either false true apart = omega arith
-either false false apart = omega arith
+either p q h1 = grind arith
 
 module _ (ds : List ℕ) (rows : List LinkRow) (r : LinkRow) (all : length ds ≡ 64) (least : 1 ≤ r.a) (most : r.a ≤ 64) (low : 1 ≤ r.b) (high : r.b ≤ 64)
     (known : (u : ℕ) → 1 ≤ u → u ≤ 64 → get_or ds (u - 1) 0 ≡ degree u rows) where
@@ -185,12 +170,4 @@ module _ (ds : List ℕ) (rows : List LinkRow) (r : LinkRow) (all : length ds �
 
   -- a link of a node to itself counts once
   pub one_raised : r.a - 1 ≡ r.b - 1 → (u : ℕ) → 1 ≤ u → u ≤ 64 → get_or (raised ds (r.a - 1)) (u - 1) 0 ≡ degree u (rows ++ r ∷ [])
-  one_raised same u from to =
-      let ends : r.b ≡ r.a = omega arith in
-      get_raised ds (r.a - 1) (u - 1) (omega arith) ∙ (λ i. known u from to i + one (place u r.a from least i))
-      ∙ ap (λ b. degree u rows + one b) (twice (eqb u r.a)) ∙ ap (λ e. degree u rows + one (eqb u r.a || eqb u e)) (sym ends)
-      ∙ sym (degree_push u rows r)
-    where
-      twice : (b : Bool) → b ≡ (b || b)
-      twice true = refl
-      twice false = refl
+  one_raised same u from to = grind (arith, get_raised, place, degree_push)

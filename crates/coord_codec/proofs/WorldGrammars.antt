@@ -1,5 +1,5 @@
 -- The formats of worlds are grammars, and so what spells a world is read as that world.
-use Rattle.std.proofs.Common.{◌≡◌, ℕ, Bool, true, false, eqb, List, [], ◌∷◌, ◌++◌, length, refl, ap, zero, suc, ◌<◌, ◌^◌, leb, ltb, arith, Result, Ok, Err, subst, IfOk}
+use Rattle.std.proofs.Common.{◌≡◌, ℕ, true, List, [], ◌∷◌, ◌++◌, length, refl, ap, zero, suc, ◌<◌, ◌^◌, leb, ltb, arith, Result, Ok, Err, subst, IfOk}
 use Rattle.std.specs.Int.{w64, to_be_bytes}
 use Rattle.std.specs.List.{flat_map}
 use Rattle.std.proofs.lemmas.Bool.Decides.{nat_tests}
@@ -23,7 +23,7 @@ use Rattle.coord_world.specs.Facade.{InRange, World, rows_of}
 use Rattle.coord_world.proofs.Facade.{rows_give_world, rows_of_world_fit}
 use Rattle.coord_batch.specs.declared.fault.CodecFault.{CodecFault}
 use Rattle.coord_batch.specs.declared.fault.FaultKind.{FaultKind}
-use Rattle.coord_batch.specs.declared.fault.FaultKind.TheVariants.{OutOfMemory, Short, BadByte, Extra, BadVersion}
+use Rattle.coord_batch.specs.declared.fault.FaultKind.TheVariants.{Short, Extra}
 use Rattle.coord_batch.specs.Decoding.{Answers, Unless, decoded, is_version}
 use Rattle.coord_batch.proofs.Decoded.{answers_found, answers_only}
 use Rattle.coord_codec.proofs.WorldRows.{rows_fit, version_fits}
@@ -36,17 +36,11 @@ use Rattle.coord_types.specs.declared.messages.Msg.TheVariants as msg
 -- how a distance is spelled does not depend on what it may be
 distance_text : (version most other n : ℕ) → (distance version most).text n ≡ (distance version other).text n
 unfolding distance unless at_most
-distance_text version most other n = by_version (eqb version 1)
-  where
-    by_version : (b : Bool) → (unless b most).text n ≡ (unless b other).text n
-    by_version true = refl
-    by_version false = refl
+distance_text version most other n = grind arith
 
 message_text : (version most : ℕ) (m : Msg) → (message version most).text m ≡ (message version 0).text m
 unfolding message message_case
-message_text version most (msg.Abort k) = ap (λ t. 0 ∷ t) (distance_text version most 0 k)
-message_text version most msg.Ack = refl
-message_text version most msg.Ready = refl
+message_text version most m = grind (arith, distance_text)
 
 node_row_text : (version count : ℕ) (r : NodeRow) → (node_row version count []).text r ≡ (node_row version 0 []).text r
 unfolding node_row at_most node group mode parent mask
@@ -82,9 +76,7 @@ world_text r = λ i. to_be_bytes w64 r.count ++ (nodes_text r.version r.count r.
 -- ---- fields
 
 mode_again : (n : ℕ) → n < 3 → mode_number (mode_from n) ≡ n
-mode_again zero below = refl
-mode_again (suc zero) below = refl
-mode_again (suc (suc n)) below = omega arith
+mode_again n h1 = grind arith
 
 mode_grammar : IsGrammar mode
 unfolding mode
@@ -103,10 +95,7 @@ unfolding mask
 mask_grammar = made_grammar nodes_of mask_of u64 u64_grammar (λ bits fits. mask_back bits fits)
 
 kind_again : (n : ℕ) → n < 4 → kind_number (kind_from n) ≡ n
-kind_again zero below = refl
-kind_again (suc zero) below = refl
-kind_again (suc (suc zero)) below = refl
-kind_again (suc (suc (suc n))) below = omega arith
+kind_again n h1 = grind arith
 
 kind_grammar : (x : Command) → IsGrammar (kind x)
 unfolding kind
@@ -182,19 +171,11 @@ world_grammar version =
 
 -- what is read is in its ranges, and is spelled so
 pub world_found : (version : ℕ) (bytes : List ℕ) (result : Result World CodecFault) → IsBytes bytes → IfOk result InRange → Answers rows_of result (decoded world version bytes) → IfOk result (λ v. (v.version ≡ version) × InRange v × (bytes ≡ (world version).text (rows_of v)))
-world_found version bytes result fits ranges answers = of_result result ranges (answers_found world world_grammar version rows_of bytes result fits answers)
-  where
-    of_result : (r : Result World CodecFault) → IfOk r InRange → IfOk r (λ v. (is_version version ≡ true) × (world version).Fits (rows_of v) × (bytes ≡ (world version).text (rows_of v))) → IfOk r (λ v. (v.version ≡ version) × InRange v × (bytes ≡ (world version).text (rows_of v)))
-    of_result (Ok v) range found = (version_fits version (rows_of v) found.1, range, found.2)
-    of_result (Err e) range found = tt
+world_found version bytes result fits ranges answers = grind (arith, answers_found, world_grammar, version_fits)
 
 -- what is said of every fault but want of memory, in other words
 weaker : (k : FaultKind) (P Q : Type 0) → (P → Q) → Unless k P → Unless k Q
-weaker OutOfMemory P Q to said = tt
-weaker Short P Q to said = to said
-weaker BadByte P Q to said = to said
-weaker Extra P Q to said = to said
-weaker BadVersion P Q to said = to said
+weaker k P Q h1 h2 = grind arith
 
 -- an answer with these rows is this world
 same_world : (w : World) (result : Result World CodecFault) → InRange w → IfOk result InRange → Answers rows_of result (Ok (rows_of w)) → Answers (λ v. v) result (Ok w)

@@ -1,5 +1,5 @@
 -- Which rows the world's format can spell: those that fit together.
-use Rattle.std.proofs.Common.{◌≡◌, ℕ, zero, suc, ◌+◌, ◌<◌, ◌≤◌, ◌^◌, Bool, true, false, ltb, eqb, List, [], ◌∷◌, ◌++◌, Option, Some, None, length, cond, refl, sym, ap, subst, ◌∙◌, arith, append_assoc, append-nil}
+use Rattle.std.proofs.Common.{◌≡◌, ℕ, zero, suc, ◌+◌, ◌<◌, ◌≤◌, ◌^◌, true, false, eqb, List, [], ◌∷◌, ◌++◌, Option, Some, None, length, cond, refl, sym, ap, subst, ◌∙◌, arith, append_assoc, append-nil}
 use Rattle.std.specs.Ordering.{eq_by_cmp, is_lt, nat_cmp}
 use Rattle.std.specs.Cmp.{nat_cmp_total}
 use Rattle.std.specs.List.{AllByRecursion}
@@ -38,10 +38,7 @@ mode_fits modes.Converge = (2, (omega arith, refl), refl)
 
 parent_in_range : (o : Option ℕ) → parent.Fits o → (p : ℕ) → o ≡ Some p → IsNode p
 unfolding parent
-parent_in_range o (zero, range, is) p some = let none = sym is ∙ some in cc
-parent_in_range o (suc n, range, is) p some =
-    let same : suc n ≡ p = let both_are = sym is ∙ some in cc in
-    (omega (arith, same), grind (arith, nat_tests, range.1, same))
+parent_in_range o h1 p h2 = grind arith
 
 parent_fits : (o : Option ℕ) → ((p : ℕ) → o ≡ Some p → IsNode p) → parent.Fits o
 unfolding parent
@@ -64,29 +61,17 @@ kind_in_range x k fits = fits.1
 -- a distance up to a number is one within what the version allows
 distance_in : (version most n : ℕ) → (distance version most).Fits n → n ≤ farthest version most
 unfolding distance unless
-distance_in version most n fits = by_version (eqb version 1) fits
-  where
-    by_version : (b : Bool) → (unless b most).Fits n → n ≤ cond b 0 most
-    by_version true is = omega (arith, is)
-    by_version false is = at_most_in_range most n is
+distance_in version most n fits = grind (arith, at_most_in_range)
 
 distance_fits : (version most n : ℕ) → most < 2 ^ 64 → n ≤ farthest version most → (distance version most).Fits n
 unfolding distance unless
-distance_fits version most n small few = by_version (eqb version 1) few
-  where
-    by_version : (b : Bool) → n ≤ cond b 0 most → (unless b most).Fits n
-    by_version true le = omega (arith, le)
-    by_version false le = at_most_fits most n small le
+distance_fits version most n small few = grind (arith, at_most_fits)
 
 node_distance_in : (version count n : ℕ) (m : Mode) → (distance version (most_distance m count)).Fits n → (n ≤ farthest version count) × (m ≡ modes.Ready → n ≡ 0)
-node_distance_in version count n modes.Ready fits = let none = distance_in version 0 n fits in let le = farthest_le version 0 in (omega (arith, none, le), λ _. omega (arith, none, le))
-node_distance_in version count n modes.Abort fits = (distance_in version count n fits, λ e. cc)
-node_distance_in version count n modes.Converge fits = (distance_in version count n fits, λ e. cc)
+node_distance_in version count n m h1 = grind (arith, distance_in, farthest_le)
 
 node_distance_fits : (version count n : ℕ) (m : Mode) → count < 2 ^ 64 → n ≤ farthest version count → (m ≡ modes.Ready → n ≡ 0) → (distance version (most_distance m count)).Fits n
-node_distance_fits version count n modes.Ready small few ready = let none = ready refl in distance_fits version 0 n (omega arith) (omega (arith, none))
-node_distance_fits version count n modes.Abort small few ready = distance_fits version count n small few
-node_distance_fits version count n modes.Converge small few ready = distance_fits version count n small few
+node_distance_fits version count n m h1 h2 h3 = grind (arith, distance_fits)
 
 -- ---- rows by number
 
@@ -173,9 +158,7 @@ abbrev link_key : LinkRow → ℕ × ℕ
 link_key r = (r.a, r.b)
 
 one_group : (p q : Option ℕ) → same_group p q ≡ true → (g : ℕ) × (p ≡ Some g) × (q ≡ Some g)
-one_group None q is = cc
-one_group (Some g) None is = cc
-one_group (Some g) (Some h) is = (g, refl, grind (arith, nat_tests))
+one_group p q h1 = grind arith
 
 in_one_group : (p q : Option ℕ) (g : ℕ) → p ≡ Some g → q ≡ Some g → same_group p q ≡ true
 in_one_group p q g first second = (λ i. same_group (first i) (second i)) ∙ grind (arith, nat_tests)
@@ -192,18 +175,7 @@ record Linked (listed : List NodeRow) (front : List LinkRow) (a b : ℕ) : Type 
 
 ends_in : (listed : List NodeRow) (front : List LinkRow) (a b : ℕ) → (ends listed front).Fits (a, b) → Linked listed front a b
 unfolding ends
-ends_in listed front a b fits =
-    let room = both (same_group (group_of listed a) (group_of listed b)) _ fits.1 in
-    let rooms = both (ltb (degree a front) 16) (ltb (degree b front) 16) room.1 in
-    record {
-      first = node_in_range a fits.0.0.0;
-      second = node_in_range b fits.0.1.0;
-      turned = grind (arith, nat_tests, fits.0.1.1);
-      rises = grind (arith, nat_tests, fits.0.0.1, fits.0.1.1);
-      group = one_group (group_of listed a) (group_of listed b) room.0;
-      first_room = grind (arith, nat_tests, rooms.0);
-      second_room = grind (arith, nat_tests, rooms.1);
-    }
+ends_in listed front a b fits = grind (arith, both, node_in_range, one_group)
 
 ends_fit : (listed : List NodeRow) (front : List LinkRow) (a b : ℕ) → Linked listed front a b → (ends listed front).Fits (a, b)
 unfolding ends
@@ -306,10 +278,7 @@ module _ (version count : ℕ) (listed : List NodeRow) (small : count < 2 ^ 64) 
 
   -- a node of the last link has room for one more
   room_more : (front : List LinkRow) (r : LinkRow) → LinkedRow front r → ((u : ℕ) → degree u front ≤ 16) → (u : ℕ) → degree u (front ++ r ∷ []) ≤ 16
-  room_more front r row few u =
-      let at_first : eqb u r.a ≡ true → degree u front < 16 = λ t. let same : u ≡ r.a = grind (arith, nat_tests) in rw same row.first_room in
-      let at_second : eqb u r.b ≡ true → degree u front < 16 = λ t. let same : u ≡ r.b = grind (arith, nat_tests) in rw same row.second_room in
-      grind (arith, nat_tests, degree-push u front r, few u, at_first, at_second)
+  room_more front r row few u = grind (arith, degree-push)
 
   record LinkedRows (front rs : List LinkRow) : Type 0 where
     pub ranges : AllByRecursion (LinkRowFits count listed) rs
@@ -384,25 +353,7 @@ kind_fits (Confirm u e) kinds.Cleared is = cc
 module _ (count : ℕ) where
   client_row_in : (front : List ClientRow) (r : ClientRow) → (client_row count front).Fits r → ClientRowFits count r × (is_lt (nat_cmp (last_by client_key 0 front) r.client) ≡ true)
   unfolding client_row
-  client_row_in front r fits =
-      let p = fits.0 in
-      let f = fits.1 in
-      let id = client_in_range p.0 f.0.0 in
-      let number = from_one_to_in_range count p.1.0 f.1.0 in
-      let step = from_one_to_in_range count p.1.1.1.0 f.1.1.1.0 in
-      rw fits.2 (
-        record {
-          least = id.0;
-          greatest = id.1;
-          ordered = command_in_range p.1.1.0 f.1.1.0;
-          first = number.0;
-          last = number.1;
-          replied = step.0;
-          replied_by = step.1;
-          answered = kind_in_range p.1.1.0 p.1.1.1.1 f.1.1.1.1;
-        },
-        grind (arith, nat_tests, f.0.1),
-      )
+  client_row_in front r fits = grind (arith, client_in_range, from_one_to_in_range, command_in_range, kind_in_range)
 
   client_row_fits : count < 2 ^ 64 → (front : List ClientRow) (r : ClientRow) → ClientRowFits count r → is_lt (nat_cmp (last_by client_key 0 front) r.client) ≡ true → (client_row count front).Fits r
   unfolding client_row
