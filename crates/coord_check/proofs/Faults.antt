@@ -138,11 +138,7 @@ tried_are = refl
 module _ (w : World) (a b : ℕ) where
   -- the faults of a link that is there
   pub there : is_linked w a b ≡ true → link_faults w a b ≡ flat_map (letter_faults w a b) link_letters
-  there is = of_test (is_linked w a b) is
-    where
-      of_test : (t : Bool) → t ≡ true → (if t then flat_map (letter_faults w a b) link_letters else []) ≡ flat_map (letter_faults w a b) link_letters
-      of_test true e = refl
-      of_test false e = cc
+  there is = grind arith
 
   pub left_is : (i : ℕ) → first (flat_map (letter_faults w a b) (drop i tried)) ≡ first (flat_map (letter_faults w a b) (drop i link_letters))
   left_is i = ap (λ xs. first (flat_map (letter_faults w a b) (drop i xs))) tried_are
@@ -202,15 +198,7 @@ all_told P false v fails = (fails refl, tt)
 module _ (w : World) (range : InRange w) where
   -- a letter that fails at a link
   at_link : (u v : ℕ) → is_linked w u v ≡ true → (x : Letter) → link_holds w u v x ≡ false → FailsAt w u v x
-  at_link u v is letter.N fails = cc
-  at_link u v is letter.A fails = (is, fails)
-  at_link u v is letter.B fails = (is, fails)
-  at_link u v is letter.C fails = (is, fails)
-  at_link u v is letter.D fails = (is, fails)
-  at_link u v is letter.E fails = (is, fails)
-  at_link u v is letter.F fails = (is, fails)
-  at_link u v is letter.G fails = (is, fails)
-  at_link u v is letter.H fails = (is, fails)
+  at_link u v h1 x h2 = grind arith
 
   end_fails : (u v : ℕ) → is_linked w u v ≡ true → (x : Letter) → AllByRecursion (Fails w) (end_faults w u v x)
   end_fails u v is x = all_told (Fails w) (link_holds w u v x) (record { a = u; b = v; letter = x }) (at_link u v is x)

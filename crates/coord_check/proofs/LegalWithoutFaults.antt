@@ -96,16 +96,10 @@ module _ (w : World) (range : InRange w) where
         of_test false is = ap (λ t. if t then flat_map (letter_faults w a b) link_letters else []) is
 
     no_node_fault : (u : ℕ) → node_faults w u ≡ []
-    no_node_fault u = of_option (get w.nodes u) refl
-      where
-        of_option : (o : Option NodeState) → get w.nodes u ≡ o → node_told u o ≡ []
-        of_option None is = refl
-        of_option (Some r) is = not_told _ _ (legal.nodes u r is)
+    no_node_fault u = grind (arith, not_told)
 
     pub clear_where_legal : faults w ≡ []
-    clear_where_legal =
-        empty_both _ _ (tell_none (node_faults w) 1 (λ u le lt. no_node_fault u))
-        (tell_none (faults_from w) 1 (λ a le lt. tell_none (link_faults w a) (a + 1) (λ b more most. no_link_fault a b)))
+    clear_where_legal = grind (arith, empty_both, tell_none, no_node_fault, no_link_fault)
 
   -- no fault is the first one exactly where the world is legal
   pub clear_or_not : (o : Option Violation) → o ≡ first (faults w) → (IsNone o → Legal w) × (Legal w → IsNone o)
