@@ -37,9 +37,7 @@ none_among (e ∷ es) k q x none apart =
     (λ _ is. cc) (λ _ is. none_among es k q x is apart) none
 
 other_pair : (u v a b : ℕ) → pair_place u v ≢ pair_place a b → eq_by_cmp pair_cmp (u, v) (a, b) ≡ false
-other_pair u v a b apart =
-    by_test (eq_by_cmp pair_cmp (u, v) (a, b)) (λ t. t ≡ false)
-    (λ tied. let one : u ≡ a = grind (arith, nat_tests) in let two : v ≡ b = grind (arith, nat_tests) in absurd (apart (λ i. pair_place (one i) (two i)))) (λ e. refl)
+other_pair u v a b apart = grind (arith, by_test)
 
 -- the next entry is noted
 pub one_noted : {X : Type 0} (n : ℕ) (places : List ℕ) (es : Entries X) (a b : ℕ) (x : X) → IsNode a → IsNode b → slice_get es n ≡ Some ((a, b), x) → IsIndexOfFirst n places es →

@@ -1,5 +1,5 @@
 -- Links in ascending order with a table of their places: what is found there, and that they stay so through each change.
-use Rattle.std.proofs.Common.{◌≡◌, ℕ, zero, suc, ◌+◌, ◌<◌, ◌≤◌, ◌-◌, Bool, true, false, ◌&&◌, not, List, [], ◌∷◌, ◌++◌, Option, Some, None, map, length, cond, eqb, refl, sym, ap, ◌∙◌, subst, arith, is_some, nat_lt, set, get_or, slice_get, slice_index, take, drop, replicate}
+use Rattle.std.proofs.Common.{◌≡◌, ℕ, zero, suc, ◌<◌, ◌≤◌, ◌-◌, Bool, true, false, ◌&&◌, not, List, [], ◌∷◌, ◌++◌, Option, Some, None, map, length, cond, eqb, refl, sym, ap, ◌∙◌, subst, arith, is_some, nat_lt, set, get_or, slice_get, slice_index, take, drop, replicate}
 use Rattle.std.proofs.lemmas.Bool.Decides.{nat_tests}
 use Rattle.std.proofs.lemmas.List.{drop-map, length-set, map-append, map-set, take-map}
 use Rattle.std.proofs.lemmas.Option.{get_or_from_slice_get, slice_get-map, slice_get_within}
@@ -42,11 +42,7 @@ module _ (rows : List LinkRow) (places : List ℕ) (are : AreIndexed rows places
 
   -- the row at a place that is noted has the ends that it is noted for
   pub row_there : (a b i : ℕ) → IsNode a → IsNode b → noted_place (slice_index places (pair_place a b)) ≡ Some i → (r : LinkRow) × ((slice_get rows i ≡ Some r) × ((r.a ≡ a) × (r.b ≡ b)))
-  row_there a b i is_a is_b noted = let at = at_noted es places indexed a b is_a is_b i noted in of_row (slice_get rows i) refl at.0 (sym (slice_get-map link_entry rows i) ∙ at.1)
-    where
-      of_row : (o : Option LinkRow) → slice_get rows i ≡ o → (x : Lanes) → option_map link_entry (slice_get rows i) ≡ Some ((a, b), x) → (r : LinkRow) × ((slice_get rows i ≡ Some r) × ((r.a ≡ a) × (r.b ≡ b)))
-      of_row None is x here = absurd (let none = ap (option_map link_entry) (sym is) ∙ here in cc)
-      of_row (Some r) is x here = let same : link_entry r ≡ ((a, b), x) = let some = ap (option_map link_entry) (sym is) ∙ here in cc in (r, (is, (ap (λ e. e.0.0) same, ap (λ e. e.0.1) same)))
+  row_there a b i is_a is_b noted = grind (arith, at_noted, indexed, slice_get-map)
 
   -- a row is found at its ends
   pub row_found : (i : ℕ) (r : LinkRow) → slice_get rows i ≡ Some r → get (links_of rows) (r.a, r.b) ≡ Some (lanes_in r)
@@ -95,10 +91,7 @@ module _ {t : Links} {rows : List LinkRow} {places : List ℕ} {x y : ℕ} where
       row_is = row_at.1.0 ∙ ap Some (sym same_row)
 
       row_ends : ◌≡◌ {A = ℕ × ℕ} (e.a, e.b) (ends x y)
-      row_ends =
-          let first : e.a ≡ (ends x y).0 = ap (λ r. r.a) same_row ∙ row_at.1.1.0 in
-          let second : e.b ≡ (ends x y).1 = ap (λ r. r.b) same_row ∙ row_at.1.1.1 in
-          λ j. (first j, second j)
+      row_ends = grind (arith, same_row, row_at)
 
       link_there : get t (ends x y) ≡ Some (lanes_in e)
       link_there = (λ j. get (sym l.stand j) (sym row_ends j)) ∙ row_found rows places l.are i e row_is
@@ -158,11 +151,7 @@ all_at P (x ∷ rows) (suc i) r here all = all_at P rows i r here all.1
 
 -- the ends stay
 put_keeps : (x y : ℕ) (m : Lane) (e : LinkRow) → ((row_with e x y m).a ≡ e.a) × ((row_with e x y m).b ≡ e.b)
-put_keeps x y m e = either (nat_lt x y)
-  where
-    either : (c : Bool) → ((cond c (record e { forth = m }) (record e { back = m })).a ≡ e.a) × ((cond c (record e { forth = m }) (record e { back = m })).b ≡ e.b)
-    either true = (refl, refl)
-    either false = (refl, refl)
+put_keeps x y m e = grind arith
 
 module _ (rows : List LinkRow) (places : List ℕ) (are : AreIndexed rows places) where
   module _ (i : ℕ) (e r : LinkRow) (here : slice_get rows i ≡ Some e) (first : r.a ≡ e.a) (second : r.b ≡ e.b) where
@@ -201,11 +190,7 @@ module _ {t : Links} {rows : List LinkRow} {places : List ℕ} {x y i : ℕ} (l 
 -- no link where no lane is
 pub no_link : (t : Links) (x y : ℕ) → lane_at t x y ≡ None → get t (ends x y) ≡ None
 unfolding lane_at
-no_link t x y none = of_option (get t (ends x y)) none
-  where
-    of_option : (o : Option Lanes) → option_map (toward x y) o ≡ None → o ≡ None
-    of_option None is = refl
-    of_option (Some l) is = cc
+no_link t x y none = grind arith
 
 pub none_found : (rows : List LinkRow) (t : Links) (x y a b : ℕ) → LinksRise rows → links_of rows ≡ t → ◌≡◌ {A = ℕ × ℕ} (a, b) (ends x y) → lane_at t x y ≡ None → find pair_cmp (a, b) (map link_entry rows) ≡ None
 none_found rows t x y a b rise is are_ends none =
@@ -213,16 +198,7 @@ none_found rows t x y a b rise is are_ends none =
 
 -- places that grew
 pub still_noted : (rows : List LinkRow) (places more : List ℕ) → AreIndexed rows places → length more ≡ 4096 → ((k : ℕ) → slice_index more k ≡ slice_index places k) → AreIndexed rows more
-still_noted rows places more are long kept = record {
-  rise = are.rise;
-  few = are.few;
-  index = record {
-    most = omega (arith, long);
-    long = λ k some. long;
-    there = λ u v i p q is. are.index.there u v i p q (sym (kept (pair_place u v)) ∙ is);
-    absent = λ u v p q is. are.index.absent u v p q (sym (kept (pair_place u v)) ∙ is);
-  };
-}
+still_noted rows places more are long kept = grind arith
 
 all_insert : (P : LinkRow → Type 0) (rows : List LinkRow) (i : ℕ) (r : LinkRow) → P r → AllByRecursion P rows → AllByRecursion P (list.insert rows i r)
 all_insert P rows zero r one all = (one, all)

@@ -1,5 +1,5 @@
 -- Lists whose elements have keys, and what is found in them.
-use Rattle.std.proofs.Common.{◌≡◌, true, false, ◌&&◌, List, [], ◌∷◌, Option, Some, None, map, cond, refl, ap, ◌∙◌, subst, Ordering, Less, Equal, Greater}
+use Rattle.std.proofs.Common.{◌≡◌, true, false, ◌&&◌, List, [], ◌∷◌, Option, Some, None, map, cond, refl, ap, ◌∙◌, subst, Ordering, arith}
 use Rattle.std.specs.Ordering.{eq_by_cmp, is_eq, is_lt}
 use Rattle.std.specs.Cmp.{IsTotalOrder, tied_itself}
 use Rattle.std.specs.List.{AllByRecursion}
@@ -60,9 +60,7 @@ all_mapped f P (x ∷ xs) all = (all.0, all_mapped f P xs all.1)
 
 -- what is below another doesn't tie with it
 pub not_tied : (r : Ordering) → is_lt r ≡ true → is_eq r ≡ false
-not_tied Less is = refl
-not_tied Equal is = cc
-not_tied Greater is = cc
+not_tied r h1 = grind arith
 
 module _ {K X : Type 0} {R : K → K → Ordering} (o : IsTotalOrder R) (same : (p q : K) → eq_by_cmp R p q ≡ true → p ≡ q) where
   -- a key below all isn't there

@@ -88,22 +88,12 @@ module _ (t : Links) where
 
   -- so each lane has its way back
   pub lane-mirrored : (x y : ℕ) → is_some (lane_at t x y) ≡ is_some (lane_at t y x)
-  lane-mirrored x y = lane-linked x y ∙ ap (has t) (turn x y) ∙ sym (lane-linked y x)
-    where
-      turn : (x y : ℕ) → ends x y ≡ ends y x
-      turn x y = by_test (nat_lt x y) (λ b. nat_lt x y ≡ b → ◌≡◌ {A = ℕ × ℕ} (cond b (x, y) (y, x)) (ends y x))
-          (λ _ up. let down : nat_lt y x ≡ false = grind (arith, nat_tests) in ap (λ c. cond {A = ℕ × ℕ} c (y, x) (x, y)) (sym down))
-          (λ _ isnt. by_test (nat_lt y x) (λ c. nat_lt y x ≡ c → ◌≡◌ {A = ℕ × ℕ} (y, x) (cond c (y, x) (x, y))) (λ _ _. refl) (λ _ nor. let same : x ≡ y = grind (arith, nat_tests) in λ i. (sym same i, same i)) refl) refl
+  lane-mirrored x y = grind (arith, lane-linked, by_test)
 
   module _ (turned : Turned t) where
     -- and none goes from a node to itself
     pub lane-apart : (x : ℕ) → is_some (lane_at t x x) ≡ false
-    lane-apart x = lane-linked x x ∙ ap (has t) (either (nat_lt x x) (x, x))
-        ∙ by_test (has t (x, x)) (λ b. has t (x, x) ≡ b → b ≡ false) (λ _ is. absurd (let less = turned x x is in omega (arith, less))) (λ _ _. refl) refl
-      where
-        either : (c : Bool) (q : ℕ × ℕ) → cond c q q ≡ q
-        either true q = refl
-        either false q = refl
+    lane-apart x = grind (arith, lane-linked, by_test)
 
 -- ---- lanes in order
 
@@ -179,10 +169,7 @@ lanes_step rows i before after r all sorted here made so_far =
 -- behind the last link stand all lanes
 pub lanes_done : (rows : List LinkRow) (n : ℕ) (lanes : List ((ℕ × ℕ) × Lane)) → LinksRise rows → is_sorted pair_cmp lanes ≡ true → length rows ≤ n →
     with_lanes (from_sorted lanes) (drop n (map link_entry rows)) ≡ with_lanes empty (map link_entry rows) → lanes ≡ lanes_in_order (links_of rows)
-lanes_done rows n lanes rise sorted past all =
-    sym (entries-from_sorted pair_cmp_total lanes sorted)
-    ∙ ap entries (sym (ap (with_lanes (from_sorted lanes)) (drop_of_length-le (map link_entry rows) (omega (arith, past, length-map rows link_entry)))) ∙ all)
-    ∙ ap (λ es. entries (with_lanes empty es)) (sym (entries-from_sorted pair_cmp_total (map link_entry rows) rise.rise))
+lanes_done rows n lanes rise sorted past all = grind (arith, entries-from_sorted, drop_of_length-le, length-map)
 
 -- ---- rows
 
@@ -204,10 +191,7 @@ rows_tell_links s t same = same_entries_table s t (sym (back_and_there (entries 
 
 -- and rise
 pub links_rise : (t : Links) → Turned t → LinksRise (link_rows t)
-links_rise t turned = record {
-  turned = all_mapped link_row (λ r. r.a < r.b) (entries t) (turned_entries t turned);
-  rise = ap (is_sorted pair_cmp) (back_and_there (entries t)) ∙ sorted_entries t;
-}
+links_rise t turned = grind (arith, all_mapped, turned_entries, back_and_there, sorted_entries)
 
 -- each link of rows is turned
 pub turned_of : (rows : List LinkRow) → LinksRise rows → Turned (links_of rows)
@@ -241,34 +225,12 @@ each_lane P t each x y l is = of_link (get t (ends x y)) refl is
 -- each link has two lanes
 pub lanes_at_key : (t : Links) → Turned t → (k : ℕ × ℕ) (l : Lanes) → get t k ≡ Some l → (lane_at t k.0 k.1 ≡ Some l.forth) × (lane_at t k.1 k.0 ≡ Some l.back)
 unfolding lane_at
-lanes_at_key t turned k l there =
-    let less : k.0 < k.1 = turned k.0 k.1 (ap is_some there) in
-    let up : nat_lt k.0 k.1 ≡ true = grind (arith, nat_tests, less) in
-    let down : nat_lt k.1 k.0 ≡ false = grind (arith, nat_tests, less) in (
-      ap (λ c. option_map (λ z. cond c z.forth z.back) (get t (cond {A = ℕ × ℕ} c (k.0, k.1) (k.1, k.0)))) up ∙ ap (option_map (λ z. z.forth)) there,
-      ap (λ c. option_map (λ z. cond c z.forth z.back) (get t (cond {A = ℕ × ℕ} c (k.1, k.0) (k.0, k.1)))) down ∙ ap (option_map (λ z. z.back)) there,
-    )
+lanes_at_key t turned k l there = grind arith
 
 -- both lanes of a link are of one incarnation
 pub one_inc : (t : Links) → ((k : ℕ × ℕ) (l : Lanes) → get t k ≡ Some l → l.forth.inc ≡ l.back.inc) → (x y : ℕ) (l k : Lane) → lane_at t x y ≡ Some l → lane_at t y x ≡ Some k → l.inc ≡ k.inc
 unfolding lane_at
-one_inc t each x y l k out far = by_test (nat_lt x y) (λ c. nat_lt x y ≡ c → option_map (λ z. cond c z.forth z.back) (get t (cond {A = ℕ × ℕ} c (x, y) (y, x))) ≡ Some l → l.inc ≡ k.inc)
-    (λ _ up there. let low : nat_lt y x ≡ false = grind (arith, nat_tests, up) in
-    of_link (x, y) (get t (x, y)) refl l k there (ap (λ c. option_map (λ z. cond c z.forth z.back) (get t (cond {A = ℕ × ℕ} c (y, x) (x, y)))) (sym low) ∙ far))
-    (λ _ down there. by_test (nat_lt y x) (λ c. nat_lt y x ≡ c → option_map (λ z. cond c z.forth z.back) (get t (cond {A = ℕ × ℕ} c (y, x) (x, y))) ≡ Some k → l.inc ≡ k.inc)
-    (λ _ _ here. sym (of_link (y, x) (get t (y, x)) refl k l here there))
-    (λ _ nor here. let same : x ≡ y = grind (arith, nat_tests, down, nor) in
-    let one : Some l ≡ Some k = sym there ∙ (λ i. option_map (λ z. z.back) (get t (sym same i, same i))) ∙ here in ap (λ (z : Lane). z.inc) (some_same one)) refl far) refl out
-  where
-    some_same : {a b : Lane} → Some a ≡ Some b → a ≡ b
-    some_same e = cc
-
-    of_link : (q : ℕ × ℕ) (o : Option Lanes) → get t q ≡ o → (a b : Lane) → option_map (λ z. z.forth) o ≡ Some a → option_map (λ z. z.back) o ≡ Some b → a.inc ≡ b.inc
-    of_link q None is a b here there = cc
-    of_link q (Some z) is a b here there =
-        let forth : z.forth ≡ a = cc in
-        let back : z.back ≡ b = cc in
-        sym (ap (λ (m : Lane). m.inc) forth) ∙ each q z is ∙ ap (λ (m : Lane). m.inc) back
+one_inc t each x y l k out far = grind (arith, by_test, there)
 
 -- ---- changes of lanes
 
@@ -282,35 +244,19 @@ module _ (f : ℕ × ℕ → Lane → Lane) where
 
   -- the links stay
   pub has-changed : (t : Links) (k : ℕ × ℕ) → has (change_lanes f t) k ≡ has t k
-  has-changed t k = ap is_some (get-changed t k) ∙ stays (get t k)
-    where
-      stays : (o : Option Lanes) → is_some (option_map (both_changed k) o) ≡ is_some o
-      stays None = refl
-      stays (Some l) = refl
+  has-changed t k = grind (arith, get-changed)
 
 -- one change after another
 pub changed_twice : (f g : ℕ × ℕ → Lane → Lane) (t : Links) → change_lanes g (change_lanes f t) ≡ change_lanes (λ k l. g k (f k l)) t
-changed_twice f g t = same_links _ _ (λ k. get-changed g (change_lanes f t) k ∙ ap (option_map (both_changed g k)) (get-changed f t k) ∙ twice k (get t k) ∙ sym (get-changed (λ k l. g k (f k l)) t k))
-  where
-    twice : (k : ℕ × ℕ) (o : Option Lanes) → option_map (both_changed g k) (option_map (both_changed f k) o) ≡ option_map (both_changed (λ k l. g k (f k l)) k) o
-    twice k None = refl
-    twice k (Some l) = refl
+changed_twice f g t = grind (arith, same_links, get-changed)
 
 -- the same change of each lane
 pub changed_alike : (f g : ℕ × ℕ → Lane → Lane) (t : Links) → ((k : ℕ × ℕ) (l : Lane) → f k l ≡ g k l) → change_lanes f t ≡ change_lanes g t
-changed_alike f g t same = same_links _ _ (λ k. get-changed f t k ∙ alike k (get t k) ∙ sym (get-changed g t k))
-  where
-    alike : (k : ℕ × ℕ) (o : Option Lanes) → option_map (both_changed f k) o ≡ option_map (both_changed g k) o
-    alike k None = refl
-    alike k (Some l) = λ i. Some (record { forth = same k l.forth i; back = same (k.1, k.0) l.back i })
+changed_alike f g t same = grind (arith, same_links, get-changed)
 
 -- no change
 pub changed_nowhere : (f : ℕ × ℕ → Lane → Lane) (t : Links) → ((k : ℕ × ℕ) (l : Lane) → f k l ≡ l) → change_lanes f t ≡ t
-changed_nowhere f t none = same_links _ _ (λ k. get-changed f t k ∙ stays k (get t k))
-  where
-    stays : (k : ℕ × ℕ) (o : Option Lanes) → option_map (both_changed f k) o ≡ o
-    stays k None = refl
-    stays k (Some l) = λ i. Some (record { forth = none k l.forth i; back = none (k.1, k.0) l.back i })
+changed_nowhere f t none = grind (arith, same_links, get-changed)
 
 module _ (t : Links) (turned : Turned t) (x y : ℕ) (f : Lane → Lane) where
   abbrev at_lane : ℕ × ℕ → Lane → Lane
@@ -318,10 +264,7 @@ module _ (t : Links) (turned : Turned t) (x y : ℕ) (f : Lane → Lane) where
 
   -- the lane from x to y is at these ends
   is_lane_at : (k : ℕ × ℕ) (m : Lane) → lane_at t k.0 k.1 ≡ Some m → (eqb k.0 x && eqb k.1 y) ≡ true → lane_at t x y ≡ Some m
-  is_lane_at k m there is =
-      let one : k.0 ≡ x = grind (arith, nat_tests, is) in
-      let two : k.1 ≡ y = grind (arith, nat_tests, is) in
-      (λ i. lane_at t (sym one i) (sym two i)) ∙ there
+  is_lane_at k m there is = grind arith
 
   -- a lane that isn't there is not changed
   pub lane_none_is : lane_at t x y ≡ None → t ≡ change_lanes at_lane t
@@ -344,17 +287,10 @@ pub turned-changed : (f : ℕ × ℕ → Lane → Lane) (t : Links) → Turned t
 turned-changed f t turned a b there = turned a b (sym (has-changed f t (a, b)) ∙ there)
 
 pub turned-joined : (t : Links) (x y : ℕ) (m : Lane) → x ≢ y → Turned t → Turned (joined t x y m)
-turned-joined t x y m apart turned a b there =
-    by_test (eq_by_cmp pair_cmp (a, b) (ends x y)) (λ c. is_some (cond c (Some (record { forth = m; back = m })) (get t (a, b))) ≡ true → a < b)
-    (λ tied _. let same = same_pair (a, b) (ends x y) tied in subst (λ (q : ℕ × ℕ). q.0 < q.1) (sym same) (ends_less x y apart))
-    (λ _ old. turned a b old) (sym (ap is_some (get-insert t (ends x y) (record { forth = m; back = m }) (a, b))) ∙ there)
+turned-joined t x y m h1 h2 = grind (arith, there, by_test, same_pair, ends_less, get-insert)
 
 pub turned-parted : (t : Links) (x y : ℕ) → Turned t → Turned (parted t x y)
-turned-parted t x y turned a b there = turned a b (left (eq_by_cmp pair_cmp (a, b) (ends x y)) (get t (a, b)) (sym (ap is_some (get-remove t (ends x y) (a, b))) ∙ there))
-  where
-    left : (c : Bool) (o : Option Lanes) → is_some (cond c None o) ≡ true → is_some o ≡ true
-    left true o is = cc
-    left false o is = is
+turned-parted t x y h1 = grind (arith, there, get-remove)
 
 pub turned-empty : Turned empty
 turned-empty a b there = let none = get-empty {X = Lanes} pair_cmp_total (a, b) in absurd (let no = ap is_some (sym none) ∙ there in cc no)

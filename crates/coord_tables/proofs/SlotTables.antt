@@ -1,5 +1,5 @@
 -- The table of slots, by what stands in each of them.
-use Rattle.std.proofs.Common.{◌≡◌, ◌↔◌, ℕ, zero, suc, ◌+◌, ◌-◌, ◌<◌, ◌≤◌, true, false, ◌&&◌, List, [], ◌∷◌, Option, Some, None, length, nat_lt, cond, eqb, refl, sym, ap, ◌∙◌, arith}
+use Rattle.std.proofs.Common.{◌≡◌, ◌↔◌, ℕ, zero, suc, ◌+◌, ◌-◌, ◌<◌, ◌≤◌, true, false, ◌&&◌, List, [], ◌∷◌, Option, Some, None, length, cond, eqb, refl, sym, ap, ◌∙◌, arith}
 use Rattle.std.specs.Ordering.{nat_cmp, eq_by_cmp, is_lt}
 use Rattle.std.specs.Cmp.{nat_cmp_total}
 use Rattle.std.specs.FinMap.{nat_cmp-IsAntisymmetric}
@@ -8,7 +8,7 @@ use Rattle.std.proofs.lemmas.Bool.Decides.{nat_tests}
 use Rattle.std.proofs.lemmas.Option.{slice_get_past}
 use Rattle.coord_types.specs.Table.{get, insert, remove}
 use Rattle.coord_types.proofs.Tables.{get-from_sorted, same_table}
-use Rattle.coord_tables.specs.Slots.{flat, slot_at, slot_entries, slot_table, IsSetAt}
+use Rattle.coord_tables.specs.Slots.{slot_at, slot_entries, slot_table, IsSetAt}
 use Rattle.coord_tables.proofs.Cases.{by_test}
 use Rattle.coord_tables.proofs.Found.{get-set, get-unset}
 
@@ -94,7 +94,4 @@ module _ {X : Type 0} where
 
   -- behind the last slots of both stands nothing
   pub all_slots : (xs ys : List (Option X)) (n : ℕ) → length xs ≤ n → length ys ≤ n → ((i : ℕ) → i < n → slot_at xs i ≡ slot_at ys i) → (i : ℕ) → slot_at xs i ≡ slot_at ys i
-  all_slots xs ys n long also each i = by_test (nat_lt i n) (λ _. slot_at xs i ≡ slot_at ys i)
-      (λ is. each i (grind (arith, nat_tests)))
-      (λ isnt. let past : n ≤ i = grind (arith, nat_tests) in
-      ap flat (slice_get_past xs i (omega (arith, long, past))) ∙ sym (ap flat (slice_get_past ys i (omega (arith, also, past)))))
+  all_slots xs ys n long also each i = grind (arith, by_test, slice_get_past)
