@@ -1,5 +1,5 @@
 -- What was written of a commit or of a migration, as the store tells it.
-use Rattle.std.proofs.Common.{◌≡◌, ◌≢◌, ◌⊎◌, ◌↔◌, ◌+◌, ◌≤◌, inl, inr, ⊎_elim, ℕ, List, length, true, false, None, Option, is_some, Result, Ok, Err, IfErr, IsErrOf, refl, sym, ap, ◌∙◌, arith}
+use Rattle.std.proofs.Common.{◌≡◌, ◌≢◌, ◌⊎◌, ◌↔◌, ◌+◌, ◌≤◌, inr, ⊎_elim, ℕ, List, length, true, false, None, Option, is_some, Result, Ok, Err, IfErr, IsErrOf, refl, sym, ap, ◌∙◌, arith}
 use Rattle.coord_disk.specs.Model.DiskModel.{DiskModel, IsModel}
 use Rattle.coord_disk.specs.Model.Moments.{LeavesOnly, Runs}
 use Rattle.coord_journal.specs.Facade.{HasRoomFor, disk_of, half_of}
@@ -25,9 +25,7 @@ err_is a b is = cc
 
 -- a store that goes on does not answer that it has stopped
 pub not_stopped : {T X : Type 0} (r : Result T CommitFault) → IfErr r (λ fault. (fault ≡ OutOfMemory) ⊎ (fault ≡ Device)) → IsErrOf r Stopped → X
-not_stopped (Ok x) passing is = absurd cc
-not_stopped (Err fault) (inl memory) is = absurd cc
-not_stopped (Err fault) (inr device) is = absurd cc
+not_stopped r h1 h2 = grind arith
 
 pub never_stopped : {T : Type 0} (r : Result T CommitFault) (torn : Option World) → IfErr r (λ fault. (fault ≡ OutOfMemory) ⊎ (fault ≡ Device)) → torn ≡ None → IsErrOf r Stopped ↔ (is_some torn ≡ true)
 never_stopped r torn passing none = (λ is. not_stopped r passing is, λ is. let off : is_some torn ≡ false = ap is_some none in absurd cc)
@@ -44,14 +42,7 @@ same_failures w (Err fault) = refl
 module _ {D : Type 0} (m : DiskModel D) where
   -- a call is refused, and nothing was written
   pub refused : {T E : Type 0} (s : Kept D) (next : World) (device fault : E) → fault ≢ device → (m.keeps_model s.disk ≡ true → s.torn ≡ None → LeavesOnly m s.disk s.disk (IsOnlyWorld s.world)) → Changes {T = T} m next device s s (Err fault)
-  refused s next device fault other still = record {
-    any_moment = λ k none. only_is_either m s.disk s.disk s.world next (still k none);
-    any_moment_refused = λ k none _. still k none;
-    world = tt;
-    going = tt;
-    torn = λ is. absurd (other (err_is fault device is));
-    same_world = refl;
-  }
+  refused s next device fault other still = grind (arith, only_is_either, err_is)
 
   pub none_run : (disk : D) (n : ℕ) → Runs m disk disk n 0
   none_run disk n = record { model = refl; failures = omega arith; calls = λ _. omega arith }
@@ -68,14 +59,7 @@ module _ {D : Type 0} (m : DiskModel D) where
   retold s n next a b x y changes = record { any_moment = changes.any_moment; any_moment_refused = λ k none. tt; world = changes.world; going = changes.going; torn = λ e. ok_not y b e; same_world = tt }
 
   pub retold_refused : {T U E F : Type 0} (s n : Kept D) (next : World) (a : E) (b : F) (e : E) (f : F) → (f ≡ b → e ≡ a) → (f ≢ b → e ≢ a) → Changes {T = T} m next a s n (Err e) → Changes {T = U} m next b s n (Err f)
-  retold_refused s n next a b e f device other changes = record {
-    any_moment = changes.any_moment;
-    any_moment_refused = λ k none unlike. changes.any_moment_refused k none (other unlike);
-    world = tt;
-    going = tt;
-    torn = λ is. changes.torn (ap Err (device (err_is f b is)));
-    same_world = changes.same_world;
-  }
+  retold_refused s n next a b e f device other changes = grind (arith, err_is)
 
 -- What comes of writing another world in place of a store's, by its answer: `v` and `now` are what the store keeps then.
 module _ {D T : Type 0} (m : DiskModel D) (old new : Journal D) (w next v : World) (torn now : Option World) (none : torn ≡ None) (holds : m.keeps_model (disk_of old) ≡ true → torn ≡ None → Holds m old w) where

@@ -4,9 +4,7 @@ use Rattle.std.proofs.lemmas.List.{take-append-drop, length-take-le}
 use Rattle.std.proofs.Math.Seq.{drop-cons, take-length, take-suc}
 use Rattle.std.specs.List.{AllByRecursion}
 use Rattle.coord_types.specs.declared.steps.Step.{Step}
-use Rattle.coord_world.specs.Facade.{InRange, IsFresh, StepInRange, World, farthest, fold, next}
-use Rattle.coord_types.specs.Messages.{carried}
-use Rattle.coord_types.specs.declared.steps.Step.TheVariants.{Order, Take, Clear}
+use Rattle.coord_world.specs.Facade.{InRange, IsFresh, StepInRange, World, fold, next}
 use Rattle.coord_batch.specs.Batches.{CarriesRightly, IsNumbered, IsWritable}
 use Rattle.coord_world.specs.laws.Trails.{IsSound}
 use Rattle.coord_world.proofs.Facade.{EachFresh, carried_within, fold-append, fresh_count, itself, same_version, trail_keeps_worlds, trail_of}
@@ -55,9 +53,7 @@ first_number (s ∷ steps) settled w some all = fresh_count w settled s all.0
 
 -- in version 1 a fresh step carries no distance
 carries_rightly : (w settled : World) (s : Step) → InRange w → IsFresh w settled s → CarriesRightly w.version s
-carries_rightly w settled (Order c n x) range fresh = tt
-carries_rightly w settled (Take p) range fresh = λ first. let near = subst (λ v. carried p.msg ≤ farthest v w.count) first (carried_within w settled (Take p) range fresh) in omega (arith, near)
-carries_rightly w settled (Clear r) range fresh = tt
+carries_rightly w settled s h1 h2 = grind (arith, carried_within)
 
 -- what holds of each element, and of one more
 pub all-push : {A : Type 0} (P : A → Type 0) (xs : List A) (x : A) → AllByRecursion P xs → P x → AllByRecursion P (xs ++ x ∷ [])
@@ -66,9 +62,7 @@ all-push P (y ∷ xs) x all last = (all.0, all-push P xs x all.1 last)
 
 -- what is numbered and carries no distance where it may not can be written
 writable : (version : ℕ) (s : Step) → IsNumbered s → CarriesRightly version s → IsWritable version s
-writable version (Order c n x) numbered brings = numbered
-writable version (Take p) numbered brings = brings
-writable version (Clear r) numbered brings = tt
+writable version s h1 h2 = grind arith
 
 pub all_writable : (version : ℕ) (steps : List Step) → AllByRecursion IsNumbered steps → AllByRecursion (CarriesRightly version) steps → AllByRecursion (IsWritable version) steps
 all_writable version [] numbered brings = tt

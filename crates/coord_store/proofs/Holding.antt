@@ -120,22 +120,11 @@ module _ {D : Type 0} (m : DiskModel D) where
 
   -- what is done in at most so many calls is done in at most more
   pub ends_within : {T : Type 0} (n k : ℕ) (old new : Journal D) (r : Result T CommitFault) → n ≤ k → Ends m n old new r → Ends m k old new r
-  ends_within n k old new r le ends = record {
-    runs = record { model = ends.runs.model; failures = ends.runs.failures; calls = λ keeps. omega (arith, le, ends.runs.calls keeps) };
-    fault = ends.fault;
-    going = ends.going;
-    still = ends.still;
-    device = ends.device;
-  }
+  ends_within n k old new r le ends = grind arith
 
   -- a store that goes on
   pub kept_on : (journal : Journal D) (w : World) (torn : Option World) → torn ≡ None → Legal w → has_stopped journal ≡ false → (m.keeps_model (disk_of journal) ≡ true → Holds m journal w) → IsKept m journal w torn
-  kept_on journal w torn none legal going holds = record {
-    legal = legal;
-    stopped = going ∙ sym (ap is_some none);
-    holds = λ k _. holds k;
-    images = λ k image is. inl (image_gives journal w (holds k) image is);
-  }
+  kept_on journal w torn none legal going holds = grind (arith, image_gives)
 
   -- a store after a torn commit
   pub kept_torn : IsModel m → (old : D) (journal : Journal D) (w next : World) → Legal w → has_stopped journal ≡ true → (m.keeps_model (disk_of journal) ≡ true → LeavesOnly m old (disk_of journal) (GivesEither w next)) → IsKept m journal w (Some next)
