@@ -5,7 +5,7 @@ use Rattle.std.proofs.lemmas.List.{length-take}
 use Rattle.coord_store.specs.Kept.{Kept}
 use Rattle.coord_ledger.specs.Facade.{FlightState, Good, IsOut, Kind, LedgerState, Log, Mark, Output, Step, Torn, pending, releases_of, settled_count, settled_world, with_doubt, with_settled}
 use Rattle.coord_world.specs.Facade.{World, fold, outs}
-use Rattle.coord_ledger.specs.code.Holding.{IsCarried, IsLedger, disk_at, listed, out_of, outputs_of, released_from}
+use Rattle.coord_ledger.specs.code.Holding.{IsCarried, IsLedger, disk_at, listed, out_of, released_from}
 use Rattle.coord_ledger.proofs.follows.Granted.{listed-length, outputs_of-length, outputs_of-take, released_are}
 use Rattle.coord_ledger.proofs.follows.Kept.{back_good, back_torn}
 use Rattle.coord_ledger.proofs.machine.Logs.{count_after}

@@ -1,4 +1,4 @@
-use Rattle.std.proofs.Common.{◌≡◌, length, Option, Some, None, Ok, sym, ap, ◌∙◌, subst, rules}
+use Rattle.std.proofs.Common.{◌≡◌, length, Option, None, Ok, sym, ap, ◌∙◌, subst, rules}
 use Rattle.coord_ledger.specs.Facade.{Answer, Begin, FlightState, HoldsFlight, LedgerState, Simulates, at_home}
 use Rattle.coord_ledger.proofs.runs.Calls.{begun_err, begun_none, begun_some, departs_own}
 use Rattle.coord_ledger.proofs.Simulates.{simulates_next, simulates_not_begun, simulates_nothing}

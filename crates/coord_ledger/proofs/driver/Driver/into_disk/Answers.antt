@@ -1,4 +1,4 @@
-use Rattle.std.proofs.Common.{◌≡◌, true, Some, None, sym, subst, IfSome}
+use Rattle.std.proofs.Common.{◌≡◌, true, sym, subst, IfSome}
 use Rattle.coord_ledger.specs.Facade.{HoldsFlight, LedgerGives}
 use Rattle.coord_ledger.proofs.follows.Follows.{flight_images, ledger_images}
 use Rattle.coord_ledger.proofs.driver.Driver.into_disk.Goals as goal

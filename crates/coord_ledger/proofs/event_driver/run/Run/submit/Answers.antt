@@ -1,5 +1,5 @@
 use Rattle.std.proofs.Common.{◌∷◌, ◌++◌, [], Some, Ok, ap, ◌∙◌, subst}
-use Rattle.coord_ledger.specs.Facade.{Accepted, HandedTo, Repeated, Simulates, Submit, answer_to}
+use Rattle.coord_ledger.specs.Facade.{HandedTo, Simulates, Submit, answer_to}
 use Rattle.coord_ledger.proofs.follows.FollowsAnswers.{follows_accepted, follows_refused, follows_repeated}
 use Rattle.coord_ledger.proofs.event_driver.run.Run.submit.Goals as goal
 
