@@ -1,5 +1,5 @@
 -- Connections follow one another.
-use Rattle.std.proofs.Common.{◌≡◌, List, [], ◌∷◌, ◌++◌, true, false, refl, sym, ap, append-nil}
+use Rattle.std.proofs.Common.{◌≡◌, ℕ, List, [], ◌∷◌, ◌++◌, true, false, refl, sym, ap, append-nil}
 use Rattle.coord_admin.specs.declared.request.Request.{Request}
 use Rattle.coord_admin.specs.declared.answer.Answer.{Answer}
 use Rattle.coord_admin.specs.Connections.{Connection, Talk, IsServed, AllServed, ServedOpen, ServedToClose, has_closed, talks}
@@ -8,9 +8,9 @@ pub talks_on : (cs : List Connection) (c : Connection) → talks (cs ++ c ∷ []
 talks_on [] c = refl
 talks_on (first ∷ cs) c = ap (λ l. first.talk ∷ l) (talks_on cs c)
 
-module _ {D : Type 0} (answers : D → Request → Answer → D → Type 0) where
+module _ {D : Type 0} (answers : D → Request → Answer → D → Type 0) (keeps : D → ℕ → Type 0) (most : ℕ) where
   -- one more connection, which didn't close the desk
-  pub served_on : (cs : List Connection) (c : Connection) (d f e : D) → AllServed answers d cs f → IsServed answers f c e → has_closed c.ended ≡ false → AllServed answers d (cs ++ c ∷ []) e
+  pub served_on : (cs : List Connection) (c : Connection) (d f e : D) → AllServed answers keeps most d cs f → IsServed answers keeps most f c e → has_closed c.ended ≡ false → AllServed answers keeps most d (cs ++ c ∷ []) e
   served_on [] c d f e all s unclosed = (e, rw (sym all) s, unclosed, refl)
   served_on (first ∷ cs) c d f e all s unclosed = (all.0, all.1, all.2, served_on cs c all.0 f e all.3 s unclosed)
 
@@ -23,11 +23,11 @@ module _ {D : Type 0} (answers : D → Request → Answer → D → Type 0) wher
     pub talked_on : (v w x y : V) (cs : List Connection) (c : Connection) → talked v (talks cs) w → talked w [] x → talked x (c.talk ∷ []) y → talked v (talks (cs ++ c ∷ [])) y
     talked_on v w x y cs c first second third = rw (talks_on cs c) (turn v x y (talks cs) (c.talk ∷ []) (talked_still v w x (talks cs) first second) third)
 
-    pub open_still : (v w x : V) (d f : D) → ServedOpen answers talked v d w f → talked w [] x → ServedOpen answers talked v d x f
+    pub open_still : (v w x : V) (d f : D) → ServedOpen answers keeps most talked v d w f → talked w [] x → ServedOpen answers keeps most talked v d x f
     open_still v w x d f o still = (o.0, talked_still v w x (talks o.0) o.1 still, o.2)
 
-    pub open_on : (v w x y : V) (d f e : D) (c : Connection) → ServedOpen answers talked v d w f → talked w [] x → talked x (c.talk ∷ []) y → IsServed answers f c e → has_closed c.ended ≡ false → ServedOpen answers talked v d y e
+    pub open_on : (v w x y : V) (d f e : D) (c : Connection) → ServedOpen answers keeps most talked v d w f → talked w [] x → talked x (c.talk ∷ []) y → IsServed answers keeps most f c e → has_closed c.ended ≡ false → ServedOpen answers keeps most talked v d y e
     open_on v w x y d f e c o still now served unclosed = (o.0 ++ c ∷ [], talked_on v w x y o.0 c o.1 still now, served_on o.0 c d f e o.2 served unclosed)
 
-    pub closed_on : (v w x y : V) (d f e : D) (c : Connection) → ServedOpen answers talked v d w f → talked w [] x → talked x (c.talk ∷ []) y → IsServed answers f c e → has_closed c.ended ≡ true → ServedToClose answers talked v d y e
+    pub closed_on : (v w x y : V) (d f e : D) (c : Connection) → ServedOpen answers keeps most talked v d w f → talked w [] x → talked x (c.talk ∷ []) y → IsServed answers keeps most f c e → has_closed c.ended ≡ true → ServedToClose answers keeps most talked v d y e
     closed_on v w x y d f e c o still now served closed = (o.0, c, f, talked_on v w x y o.0 c o.1 still now, o.2, served, closed)

@@ -36,14 +36,14 @@ pub fn serve_connections<C: Callers, D: Desk, R: Wait>(
     callers: &mut C,
     desk: &mut D,
 ) -> io::Result<Stop>
-    ensures closed { result ≡ Ok StopAs.Closed → ServedToClose D.answers C.talked callers.old desk.old
+    ensures closed { result ≡ Ok StopAs.Closed → ServedToClose D.answers D.keeps most C.talked callers.old desk.old
         callers.new desk.new }
-    ensures old { result ≡ Ok StopAs.Old → ServedOpen D.answers C.talked callers.old desk.old
+    ensures old { result ≡ Ok StopAs.Old → ServedOpen D.answers D.keeps most C.talked callers.old desk.old
         callers.new desk.new × HasKept D.keeps desk.new most }
-    ensures failed { OnErr result ((last : C) × ServedOpen D.answers C.talked callers.old desk.old last
+    ensures failed { OnErr result ((last : C) × ServedOpen D.answers D.keeps most C.talked callers.old desk.old last
         desk.new × C.failed last callers.new) }
     ensures open { OnErr result
-        (ServedOpen D.answers C.talked callers.old desk.old callers.new desk.new) }
+        (ServedOpen D.answers D.keeps most C.talked callers.old desk.old callers.new desk.new) }
 {
     for _ in rt.forever() {
         let line = match next_in_life(most, callers, desk)? {
@@ -68,7 +68,7 @@ fn serve_connection<C: Callers, D: Desk>(
 ) -> Result<Ended, ServeFault>
     requires { C.begins line }
     ensures served { (talk : Talk) × C.talked callers.old (talk ∷ []) callers.new ×
-        IsServed D.answers desk.old (record { talk = talk; ended = result }) desk.new }
+        IsServed D.answers D.keeps most desk.old (record { talk = talk; ended = result }) desk.new }
     ensures ended { (last : C.Line) × C.ended callers.old last (ends_here result) callers.new }
 {
     let mut line = line;

@@ -48,7 +48,7 @@ pub kept_most : {D : Type 0} (b : Basis D) (desk : DeskState) (most : ℕ) → K
 kept_most b desk most (kept, moment, enough) = record { state = moment.state; held = moment.held; so = omega (arith, moment.so, enough) }
 
 module _ {D : Type 0} (b : Basis D) {V : Type 0} (talked : V → List Talk → V → Type 0) (failed : V → V → Type 0) (most : ℕ) where
-  closed_if_none : (stopped : Bool) (served : Option ServerFault) (is_broken : Bool) (v w : V) (desk : DeskState) → fault_at_end stopped served is_broken ≡ None → Serves b talked failed most v w desk served → IsServedToClose b desk
+  closed_if_none : (stopped : Bool) (served : Option ServerFault) (is_broken : Bool) (v w : V) (desk : DeskState) → fault_at_end stopped served is_broken ≡ None → Serves b talked failed most v w desk served → IsServedToClose b most desk
   closed_if_none stopped served is_broken v w desk h1 h2 = grind arith
 
   -- the desk's notes, in the share that it gave back

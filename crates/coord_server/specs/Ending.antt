@@ -6,7 +6,7 @@ use Rattle.coord_world.specs.Facade.{World}
 use Rattle.coord_engine.specs.Facade.{AtSomeMoment, Basis, Closes, IsNamed, IsOfPacket, RefusesClosing, based_on}
 use Rattle.coord_engine.specs.declared.closed.Closed.{Closed}
 use Rattle.coord_admin.specs.Connections.{Talk, ServedOpen, ServedToClose}
-use Rattle.coord_server.specs.EngineDesk.{DeskState, DeskAnswers}
+use Rattle.coord_server.specs.EngineDesk.{DeskState, DeskAnswers, DeskKeeps}
 use Rattle.coord_server.specs.declared.fault.ServerFault.{ServerFault}
 use Rattle.coord_server.specs.declared.fault.ServerFault.TheVariants as fault
 use Rattle.coord_server.specs.declared.life.Life.{Life}
@@ -35,23 +35,23 @@ HasKept b most = AtSomeMoment b (λ g. most ≤ length g.ledger.log.trail)
 
 -- `talked v talks w`: those who call were v, had these talks, and then are w
 module _ {D : Type 0} (b : Basis D) {V : Type 0} (talked : V → List Talk → V → Type 0) where
-  -- those who called were served by a desk that began with nothing, until one of them closed it
-  abbrev pub IsClosed : V → V → DeskState → Type 0
-  IsClosed v w desk = ServedToClose (DeskAnswers b) talked v new_desk w desk
+  -- those who called were served by a desk that began with nothing, in a life of so many steps, until one of them closed it
+  abbrev pub IsClosed : ℕ → V → V → DeskState → Type 0
+  IsClosed most v w desk = ServedToClose (DeskAnswers b) (DeskKeeps b) most talked v new_desk w desk
 
   -- or until no one came any more
-  abbrev pub IsLeft : V → V → DeskState → Type 0
-  IsLeft v w desk = ServedOpen (DeskAnswers b) talked v new_desk w desk
+  abbrev pub IsLeft : ℕ → V → V → DeskState → Type 0
+  IsLeft most v w desk = ServedOpen (DeskAnswers b) (DeskKeeps b) most talked v new_desk w desk
 
   -- `failed v w`: those who call were v, and have failed
   module _ (failed : V → V → Type 0) (most : ℕ) where
     -- How the desk went on in a life of so many steps. It rests only once its engine has kept them; and it ends by a close, by a fault before anyone was served, or because those who call have failed.
     abbrev pub ServesLife : V → V → DeskState → LifeEnd → Type 0
-    ServesLife v w desk end.Resting = IsLeft v w desk × HasKept b most
-    ServesLife v w desk (end.Ended None) = IsClosed v w desk
+    ServesLife v w desk end.Resting = IsLeft most v w desk × HasKept b most
+    ServesLife v w desk (end.Ended None) = IsClosed most v w desk
     ServesLife v w desk (end.Ended (Some fault.OutOfMemory)) = talked v [] w × (desk ≡ new_desk)
     ServesLife v w desk (end.Ended (Some fault.Write)) = talked v [] w × (desk ≡ new_desk)
-    ServesLife v w desk (end.Ended (Some fault.Socket)) = (talked v [] w × (desk ≡ new_desk)) ⊎ ((last : V) × IsLeft v last desk × failed last w)
+    ServesLife v w desk (end.Ended (Some fault.Socket)) = (talked v [] w × (desk ≡ new_desk)) ⊎ ((last : V) × IsLeft most v last desk × failed last w)
     ServesLife v w desk (end.Ended (Some other)) = ⊥
 
     -- and in the last life of a server that ends so: a store that has stopped is met where a life rests
@@ -73,8 +73,8 @@ module _ {D : Type 0} (b : Basis D) {V : Type 0} (talked : V → List Talk → V
       pub history : IsOneHistory b desk.notes life.closed
 
 -- a desk that began with nothing was served over some connections, the last of which closed it
-abbrev pub IsServedToClose : {D : Type 0} → Basis D → DeskState → Type 0
-IsServedToClose b desk = ServedToClose (DeskAnswers b) (λ (v : Unit {0}) (talks : List Talk) (w : Unit {0}). Unit {0}) tt new_desk tt desk
+abbrev pub IsServedToClose : {D : Type 0} → Basis D → ℕ → DeskState → Type 0
+IsServedToClose b most desk = ServedToClose (DeskAnswers b) (DeskKeeps b) most (λ (v : Unit {0}) (talks : List Talk) (w : Unit {0}). Unit {0}) tt new_desk tt desk
 
 -- what may be met before anyone is served
 abbrev pub IsOfStart : ServerFault → Type 0

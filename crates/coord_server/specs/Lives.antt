@@ -42,7 +42,7 @@ module _ {D : Type 0} (keeps_model : D → Bool) (present : D → Present) {V : 
   pub record Rests (began : World) (v w : V) (next : World) : Type 0 where
     pub desk : DeskState
     pub left : Closed D
-    pub served : IsLeft (begun_over began) talked v w desk
+    pub served : IsLeft (begun_over began) talked most v w desk
     pub old : HasKept (begun_over began) most
     pub history : IsOneHistory (begun_over began) desk.notes left
     pub all_settled : left.settled ≡ left.base.count + length left.trail.items
@@ -64,7 +64,7 @@ HasLived {D} keeps_model present {V} talked failed most began v ended =
 abbrev pub HasLivedToClose : {D : Type 0} → (D → Bool) → (D → Present) → World → Closed D → Type 0
 HasLivedToClose {D} keeps_model present began left =
     (n : ℕ) × (world : World) × Lives keeps_model present talked_any life_steps n began tt world tt
-    × ((desk : DeskState) × IsServedToClose (based_on keeps_model present world []) desk × IsOneHistory (based_on keeps_model present world []) desk.notes left)
+    × ((desk : DeskState) × IsServedToClose (based_on keeps_model present world []) life_steps desk × IsOneHistory (based_on keeps_model present world []) desk.notes left)
 
 -- The fault that a server tells whose clients are waited for as usual, by lives from this world: nothing is left; or there were lives, and they ended with this fault.
 abbrev pub EndsWith : {D : Type 0} → (D → Bool) → (D → Present) → World → ServerFault → Type 0

@@ -5,4 +5,4 @@ use Rattle.coord_admin.proofs.connections.serve_connections.Given as goal
 abbrev pub invariant-loop : goal.invariant-loop
 invariant-loop g l =
     (goal.iterator-loop g).can_next l.iterator' × (goal.iterator-loop g).is_finite l.iterator'
-    × ServedOpen g.D.Desk.answers g.C.Callers.talked l.fn.callers l.fn.desk l.callers l.desk
+    × ServedOpen g.D.Desk.answers g.D.Desk.keeps l.fn.most g.C.Callers.talked l.fn.callers l.fn.desk l.callers l.desk
