@@ -15,7 +15,7 @@ use Rattle.coord_admin.specs.Connections.{Talk}
 use Rattle.coord_admin.specs.LifeLimit.{HasKept as KeepsSteps}
 use Rattle.coord_server.specs.EngineDesk.{DeskKeeps, DeskState}
 use Rattle.coord_server.specs.Ending.{AddsWorkers, HasKept, HasRun, IsLife, IsNotClosed, IsOneHistory, IsServedToClose, LeavesNothing, Serves, ServesLife, fault_at_end}
-use Rattle.coord_server.specs.Lives.{HasLived, HasLivedToClose, IsOver, Lives, Rests, life_steps, talked_any}
+use Rattle.coord_server.specs.Lives.{EndsLives, HasLived, HasLivedToClose, IsOver, Lives, Rests, life_steps, talked_any}
 use Rattle.coord_server.specs.declared.fault.ServerFault.{ServerFault}
 use Rattle.coord_server.specs.declared.fault.ServerFault.TheVariants as fault
 use Rattle.coord_server.specs.declared.life.Life.{Life}
@@ -97,13 +97,13 @@ module _ {D : Type 0} (keeps_model : D → Bool) (present : D → Present) {V : 
       )
 
   -- and the last one has ended
-  pub lives_end : (began world : World) (v u : V) (life : Life D V) (ended : ServerEnd D V) → (n : ℕ) × Lives keeps_model present talked most n began v world u → IsLife (b world) talked failed most u life
+  pub lives_end : (began : World) (v : V) (life : Life D V) (ended : ServerEnd D V) → EndsLives keeps_model present talked failed most began v life
       → IsOver life.left ended.served → ended.closed ≡ life.closed → ended.callers ≡ life.callers → HasLived keeps_model present talked failed most began v ended
-  lives_end began world v u life ended lives so over same same_w = (
-    lives.0,
+  lives_end began v life ended (n, world, u, lives, so) over same same_w = (
+    n,
     world,
     u,
-    lives.1,
+    lives,
     (
       so.desk,
       rw same_w (served_at_last (b world) talked failed most u life.callers so.desk life.left ended.served so.served over),
@@ -131,13 +131,13 @@ module _ {D : Type 0} (keeps_model : D → Bool) (present : D → Present) {V : 
 
 -- of a server whose lives have the steps that its own have
 pub closed_lives : {D : Type 0} (keeps_model : D → Bool) (present : D → Present) {V : Type 0} (talked : V → List Talk → V → Type 0) (failed : V → V → Type 0) (began : World) (v : V) (ended : ServerEnd D V)
-    → fault_at_end (has_stopped ended.closed.store) ended.served ended.is_broken ≡ None → HasLived keeps_model present talked failed life_steps began v ended → HasLivedToClose keeps_model present began ended.closed
+    → fault_at_end (has_stopped ended.closed.store) ended.served ended.output.is_broken ≡ None → HasLived keeps_model present talked failed life_steps began v ended → HasLivedToClose keeps_model present began ended.closed
 closed_lives keeps_model present talked failed began v ended none is =
     let b = based_on keeps_model present is.1 [] in (
       is.0,
       is.1,
       lives_any keeps_model present talked life_steps is.0 began is.1 v is.2 is.3,
-      (is.4.0, closed_if_none b talked failed life_steps (has_stopped ended.closed.store) ended.served ended.is_broken is.2 ended.callers is.4.0 none is.4.1, is.4.2),
+      (is.4.0, closed_if_none b talked failed life_steps (has_stopped ended.closed.store) ended.served ended.output.is_broken is.2 ended.callers is.4.0 none is.4.1, is.4.2),
     )
 
 -- a store that has not stopped: each image of its disk gives its world

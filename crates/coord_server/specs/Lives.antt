@@ -12,9 +12,10 @@ use Rattle.coord_admin.specs.declared.patience.Patience.{Patience}
 use Rattle.coord_engine.specs.State.{Basis, based_on}
 use Rattle.coord_engine.specs.declared.closed.Closed.{Closed}
 use Rattle.coord_server.specs.EngineDesk.{DeskState}
-use Rattle.coord_server.specs.Ending.{HasKept, IsLeft, IsOneHistory, IsServedToClose, LeavesNothing, Serves, fault_at_end}
+use Rattle.coord_server.specs.Ending.{HasKept, IsLeft, IsLife, IsOneHistory, IsServedToClose, LeavesNothing, Serves, fault_at_end}
 use Rattle.coord_server.specs.declared.fault.ServerFault.{ServerFault}
 use Rattle.coord_server.specs.declared.fault.ServerFault.TheVariants as fault
+use Rattle.coord_server.specs.declared.life.Life.{Life}
 use Rattle.coord_server.specs.declared.life_end.LifeEnd.{LifeEnd}
 use Rattle.coord_server.specs.declared.life_end.LifeEnd.TheVariants as end
 use Rattle.coord_server.specs.declared.server_end.ServerEnd.{ServerEnd}
@@ -54,6 +55,12 @@ module _ {D : Type 0} (keeps_model : D → Bool) (present : D → Present) {V : 
   Lives zero began v next w = (next ≡ began) × (w ≡ v)
   Lives (suc n) began v next w = (world : World) × (u : V) × Lives n began v world u × Rests world u w next
 
+-- some lives that rest, and then this one. `failed v w`: those who call were v, and have failed
+abbrev pub EndsLives : {D : Type 0} → (D → Bool) → (D → Present) → {V : Type 0} → (V → List Talk → V → Type 0) → (V → V → Type 0) → ℕ → World → V → Life D V → Type 0
+EndsLives {D} keeps_model present {V} talked failed most began v last =
+    (n : ℕ) × (world : World) × (u : V) × Lives keeps_model present talked most n began v world u
+    × IsLife (based_on keeps_model present world []) talked failed most u last
+
 -- some lives that rest, and then a last one, which leaves this. `failed v w`: those who call were v, and have failed
 abbrev pub HasLived : {D : Type 0} → (D → Bool) → (D → Present) → {V : Type 0} → (V → List Talk → V → Type 0) → (V → V → Type 0) → ℕ → World → V → ServerEnd D V → Type 0
 HasLived {D} keeps_model present {V} talked failed most began v ended =
@@ -71,7 +78,7 @@ abbrev pub EndsWith : {D : Type 0} → (D → Bool) → (D → Present) → Worl
 EndsWith {D} keeps_model present began told =
     LeavesNothing keeps_model present told
     ⊎ ((callers : Patience) × IsUsual callers × (ended : ServerEnd D Patience) × HasLived keeps_model present (λ _ _ _. ⊤) (λ _ _. ⊤) life_steps began callers ended
-    × (fault_at_end (has_stopped ended.closed.store) ended.served ended.is_broken ≡ Some told))
+    × (fault_at_end (has_stopped ended.closed.store) ended.served ended.output.is_broken ≡ Some told))
 
 -- ---- all lives are one history
 

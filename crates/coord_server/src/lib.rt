@@ -31,5 +31,6 @@ pub use fault::ServerFault;
 pub use lives::serve_lives;
 pub use local::{LocalPort, Signal, WORKERS};
 pub use printer::Printer;
+pub use printing::OutputEnd;
 pub use server_end::ServerEnd;
 pub use serving::{LIFE_STEPS, serve_callers, serve_store};

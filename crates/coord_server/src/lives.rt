@@ -5,11 +5,11 @@ ghost use Rattle.std.specs.Thread.{IsSend, IsSync};
 ghost use Rattle.coord_store.specs.Kept.{has_stopped};
 ghost use Rattle.coord_server.specs.Ending.{LeavesNothing};
 ghost use Rattle.coord_server.specs.declared.life_end.LifeEnd.TheVariants as LifeEndAs;
-ghost use Rattle.coord_server.specs.Lives.{EndsOneHistory, HasLived, IsOver};
+ghost use Rattle.coord_server.specs.Lives.{EndsLives, EndsOneHistory, HasLived};
 
 use crate::life::{Life, serve_life};
 use crate::life_end::LifeEnd;
-use crate::printing::{Opening, Outlet, Printing};
+use crate::printing::{Opening, Outlet, OutputEnd, Printing};
 use crate::setting::Setting;
 use crate::{ServerEnd, ServerFault};
 use coord_admin::Callers;
@@ -103,13 +103,12 @@ fn serve_and_print<
     )
 }
 
-/// Starts the thread that prints signals, if the system has one to give. It tells whether a line of them could not
-/// be written.
+/// Starts the thread that prints signals, if the system has one to give.
 fn start_printing<'s, 'r: 's, E, W: Write + Send + Drop + 's, R: Wait + Sync>(
     scope: &Scope<'s, E>,
     rt: &'r R,
     printing: Printing<W>,
-) -> Option<JoinHandle<bool>> {
+) -> Option<JoinHandle<OutputEnd>> {
     scope.spawn(move || printing.print(rt)).ok()
 }
 
@@ -125,7 +124,7 @@ fn print_and_live<
     store: Store<D>,
     callers: C,
     opening: Opening<W>,
-    printing: Option<JoinHandle<bool>>,
+    printing: Option<JoinHandle<OutputEnd>>,
 ) -> Result<ServerEnd<D, C>, ServerFault>
     requires { has_stopped store ≡ false }
     ensures printed { OnOk result (is_some printing ≡ true) }
@@ -138,23 +137,22 @@ fn print_and_live<
     };
     let lived = live(setting, store, callers, opening);
     setting.port.fall_silent();
-    let is_broken = printing.join(setting.rt);
-    let mut ended = lived?;
-    ended.is_broken = is_broken;
-    Ok(ended)
+    let output = printing.join(setting.rt);
+    let life = lived?;
+    Ok(ServerEnd::of(life, output))
 }
 
-/// Runs one life after the other, each with the store and the callers that the one before left. The
-/// first one opens the output.
+/// Runs one life after the other, each with the store and the callers that the one before left, and
+/// gives back the last. The first one opens the output.
 fn live<D: Disk + Send, C: Callers + Drop, W: Write + Drop, R: Threads + Wait + Clock + Sync>(
     setting: &Setting<'_, R>,
     store: Store<D>,
     callers: C,
     opening: Opening<W>,
-) -> Result<ServerEnd<D, C>, ServerFault>
+) -> Result<Life<D, C>, ServerFault>
     requires { has_stopped store ≡ false }
     ensures lived { IfOk result
-        (HasLived D.model.keeps_model D.model.present C.talked C.failed setting.now.life_steps store.world callers) }
+        (EndsLives D.model.keeps_model D.model.present C.talked C.failed setting.now.life_steps store.world callers) }
     ensures nothing { IfErr result (LeavesNothing D.model.keeps_model D.model.present) }
 {
     let mut store = store;
@@ -167,7 +165,7 @@ fn live<D: Disk + Send, C: Callers + Drop, W: Write + Drop, R: Threads + Wait + 
                 store = left;
                 callers = others;
             }
-            Err(ended) => return Ok(ended),
+            Err(last) => return Ok(last),
         }
     }
     unreachable!()
@@ -185,30 +183,22 @@ fn is_settled<D: Disk>(closed: &Closed<D>) -> bool
     !closed.store.stopped() && closed.settled - base == closed.trail.len() as u64
 }
 
-/// The store and the callers with which the next life begins, or how the server ends. It ends also
-/// where a life rests over a store that has stopped.
-fn next_of<D: Disk, C>(life: Life<D, C>) -> Result<(Store<D>, C), ServerEnd<D, C>>
+/// The store and the callers with which the next life begins, or the last life: one that was ended,
+/// or rests over a store that has stopped.
+fn next_of<D: Disk, C>(life: Life<D, C>) -> Result<(Store<D>, C), Life<D, C>>
     ensures next { IfOk result (λ next. (life.left ≡ LifeEndAs.Resting) ×
         (next.0 ≡ life.closed.store) × (next.1 ≡ life.callers)) }
     ensures settled { IfOk result (λ next. (has_stopped life.closed.store ≡ false) ×
         (life.closed.settled ≡ life.closed.base.count + length life.closed.trail.items)) }
-    ensures over { IfErr result (λ ended. IsOver life.left ended.served ×
-        (ended.closed ≡ life.closed) × (ended.callers ≡ life.callers)) }
+    ensures last { IfErr result (λ last. last ≡ life) }
 {
+    if life.left != LifeEnd::Resting || !is_settled(&life.closed) {
+        return Err(life);
+    }
     let Life {
         closed,
         callers,
-        left,
+        left: _,
     } = life;
-    let served = match left {
-        LifeEnd::Resting if is_settled(&closed) => return Ok((closed.store, callers)),
-        LifeEnd::Resting => Some(ServerFault::Device),
-        LifeEnd::Ended(served) => served,
-    };
-    Err(ServerEnd {
-        closed,
-        callers,
-        served,
-        is_broken: false,
-    })
+    Ok((closed.store, callers))
 }

@@ -81,13 +81,29 @@ pub struct Printing<W: Write + Drop> {
 }
 
 impl<W: Write + Drop> Printing<W> {
-    /// Prints the signals that come. Whether a line of them could not be written.
-    pub fn print<R: Wait>(self, rt: &R) -> bool {
+    /// Prints the signals that come. Why the first line was not printed is told by `Opening::open`.
+    pub fn print<R: Wait>(self, rt: &R) -> OutputEnd {
         let Printing { handed, signals } = self;
-        match handed.recv(rt) {
+        let is_broken = match handed.recv(rt) {
             Ok(printer) => print_signals(signals.iter(rt), printer).is_broken(),
             Err(_) => false,
-        }
+        };
+        OutputEnd { is_broken }
+    }
+}
+
+/// How an output ended. Only what printed to it makes one, once it has printed all.
+#[derive(Clone, Copy, Drop)]
+pub struct OutputEnd {
+    is_broken: bool,
+}
+
+impl OutputEnd {
+    /// Whether a line could not be written.
+    pub fn is_broken(self) -> bool
+        ensures { result ≡ self.is_broken }
+    {
+        self.is_broken
     }
 }
 

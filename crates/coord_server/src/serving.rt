@@ -80,16 +80,16 @@ fn serve_accepted<
 /// What is left, unless there is a fault to be told.
 fn closed_of<D: Disk, C: Drop>(ended: ServerEnd<D, C>) -> Result<Closed<D>, ServerFault>
     ensures closed { IfOk result (λ closed. (closed ≡ ended.closed) ×
-        (fault_at_end (has_stopped ended.closed.store) ended.served ended.is_broken ≡ None)) }
+        (fault_at_end (has_stopped ended.closed.store) ended.served ended.output.is_broken ≡ None)) }
     ensures fault { IfErr result (λ fault.
-        fault_at_end (has_stopped ended.closed.store) ended.served ended.is_broken ≡ Some fault) }
+        fault_at_end (has_stopped ended.closed.store) ended.served ended.output.is_broken ≡ Some fault) }
 {
     let fault = ended.fault();
     let ServerEnd {
         closed,
         callers,
         served: _,
-        is_broken: _,
+        output: _,
     } = ended;
     drop(callers);
     match fault {

@@ -1,4 +1,6 @@
-use Rattle.coord_server.proofs.Ends.{lives_end, lives_next}
+use Rattle.std.proofs.Common.{subst, sym}
+use Rattle.coord_server.specs.Lives.{EndsLives}
+use Rattle.coord_server.proofs.Ends.{lives_next}
 use Rattle.coord_server.proofs.lives.live.Goals as goal
 
 pub loop-preserved : goal.loop-preserved
@@ -10,5 +12,6 @@ loop-preserved g c =
 
 pub returns-in-Err-clause-lived : goal.returns-in-Err-clause-lived
 returns-in-Err-clause-lived g c =
-    let over = c.in-Err.ensures.over in
-    lives_end g.D.Disk.model.keeps_model g.D.Disk.model.present g.C.Callers.talked g.C.Callers.failed c.args.setting.now.life_steps _ _ _ _ c.in_ok-life.life c.in-Err.ended c.loop.invariant.2 c.in_ok-life.ensures.life over.0 over.1 over.2
+    let lives = c.loop.invariant.2 in
+    let ends = EndsLives g.D.Disk.model.keeps_model g.D.Disk.model.present g.C.Callers.talked g.C.Callers.failed c.args.setting.now.life_steps c.args.store.world c.args.callers in
+    subst ends (sym c.in-Err.ensures.last) (lives.0, _, _, lives.1, c.in_ok-life.ensures.life)

@@ -18,7 +18,7 @@ returns-clause-images g c =
     let ended = c.in_ok-ended.ended in
     IfOk-weaker c.closed_of.result _ _
     (λ closed is keeps.
-    only_world g.D.Disk.model closed.store (rw is.0 (not_stopped (has_stopped ended.closed.store) ended.served ended.is_broken is.1))
+    only_world g.D.Disk.model closed.store (rw is.0 (not_stopped (has_stopped ended.closed.store) ended.served ended.output.is_broken is.1))
     (rw is.0 (c.in_ok-ended.ensures.images (rw (sym is.0) keeps))))
     c.closed_of.ensures.closed
 
