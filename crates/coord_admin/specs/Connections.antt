@@ -5,7 +5,7 @@ use Rattle.coord_admin.specs.declared.answer.Answer.{Answer}
 use Rattle.coord_admin.specs.declared.fault.ServeFault.{ServeFault}
 use Rattle.coord_admin.specs.declared.session.Ended.{Ended}
 use Rattle.coord_admin.specs.declared.session.Ended.TheVariants.{Input, Closed, Cut}
-use Rattle.coord_admin.specs.LifeLimit.{HasKept}
+use Rattle.coord_admin.specs.LifeLimit.{HasKept, HasKeptFewer}
 use Rattle.coord_admin.specs.Stream.{Served}
 
 -- what came in and what went out over a connection
@@ -29,11 +29,11 @@ has_closed (Ok Input) = false
 has_closed (Ok Cut) = false
 has_closed (Err f) = false
 
--- `keeps d n`: the desk d may have kept n steps. Its life has `most`
+-- `keeps d n`: the desk d may keep n steps. Its life has `most`
 module _ {D : Type 0} (answers : D → Request → Answer → D → Type 0) (keeps : D → ℕ → Type 0) (most : ℕ) where
-  -- a connection was served, and was cut off only once the desk kept twice as many steps as a life has
+  -- a connection began while the desk kept fewer steps than its life has, was served, and was cut off only once it kept twice as many
   abbrev pub IsServed : D → Connection → D → Type 0
-  IsServed d c e = Served answers d c.talk.bytes_read c.talk.bytes_written c.ended e × (c.ended ≡ Ok Cut → (over : D) × HasKept keeps over (2 * most))
+  IsServed d c e = HasKeptFewer keeps d most × Served answers d c.talk.bytes_read c.talk.bytes_written c.ended e × (c.ended ≡ Ok Cut → (over : D) × HasKept keeps over (2 * most))
 
   -- connections one after the other, none of which closed the desk
   abbrev pub AllServed : D → List Connection → D → Type 0

@@ -2,7 +2,7 @@
 
 ghost use Rattle.std.specs.Prelude.{◌≡◌, ◌∷◌, [], Ok, OnErr};
 ghost use Rattle.coord_admin.specs.Connections.{IsServed, ServedOpen, ServedToClose, Talk, has_closed};
-ghost use Rattle.coord_admin.specs.LifeLimit.{HasKept, ends_here};
+ghost use Rattle.coord_admin.specs.LifeLimit.{HasKept, HasKeptFewer, ends_here};
 ghost use Rattle.coord_admin.specs.declared.connections.Stop.TheVariants as StopAs;
 
 use crate::callers::Callers;
@@ -66,7 +66,8 @@ fn serve_connection<C: Callers, D: Desk>(
     callers: &mut C,
     desk: &mut D,
 ) -> Result<Ended, ServeFault>
-    requires { C.begins line }
+    requires begun { C.begins line }
+    requires young { HasKeptFewer D.keeps desk.old most }
     ensures served { (talk : Talk) × C.talked callers.old (talk ∷ []) callers.new ×
         IsServed D.answers D.keeps most desk.old (record { talk = talk; ended = result }) desk.new }
     ensures ended { (last : C.Line) × C.ended callers.old last (ends_here result) callers.new }
