@@ -29,25 +29,36 @@ node 1 1 ready 0 0 0\n\
 node 2 1 ready 0 0 0\n\
 link 1 2 3\n";
 
-/// The commands end so on these files, one after the other. That of `serve` is at an address that no host
-/// has, so that it ends behind the opening of the file.
-fn end<S: Files<File = File> + Net + Threads + Wait + Clock + Sync + Abort + AllocGlobal>(
-    rt: &S,
-    store: &str,
-    topology: &str,
-) {
+/// Each command on these files, and what it ends with.
+fn is_made<S: Files<File = File> + Abort + AllocGlobal>(rt: &S, store: &str, topology: &str) {
     let mut it = Streams::new(rt);
     let status = init(rt, store, topology, &mut it.output, &mut it.errors);
     it.are(rt, status, (0, "created 3\n", ""));
+}
+
+fn is_checked<S: Files<File = File> + Abort + AllocGlobal>(rt: &S, store: &str) {
     let mut it = Streams::new(rt);
     let status = check(rt, store, &mut it.output, &mut it.errors);
     it.are(rt, status, (0, "legal 3\n", ""));
+}
+
+fn is_shown<S: Files<File = File> + Abort + AllocGlobal>(rt: &S, store: &str) {
     let mut it = Streams::new(rt);
     let status = show(rt, store, &mut it.output, &mut it.errors);
     it.are(rt, status, (0, SHOWN_PAIR, ""));
+}
+
+fn is_migrated<S: Files<File = File> + Abort + AllocGlobal>(rt: &S, store: &str) {
     let mut it = Streams::new(rt);
     let status = migrate(rt, store, &mut it.output, &mut it.errors);
     it.are(rt, status, (0, "migrated 3\n", ""));
+}
+
+/// It is at an address that no host has, so that it ends behind the opening of the file.
+fn is_not_served<S: Files<File = File> + Net + Threads + Wait + Clock + Sync + Abort + AllocGlobal>(
+    rt: &S,
+    store: &str,
+) {
     let mut it = Streams::new(rt);
     let status = serve(rt, store, "192.0.2.1:1", &mut it.output, &mut it.errors);
     it.are(rt, status, (3, "", "resetd: Socket\n"));
@@ -74,6 +85,10 @@ fn commands_on_the_file_that_they_name(rt: HostRuntime) {
     let store = path_in(&rt, &folder, "store");
     let topology = path_in(&rt, &folder, "pair");
     fs::write(&rt, &topology, PAIR).expect(&rt, "no topology");
-    end(&rt, &store, &topology);
+    is_made(&rt, &store, &topology);
+    is_checked(&rt, &store);
+    is_shown(&rt, &store);
+    is_migrated(&rt, &store);
+    is_not_served(&rt, &store);
     fs::remove_dir_all(&rt, &folder).expect(&rt, "not removed");
 }

@@ -1,6 +1,7 @@
 //! Steps, devices with a store, and runs of events on its ledger.
 
-ghost use Rattle.std.specs.Prelude.{◌≡◌, ◌≤◌, None};
+ghost use Rattle.std.specs.Prelude.{◌≡◌, ◌≤◌, None, false};
+ghost use Rattle.coord_store.specs.Facade.{has_stopped};
 
 use coord_disk::{Choice, CrashDisk, Disk, MemDisk};
 use coord_ledger::{Event, Ledger, Release, Trace, run_events};
@@ -99,16 +100,25 @@ pub(crate) fn choosing(rt: &impl Host, bytes: &[u8], which: usize) -> MemDisk {
     disk
 }
 
+/// A ledger over this store.
+fn adopted<D: Disk>(rt: &impl Host, store: Store<D>) -> Ledger<D>
+    requires { has_stopped store ≡ false }
+    ensures home { result.out ≡ None }
+    ensures going { result.log.doubt ≡ None }
+{
+    match Ledger::adopt(rt.alloc(), store) {
+        Ok(ledger) => ledger,
+        Err((fault, _store)) => panic!(rt; "no ledger: {fault:?}"),
+    }
+}
+
 /// A ledger over the store on this device.
 pub(crate) fn opened<D: Disk>(rt: &impl Host, disk: D) -> Ledger<D>
     ensures home { result.out ≡ None }
     ensures going { result.log.doubt ≡ None }
 {
     match Store::open(rt.alloc(), disk) {
-        Ok(store) => match Ledger::adopt(rt.alloc(), store) {
-            Ok(ledger) => ledger,
-            Err((fault, _store)) => panic!(rt; "no ledger: {fault:?}"),
-        },
+        Ok(store) => adopted(rt, store),
         Err((fault, _disk)) => panic!(rt; "not opened: {fault:?}"),
     }
 }
