@@ -7,7 +7,7 @@ ghost use Rattle.coord_admin.specs.Accepting.{failure_in, failure_of, failure_of
 use std::io::{Error, ErrorKind};
 
 /// What a failure to accept asks for.
-#[derive(Clone, Copy, Debug, PartialEq, Eq)]
+#[derive(Clone, Copy)]
 pub enum Failure {
     /// A connection has failed before it was accepted. The next one is waited for.
     OfClient,

@@ -8,7 +8,7 @@ use coord_types::{Refusal, Reply};
 use coord_view::View;
 
 /// What a line is answered, before it is written.
-#[derive(Drop, Debug)]
+#[derive(Drop)]
 pub enum Answer {
     /// An order was accepted, now or before; this is its reply.
     Replied(Reply),

@@ -10,7 +10,7 @@ use std::alloc::Global;
 use std::marker::Model;
 
 /// A desk in memory that answers the n-th order with step n, Done. Contracts see its count.
-#[derive(Drop, Debug)]
+#[derive(Drop)]
 pub struct CountDesk {
     alloc: Global,
     count: u64,
@@ -34,7 +34,6 @@ impl CountDesk {
 }
 
 /// An order that was counted, with its reply.
-#[derive(Debug)]
 pub struct Counted {
     reply: Result<Reply, Refusal>,
 }

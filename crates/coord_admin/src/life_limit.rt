@@ -10,7 +10,7 @@ use crate::duplex::{Duplex, NotRead};
 use std::io;
 
 /// How old a life is.
-#[derive(Clone, Copy, Debug, PartialEq, Eq)]
+#[derive(Clone, Copy)]
 pub enum Age {
     /// Connections begin.
     Young,
@@ -55,7 +55,7 @@ pub fn next_in_life<C: Callers, D: Desk>(
 }
 
 /// Why nothing more was read from a connection.
-#[derive(Clone, Copy, Debug, PartialEq, Eq)]
+#[derive(Clone, Copy)]
 pub enum Unread {
     /// It could not be read.
     Failed,

@@ -9,7 +9,7 @@ use coord_types::{Command, Identifier};
 use serde_json::Value;
 
 /// What a request names by its `op`.
-#[derive(Clone, Copy, Debug, PartialEq, Eq)]
+#[derive(Clone, Copy)]
 pub enum Op {
     Add,
     Remove,

@@ -48,12 +48,10 @@ pub fn shown(alloc: Global, world: &View) -> Result<String, AllocError>
 fn shown_value(alloc: Global, world: &View) -> Result<Value, AllocError>
     ensures { IfOk result (λ value. view value ≡ reply (answer.Shown world.now)) }
 {
-    let links = link_rows(alloc, world.links.as_slice())?;
-    let nodes = node_rows(alloc, world.nodes.as_slice())?;
     json!(in alloc; {
         "accepted": world.accepted,
-        "links": links,
-        "nodes": nodes,
+        "links": link_rows(alloc, world.links.as_slice())?,
+        "nodes": node_rows(alloc, world.nodes.as_slice())?,
         "settled": world.settled
     })
 }
@@ -86,7 +84,16 @@ fn node_row(alloc: Global, node: NodeView) -> Result<Value, AllocError>
         Some(parent) => parent.number(),
         None => 0,
     };
-    json!(in alloc; [id, node.group.number(), node.mode.name(), parent, node.epoch, node.confirmed])
+    let mode = json!(in alloc; node.mode.name())?;
+    let row = [
+        id.into(),
+        node.group.number().into(),
+        mode,
+        parent.into(),
+        node.epoch.into(),
+        node.confirmed.into(),
+    ];
+    Ok(Value::Array(Vec::from_array(alloc, row)?))
 }
 
 fn link_rows(alloc: Global, links: &[LinkView]) -> Result<Value, AllocError>
@@ -102,5 +109,10 @@ fn link_rows(alloc: Global, links: &[LinkView]) -> Result<Value, AllocError>
 fn link_row(alloc: Global, link: LinkView) -> Result<Value, AllocError>
     ensures { IfOk result (λ value. view value ≡ link_row link) }
 {
-    json!(in alloc; [link.a.number(), link.b.number(), link.inc])
+    let row = [
+        link.a.number().into(),
+        link.b.number().into(),
+        link.inc.into(),
+    ];
+    Ok(Value::Array(Vec::from_array(alloc, row)?))
 }

@@ -6,7 +6,7 @@ ghost use Rattle.coord_admin.specs.Together.{is_order};
 use coord_types::{Client, Command};
 
 /// A request to the desk.
-#[derive(Clone, Copy, Debug, PartialEq, Eq)]
+#[derive(Clone, Copy)]
 pub enum Request {
     /// A client's order with its number, which is any u64.
     Order(Client, u64, Command),

@@ -16,7 +16,7 @@ use std::alloc::{AllocError, Global};
 const CLOSED_LINE: &str = "{\"kind\":\"closed\"}\n";
 
 /// A reply line.
-#[derive(Drop, Debug)]
+#[derive(Drop)]
 pub enum ReplyLine {
     /// One that takes no memory.
     Fixed(&'static str),
