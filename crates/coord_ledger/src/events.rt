@@ -5,7 +5,7 @@ use coord_types::{Refusal, Reply, Step};
 use coord_view::View;
 
 /// One call on a ledger or its flight, or a crash of the disk.
-#[derive(Clone, Copy, Debug, PartialEq, Eq)]
+#[derive(Clone, Copy)]
 pub enum Event {
     /// A step is handed in.
     Submit(Step),

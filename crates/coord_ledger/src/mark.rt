@@ -1,7 +1,7 @@
 //! What became of a flight.
 
 /// Whether a flight was committed.
-#[derive(Clone, Copy, Debug, PartialEq, Eq)]
+#[derive(Clone, Copy, PartialEq, Eq)]
 pub enum Mark {
     /// It may still be committed.
     New,

@@ -6,7 +6,7 @@ use std::marker::Model;
 
 /// The greatest number of a step that its holder knows to be settled, 0 at first. Contracts see the
 /// number.
-#[derive(Debug, Drop)]
+#[derive(Drop)]
 pub struct Seen {
     count: u64,
 }

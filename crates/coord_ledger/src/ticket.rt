@@ -6,7 +6,7 @@ use coord_types::{Kind, Reply, Step};
 use std::marker::Model;
 
 /// A step, and its number.
-#[derive(Clone, Copy, Debug, PartialEq, Eq)]
+#[derive(Clone, Copy, PartialEq, Eq)]
 pub struct Note {
     pub step: u64,
     pub what: Step,

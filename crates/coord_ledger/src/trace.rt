@@ -8,7 +8,7 @@ use crate::release::Release;
 use coord_store::StoreFault;
 
 /// One answer for each event, and all that was released, in order.
-#[derive(Debug, Drop)]
+#[derive(Drop)]
 pub struct Trace {
     pub answers: Vec<Answer>,
     pub released: Vec<Release>,
@@ -40,7 +40,7 @@ impl RunFaultKind {
 /// A run that ended early: at the event with this index, or, where the last flight could not be
 /// taken back, behind the last one, so that the index is the number of events. It has what was
 /// answered and released before. The ledger is gone.
-#[derive(Debug, Drop)]
+#[derive(Drop)]
 pub struct RunFault {
     pub at: usize,
     pub trace: Trace,
