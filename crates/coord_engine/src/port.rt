@@ -31,7 +31,7 @@ pub trait Port {
 }
 
 /// What is asked of a port for an output.
-#[derive(Clone, Copy, Debug, PartialEq, Eq)]
+#[derive(Clone, Copy)]
 pub enum Delivery {
     Carry(NodeId, Packet),
     Signal(NodeId, u64),

@@ -16,7 +16,6 @@ impl<D: Disk, L: Origin> Guarded<D, L> {
     ///
     /// Room for the note is taken first, so `OutOfMemory` may come before any other refusal. Then
     /// comes `Stopped`, also where the engine is finishing.
-    #[tactic(auto, using(crate::proofs::Submitting::refused_step))]
     pub fn submit(&mut self, step: Step, mine: &mut Share<L>) -> Result<Ticket, Refusal>
         ensures answer { AnswersStep step (engine_verdict self.old step)
             (record { ledger = self.old.ledger; notes = mine.old }) result
