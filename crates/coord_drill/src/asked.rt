@@ -9,7 +9,7 @@ use coord_types::{Client, DataPacket, NodeId, ReceiptPacket, Refusal, Step};
 use coord_world::World;
 
 /// What a request asks of a drill.
-#[derive(Clone, Copy, Debug, PartialEq, Eq)]
+#[derive(Clone, Copy)]
 pub enum Asked {
     /// To take a step.
     Submit(Step),

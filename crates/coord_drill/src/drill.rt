@@ -1,7 +1,7 @@
 //! A drill: the driver of a ledger, and a ticket for each step that is not settled.
 
-ghost use Rattle.std.specs.Prelude.{◌≡◌, [], true, Some, IfOk, IfErr, string_bytes};
-ghost use Rattle.coord_ledger.specs.Facade.{disk_held};
+ghost use Rattle.std.specs.Prelude.{◌≡◌, [], true, None, Some, IfOk, IfErr, string_bytes};
+ghost use Rattle.coord_ledger.specs.Facade.{disk_held, ledger_over};
 ghost use Rattle.coord_world.specs.protocol.NumberedWorld.{no_world};
 ghost use Rattle.coord_drill.specs.Asked.{asked};
 ghost use Rattle.coord_drill.specs.Course.{NotMade};
@@ -90,6 +90,20 @@ impl<D: CrashDisk> Drill<D> {
             MayEnd (asked (front_of self) request.now) refused.0) }
     {
         let wanted = wanted_by(self.driver.ledger().front(), request);
+        self.carry_out(wanted, text)
+    }
+
+    /// Carries out what is asked, and adds the answer's lines to a text.
+    fn carry_out(self, wanted: Asked, text: &mut String) -> Result<Self, (Fault, D)>
+        requires ready { IsReady self }
+        ensures ready { IfOk result IsReady }
+        ensures told { IfOk result (λ drill. Tells (string_bytes text.old) (string_bytes text.new)
+            (λ told. CarriesIf D.model D.crashes self wanted told drill)) }
+        ensures cut { IfErr result (λ refused.
+            CutsIf D.model D.crashes wanted self refused.0
+            refused.1) }
+        ensures fault { IfErr result (λ refused. MayEnd wanted refused.0) }
+    {
         match wanted {
             Asked::Submit(step) => self.submit(step, text),
             Asked::Flush => self.flush(text),
@@ -135,10 +149,18 @@ fn new_ledger<D: CrashDisk>(alloc: Global, disk: D) -> Result<Ledger<D>, (Fault,
     ensures not_made { D.model.keeps_model disk ≡ true →
         IfErr result (λ refused. NotMade D.model disk refused.0 refused.1) }
 {
-    let store = match Store::create(alloc, disk, HALF_SIZE, 1) {
-        Ok(store) => store,
-        Err((fault, disk)) => return Err((fault.into(), disk)),
-    };
+    match Store::create(alloc, disk, HALF_SIZE, 1) {
+        Ok(store) => adopt(alloc, store),
+        Err((fault, disk)) => Err((fault.into(), disk)),
+    }
+}
+
+/// Makes a ledger over a store that has not stopped. Without memory for it, gives the disk back.
+fn adopt<D: CrashDisk>(alloc: Global, store: Store<D>) -> Result<Ledger<D>, (Fault, D)>
+    requires { store.torn ≡ None }
+    ensures adopted { IfOk result (λ ledger. ledger ≡ ledger_over store.world store.disk) }
+    ensures lost { IfErr result (λ refused. refused ≡ (OutOfMemory, store.disk)) }
+{
     match Ledger::adopt(alloc, store) {
         Ok(ledger) => Ok(ledger),
         Err((_, store)) => Err((Fault::OutOfMemory, store.into_disk())),

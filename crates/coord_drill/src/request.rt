@@ -3,7 +3,7 @@
 use coord_types::{Client, Command, DataPacket, NodeId, ReceiptPacket};
 
 /// What a line asks for.
-#[derive(Clone, Copy, Debug, PartialEq, Eq)]
+#[derive(Clone, Copy)]
 pub enum Request {
     /// An order of the operator, with the operator's next number.
     Next(Command),

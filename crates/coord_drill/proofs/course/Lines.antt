@@ -7,7 +7,7 @@ use Rattle.coord_ledger.specs.Facade.{Machine, Survives, disk_held, failed_until
 use Rattle.coord_ledger.proofs.runs.EachMoment.{reopens_more}
 use Rattle.coord_drill.specs.Drill.{DrillState, line_events}
 use Rattle.coord_drill.specs.declared.asked.Asked.TheVariants.{Crash, Version2}
-use Rattle.coord_drill.specs.Facade.{Answer, Asked, CutShort, Cuts, Drill, Fault, IsEmptyLog, IsKept, IsLeftBy, IsLostInCrash, IsOfMemory, IsPromised, LeadsPart, MayCutShort, Place, RaisesPart, Stands, failed_by, opens_disk, AllKept, Carries, CarriesIf, CarriesLine, CutsIf, FirstCutShort, Goes, LineGoes, Moves, Prints, Refusal, Request, Responds, Step, Tells, UnlessSkipped, asked_in, bad_line, front_of, state_of, told_in}
+use Rattle.coord_drill.specs.Facade.{Answer, Asked, CutShort, Cuts, Drill, Fault, IsEmptyLog, IsKept, IsLeftBy, IsLostInCrash, IsOfDisk, IsOfMemory, IsPromised, LeadsPart, MayCutShort, MayEndBy, Place, RaisesPart, Stands, failed_by, opens_disk, AllKept, Carries, CarriesIf, CarriesLine, CutsIf, FirstCutShort, Goes, LineGoes, Moves, Prints, Refusal, Request, Responds, Step, Tells, UnlessSkipped, asked_in, bad_line, front_of, state_of, told_in}
 use Rattle.coord_drill.proofs.does.Moments.{is_version}
 use Rattle.coord_drill.proofs.course.Kept.{kept_of, passes}
 use Rattle.coord_drill.proofs.course.Standing.{failed_is, raises, reached_by}
@@ -24,6 +24,11 @@ use Rattle.coord_drill.specs.declared.request.Request.TheVariants as request
 of_memory : (opens : Bool) (why : Fault) → IsOfMemory why → MayCutShort opens why
 of_memory true why memory = inl memory
 of_memory false why memory = memory
+
+-- the faults of whatever is asked
+pub of_disk : (opens : Bool) (why : Fault) → MayEndBy opens why → IsOfDisk why
+of_disk true why may = may
+of_disk false why may = inl may
 
 module _ {D : Type 0} (disk : DiskModel D) (crashes : D → D → Type 0) (d : Drill D) (p : Place D) (at : Stands disk d p) where
   -- the events that were answered

@@ -1,16 +1,17 @@
 //! The line `version 2`: the empty store is raised where it stands.
 
-ghost use Rattle.std.specs.Prelude.{◌≡◌, None, [], IfErr, IfOk};
-ghost use Rattle.coord_ledger.specs.Facade.{at_home};
+ghost use Rattle.std.specs.Prelude.{◌≡◌, None, Some, [], IfErr, IfOk, is_some};
+ghost use Rattle.coord_ledger.specs.Facade.{at_home, disk_held, has_stopped, settled_world};
 ghost use Rattle.coord_drill.specs.Faults.{IsOfDisk};
 ghost use Rattle.coord_drill.specs.Holding.{IsReady};
 ghost use Rattle.coord_drill.specs.Moments.{CarriesIf, CutsIf, RaisesPart, RaisesTo};
 ghost use Rattle.coord_drill.specs.declared.asked.Asked.TheVariants as ask;
 
-use super::{Drill, forget_all};
+use super::{Drill, adopt, forget_all};
 use crate::fault::Fault;
 use coord_disk::{CrashDisk, Disk};
-use coord_ledger::{Driver, Ledger};
+use coord_ledger::Driver;
+use coord_store::Store;
 use std::alloc::Global;
 
 impl<D: CrashDisk> Drill<D> {
@@ -57,21 +58,30 @@ fn raise<D: CrashDisk>(alloc: Global, driver: Driver<D>) -> Result<Driver<D>, (F
     ensures cut { IfErr result (λ refused. RaisesPart D.model driver refused.0 refused.1) }
     ensures fault { IfErr result (λ refused. IsOfDisk refused.0) }
 {
-    driver.lemma_begins();
-    let Ok(mut store) = driver.into_ledger().close() else {
-        unreachable!()
-    };
-    store.lemma_images_give_world();
+    let mut store = store_of(driver);
     match store.migrate() {
         Ok(()) => {}
         Err(fault) => return Err((fault.into(), store.into_disk())),
     }
-    match Ledger::adopt(alloc, store) {
-        Ok(ledger) => {
-            let driver = Driver::over(ledger);
-            driver.lemma_begins();
-            Ok(driver)
+    let driver = Driver::over(adopt(alloc, store)?);
+    driver.lemma_begins();
+    Ok(driver)
+}
+
+/// Takes the store out of a ledger at home. What is pending is lost.
+#[tactic(auto, using(crate::proofs::does::Raising::disk_home))]
+fn store_of<D: CrashDisk>(driver: Driver<D>) -> Store<D>
+    requires home { driver.flight ≡ None }
+    ensures disk { disk_held driver ≡ Some result.disk }
+    ensures world { result.world ≡ settled_world driver.ledger.log }
+    ensures stopped { is_some result.torn ≡ has_stopped driver.ledger.log }
+{
+    driver.lemma_begins();
+    match driver.into_ledger().close() {
+        Ok(store) => store,
+        Err(ledger) => {
+            drop(ledger);
+            unreachable!()
         }
-        Err((_, store)) => Err((Fault::OutOfMemory, store.into_disk())),
     }
 }

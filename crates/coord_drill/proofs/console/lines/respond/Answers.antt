@@ -6,7 +6,7 @@ use Rattle.coord_drill.specs.Drilled.{asked_by, is_skipped}
 use Rattle.coord_drill.specs.Facade.{CarriesLine, asked_in, state_of}
 use Rattle.coord_drill.proofs.does.Moments.{if_err_both}
 use Rattle.coord_drill.proofs.does.Tells.{tells_nothing}
-use Rattle.coord_drill.proofs.course.Lines.{asks_nothing, cut_asked, goes_asked, goes_bad, goes_over, goes_skipped, tells_bad, told_lost}
+use Rattle.coord_drill.proofs.course.Lines.{asks_nothing, cut_asked, goes_asked, goes_bad, goes_over, goes_skipped, of_disk, tells_bad, told_lost}
 use Rattle.coord_drill.proofs.console.lines.respond.Goals as goal
 
 pub returns-in_default-clause-carried : goal.returns-in_default-clause-carried
@@ -70,3 +70,6 @@ returns-in-None-clause-cut g c =
     let asks : asked_by (state_of d) line ≡ None = sym c.read.ensures ∙ c.in-None.is in
     IfErr-weaker c.tell_bad-in-None.result _ _
     (λ refused both p at. told_lost g.D.Disk.model g.D.CrashDisk.crashes d p at (option_copied c.args.line) refused.0 refused.1 (ap (asked_in p.state) here ∙ asks_nothing g.D.Disk.model g.D.CrashDisk.crashes d p at c.args.number line kept asks) both.0 both.1) (if_err_both _ _ c.tell_bad-in-None.result c.tell_bad-in-None.ensures.fault c.tell_bad-in-None.ensures.lost)
+
+pub returns-in-Some-read-clause-fault : goal.returns-in-Some-read-clause-fault
+returns-in-Some-read-clause-fault g c = IfErr-weaker c.answer.result _ _ (λ refused may. of_disk _ refused.0 may) c.answer.ensures.fault
