@@ -16,7 +16,7 @@ use std::alloc::Global;
 use std::io::{Read, Write};
 
 /// A store that is to be served, and the address to serve it at.
-#[derive(Clone, Copy, Debug, PartialEq, Eq)]
+#[derive(Clone, Copy)]
 pub struct ToServe<'a> {
     pub file: &'a str,
     pub address: &'a str,
