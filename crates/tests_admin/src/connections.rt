@@ -320,6 +320,24 @@ fn a_line_behind_another(rt: HostRuntime) {
     begins_anew(&rt);
 }
 
+/// Whether a connection says within some seconds that more is there.
+fn says_at_last<C: Duplex>(rt: &impl Clock, connection: &mut C) -> bool {
+    for _ in 0..5_000u64 {
+        if connection.has_more() {
+            return true;
+        }
+        thread::sleep(rt, Duration::from_millis(1));
+    }
+    false
+}
+
+/// Whether a read of a connection waits for its silence of 50 milliseconds, and fails.
+fn waits_in_vain<C: Duplex, R: Clock + Abort>(rt: &R, connection: &mut C) -> bool {
+    let start = Instant::now(rt).expect(rt, "no time");
+    let failed = connection.receive(&mut [0], false).is_err();
+    failed && start.elapsed(rt).expect(rt, "no time") >= Duration::from_millis(40)
+}
+
 /// A stream says that more is there just where it is, and waits again behind that.
 fn says_what_is_there<
     R: Net<Stream = TcpStream, Listener = TcpListener>
@@ -333,20 +351,20 @@ fn says_what_is_there<
     let mut patience = Patience::usual();
     patience.silence = Duration::from_millis(50);
     let (mut client, mut line) = accepted(rt, patience);
-    assert!(rt; !line.has_more());
+    let before = line.has_more();
     client.write_all(b"1").expect(rt, "not sent");
-    for _ in 0..5_000u64 {
-        if !line.has_more() {
-            thread::sleep(rt, Duration::from_millis(1));
-        }
-    }
-    assert!(rt; line.has_more());
-    let mut byte = [0];
-    same(rt, &line.receive(&mut byte, false), &Ok(1));
-    assert!(rt; !line.has_more());
-    let start = Instant::now(rt).expect(rt, "no time");
-    assert!(rt; line.receive(&mut byte, false).is_err());
-    assert!(rt; start.elapsed(rt).expect(rt, "no time") >= Duration::from_millis(40));
+    let said = says_at_last(rt, &mut line);
+    let read = line.receive(&mut [0], false);
+    let behind = line.has_more();
+    let waits = waits_in_vain(rt, &mut line);
+    drop(line);
+    drop(client);
+    same(
+        rt,
+        &(before, said, behind, waits),
+        &(false, true, false, true),
+    );
+    same(rt, &read, &Ok(1));
 }
 
 #[test]

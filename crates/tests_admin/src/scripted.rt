@@ -181,29 +181,47 @@ struct Met {
     read_on: u64,
 }
 
-fn ended<T: Clock + Wait + AllocGlobal>(rt: &T, clients: [Client; 6], patience: Patience) -> Met {
-    let script = Script {
-        clock: rt,
-        clients,
-        come: AtomicU64::new(0),
-        refused: AtomicU64::new(0),
-        written: AtomicU64::new(0),
-        too_long: AtomicU64::new(0),
-        read_on: AtomicU64::new(0),
-    };
-    let listener = &script;
-    let mut callers = Accepted::new(rt, &listener, patience);
+impl<T: Clock> Script<T> {
+    fn new(clock: T, clients: [Client; 6]) -> Self {
+        Script {
+            clock,
+            clients,
+            come: AtomicU64::new(0),
+            refused: AtomicU64::new(0),
+            written: AtomicU64::new(0),
+            too_long: AtomicU64::new(0),
+            read_on: AtomicU64::new(0),
+        }
+    }
+
+    /// What became of it, where it was served to such an end.
+    fn met(&self, is_closed: bool) -> Met {
+        Met {
+            is_closed,
+            come: self.come.load(Ordering::SeqCst),
+            written: self.written.load(Ordering::SeqCst),
+            too_long: self.too_long.load(Ordering::SeqCst),
+            read_on: self.read_on.load(Ordering::SeqCst),
+        }
+    }
+}
+
+/// Serves the clients of a script. Whether one of them closed the desk.
+fn is_closed<T: Clock + Wait + AllocGlobal>(
+    rt: &T,
+    script: &Script<&T>,
+    patience: Patience,
+) -> bool {
+    let mut callers = Accepted::new(rt, &script, patience);
     let mut desk = CountDesk::new(rt.alloc(), 0);
     let served = serve_connections(rt, rt.alloc(), usize::MAX, &mut callers, &mut desk);
-    let is_closed = matches!(served, Ok(Stop::Closed));
-    drop(callers);
-    Met {
-        is_closed,
-        come: script.come.load(Ordering::SeqCst),
-        written: script.written.load(Ordering::SeqCst),
-        too_long: script.too_long.load(Ordering::SeqCst),
-        read_on: script.read_on.load(Ordering::SeqCst),
-    }
+    matches!(served, Ok(Stop::Closed))
+}
+
+fn ended<T: Clock + Wait + AllocGlobal>(rt: &T, clients: [Client; 6], patience: Patience) -> Met {
+    let script = Script::new(rt, clients);
+    let is_closed = is_closed(rt, &script, patience);
+    script.met(is_closed)
 }
 
 /// The same of a client that is first, and behind it clients that close the desk.
