@@ -1,7 +1,6 @@
 //! Steps, devices with a store, and runs of events on its ledger.
 
-ghost use Rattle.std.specs.Prelude.{◌≡◌, ◌≤◌, None, false};
-ghost use Rattle.coord_store.specs.Facade.{has_stopped};
+ghost use Rattle.std.specs.Prelude.{◌≡◌, ◌≤◌, None};
 
 use coord_disk::{Choice, CrashDisk, Disk, MemDisk};
 use coord_ledger::{Event, Ledger, Release, Trace, run_events};
@@ -102,7 +101,7 @@ pub(crate) fn choosing(rt: &impl Host, bytes: &[u8], which: usize) -> MemDisk {
 
 /// A ledger over this store.
 fn adopted<D: Disk>(rt: &impl Host, store: Store<D>) -> Ledger<D>
-    requires { has_stopped store ≡ false }
+    requires { store.torn ≡ None }
     ensures home { result.out ≡ None }
     ensures going { result.log.doubt ≡ None }
 {
