@@ -8,8 +8,8 @@ use Rattle.std.specs.FinMap.Entries.{below_all, find, is_sorted, put, where_key}
 use Rattle.std.specs.List as list
 use Rattle.std.specs.List.{AllByRecursion}
 use Rattle.std.specs.Option.{option_map}
-use Rattle.std.specs.Cmp.{eq_by_cmp_equiv, tied_itself}
-use Rattle.std.specs.Ordering.{eq_by_cmp, is_eq, is_lt}
+use Rattle.std.specs.Cmp.{eq_by_cmp_equiv}
+use Rattle.std.specs.Ordering.{eq_by_cmp, is_lt}
 use Rattle.coord_types.specs.StepRanges.{IsNode}
 use Rattle.coord_types.specs.Table.{from_sorted, get, insert, remove}
 use Rattle.coord_types.proofs.Tables.{get-change, get-from_sorted, get-insert}
@@ -128,15 +128,7 @@ module _ (t : Links) (turned : Turned t) (x y : ℕ) (f : Lane → Lane) where
 
       untouched : (k : ℕ × ℕ) (o : Option Lanes) → get t k ≡ o → eq_by_cmp pair_cmp k (ends x y) ≡ false → o ≡ option_map (changed k) o
       untouched k None is apart = refl
-      untouched k (Some l) is apart =
-          let less : k.0 < k.1 = turned k.0 k.1 (ap is_some is) in
-          let one : (eqb k.0 x && eqb k.1 y) ≡ false = by_test (eqb k.0 x && eqb k.1 y) (λ c. c ≡ false)
-          (λ same. let up : nat_lt x y ≡ true = grind (arith, nat_tests, same, less) in
-          absurd (let other : eq_by_cmp pair_cmp k (x, y) ≡ false = ap (λ c. eq_by_cmp pair_cmp k (cond {A = ℕ × ℕ} c (x, y) (y, x))) (sym up) ∙ apart in grind (arith, nat_tests, same, other))) (λ _. refl) in
-          let two : (eqb k.1 x && eqb k.0 y) ≡ false = by_test (eqb k.1 x && eqb k.0 y) (λ c. c ≡ false)
-          (λ same. let down : nat_lt x y ≡ false = grind (arith, nat_tests, same, less) in
-          absurd (let other : eq_by_cmp pair_cmp k (y, x) ≡ false = ap (λ c. eq_by_cmp pair_cmp k (cond {A = ℕ × ℕ} c (x, y) (y, x))) (sym down) ∙ apart in grind (arith, nat_tests, same, other))) (λ _. refl) in
-          λ i. Some (record { forth = cond (sym one i) (f l.forth) l.forth; back = cond (sym two i) (f l.back) l.back })
+      untouched k (Some l) is apart = grind arith
 
 -- what holds of each row holds of each where one that has it is put
 all_set : (P : LinkRow → Type 0) (rows : List LinkRow) (i : ℕ) (r : LinkRow) → P r → AllByRecursion P rows → AllByRecursion P (set rows i r)
@@ -240,12 +232,7 @@ all_others k (e ∷ es) below =
 
 taken_out : (es : List ((ℕ × ℕ) × Lanes)) (i : ℕ) (e : (ℕ × ℕ) × Lanes) → is_sorted pair_cmp es ≡ true → slice_get es i ≡ Some e → list.remove es i ≡ where_key pair_cmp (other_than e.0) es
 taken_out [] i e sorted here = cc
-taken_out (x ∷ es) zero e sorted here =
-    let parts = both (below_all pair_cmp x.0 es) (is_sorted pair_cmp es) sorted in
-    let same : x ≡ e = cc in
-    let out : other_than e.0 x.0 ≡ false = ap (λ (z : (ℕ × ℕ) × Lanes). not (eq_by_cmp pair_cmp e.0 z.0)) same ∙ ap (λ o. not (is_eq o)) (tied_itself pair_cmp_total e.0) in
-    all_others x.0 es parts.0 ∙ ap (λ (z : (ℕ × ℕ) × Lanes). where_key pair_cmp (other_than z.0) es) same
-    ∙ ap (λ c. cond c (x ∷ where_key pair_cmp (other_than e.0) es) (where_key pair_cmp (other_than e.0) es)) (sym out)
+taken_out (x ∷ es) zero e sorted here = grind (arith, both (below_all pair_cmp x.0 es) (is_sorted pair_cmp es) sorted, both, all_others)
 taken_out (x ∷ es) (suc i) e sorted here =
     let parts = both (below_all pair_cmp x.0 es) (is_sorted pair_cmp es) sorted in
     let apart : other_than e.0 x.0 ≡ true = ap not ((eq_by_cmp_equiv pair_cmp_total).symm e.0 x.0 ∙ not_tied _ (below_each pair_cmp pair_cmp_total x.0 es i e parts.0 here)) in
@@ -285,17 +272,13 @@ pub kept_index : (old : List ℕ) (n k : ℕ) → length old ≤ n → slice_ind
 kept_index [] n k few = ap (λ l. slice_index (l ++ replicate (n - 0) 0) k) (take-nil n) ∙ zeros (n - 0) k
 kept_index (x ∷ old) zero k few = absurd (omega (arith, few))
 kept_index (x ∷ old) (suc n) zero few = refl
-kept_index (x ∷ old) (suc n) (suc k) few =
-    let less : suc n - length (x ∷ old) ≡ n - length old = omega (arith, few) in
-    ap (λ m. slice_index (take n old ++ replicate m 0) k) less ∙ kept_index old n k (omega (arith, few))
+kept_index (x ∷ old) (suc n) (suc k) few = grind (arith, few, kept_index old n k (omega (arith, few)))
 
 -- ---- the place of a new link
 
 -- what isn't found ties with none
 pub none_tied : (k : ℕ × ℕ) (es : List ((ℕ × ℕ) × Lanes)) (i : ℕ) (e : (ℕ × ℕ) × Lanes) → find pair_cmp k es ≡ None → slice_get es i ≡ Some e → eq_by_cmp pair_cmp k e.0 ≡ false
 none_tied k [] i e none here = cc
-none_tied k (x ∷ es) zero e none here =
-    let same : x ≡ e = cc in
-    ap (λ (z : (ℕ × ℕ) × Lanes). eq_by_cmp pair_cmp k z.0) (sym same) ∙ by_test (eq_by_cmp pair_cmp k x.0) (λ t. cond t (Some x.1) (find pair_cmp k es) ≡ None → t ≡ false) (λ _ some. cc) (λ _ _. refl) none
+none_tied k (x ∷ es) zero e none here = grind arith
 none_tied k (x ∷ es) (suc i) e none here =
     none_tied k es i e (by_test (eq_by_cmp pair_cmp k x.0) (λ t. cond t (Some x.1) (find pair_cmp k es) ≡ None → find pair_cmp k es ≡ None) (λ _ some. cc) (λ _ later. later) none) here

@@ -20,9 +20,7 @@ module _ {K A X Y : Type 0} (R : K → K → Ordering) (f : A → K × X) (g : A
   -- entries with the same keys are in order alike
   pub sorted-keys : (xs : List A) → is_sorted R (map f xs) ≡ is_sorted R (map g xs)
   sorted-keys [] = refl
-  sorted-keys (x ∷ xs) =
-      let below = ap (λ k. below_all R k (map f xs)) (same x) ∙ below-keys (g x).0 xs in
-      λ i. below i && sorted-keys xs i
+  sorted-keys (x ∷ xs) = grind (arith, sorted-keys xs, below-keys)
 
 module _ {K A : Type 0} (R : K → K → Ordering) (key : A → K) where
   -- the elements with their keys
@@ -32,11 +30,7 @@ module _ {K A : Type 0} (R : K → K → Ordering) (key : A → K) where
   -- a value of the element that is found
   pub find-values : {X : Type 0} (value : A → X) (q : K) (xs : List A) → find R q (map (λ x. (key x, value x)) xs) ≡ option_map value (find R q (keyed xs))
   find-values value q [] = refl
-  find-values value q (x ∷ xs) =
-      elim (eq_by_cmp R q (key x)) as (λ b. cond b (Some (value x)) (find R q (map (λ y. (key y, value y)) xs)) ≡ option_map value (cond b (Some x) (find R q (keyed xs)))) [
-        | true ↦ refl
-        | false ↦ find-values value q xs
-      ]
+  find-values value q (x ∷ xs) = grind (arith, find-values value q xs)
 
   module _ (same : (p q : K) → eq_by_cmp R p q ≡ true → p ≡ q) (P : A → Type 0) where
     -- what is found is an element, at its key

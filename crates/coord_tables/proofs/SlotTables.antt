@@ -1,6 +1,6 @@
 -- The table of slots, by what stands in each of them.
 use Rattle.std.proofs.Common.{◌≡◌, ◌↔◌, ℕ, zero, suc, ◌+◌, ◌-◌, ◌<◌, ◌≤◌, true, false, ◌&&◌, List, [], ◌∷◌, Option, Some, None, length, cond, eqb, refl, sym, ap, ◌∙◌, arith}
-use Rattle.std.specs.Ordering.{nat_cmp, eq_by_cmp, is_lt}
+use Rattle.std.specs.Ordering.{nat_cmp, eq_by_cmp}
 use Rattle.std.specs.Cmp.{nat_cmp_total}
 use Rattle.std.specs.FinMap.{nat_cmp-IsAntisymmetric}
 use Rattle.std.specs.FinMap.Entries.{below_all, find, is_sorted}
@@ -16,9 +16,7 @@ module _ {X : Type 0} where
   below_slots : (xs : List (Option X)) (k n : ℕ) → k < n → below_all nat_cmp k (slot_entries n xs) ≡ true
   below_slots [] k n less = refl
   below_slots (None ∷ xs) k n less = below_slots xs k (suc n) (omega (arith, less))
-  below_slots (Some x ∷ xs) k n less =
-      let here : is_lt (nat_cmp k n) ≡ true = grind (arith, nat_tests) in
-      (λ i. here i && below_all nat_cmp k (slot_entries (suc n) xs)) ∙ below_slots xs k (suc n) (omega (arith, less))
+  below_slots (Some x ∷ xs) k n less = grind (arith, less, below_slots xs k (suc n) (omega (arith, less)))
 
   pub sorted_slots : (xs : List (Option X)) (n : ℕ) → is_sorted nat_cmp (slot_entries n xs) ≡ true
   sorted_slots [] n = refl
@@ -29,17 +27,13 @@ module _ {X : Type 0} where
   find_low : (xs : List (Option X)) (n q : ℕ) → q < n → find nat_cmp q (slot_entries n xs) ≡ None
   find_low [] n q less = refl
   find_low (None ∷ xs) n q less = find_low xs (suc n) q (omega (arith, less))
-  find_low (Some x ∷ xs) n q less =
-      let apart : eq_by_cmp nat_cmp q n ≡ false = grind (arith, nat_tests) in
-      ap (λ b. cond b (Some x) (find nat_cmp q (slot_entries (suc n) xs))) apart ∙ find_low xs (suc n) q (omega (arith, less))
+  find_low (Some x ∷ xs) n q less = grind (arith, less, find_low xs (suc n) q (omega (arith, less)))
 
   find_slot : (xs : List (Option X)) (n i : ℕ) → find nat_cmp (n + i) (slot_entries n xs) ≡ slot_at xs i
   find_slot [] n i = refl
   find_slot (None ∷ xs) n zero = find_low xs (suc n) (n + 0) (omega arith)
   find_slot (None ∷ xs) n (suc i) = let same : n + suc i ≡ suc n + i = omega arith in ap (λ q. find nat_cmp q (slot_entries (suc n) xs)) same ∙ find_slot xs (suc n) i
-  find_slot (Some x ∷ xs) n zero =
-      let here : eq_by_cmp nat_cmp (n + 0) n ≡ true = grind (arith, nat_tests) in
-      ap (λ b. cond b (Some x) (find nat_cmp (n + 0) (slot_entries (suc n) xs))) here
+  find_slot (Some x ∷ xs) n zero = grind arith
   find_slot (Some x ∷ xs) n (suc i) =
       let apart : eq_by_cmp nat_cmp (n + suc i) n ≡ false = grind (arith, nat_tests) in
       let same : n + suc i ≡ suc n + i = omega arith in
