@@ -5,7 +5,7 @@ ghost use Rattle.std.specs.Thread.{IsSend, IsSync};
 ghost use Rattle.coord_store.specs.Kept.{has_stopped};
 ghost use Rattle.coord_server.specs.Ending.{LeavesNothing};
 ghost use Rattle.coord_server.specs.declared.life_end.LifeEnd.TheVariants as LifeEndAs;
-ghost use Rattle.coord_server.specs.Lives.{EndsLives, EndsOneHistory, HasLived};
+ghost use Rattle.coord_server.specs.Lives.{EndsLives, EndsOneHistory, HasLived, IsOver};
 
 use crate::life::{Life, serve_life};
 use crate::life_end::LifeEnd;
@@ -139,7 +139,7 @@ fn print_and_live<
     setting.port.fall_silent();
     let output = printing.join(setting.rt);
     let life = lived?;
-    Ok(ServerEnd::of(life, output))
+    Ok(end_of(life, output))
 }
 
 /// Runs one life after the other, each with the store and the callers that the one before left, and
@@ -201,4 +201,26 @@ fn next_of<D: Disk, C>(life: Life<D, C>) -> Result<(Store<D>, C), Life<D, C>>
         left: _,
     } = life;
     Ok((closed.store, callers))
+}
+
+/// How a server ended, by its last life. One that rests is the last only where its store has stopped.
+fn end_of<D: Disk, C>(life: Life<D, C>, output: OutputEnd) -> ServerEnd<D, C>
+    ensures { IsOver life.left result.served × (result.closed ≡ life.closed) ×
+        (result.callers ≡ life.callers) × (result.output ≡ output) }
+{
+    let Life {
+        closed,
+        callers,
+        left,
+    } = life;
+    let served = match left {
+        LifeEnd::Resting => Some(ServerFault::Device),
+        LifeEnd::Ended(served) => served,
+    };
+    ServerEnd {
+        closed,
+        callers,
+        served,
+        output,
+    }
 }

@@ -3,10 +3,7 @@
 ghost use Rattle.std.specs.Prelude.{◌≡◌};
 ghost use Rattle.coord_store.specs.Kept.{has_stopped};
 ghost use Rattle.coord_server.specs.Ending.{fault_at_end};
-ghost use Rattle.coord_server.specs.Lives.{IsOver};
 
-use crate::life::Life;
-use crate::life_end::LifeEnd;
 use crate::{OutputEnd, ServerFault};
 use coord_disk::Disk;
 use coord_engine::Closed;
@@ -18,32 +15,11 @@ pub struct ServerEnd<D: Disk, C> {
     pub callers: C,
     /// What ended the serving, if not a close.
     pub served: Option<ServerFault>,
+    /// How its output ended.
     pub output: OutputEnd,
 }
 
 impl<D: Disk, C> ServerEnd<D, C> {
-    /// Of its last life. One that rests is the last where its store has stopped.
-    pub fn of(life: Life<D, C>, output: OutputEnd) -> Self
-        ensures { IsOver life.left result.served × (result.closed ≡ life.closed) ×
-            (result.callers ≡ life.callers) × (result.output ≡ output) }
-    {
-        let Life {
-            closed,
-            callers,
-            left,
-        } = life;
-        let served = match left {
-            LifeEnd::Resting => Some(ServerFault::Device),
-            LifeEnd::Ended(served) => served,
-        };
-        ServerEnd {
-            closed,
-            callers,
-            served,
-            output,
-        }
-    }
-
     /// The one fault to tell: a stopped store first, then what ended the serving, then a failed
     /// output. None if the server was closed and nothing failed.
     pub fn fault(&self) -> Option<ServerFault>
