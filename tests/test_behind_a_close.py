@@ -4,6 +4,7 @@ import socket
 import threading
 import time
 
+from support import preloaded
 from support.case import Case
 from support.serving import Serving
 from support.stores import topology
@@ -33,6 +34,21 @@ class BehindAClose(Case):
             self.assertEqual(connection.rest(), [b'{"kind":"closed"}\n'])
             connection.socket.close()
             self.assertEqual(server.ended().status, 0)
+
+    def test_a_client_is_told_that_no_more_comes(self):
+        """Behind the answer, and before what it still sends is discarded: so it need not wait for the end of that."""
+        self.needs("a C compiler", preloaded.has_compiler())
+        environment = preloaded.environment(self.folder, CALLS=self.path("calls"), WAITS=1)
+        with Serving(self.made(topology([(1, 1)])), env=environment) as server, server.connect() as connection:
+            connection.send({"op": "close"})
+            self.assertEqual(connection.rest(), [b'{"kind":"closed"}\n'])
+            connection.socket.close()
+            self.assertEqual(server.ended().status, 0)
+        calls = [line.split(" ") for line in self.read("calls").decode().splitlines()]
+        answer = b'{"kind":"closed"}\n'.hex()
+        names = [name for name, _, place, text in calls if text == answer or (name == "no-more" and place == "1")
+                 or name == "read-within"]
+        self.assertEqual(names[:4], ["read-within", "out", "no-more", "read-within"])
 
     def test_a_client_that_stays_holds_up_no_end(self):
         with Serving(self.made(topology([(1, 1)]))) as server, server.connect() as connection:

@@ -7,6 +7,7 @@ import threading
 
 from support import preloaded
 from support.case import Case, until
+from support.program import Ended, ran
 from support.serving import Serving
 from support.stores import ring, topology
 
@@ -58,6 +59,17 @@ class Connections(Case):
             connection.socket.close()
             self.assertEqual(server.close().status, 0)
 
+    def test_calls_that_are_interrupted_very_often(self):
+        """15,000 times in turn: a wait for a line, an answer, and the first line; and what a command prints."""
+        self.needs("a C compiler", preloaded.has_compiler())
+        environment = preloaded.environment(self.folder, STORM=15_000)
+        with Serving(self.made(topology([(1, 1)])), env=environment) as server:
+            self.assertEqual(server.order(1, "reset", node=1), {"kind": "finished", "step": 2})
+            self.assertEqual(server.close().status, 0)
+        for words, printed in ((["check", server.store], "legal 2\n"), (["drill"], "done 1\n")):
+            ended = ran(*words, given=b"add 1 1\n", env={**os.environ, **environment})
+            self.assertEqual(ended, Ended(0, printed, ""))
+
     def test_a_server_that_is_stopped_and_goes_on(self):
         """A wait for a line, and for the rest of one, goes on too."""
         with self.serving() as server, server.connect() as connection:
@@ -93,6 +105,7 @@ class Connections(Case):
     def test_clients_that_left_before_they_were_served(self):
         """Some have sent a line, of which nobody can say whether it was carried out; the next one has its turn."""
         with self.serving() as server:
+            descriptors = os.listdir(f"/proc/{server.process.pid}/fd")
             with server.connect() as first:
                 first.send({"op": "show"})
                 first.line()
@@ -102,6 +115,7 @@ class Connections(Case):
                         if number % 2:
                             other.socket.setsockopt(socket.SOL_SOCKET, socket.SO_LINGER, GONE_AT_ONCE)
             self.assertEqual(server.ask({"op": "resend"}), RESENT)
+            self.assertLessEqual(len(os.listdir(f"/proc/{server.process.pid}/fd")), len(descriptors) + 1)
             self.assertEqual(server.close().status, 0)
 
     def test_a_client_that_says_it_sends_no_more(self):

@@ -147,7 +147,12 @@ class Moments(Case):
         """All moments of two checkpoints, which move the journal to the other half and back, and some of the others."""
         choice, selectors, near = random.Random(1), [], 0
         before, calls = self.served(1_150, [RESET] * 2_450)
+        last = 0
         for name, place, device, answered in self.moments(before, calls):
+            if answered > last:
+                # an order goes out only once the one before it was answered, so nothing else is on its way to the device
+                self.assertEqual((answered, device.since), (answered, []))
+                last = answered
             if name == "write" and place == 0:
                 selectors.append(device.since[-1][1])
             if name == "write" and (place == 0 or len(device.since[-1][1]) > 60):

@@ -1,5 +1,6 @@
 """The file of a store: who may open it, what of it is synced before an answer, and calls of it that fail or do a part."""
 
+import errno
 import os
 import stat
 import subprocess
@@ -14,6 +15,8 @@ ONE = topology([(1, 1)], half=stores.HALF)
 FAILED = faulted(3, "Device")
 STOPPED = {"name": "Stopped", "refused": 1}
 ORDERS = 4
+# What the system may say of a call that fails.
+ERRORS = [errno.EIO, errno.ENOSPC, errno.EDQUOT, errno.EINVAL, errno.EROFS, errno.EOPNOTSUPP, errno.ENOMEM, errno.EAGAIN]
 # The syncs of a start: of the folder and the file; and of an order: of its batch, and of the byte that lets it be read.
 AT_A_START, AT_AN_ORDER = 2, 2
 
@@ -73,6 +76,25 @@ class ReadOnly(Case):
             self.assertEqual(server.close().status, 0)
         self.assertEqual(os.listdir(folder), ["store"])
 
+    def test_a_folder_that_is_not_read(self):
+        """Its entries can't be synced: so nothing that stands there is written to."""
+        topology_path, folder = self.write("topology", ONE), self.path("folder")
+        os.mkdir(folder)
+        self.assertEqual(ran("init", f"{folder}/store", topology_path).status, 0)
+        before = self.content(f"{folder}/store")
+        os.chmod(folder, 0o300)
+        for words in (["init", f"{folder}/other", topology_path], ["serve", f"{folder}/store", "127.0.0.1:0"],
+                      ["migrate", f"{folder}/store"]):
+            self.assertEqual(self.user(*words), FAILED)
+        self.assertEqual(self.user("check", f"{folder}/store"), Ended(0, "legal 1\n", ""))
+        os.chmod(folder, 0o700)
+        self.assertEqual([self.content(f"{folder}/{name}") for name in ("store", "other")], [before, b""])
+
+    @staticmethod
+    def content(path):
+        with open(path, "rb") as file:
+            return file.read()
+
 
 class Called(Case):
     takes = 8
@@ -122,6 +144,57 @@ class Called(Case):
             with self.subTest(sync=number, of=syncs):
                 os.remove(self.path("store"))
                 self.assertEqual(ran(*words, env=self.environment(SYNC_FAILS=number)), FAILED)
+
+    def test_a_call_that_fails(self):
+        """Each call of each kind alone, with each error: Device is told, and what stood there is as it was."""
+        words = {"init": [self.write("topology", ONE)], "check": [], "show": [], "migrate": [], "serve": ["127.0.0.1:0"]}
+        content = stores.store(bodies=[stores.batch(1, stores.add(1))])
+        calls = [("LENGTH_FAILS", 2, words), ("SYNC_FAILS", 1, words), ("LOCK_FAILS", 1, ("init", "migrate", "serve")),
+                 ("READ_FAILS", 1, ("check", "show", "migrate", "serve")), ("READ_ENDS", 1, ("check", "show", "migrate", "serve"))]
+        for call, most, commands in calls:
+            for command in commands:
+                for number in range(1, most + 1):
+                    for error in ERRORS if call != "READ_ENDS" else ERRORS[:1]:
+                        path = self.write("store", content)
+                        with self.subTest(call=call, number=number, command=command, error=errno.errorcode[error]):
+                            environment = self.environment(ERROR=error, **{call: number})
+                            self.assertEqual(ran(command, path, *words[command], env=environment, seconds=60), FAILED)
+                            self.assertEqual(self.read("store"), content)
+
+    def test_a_write_that_fails_where_a_store_is_made(self):
+        words = ["init", self.path("store"), self.write("topology", ONE)]
+        for number in (1, 2, 3):
+            for error in ERRORS:
+                with self.subTest(write=number, error=errno.errorcode[error]):
+                    self.assertEqual(ran(*words, env=self.environment(WRITE_FAILS=number, ERROR=error), seconds=60), FAILED)
+                    os.remove(self.path("store"))
+        self.assertEqual(ran(*words, env=self.environment(WRITE_FAILS=4)), Ended(0, "created 1\n", ""))
+
+    def test_a_write_that_fails_while_a_store_is_raised(self):
+        content = stores.store(bodies=[stores.batch(1, stores.add(1))])
+        for number in (1, 2):
+            for error in ERRORS:
+                path = self.write("store", content)
+                with self.subTest(write=number, error=errno.errorcode[error]):
+                    environment = self.environment(WRITE_FAILS=number, ERROR=error)
+                    self.assertEqual(ran("migrate", path, env=environment, seconds=60), FAILED)
+                    self.assertEqual((ran("check", path), stores.version_of(path)), (Ended(0, "legal 1\n", ""), 1))
+
+    def test_a_write_that_fails_while_orders_are_served(self):
+        """Alone, with each error: the order is Stopped, and each later one, and the close ends with Device."""
+        store = self.made(ONE)
+        before = self.read("store")
+        for number, error in enumerate(ERRORS, 1):
+            self.write("store", before)
+            environment = self.environment(WRITE_FAILS=number, ERROR=error)
+            with self.subTest(write=number, error=errno.errorcode[error]), Serving(store, env=environment) as server:
+                answers = [server.order(each, "reset", node=1) for each in range(1, len(ERRORS) // 2 + 2)]
+                done = (number - 1) // 2  # an order has two writes
+                kept = [{"kind": "finished", "step": 1 + each} for each in range(1, done + 1)]
+                self.assertEqual(answers, kept + [STOPPED] * (len(answers) - done))
+                ended = server.close()
+                self.assertEqual((ended.status, ended.told), (3, "resetd: Device\n"))
+            self.assertGreaterEqual(int(ran("check", store).printed.split()[1]), 1 + done)
 
     def test_a_sync_that_fails_while_a_store_is_raised(self):
         """One that fails alone: it is told, and the store is of one version or the other."""

@@ -6,7 +6,7 @@ import subprocess
 
 from support import preloaded
 from support.case import Case, tool
-from support.program import PROGRAM, faulted, ran
+from support.program import PROGRAM, SHORT, SHORT_STEPS, Ended, faulted, ran
 from support.serving import Serving
 from support.stores import topology
 
@@ -59,8 +59,17 @@ class Descriptors(Case):
         self.assertEqual((self.read("store"), ran("check", store).status), (before, 0))
 
 
+    def test_an_address_that_is_not_told(self):
+        """It can't be printed, so nobody is served."""
+        self.needs("a C compiler", preloaded.has_compiler())
+        environment = {**os.environ, **preloaded.environment(self.folder, NAME_FAILS=1)}
+        store = self.made(topology([(1, 1)]))
+        self.assertEqual(ran("serve", store, "127.0.0.1:0", env=environment, seconds=60), faulted(3, "Socket"))
+
+
 class Threads(Case):
     takes = 20
+    programs = ("RESETD", "RESETD_SHORT")
 
     def test_it_serves_with_all_of_them_or_not_at_all(self):
         """tools/few_threads, as root."""
@@ -82,6 +91,27 @@ class Threads(Case):
         with Serving(store, env=preloaded.environment(self.folder, THREAD_FAILS=THREADS + 1)) as server:
             self.assertEqual(server.order(1, "reset", node=1), {"kind": "finished", "step": 2})
             self.assertEqual(server.close().status, 0)
+
+
+    def test_one_that_is_refused_to_a_later_life(self):
+        """The flusher or a worker of the second life, or of the third: the server says so and ends, with all that was answered."""
+        self.needs("a C compiler", preloaded.has_compiler())
+        for life in (2, 3):
+            for number in range(1, THREADS):
+                fails = THREADS + (life - 2) * (THREADS - 1) + number
+                environment = preloaded.environment(self.folder, THREAD_FAILS=fails)
+                store = self.made(topology([(1, 1)]), f"store{fails}")
+                with self.subTest(thread=fails), Serving(store, program=SHORT, env=environment) as server:
+                    for first in range(1, (life - 1) * SHORT_STEPS, SHORT_STEPS):
+                        with server.connect() as connection:
+                            numbers = range(first, first + SHORT_STEPS)
+                            connection.send(*({"op": "reset", "client": 1, "number": each, "node": 1} for each in numbers))
+                            self.assertEqual([connection.reply()["step"] for _ in numbers], [1 + each for each in numbers])
+                    count = (life - 1) * SHORT_STEPS
+                    signals = "".join(f"signal 1 {epoch}\n" for epoch in range(1, count + 1))
+                    wanted = Ended(4, f"listening {server.address}\n{signals}", "resetd: OutOfMemory\n")
+                    self.assertEqual(server.ended(60), wanted)
+                self.assertEqual(ran("check", store).printed, f"legal {1 + count}\n")
 
 
 class Reads(Case):

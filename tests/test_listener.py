@@ -1,6 +1,7 @@
 """A listener that fails: what may pass is waited for, and what does not pass ends the server. One to which nobody comes."""
 
 import errno
+import os
 import time
 
 from support import preloaded
@@ -61,14 +62,25 @@ class Listener(Failing):
                 self.assertLess(processor_seconds(server.process.pid), 5)
 
 
-    def test_a_connection_that_can_not_be_made_ready(self):
-        """It is ended, and the next client is served."""
-        store = self.made(topology([(1, 1)]))
-        with Serving(store, env=preloaded.environment(self.folder, UNREADY=2)) as server:
-            for _ in range(2):
+    def test_a_rest_before_each_further_try(self):
+        """It takes as long as docs/OPERATING.md says."""
+        settings = {"ACCEPT_ERROR": errno.ENFILE, "ACCEPT_TIMES": 3, "CALLS": self.path("calls"), "WAITS": 1}
+        with Serving(self.made(topology([(1, 1)])), env=preloaded.environment(self.folder, **settings)) as server:
+            self.assertEqual(server.ask({"op": "resend"}), {"count": 0, "kind": "resent"})
+            rests = [int(line.split()[2]) for line in self.read("calls").splitlines() if line.startswith(b"rest ")]
+            # the server may have begun to wait for the next client
+            self.assertEqual(rests[:3], [REST * 1_000_000] * 3)
+
+    def test_connections_that_can_not_be_made_ready(self):
+        """Each is ended, and keeps no descriptor. However many come, the next client is served."""
+        store, count = self.made(topology([(1, 1)])), TRIES + 10
+        with Serving(store, env=preloaded.environment(self.folder, UNREADY=count)) as server:
+            descriptors = os.listdir(f"/proc/{server.process.pid}/fd")
+            for _ in range(count):
                 with server.connect() as connection:
                     self.assertEqual(connection.rest(), [])
             self.assertEqual(server.ask({"op": "resend"}), {"count": 0, "kind": "resent"})
+            self.assertLessEqual(len(os.listdir(f"/proc/{server.process.pid}/fd")), len(descriptors) + 1)
             self.assertEqual(server.close().status, 0)
 
 

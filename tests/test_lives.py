@@ -3,7 +3,8 @@
 import os
 import threading
 
-from support.program import SHORT, SHORT_STEPS
+from support.piped import Piped
+from support.program import SHORT, SHORT_STEPS, Ended
 from support.served import Served
 from support.serving import Serving
 from support.stores import ring, topology
@@ -95,6 +96,21 @@ class Lives(Served):
                 self.assertEqual(connection.rest(), [b'{"kind":"closed"}\n'])
             ended = server.ended()
             self.assertEqual((ended.status, ended.told, len(ended.printed.splitlines())), (0, "", 101))
+
+    def test_an_output_that_is_not_read(self):
+        """It holds up no answer, and no next life: what a life has released is printed in later ones."""
+        with Piped(self.made(topology([(1, 1)])), program=SHORT) as server:
+            count = 20 * SHORT_STEPS
+            for first in range(1, count, SHORT_STEPS):
+                numbers = range(first, first + SHORT_STEPS)
+                with server.connect() as connection:
+                    connection.socket.settimeout(60)
+                    connection.send(*({"op": "reset", "client": 1, "number": number, "node": 1} for number in numbers))
+                    self.assertEqual([connection.reply()["step"] for _ in numbers], [1 + number for number in numbers])
+            self.assertEqual(server.ask({"op": "close"}), {"kind": "closed"})
+            server.read_on()
+            signals = "".join(f"signal 1 {epoch}\n" for epoch in range(1, count + 1))
+            self.assertEqual(server.ended(), Ended(0, f"listening {server.address}\n{signals}", ""))
 
     def test_two_clients_across_lives(self):
         """Each waits for its turn, and each order is carried out once."""

@@ -7,6 +7,7 @@ import socket
 from support import preloaded, stores
 from support.case import Case, until
 from support.program import PROGRAM, SHORT, SHORT_STEPS, Ended, faulted, ran
+from support.piped import Piped
 from support.refusing import WORKERS, Refusing
 from support.served import FINISHED, STARTED, answered
 from support.serving import Serving
@@ -113,6 +114,34 @@ class Memory(Case):
         self.expect_first_part("crash-loses-pending")
 
 
+class Start(Case):
+    takes = 20
+
+    def test_each_allocation_of_a_start(self):
+        """Refused alone, or with all behind it: the server listens, or it says so, prints nothing and leaves its store."""
+        self.needs("a C compiler", preloaded.has_compiler())
+        refusing, store = Refusing(PROGRAM, self.folder), self.made(PAIR)
+        content, told, usual = self.read("store"), 0, refusing.ran("check", self.path("none/store"))[1]
+        with Serving(store, env=refusing.environment()):
+            count = refusing.count()
+        self.assertGreater(count, usual)
+        for first in range(1, count + 1):
+            for many in (1, ALL) if first > usual - 5 or first % 16 == 0 else ():
+                with self.subTest(first=first, many=many, of=count):
+                    told += self.start(store, refusing.environment(first, many)) == NO_MEMORY
+                    self.assertEqual(self.read("store"), content)
+        self.assertGreater(told, 10)
+
+    def start(self, store, environment):
+        """How a server ends that does not listen; None of one that does."""
+        try:
+            with Serving(store, env=environment, output=self.path("output")):
+                return None
+        except AssertionError as ended:
+            self.assertIn(str(NO_MEMORY), str(ended))
+            return NO_MEMORY
+
+
 class Wave(Case):
     takes = 5
 
@@ -138,23 +167,51 @@ class Wave(Case):
         return count
 
 
+class Waves(Case):
+    """Waves over a star, seven or eight packets of which come to one worker at once."""
+
+    takes = 10
+    star = topology([(node, 1) for node in (1, *range(8, 65, 8))], [(1, node) for node in range(8, 65, 8)])
+
+    def test_packets_that_wait_together(self):
+        """That worker is refused memory for a while. Each packet that waits is taken once there is some, and nobody has
+        anything sent again."""
+        self.needs("a C compiler", preloaded.has_compiler())
+        refusing, store = Refusing(PROGRAM, self.folder), self.made(self.star)
+        worker = WORKERS[:1]  # the nodes with a number by 8 are its own
+        with Serving(store, env=refusing.environment(threads=worker)) as server:
+            for epoch in range(1, 31):
+                # one refusal takes room for packets that wait, and then several are refused in turn
+                refusing.refuse(refusing.count() + 1 + epoch % 3, 1 if epoch % 6 == 1 else 6)
+                self.assertEqual(server.order(epoch, "reset", node=1)["kind"], STARTED)
+                until(f"the end of wave {epoch}", lambda: self.has_ended(server.show(), epoch), 60)
+                self.assertEqual(server.ask({"op": "resend"}), {"count": 0, "kind": "resent"})
+            self.assertEqual(server.close().status, 0)
+
+    @staticmethod
+    def has_ended(shown, epoch):
+        """Each packet was taken and cleared, of which each link has three in a wave."""
+        return all(row[2] == "ready" and row[4] == epoch for row in shown["nodes"]) and \
+            shown["settled"] == shown["accepted"] == 17 + epoch * (1 + 2 * 3 * 8)
+
+
 class Kept(Case):
     """What a server takes of memory it gives back, however long it runs: counted in allocations."""
 
     takes = 5
     programs = ("RESETD", "RESETD_SHORT")
 
-    def expect_no_more(self, program, store, work, times=16):
+    def expect_no_more(self, program, store, work, times=16, serving=Serving, status=0):
         """Doing something so often, once it was done a little, keeps fewer allocations than one each time."""
         self.needs("a C compiler", preloaded.has_compiler())
         refusing = Refusing(program, self.folder)
-        with Serving(store, program=program, env=refusing.environment()) as server:
+        with serving(store, program=program, env=refusing.environment()) as server:
             for number in range(5 * times):
                 if number % times == 0:
                     kept = refusing.kept()
                 work(server, number)
             self.assertLess(refusing.kept() - kept, times // 2)
-            self.assertEqual(server.close().status, 0)
+            self.assertEqual(server.close().status, status)
 
     def test_of_a_command(self):
         """All of it is given back at the end, however many lines a drill had."""
@@ -179,6 +236,27 @@ class Kept(Case):
                 connection.socket.shutdown(socket.SHUT_WR)
                 self.assertEqual(len(connection.rest()), len(lines))
         self.expect_no_more(PROGRAM, self.made(PAIR), ask)
+
+    def test_of_a_connection_that_was_torn_off(self):
+        """By its client: in the midst of a line, before a reply, or before it was served."""
+        lines = (b'{"op":', b'{"op":"show"}\n' * 20, b'{"op":"reset","client":1,"number":9,"node":1}\n' * 20)
+
+        def leave(server, number):
+            with server.connect() as connection:
+                connection.socket.setsockopt(socket.SOL_SOCKET, socket.SO_LINGER, b"\1\0\0\0\0\0\0\0")
+                connection.send({"op": "resend"})
+                self.assertEqual(connection.reply()["kind"], "resent")
+                connection.send(lines[number % 3])
+            self.assertEqual(server.ask({"op": "resend"}), {"count": 0, "kind": "resent"})
+        self.expect_no_more(PROGRAM, self.made(PAIR), leave, times=18)
+
+    def test_of_signals_that_nobody_reads(self):
+        """Once a line can't be printed, those behind it are not kept."""
+        def reset(server, number):
+            if number == 0:
+                server.leave()
+            self.assertEqual(server.order(number + 1, "reset", node=1), answered(FINISHED, 2 + number))
+        self.expect_no_more(PROGRAM, self.made(topology([(1, 1)])), reset, serving=Piped, status=3)
 
     def test_of_orders_and_waves(self):
         def reset(server, number):

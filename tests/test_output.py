@@ -5,9 +5,10 @@ import fcntl
 import os
 import subprocess
 
-from support import stores
+from support import preloaded, stores
 from support.case import Case, until
 from support.program import PATIENCE, PROGRAM, Ended, ran
+from support.serving import Serving
 from support.stores import topology
 
 PAIR = topology([(1, 1), (2, 1)], [(1, 2)])
@@ -19,6 +20,39 @@ def by_shell(redirected, *words, seconds=PATIENCE):
     done = subprocess.run(["sh", "-c", f'exec "$0" "$@" {redirected}', PROGRAM, *words], stdin=subprocess.DEVNULL,
                           capture_output=True, timeout=seconds)
     return done.returncode, done.stderr.decode()
+
+
+class Printed(Case):
+    def test_a_text_goes_out_in_one_write(self):
+        """What a command prints, and each answer of a drill: so whoever reads it sees no part of a line."""
+        self.needs("a C compiler", preloaded.has_compiler())
+        store, network = self.path("store"), self.write("topology", stores.ring(64))
+        for words in (["init", store, network], ["check", store], ["show", store], ["migrate", store]):
+            with self.subTest(words=words):
+                self.expect_writes(words, b"", [ran(*words).printed] if words[0] != "init" else ["created 128\n"])
+        drill = b"add 1 1\nhold\n" + b"reset 1\n" * 50
+        pending = "done 1\n" + "".join(f"pending {step}\n" for step in range(2, 52))
+        settled = "".join(f"finished {step}\nsignal 1 {step - 1}\n" for step in range(2, 52))
+        # the second piece of the input, whose first one has 512 bytes
+        self.expect_writes(["drill"], drill.ljust(511, b"#") + b"\nflush\n", [pending, f"{settled}settled 51\n"])
+        environment = preloaded.environment(self.folder, CALLS=self.path("calls"))
+        with Serving(store, env=environment) as server:
+            self.assertEqual(server.order(1, "reset", node=1)["kind"], "started")
+            server.await_signals(64)
+            printed = server.close().printed
+        lines = [text for text in self.written() if not text.startswith("{")]
+        self.assertEqual(lines, printed.splitlines(keepends=True))
+
+    def expect_writes(self, words, given, wanted):
+        environment = preloaded.environment(self.folder, CALLS=self.path("calls"))
+        self.assertEqual(ran(*words, given=given, env={**os.environ, **environment}).told, "")
+        self.assertEqual(self.written(), wanted)
+
+    def written(self):
+        """What each write has printed."""
+        rows = [line.split(" ") for line in self.read("calls").decode().splitlines()]
+        os.remove(self.path("calls"))
+        return [bytes.fromhex(text).decode() for name, _, _, text in rows if name == "out"]
 
 
 class Unprinted(Case):

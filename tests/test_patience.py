@@ -135,7 +135,8 @@ class Patience(Case):
             self.assertEqual(server.ended().status, 0)
 
     def expect_times(self, log, wanted):
-        """These are told next, in seconds, a write's as a negative number. Of each some may be over, but less than 5 s."""
+        """These are told next, in seconds, a write's as a negative number. Of a line's some may be over, but less than 5 s; of
+        the others, which begin just then, nearly nothing."""
         def told():
             with open(log, encoding="ascii") as calls:
                 rows = [line.split(" ") for line in calls.readlines()[self.told:]]
@@ -146,7 +147,8 @@ class Patience(Case):
         self.assertEqual(len(times), len(wanted), times)
         for (name, seconds), most in zip(times, wanted):
             self.assertEqual(name, "read-within" if most > 0 else "write-within", times)
-            self.assertTrue(abs(most) - 5 < seconds <= abs(most), times)
+            over = 5 if most == LINE else min(2, abs(most) / 3)
+            self.assertTrue(abs(most) - over < seconds <= abs(most), times)
 
     def test_lines_that_are_slow_but_in_time(self):
         """Each takes some seconds, and all more than any one time."""

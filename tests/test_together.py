@@ -208,10 +208,41 @@ class Refused(Served):
             lacked += {"fault": "OutOfMemory"} in replies
         self.assertGreater(lacked, 10)
 
+    def test_each_allocation_of_a_view(self):
+        """A client that asks for a view, for what may be lost and for what there is not has three answers, of which one may say
+        that memory lacked; or nothing was begun."""
+        self.needs("a C compiler", preloaded.has_compiler())
+        refusing, store, lacked = Refusing(PROGRAM, self.folder), self.made(ring(3)), 0
+        asked = [{"op": "show"}, {"op": "resend"}, {"op": "reset", "client": 1, "number": 1, "node": 64}]
+        wanted, before, behind = self.answers(store, refusing, asked, 0)
+        self.assertEqual((wanted[0]["settled"], wanted[1:]), (6, [{"count": 0, "kind": "resent"}, refused(6, "UnknownNode")]))
+        for first in range(before + 1, behind + 1):
+            answers, _, _ = self.answers(store, refusing, asked, first)
+            with self.subTest(first=first - before, of=behind - before):
+                self.assertIn(len(answers), (0, 3), answers)
+                for answer, usual in zip(answers, wanted):
+                    self.assertIn(answer, (usual, {"fault": "OutOfMemory"}))
+            lacked += {"fault": "OutOfMemory"} in answers
+        self.assertGreater(lacked, 10)
+
+    def answers(self, store, refusing, asked, first):
+        """What is answered over one connection, whose server's first thread is refused one allocation."""
+        with Serving(store, env=refusing.environment(first, threads=FIRST_THREAD)) as server, server.connect() as connection:
+            before = refusing.count()
+            with contextlib.suppress(OSError):
+                connection.send(*asked)
+                connection.socket.shutdown(socket.SHUT_WR)
+            answers, behind = self.replies(connection), refusing.count()
+            self.assertEqual(self.close(server).status, 0)
+            return answers, before, behind
+
     def seconds(self, store, refusing, first):
         """Three orders, where 300 allocations are refused from this one on: in how many seconds all of them were carried out,
         or 0 if they were not, or before so many were asked for."""
-        with Serving(store, env=refusing.environment(first, 300)) as server, server.connect() as connection:
+        rests = preloaded.environment(self.folder, CALLS=self.path("calls"), WAITS=1)
+        environment = refusing.environment(first, 300)
+        rests["LD_PRELOAD"] += f":{environment['LD_PRELOAD']}"
+        with Serving(store, env={**environment, **rests}) as server, server.connect() as connection:
             began = time.monotonic()
             with contextlib.suppress(OSError):
                 connection.send(*({"op": "reset", "client": 1, "number": number, "node": 1} for number in range(1, 4)))
@@ -232,3 +263,5 @@ class Refused(Served):
             self.write("store", content)
             times.append(self.seconds(store, refusing, first))
         self.assertGreater(min(filter(None, times), default=0), 0.25, times)
+        rests = {int(line.split()[2]) for line in self.read("calls").splitlines() if line.startswith(b"rest ")}
+        self.assertEqual(rests, {1_000})  # microseconds

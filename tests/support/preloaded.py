@@ -18,11 +18,18 @@ SOURCE = r"""
 #include <string.h>
 #include <sys/mman.h>
 #include <sys/socket.h>
+#include <sys/stat.h>
 #include <sys/syscall.h>
 #include <sys/time.h>
 #include <time.h>
 #include <unistd.h>
 static long setting(const char *name) { return getenv(name) ? atol(getenv(name)) : 0; }
+// Of the calls of one kind the one whose number is set fails, with the error that is set, or else with EIO.
+static int fails(const char *number, const char *error, long *calls) {
+    if (!setting(number) || __atomic_add_fetch(calls, 1, __ATOMIC_SEQ_CST) != setting(number)) return 0;
+    errno = setting(error) ? setting(error) : EIO;
+    return 1;
+}
 // Behind the first ACCEPT_AFTER clients, each further one comes only after ACCEPT_TIMES calls that fail with ACCEPT_ERROR.
 // What goes out to a client is kept by the system up to SEND_BUFFER bytes.
 int accept4(int socket, struct sockaddr *address, socklen_t *length, int flags) {
@@ -71,24 +78,43 @@ static size_t piece(size_t count) {
     size_t most = setting("PIECE");
     return most && most < count ? most : count;
 }
+// Call WRITE_FAILS that writes to a file fails, call READ_FAILS that reads of one, and call LENGTH_FAILS that asks for the
+// length of one; call READ_ENDS that reads finds no byte.
 ssize_t pwrite64(int file, const void *bytes, size_t count, off_t place) {
+    static long writes;
+    if (fails("WRITE_FAILS", "ERROR", &writes)) return -1;
     note("write", file, place, bytes, piece(count));
     return syscall(SYS_pwrite64, file, bytes, piece(count), place);
 }
 ssize_t pwrite(int file, const void *bytes, size_t count, off_t place) { return pwrite64(file, bytes, count, place); }
 ssize_t pread64(int file, void *buffer, size_t count, off_t place) {
+    static long reads, ends;
+    if (fails("READ_FAILS", "ERROR", &reads)) return -1;
+    if (fails("READ_ENDS", "ERROR", &ends)) return 0;
     return syscall(SYS_pread64, file, buffer, piece(count), place);
 }
 ssize_t pread(int file, void *buffer, size_t count, off_t place) { return pread64(file, buffer, count, place); }
+int statx(int file, const char *path, int flags, unsigned int mask, struct statx *found) {
+    static long lengths;
+    if (!*path && fails("LENGTH_FAILS", "ERROR", &lengths)) return -1;
+    return syscall(SYS_statx, file, path, flags, mask, found);
+}
+// No lock can be had.
+int flock(int file, int how) {
+    static long locks;
+    return fails("LOCK_FAILS", "ERROR", &locks) ? -1 : syscall(SYS_flock, file, how);
+}
+// A socket does not tell its address.
+int getsockname(int socket, struct sockaddr *address, socklen_t *length) {
+    static long names;
+    return fails("NAME_FAILS", "ERROR", &names) ? -1 : syscall(SYS_getsockname, socket, address, length);
+}
 // A sync takes SYNC_MILLIS longer. Sync number SYNC_FAILS fails, and no other. What was synced is written down by its path.
 static int synced(int number, int file) {
     static long syncs;
     char name[40], path[4096];
     usleep(1000 * setting("SYNC_MILLIS"));
-    if (__atomic_add_fetch(&syncs, 1, __ATOMIC_SEQ_CST) == setting("SYNC_FAILS")) {
-        errno = EIO;
-        return -1;
-    }
+    if (fails("SYNC_FAILS", "ERROR", &syncs)) return -1;
     int status = syscall(number, file);
     sprintf(name, "/proc/self/fd/%d", file);
     long length = syscall(SYS_readlink, name, path, sizeof path);
@@ -101,19 +127,23 @@ static int interrupted(void) {
     errno = EINTR;
     return -1;
 }
+// The first STORM calls of one kind are interrupted.
+static int storms(long *calls) { return __atomic_fetch_add(calls, 1, __ATOMIC_SEQ_CST) < setting("STORM"); }
 // With INTERRUPTS every other call that sends or receives is interrupted, and has moved nothing.
 ssize_t send(int socket, const void *bytes, size_t count, int flags) {
-    static long sends;
-    if (setting("INTERRUPTS") && ++sends % 2) return interrupted();
+    static long sends, stormed;
+    if (storms(&stormed) || (setting("INTERRUPTS") && ++sends % 2)) return interrupted();
     note("out", socket, 0, bytes, piece(count));
     return syscall(SYS_sendto, socket, bytes, piece(count), flags, 0, 0);
 }
 ssize_t write(int file, const void *bytes, size_t count) {
+    static long stormed;
+    if (storms(&stormed)) return interrupted();
     note("out", file, 0, bytes, piece(count));
     return syscall(SYS_write, file, bytes, piece(count));
 }
-// With WAITS it is written down too for how many milliseconds a client is waited for, and whether what is sent goes out at
-// once. The first UNREADY connections can't be told the latter.
+// With WAITS it is written down too for how many milliseconds a client is waited for, for how many microseconds a thread
+// rests, whether what is sent goes out at once, and that no more will be sent. The first UNREADY connections can't be told the latter.
 int setsockopt(int socket, int level, int option, const void *value, socklen_t length) {
     static long unready;
     if (level == IPPROTO_TCP && option == TCP_NODELAY) {
@@ -129,6 +159,14 @@ int setsockopt(int socket, int level, int option, const void *value, socklen_t l
         note(option == SO_RCVTIMEO ? "read-within" : "write-within", socket, time->tv_sec * 1000 + time->tv_usec / 1000, "", 0);
     }
     return syscall(SYS_setsockopt, socket, level, option, value, length);
+}
+int nanosleep(const struct timespec *time, struct timespec *left) {
+    if (getenv("WAITS")) note("rest", 0, time->tv_sec * 1000000 + time->tv_nsec / 1000, "", 0);
+    return syscall(SYS_nanosleep, time, left);
+}
+int shutdown(int socket, int how) {
+    if (getenv("WAITS")) note("no-more", socket, how, "", 0);
+    return syscall(SYS_shutdown, socket, how);
 }
 // Where a file is to be made, another process has just made one there: the file MEANWHILE has this name too.
 int open(const char *path, int flags, ...) {
@@ -148,9 +186,9 @@ int pthread_create(pthread_t *thread, const pthread_attr_t *how, void *(*run)(vo
 ssize_t read(int file, void *buffer, size_t count) { return syscall(SYS_read, file, buffer, piece(count)); }
 // With STOPS each wait for what comes is interrupted after 10 ms.
 ssize_t recv(int socket, void *buffer, size_t count, int flags) {
-    static long receives;
+    static long receives, stormed;
     if (flags & MSG_PEEK) return syscall(SYS_recvfrom, socket, buffer, count, flags, 0, 0);
-    if (setting("INTERRUPTS") && ++receives % 2) return interrupted();
+    if (storms(&stormed) || (setting("INTERRUPTS") && ++receives % 2)) return interrupted();
     if (!setting("STOPS")) return syscall(SYS_recvfrom, socket, buffer, piece(count), flags, 0, 0);
     ssize_t received = syscall(SYS_recvfrom, socket, buffer, piece(count), flags | MSG_DONTWAIT, 0, 0);
     if (received >= 0 || errno != EAGAIN) return received;

@@ -2,9 +2,9 @@
 
 All that the program allocates goes through two functions of its runtime, `rattle_alloc` and `rattle_realloc`, which call
 those of the C library, and all that it gives back through `rattle_dealloc`. A library that is loaded with the program leads
-these calls to its own, which count, and refuse the allocations from one number on, as many as are named. It may count those
-of some threads alone, whose numbers are 0 of the first one, and 1, 2 and so on in the order in which they were started. The
-places of the functions are read from the program's file.
+these calls to its own, which count, and refuse the allocations from one number on, as many as are named. Which ones, a test
+may change while the program runs. It may count those of some threads alone, whose numbers are 0 of the first one, and 1, 2
+and so on in the order in which they were started. The places of the functions are read from the program's file.
 """
 
 import os
@@ -27,7 +27,7 @@ SOURCE = r"""
 #include <unistd.h>
 static void *(*real_malloc)(size_t), *(*real_realloc)(void *, size_t);
 static void (*real_free)(void *);
-static long *calls, first, many, counted_from, counted_to, threads;
+static long *calls, counted_from, counted_to, threads;
 static __thread long own;  // the number of this thread; 0 is the first one's
 static long setting(const char *name) { return getenv(name) ? atol(getenv(name)) : 0; }
 struct started { void *(*run)(void *), *given; long number; };
@@ -46,9 +46,9 @@ int pthread_create(pthread_t *thread, const pthread_attr_t *how, void *(*run)(vo
 static int refuses(void) {
     if (own < counted_from || own >= counted_to) return 0;
     long call = __atomic_add_fetch(calls, 1, __ATOMIC_SEQ_CST);
-    return first <= call && call < first + many;
+    return calls[2] <= call && call < calls[2] + calls[3];
 }
-// Behind the count of allocations stands how many were not given back.
+// Behind the count of allocations stands how many were not given back, from which one on some are refused, and how many.
 static void *counted_malloc(size_t size) {
     void *given = refuses() ? 0 : real_malloc(size);
     if (given) __atomic_add_fetch(calls + 1, 1, __ATOMIC_SEQ_CST);
@@ -79,10 +79,8 @@ static void lead(unsigned char *function, int code, void *target) {
 __attribute__((constructor)) static void begin(void) {
     unsigned char *base = 0;
     // the count stands in a file, since the program ends without a farewell
-    calls = mmap(0, 2 * sizeof *calls, PROT_READ | PROT_WRITE, MAP_SHARED, open(getenv("ALLOCATIONS"), O_RDWR), 0);
+    calls = mmap(0, 4 * sizeof *calls, PROT_READ | PROT_WRITE, MAP_SHARED, open(getenv("ALLOCATIONS"), O_RDWR), 0);
     if (calls == MAP_FAILED) _exit(99);
-    first = setting("REFUSE_FIRST");
-    many = setting("REFUSE_MANY");
     counted_from = setting("COUNTED_FROM");
     counted_to = setting("COUNTED_TO");
     real_malloc = dlsym(RTLD_DEFAULT, "malloc");
@@ -126,11 +124,11 @@ class Refusing:
     def environment(self, first=0, many=1, threads=ALL_THREADS):
         """What a program's environment is to have, so that so many allocations are refused from this number on, of those of
         these threads."""
-        settings = {"REFUSE_FIRST": first, "REFUSE_MANY": many, "COUNTED_FROM": threads[0], "COUNTED_TO": threads[-1] + 1,
+        settings = {"COUNTED_FROM": threads[0], "COUNTED_TO": threads[-1] + 1,
                     "ALLOC_AT": self.alloc, "REALLOC_AT": self.realloc, "DEALLOC_AT": self.dealloc,
                     "ALLOCATIONS": f"{self.folder}/allocations", "LD_PRELOAD": f"{self.folder}/refusing.so"}
         with open(f"{self.folder}/allocations", "wb") as file:
-            file.write(bytes(16))
+            file.write(struct.pack("=4q", 0, 0, first, many))
         return {name: str(value) for name, value in settings.items()}
 
     def count(self):
@@ -143,7 +141,13 @@ class Refusing:
 
     def counts(self):
         with open(f"{self.folder}/allocations", "rb") as file:
-            return struct.unpack("=2q", file.read())
+            return struct.unpack("=2q", file.read(16))
+
+    def refuse(self, first, many):
+        """From now on refuses so many allocations from this number on to the program of that environment."""
+        with open(f"{self.folder}/allocations", "r+b") as file:
+            file.seek(16)
+            file.write(struct.pack("=2q", first, many))
 
     def ran(self, *words, first=0, many=1, **how):
         """Runs the program, so many of whose allocations are refused from this number on: how it ended, and how many
