@@ -1,12 +1,15 @@
 """The file of a store: who may open it, what of it is synced before an answer, and calls of it that fail or do a part."""
 
+import contextlib
 import errno
+import fcntl
 import os
 import stat
 import subprocess
+import time
 
 from support import preloaded, stores
-from support.case import Case
+from support.case import Case, until
 from support.program import PROGRAM, Ended, faulted, ran
 from support.serving import Serving
 from support.stores import topology
@@ -94,6 +97,33 @@ class ReadOnly(Case):
     def content(path):
         with open(path, "rb") as file:
             return file.read()
+
+
+class Looked(Case):
+    def test_who_reads_a_store_locks_nobody_out(self):
+        """`check` and `show` take no lock, not even for the moment in which they read."""
+        self.needs("a C compiler", preloaded.has_compiler())
+        store = self.made(ONE)
+        for command, status in (("check", 0), ("show", 0)):
+            environment = {**os.environ, **preloaded.environment(self.folder, SYNC_MILLIS=2_000)}
+            with subprocess.Popen([PROGRAM, command, store], env=environment, stdout=subprocess.DEVNULL) as reader, \
+                    open(store, "rb") as file:
+                until("a look", lambda: store in self.opened(reader.pid))
+                for _ in range(20):
+                    fcntl.flock(file, fcntl.LOCK_EX | fcntl.LOCK_NB)  # which fails where somebody has it
+                    fcntl.flock(file, fcntl.LOCK_UN)
+                    time.sleep(0.02)
+                self.assertIn(store, self.opened(reader.pid), "the look was over too soon")
+                self.assertEqual(reader.wait(60), status)
+
+    @staticmethod
+    def opened(process):
+        """The files that a process has open."""
+        names = set()
+        for number in os.listdir(f"/proc/{process}/fd"):
+            with contextlib.suppress(OSError):
+                names.add(os.readlink(f"/proc/{process}/fd/{number}"))
+        return names
 
 
 class Called(Case):

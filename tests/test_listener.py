@@ -5,7 +5,7 @@ import os
 import time
 
 from support import preloaded
-from support.case import Case
+from support.case import Case, until
 from support.serving import Serving, processor_seconds
 from support.stores import topology
 
@@ -127,3 +127,19 @@ class Idle(Case):
         before = processor_seconds(server.process.pid)
         time.sleep(1)
         self.assertLess(processor_seconds(server.process.pid) - before, 0.05)
+        until("rest of all threads", lambda: self.rests(server), 20)
+
+    def rests(self, server):
+        """Whether no thread of it has come back from a rest for half a second, as one would that looks from time to time."""
+        turns = self.turns(server)
+        time.sleep(0.5)
+        return self.turns(server) == turns
+
+    @staticmethod
+    def turns(server):
+        """How often its threads have gone to rest."""
+        threads, count = f"/proc/{server.process.pid}/task", 0
+        for thread in os.listdir(threads):
+            with open(f"{threads}/{thread}/status", encoding="ascii") as rows:
+                count += sum(int(row.split()[1]) for row in rows if row.startswith("voluntary_"))
+        return count

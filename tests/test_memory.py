@@ -265,6 +265,22 @@ class Kept(Case):
             server.await_signals(2 * (number + 1))
         self.expect_no_more(PROGRAM, self.made(PAIR), reset)
 
+    def test_of_connections_that_are_cut(self):
+        """Each has more lines than a life takes. Its descriptor is given back too."""
+        orders, descriptors = 1, []
+
+        def fill(server, _):
+            nonlocal orders
+            with server.connect() as connection:
+                numbers = range(orders, orders + 3 * SHORT_STEPS)
+                connection.send(*({"op": "reset", "client": 1, "number": each, "node": 1} for each in numbers))
+                answers = connection.rest()
+                self.assertLess(len(answers), len(numbers))
+                orders += len(answers)
+            descriptors.append(len(os.listdir(f"/proc/{server.process.pid}/fd")))
+        self.expect_no_more(SHORT, self.made(topology([(1, 1)])), fill, times=8)
+        self.assertLessEqual(descriptors[-1], descriptors[0] + 2, descriptors)
+
     def test_of_lives(self):
         """Each connection has one of its own."""
         def reset(server, number):

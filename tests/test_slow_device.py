@@ -13,6 +13,23 @@ LONGER = (3.0, 10.0)  # where the machine is busy
 WAITED = 2  # seconds for callers, at most
 
 
+class QuickDevice(Case):
+    """A device whose syncs take no time."""
+
+    def test_an_order_that_comes_alone_waits_for_nobody(self):
+        """The quickest of 200 takes less time than a flight would wait for packets. The machine may be busy."""
+        self.needs("a C compiler", preloaded.has_compiler())
+        environment = preloaded.environment(self.folder, SYNCS_LEFT_OUT=1)
+        with Serving(self.made(topology([(1, 1)])), env=environment) as server, server.connect() as connection:
+            times = []
+            for number in range(1, 201):
+                begun = time.monotonic()
+                connection.send({"op": "reset", "client": 1, "number": number, "node": 1})
+                self.assertEqual(connection.reply()["step"], 1 + number)
+                times.append(time.monotonic() - begun)
+            self.assertLess(min(times), 0.004)
+
+
 class SlowDevice(Case):
     takes = 15
 
@@ -55,7 +72,7 @@ class SlowDevice(Case):
                 shown, resent, again = connection.reply(), connection.reply(), connection.reply()
             server.await_quiet(1)
             self.assertEqual(sorted(server.await_signals(2)), [(1, 1), (2, 1)])
-        return (shown, resent) if shown == again else None
+        return (shown, resent) if shown == again and shown["accepted"] > 4 else None
 
     def test_no_signal_before_it_is_settled(self):
         """Each node of which one is printed is shown in its new epoch."""

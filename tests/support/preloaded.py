@@ -109,13 +109,13 @@ int getsockname(int socket, struct sockaddr *address, socklen_t *length) {
     static long names;
     return fails("NAME_FAILS", "ERROR", &names) ? -1 : syscall(SYS_getsockname, socket, address, length);
 }
-// A sync takes SYNC_MILLIS longer. Sync number SYNC_FAILS fails, and no other. What was synced is written down by its path.
+// A sync takes SYNC_MILLIS longer, or with SYNCS_LEFT_OUT no time at all. Sync number SYNC_FAILS fails, and no other. What was synced is written down by its path.
 static int synced(int number, int file) {
     static long syncs;
     char name[40], path[4096];
-    usleep(1000 * setting("SYNC_MILLIS"));
+    if (setting("SYNC_MILLIS")) usleep(1000 * setting("SYNC_MILLIS"));
     if (fails("SYNC_FAILS", "ERROR", &syncs)) return -1;
-    int status = syscall(number, file);
+    int status = setting("SYNCS_LEFT_OUT") ? 0 : syscall(number, file);
     sprintf(name, "/proc/self/fd/%d", file);
     long length = syscall(SYS_readlink, name, path, sizeof path);
     if (status == 0) note("sync", file, 0, path, length < 0 ? 0 : length);
