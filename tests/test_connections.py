@@ -7,10 +7,10 @@ import threading
 
 from support import preloaded
 from support.case import Case, until
-from support.program import Ended, ran
 from support.serving import Serving
 from support.stores import ring, topology
 
+STORM = 15_000  # calls of one kind in turn, less than there may be
 RESENT = {"count": 0, "kind": "resent"}
 GONE_AT_ONCE = b"\1\0\0\0\0\0\0\0"  # of SO_LINGER: a close resets the connection
 
@@ -59,16 +59,18 @@ class Connections(Case):
             connection.socket.close()
             self.assertEqual(server.close().status, 0)
 
-    def test_calls_that_are_interrupted_very_often(self):
-        """15,000 times in turn: a wait for a line, an answer, and the first line; and what a command prints."""
+    def test_a_wait_that_is_interrupted_very_often(self):
+        self.expect_served(RECEIVE_STORM=STORM)
+
+    def test_an_answer_that_is_interrupted_very_often(self):
+        self.expect_served(SEND_STORM=STORM)
+
+    def expect_served(self, **settings):
         self.needs("a C compiler", preloaded.has_compiler())
-        environment = preloaded.environment(self.folder, STORM=15_000)
+        environment = preloaded.environment(self.folder, **settings)
         with Serving(self.made(topology([(1, 1)])), env=environment) as server:
             self.assertEqual(server.order(1, "reset", node=1), {"kind": "finished", "step": 2})
             self.assertEqual(server.close().status, 0)
-        for words, printed in ((["check", server.store], "legal 2\n"), (["drill"], "done 1\n")):
-            ended = ran(*words, given=b"add 1 1\n", env={**os.environ, **environment})
-            self.assertEqual(ended, Ended(0, printed, ""))
 
     def test_a_server_that_is_stopped_and_goes_on(self):
         """A wait for a line, and for the rest of one, goes on too."""

@@ -15,6 +15,7 @@ from support.serving import Serving
 from support.stores import topology
 
 ONE = topology([(1, 1)], half=stores.HALF)
+COMMANDS = ["init", "check", "show", "migrate", "serve"]
 FAILED = faulted(3, "Device")
 STOPPED = {"name": "Stopped", "refused": 1}
 ORDERS = 4
@@ -175,29 +176,41 @@ class Called(Case):
                 os.remove(self.path("store"))
                 self.assertEqual(ran(*words, env=self.environment(SYNC_FAILS=number)), FAILED)
 
-    def test_a_call_that_fails(self):
-        """Each call of each kind alone, with each error: Device is told, and what stood there is as it was."""
-        words = {"init": [self.write("topology", ONE)], "check": [], "show": [], "migrate": [], "serve": ["127.0.0.1:0"]}
+    def test_a_length_that_is_not_told(self):
+        for number in (1, 2):
+            self.expect_refused(COMMANDS, LENGTH_FAILS=number)
+
+    def test_a_lock_that_can_not_be_had(self):
+        """Whatever the reason is."""
+        self.expect_refused(["init", "migrate", "serve"], LOCK_FAILS=1)
+
+    def test_a_first_sync_that_fails(self):
+        self.expect_refused(COMMANDS, SYNC_FAILS=1)
+
+    def test_a_read_that_fails(self):
+        self.expect_refused(COMMANDS[1:], READ_FAILS=1)
+
+    def test_a_file_that_ends_too_soon(self):
+        """It is cut while it is read."""
+        self.expect_refused(COMMANDS[1:], [errno.EIO], READ_ENDS=1)
+
+    def expect_refused(self, commands, errors=ERRORS, **call):
+        """Where this call fails alone, with any error, the commands tell Device, and leave a store as it was."""
+        more = {"init": [self.write("topology", ONE)], "serve": ["127.0.0.1:0"]}
         content = stores.store(bodies=[stores.batch(1, stores.add(1))])
-        calls = [("LENGTH_FAILS", 2, words), ("SYNC_FAILS", 1, words), ("LOCK_FAILS", 1, ("init", "migrate", "serve")),
-                 ("READ_FAILS", 1, ("check", "show", "migrate", "serve")), ("READ_ENDS", 1, ("check", "show", "migrate", "serve"))]
-        for call, most, commands in calls:
-            for command in commands:
-                for number in range(1, most + 1):
-                    for error in ERRORS if call != "READ_ENDS" else ERRORS[:1]:
-                        path = self.write("store", content)
-                        with self.subTest(call=call, number=number, command=command, error=errno.errorcode[error]):
-                            environment = self.environment(ERROR=error, **{call: number})
-                            self.assertEqual(ran(command, path, *words[command], env=environment, seconds=60), FAILED)
-                            self.assertEqual(self.read("store"), content)
+        for command in commands:
+            for error in errors:
+                path, where = self.write("store", content), (call, command, errno.errorcode[error])
+                ended = ran(command, path, *more.get(command, []), env=self.environment(ERROR=error, **call), seconds=30)
+                self.assertEqual((where, ended, self.read("store")), (where, FAILED, content))
 
     def test_a_write_that_fails_where_a_store_is_made(self):
         words = ["init", self.path("store"), self.write("topology", ONE)]
         for number in (1, 2, 3):
             for error in ERRORS:
-                with self.subTest(write=number, error=errno.errorcode[error]):
-                    self.assertEqual(ran(*words, env=self.environment(WRITE_FAILS=number, ERROR=error), seconds=60), FAILED)
-                    os.remove(self.path("store"))
+                ended = ran(*words, env=self.environment(WRITE_FAILS=number, ERROR=error), seconds=60)
+                self.assertEqual((number, error, ended), (number, error, FAILED))
+                os.remove(self.path("store"))
         self.assertEqual(ran(*words, env=self.environment(WRITE_FAILS=4)), Ended(0, "created 1\n", ""))
 
     def test_a_write_that_fails_while_a_store_is_raised(self):

@@ -101,7 +101,7 @@ class Threads(Case):
                 fails = THREADS + (life - 2) * (THREADS - 1) + number
                 environment = preloaded.environment(self.folder, THREAD_FAILS=fails)
                 store = self.made(topology([(1, 1)]), f"store{fails}")
-                with self.subTest(thread=fails), Serving(store, program=SHORT, env=environment) as server:
+                with Serving(store, program=SHORT, env=environment) as server:
                     for first in range(1, (life - 1) * SHORT_STEPS, SHORT_STEPS):
                         with server.connect() as connection:
                             numbers = range(first, first + SHORT_STEPS)
@@ -110,7 +110,7 @@ class Threads(Case):
                     count = (life - 1) * SHORT_STEPS
                     signals = "".join(f"signal 1 {epoch}\n" for epoch in range(1, count + 1))
                     wanted = Ended(4, f"listening {server.address}\n{signals}", "resetd: OutOfMemory\n")
-                    self.assertEqual(server.ended(60), wanted)
+                    self.assertEqual((fails, server.ended(60)), (fails, wanted))
                 self.assertEqual(ran("check", store).printed, f"legal {1 + count}\n")
 
 

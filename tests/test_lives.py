@@ -76,7 +76,8 @@ class Lives(Served):
                     connection.send(*({"op": "reset", "client": 1, "number": number, "node": 1}
                                       for number in range(answered + 1, answered + MANY + 1)))
                     lines = connection.rest()
-                self.assertLess(len(lines), MANY)
+                # the life was new, and is over at twice its steps; a read has some lines more
+                self.assertTrue(2 * SHORT_STEPS <= len(lines) < 3 * SHORT_STEPS, len(lines))
                 for line in lines:
                     answered += 1
                     self.assertEqual(line, b'{"kind":"finished","step":%d}\n' % (answered + 1))

@@ -3,6 +3,7 @@
 import os
 import re
 import socket
+import time
 
 from support import preloaded, stores
 from support.case import Case, until
@@ -201,17 +202,31 @@ class Kept(Case):
     takes = 5
     programs = ("RESETD", "RESETD_SHORT")
 
-    def expect_no_more(self, program, store, work, times=16, serving=Serving, status=0):
+    def expect_no_more(self, program, store, work, times=16):
         """Doing something so often, once it was done a little, keeps fewer allocations than one each time."""
         self.needs("a C compiler", preloaded.has_compiler())
         refusing = Refusing(program, self.folder)
-        with serving(store, program=program, env=refusing.environment()) as server:
+        with Serving(store, program=program, env=self.environment(refusing)) as server:
             for number in range(5 * times):
-                if number % times == 0:
-                    kept = refusing.kept()
+                if number == 4 * times:
+                    kept = self.kept(server, refusing.kept)
                 work(server, number)
-            self.assertLess(refusing.kept() - kept, times // 2)
-            self.assertEqual(server.close().status, status)
+            self.assertLess(self.kept(server, refusing.kept) - kept, times // 2)
+            self.assertEqual(server.close().status, 0)
+
+    def environment(self, refusing):
+        """Counts, and waits for no device."""
+        return preloaded.both(preloaded.environment(self.folder, SYNCS_LEFT_OUT=1), refusing.environment())
+
+    @staticmethod
+    def kept(server, count):
+        """What is kept once a server waits for the next client."""
+        server.ask({"op": "resend"})
+        before = None
+        while (now := count()) != before:
+            before = now
+            time.sleep(0.1)
+        return now
 
     def test_of_a_command(self):
         """All of it is given back at the end, however many lines a drill had."""
@@ -251,12 +266,22 @@ class Kept(Case):
         self.expect_no_more(PROGRAM, self.made(PAIR), leave, times=18)
 
     def test_of_signals_that_nobody_reads(self):
-        """Once a line can't be printed, those behind it are not kept."""
-        def reset(server, number):
-            if number == 0:
-                server.leave()
-            self.assertEqual(server.order(number + 1, "reset", node=1), answered(FINISHED, 2 + number))
-        self.expect_no_more(PROGRAM, self.made(topology([(1, 1)])), reset, serving=Piped, status=3)
+        """Once a line can't be printed, those behind it are not kept: counted in bytes, each time as a life begins."""
+        self.needs("a C compiler", preloaded.has_compiler())
+        refusing, store = Refusing(SHORT, self.folder), self.made(topology([(1, 1)]))
+        kept = []
+        with Piped(store, program=SHORT, env=self.environment(refusing)) as server:
+            server.leave()
+            for first in range(1, 40 * SHORT_STEPS, SHORT_STEPS):
+                with server.connect() as connection:
+                    numbers = range(first, first + SHORT_STEPS)
+                    connection.send(*({"op": "reset", "client": 1, "number": each, "node": 1} for each in numbers))
+                    self.assertEqual([connection.reply() for _ in numbers], [answered(FINISHED, 1 + each) for each in numbers])
+                if first // SHORT_STEPS in (7, 39):
+                    kept.append(self.kept(server, refusing.kept_bytes))
+            self.assertEqual(server.close().status, 3)
+        # the signals between the two are some 16 bytes each
+        self.assertLess(kept[1] - kept[0], 32 * SHORT_STEPS * 8, kept)
 
     def test_of_orders_and_waves(self):
         def reset(server, number):
@@ -278,7 +303,7 @@ class Kept(Case):
                 self.assertLess(len(answers), len(numbers))
                 orders += len(answers)
             descriptors.append(len(os.listdir(f"/proc/{server.process.pid}/fd")))
-        self.expect_no_more(SHORT, self.made(topology([(1, 1)])), fill, times=8)
+        self.expect_no_more(SHORT, self.made(topology([(1, 1)])), fill, times=6)
         self.assertLessEqual(descriptors[-1], descriptors[0] + 2, descriptors)
 
     def test_of_lives(self):

@@ -43,6 +43,30 @@ class Printed(Case):
         lines = [text for text in self.written() if not text.startswith("{")]
         self.assertEqual(lines, printed.splitlines(keepends=True))
 
+    def test_writes_that_are_interrupted_very_often(self):
+        """Of a command, of a drill, and of a server's first line."""
+        self.needs("a C compiler", preloaded.has_compiler())
+        environment = preloaded.environment(self.folder, WRITE_STORM=15_000)
+        store = self.made(PAIR)
+        for words, printed in ((["check", store], "legal 3\n"), (["drill"], "done 1\n")):
+            with self.subTest(words=words):
+                ended = ran(*words, given=b"add 1 1\n", env={**os.environ, **environment})
+                self.assertEqual(ended, Ended(0, printed, ""))
+        with Serving(store, env=environment) as server:
+            self.assertEqual(server.close().status, 0)
+
+    def test_texts_that_go_out_byte_by_byte(self):
+        """However long they are: the view of the longest world, and a drill's answer to a flight."""
+        self.needs("a C compiler", preloaded.has_compiler())
+        environment = {**os.environ, **preloaded.environment(self.folder, PIECE=1)}
+        store = self.write("store", stores.store(stores.longest_world(), version=2))
+        flight = b"add 1 1\nhold\n" + b"reset 1\n" * 256 + b"flush\n"
+        for words in (["show", store], ["drill"]):
+            with self.subTest(words=words):
+                usual = ran(*words, given=flight)
+                self.assertGreater(len(usual.printed), 3_000)
+                self.assertEqual(ran(*words, given=flight, env=environment), usual)
+
     def expect_writes(self, words, given, wanted):
         environment = preloaded.environment(self.folder, CALLS=self.path("calls"))
         self.assertEqual(ran(*words, given=given, env={**os.environ, **environment}).told, "")

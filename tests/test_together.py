@@ -209,17 +209,18 @@ class Refused(Served):
         self.assertGreater(lacked, 10)
 
     def test_each_allocation_of_a_view(self):
-        """A client that asks for a view, for what may be lost and for what there is not has three answers, of which one may say
-        that memory lacked; or nothing was begun."""
+        """A client that asks for what may be lost, for a view and for what there is not has an answer to each, of which one may
+        say that memory lacked; or nothing was begun."""
         self.needs("a C compiler", preloaded.has_compiler())
         refusing, store, lacked = Refusing(PROGRAM, self.folder), self.made(ring(3)), 0
-        asked = [{"op": "show"}, {"op": "resend"}, {"op": "reset", "client": 1, "number": 1, "node": 64}]
+        asked = [{"op": "resend"}, {"op": "show"}, {"op": "reset", "client": 1, "number": 1, "node": 64}, {"op": "resend"}]
+        resent = {"count": 0, "kind": "resent"}
         wanted, before, behind = self.answers(store, refusing, asked, 0)
-        self.assertEqual((wanted[0]["settled"], wanted[1:]), (6, [{"count": 0, "kind": "resent"}, refused(6, "UnknownNode")]))
+        self.assertEqual((wanted[1]["settled"], wanted[:1] + wanted[2:]), (6, [resent, refused(6, "UnknownNode"), resent]))
         for first in range(before + 1, behind + 1):
             answers, _, _ = self.answers(store, refusing, asked, first)
             with self.subTest(first=first - before, of=behind - before):
-                self.assertIn(len(answers), (0, 3), answers)
+                self.assertIn(len(answers), (0, 4), answers)
                 for answer, usual in zip(answers, wanted):
                     self.assertIn(answer, (usual, {"fault": "OutOfMemory"}))
             lacked += {"fault": "OutOfMemory"} in answers
@@ -240,9 +241,8 @@ class Refused(Served):
         """Three orders, where 300 allocations are refused from this one on: in how many seconds all of them were carried out,
         or 0 if they were not, or before so many were asked for."""
         rests = preloaded.environment(self.folder, CALLS=self.path("calls"), WAITS=1)
-        environment = refusing.environment(first, 300)
-        rests["LD_PRELOAD"] += f":{environment['LD_PRELOAD']}"
-        with Serving(store, env={**environment, **rests}) as server, server.connect() as connection:
+        environment = preloaded.both(rests, refusing.environment(first, 300))
+        with Serving(store, env=environment) as server, server.connect() as connection:
             began = time.monotonic()
             with contextlib.suppress(OSError):
                 connection.send(*({"op": "reset", "client": 1, "number": number, "node": 1} for number in range(1, 4)))

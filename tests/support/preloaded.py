@@ -127,18 +127,18 @@ static int interrupted(void) {
     errno = EINTR;
     return -1;
 }
-// The first STORM calls of one kind are interrupted.
-static int storms(long *calls) { return __atomic_fetch_add(calls, 1, __ATOMIC_SEQ_CST) < setting("STORM"); }
+// The first so many calls of a kind are interrupted.
+static int storms(const char *count, long *calls) { return __atomic_fetch_add(calls, 1, __ATOMIC_SEQ_CST) < setting(count); }
 // With INTERRUPTS every other call that sends or receives is interrupted, and has moved nothing.
 ssize_t send(int socket, const void *bytes, size_t count, int flags) {
     static long sends, stormed;
-    if (storms(&stormed) || (setting("INTERRUPTS") && ++sends % 2)) return interrupted();
+    if (storms("SEND_STORM", &stormed) || (setting("INTERRUPTS") && ++sends % 2)) return interrupted();
     note("out", socket, 0, bytes, piece(count));
     return syscall(SYS_sendto, socket, bytes, piece(count), flags, 0, 0);
 }
 ssize_t write(int file, const void *bytes, size_t count) {
     static long stormed;
-    if (storms(&stormed)) return interrupted();
+    if (storms("WRITE_STORM", &stormed)) return interrupted();
     note("out", file, 0, bytes, piece(count));
     return syscall(SYS_write, file, bytes, piece(count));
 }
@@ -188,7 +188,7 @@ ssize_t read(int file, void *buffer, size_t count) { return syscall(SYS_read, fi
 ssize_t recv(int socket, void *buffer, size_t count, int flags) {
     static long receives, stormed;
     if (flags & MSG_PEEK) return syscall(SYS_recvfrom, socket, buffer, count, flags, 0, 0);
-    if (storms(&stormed) || (setting("INTERRUPTS") && ++receives % 2)) return interrupted();
+    if (storms("RECEIVE_STORM", &stormed) || (setting("INTERRUPTS") && ++receives % 2)) return interrupted();
     if (!setting("STOPS")) return syscall(SYS_recvfrom, socket, buffer, piece(count), flags, 0, 0);
     ssize_t received = syscall(SYS_recvfrom, socket, buffer, piece(count), flags | MSG_DONTWAIT, 0, 0);
     if (received >= 0 || errno != EAGAIN) return received;
@@ -215,3 +215,8 @@ def compiled(folder):
 def environment(folder, **settings):
     """What a program's environment is to have, so that its calls are changed in this way."""
     return {"LD_PRELOAD": compiled(folder), **{name: str(value) for name, value in settings.items()}}
+
+
+def both(first, second):
+    """What a program's environment is to have, so that two libraries stand ahead of the C library."""
+    return {**first, **second, "LD_PRELOAD": f"{first['LD_PRELOAD']}:{second['LD_PRELOAD']}"}

@@ -27,6 +27,7 @@ SOURCE = r"""
 #include <unistd.h>
 static void *(*real_malloc)(size_t), *(*real_realloc)(void *, size_t);
 static void (*real_free)(void *);
+static size_t (*size_of)(void *);
 static long *calls, counted_from, counted_to, threads;
 static __thread long own;  // the number of this thread; 0 is the first one's
 static long setting(const char *name) { return getenv(name) ? atol(getenv(name)) : 0; }
@@ -48,17 +49,29 @@ static int refuses(void) {
     long call = __atomic_add_fetch(calls, 1, __ATOMIC_SEQ_CST);
     return calls[2] <= call && call < calls[2] + calls[3];
 }
-// Behind the count of allocations stands how many were not given back, from which one on some are refused, and how many.
+// Behind the count of allocations stands how many were not given back, from which one on some are refused, how many, and how
+// many bytes were not given back.
 static void *counted_malloc(size_t size) {
     void *given = refuses() ? 0 : real_malloc(size);
-    if (given) __atomic_add_fetch(calls + 1, 1, __ATOMIC_SEQ_CST);
+    if (given) {
+        __atomic_add_fetch(calls + 1, 1, __ATOMIC_SEQ_CST);
+        __atomic_add_fetch(calls + 4, size_of(given), __ATOMIC_SEQ_CST);
+    }
     return given;
 }
 static void counted_free(void *kept) {
-    if (kept) __atomic_sub_fetch(calls + 1, 1, __ATOMIC_SEQ_CST);
+    if (kept) {
+        __atomic_sub_fetch(calls + 1, 1, __ATOMIC_SEQ_CST);
+        __atomic_sub_fetch(calls + 4, size_of(kept), __ATOMIC_SEQ_CST);
+    }
     real_free(kept);
 }
-static void *counted_realloc(void *kept, size_t size) { return refuses() ? 0 : real_realloc(kept, size); }
+static void *counted_realloc(void *kept, size_t size) {
+    size_t before = kept ? size_of(kept) : 0;
+    void *given = refuses() ? 0 : real_realloc(kept, size);
+    if (given) __atomic_add_fetch(calls + 4, size_of(given) - before, __ATOMIC_SEQ_CST);
+    return given;
+}
 static int first_object(struct dl_phdr_info *info, size_t size, void *base) {
     *(unsigned char **)base = (unsigned char *)info->dlpi_addr;
     return 1;
@@ -79,12 +92,13 @@ static void lead(unsigned char *function, int code, void *target) {
 __attribute__((constructor)) static void begin(void) {
     unsigned char *base = 0;
     // the count stands in a file, since the program ends without a farewell
-    calls = mmap(0, 4 * sizeof *calls, PROT_READ | PROT_WRITE, MAP_SHARED, open(getenv("ALLOCATIONS"), O_RDWR), 0);
+    calls = mmap(0, 5 * sizeof *calls, PROT_READ | PROT_WRITE, MAP_SHARED, open(getenv("ALLOCATIONS"), O_RDWR), 0);
     if (calls == MAP_FAILED) _exit(99);
     counted_from = setting("COUNTED_FROM");
     counted_to = setting("COUNTED_TO");
     real_malloc = dlsym(RTLD_DEFAULT, "malloc");
     real_realloc = dlsym(RTLD_DEFAULT, "realloc");
+    size_of = dlsym(RTLD_DEFAULT, "malloc_usable_size");
     dl_iterate_phdr(first_object, &base);
     real_free = dlsym(RTLD_DEFAULT, "free");
     lead(base + setting("ALLOC_AT"), 0xe8, counted_malloc);
@@ -128,7 +142,7 @@ class Refusing:
                     "ALLOC_AT": self.alloc, "REALLOC_AT": self.realloc, "DEALLOC_AT": self.dealloc,
                     "ALLOCATIONS": f"{self.folder}/allocations", "LD_PRELOAD": f"{self.folder}/refusing.so"}
         with open(f"{self.folder}/allocations", "wb") as file:
-            file.write(struct.pack("=4q", 0, 0, first, many))
+            file.write(struct.pack("=5q", 0, 0, first, many, 0))
         return {name: str(value) for name, value in settings.items()}
 
     def count(self):
@@ -139,9 +153,13 @@ class Refusing:
         """How many of them it has not given back."""
         return self.counts()[1]
 
+    def kept_bytes(self):
+        """How many bytes it has not given back."""
+        return self.counts()[4]
+
     def counts(self):
         with open(f"{self.folder}/allocations", "rb") as file:
-            return struct.unpack("=2q", file.read(16))
+            return struct.unpack("=5q", file.read())
 
     def refuse(self, first, many):
         """From now on refuses so many allocations from this number on to the program of that environment."""
