@@ -7,9 +7,10 @@ import stat
 import tempfile
 import threading
 import unittest
+from unittest import mock
 
 import case  # noqa: F401
-from resetd_client import keep, read
+from resetd_client import Held, hold, keep, read
 
 TEXTS = [str(writer) * 20_000 for writer in range(4)]
 
@@ -46,6 +47,45 @@ class Kept(unittest.TestCase):
             file.write("a longer text that was not put in place")
         keep(self.path, "text")
         self.assertEqual((read(self.path), os.listdir(os.path.dirname(self.path))), ("text", ["file"]))
+
+    def test_what_is_synced_and_when(self) -> None:
+        """The whole text before it is put in place, and then its entry in the folder."""
+        calls: list[tuple[str, str, int]] = []
+        fsync, replace = os.fsync, os.replace
+
+        def synced(descriptor: int) -> None:
+            calls.append(("sync", os.readlink(f"/proc/self/fd/{descriptor}"), os.fstat(descriptor).st_size))
+            fsync(descriptor)
+
+        def replaced(old: str, new: str) -> None:
+            calls.append(("replace", new, os.stat(old).st_size))
+            replace(old, new)
+
+        with mock.patch("os.fsync", synced), mock.patch("os.replace", replaced):
+            keep(self.path, "text")
+        self.assertEqual(calls[:2], [("sync", f"{self.path}.new", 4), ("replace", self.path, 4)])
+        self.assertEqual([call[:2] for call in calls[2:]], [("sync", os.path.dirname(self.path))])
+
+    def test_a_link_in_the_place_of_the_new_text(self) -> None:
+        """It is not followed: what it leads to stays as it is."""
+        with open(f"{self.path}.other", "w", encoding="utf-8") as file:
+            file.write("other")
+        os.symlink(f"{self.path}.other", f"{self.path}.new")
+        self.assertRaises(OSError, keep, self.path, "text")
+        self.assertEqual((read(f"{self.path}.other"), read(self.path)), ("other", None))
+
+    def test_a_folder_that_is_held(self) -> None:
+        """It is waited for as long as is said, and a wait in vain keeps no descriptor."""
+        folder = os.path.dirname(self.path)
+        lock = hold(folder)
+        before = os.listdir("/proc/self/fd")
+        for _ in range(3):
+            self.assertRaises(Held, hold, folder)
+        self.assertEqual(len(os.listdir("/proc/self/fd")), len(before))
+        timer = threading.Timer(0.3, lock.close)
+        timer.start()
+        hold(folder, 60).close()
+        timer.join()
 
     def test_who_may_read_it(self) -> None:
         """Whom the user lets: a member's files may be another user's to read."""

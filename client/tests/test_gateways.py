@@ -2,11 +2,16 @@
 
 from __future__ import annotations
 
+import os
 import shutil
+import tempfile
 import threading
+import unittest
+from unittest import mock
 
 from case import Case, in_memory, over_both
 from resetd_client import Away, Clock, Gateway, Served, Wake, patiently
+from resetd_client.gateway import Seat
 
 
 class UntilEnded:
@@ -17,6 +22,34 @@ class UntilEnded:
 
     def wait(self, seconds: float) -> Wake:
         return Wake.END if self.ended.wait(seconds) else Wake.QUIET
+
+
+class Seats(unittest.TestCase):
+    def setUp(self) -> None:
+        temporary = tempfile.TemporaryDirectory()
+        self.addCleanup(temporary.cleanup)
+        self.folder = temporary.name
+
+    def test_a_member_that_has_to_begin_may_talk_no_more(self) -> None:
+        """That is so before it can know what it is to begin."""
+        seat = Seat(self.folder)
+        seat.set_run("1 tag\n")
+        self.assertTrue(os.path.exists(f"{self.folder}/run"))
+        there: list[bool] = []
+        replace = os.replace
+
+        def replaced(old: str, new: str) -> None:
+            there.append(os.path.exists(f"{self.folder}/run"))
+            replace(old, new)
+
+        with mock.patch("os.replace", replaced):
+            seat.want(2)
+        self.assertEqual(there, [False])
+
+    def test_a_run_that_an_earlier_gateway_left(self) -> None:
+        Seat(self.folder).set_run("1 tag\n")
+        Seat(self.folder).set_run(None)
+        self.assertFalse(os.path.exists(f"{self.folder}/run"))
 
 
 class Gateways(Case):

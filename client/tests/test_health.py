@@ -37,6 +37,20 @@ class Watching(Case):
         self.server.reset(1)
         self.assertEqual(self.look(80), (Level.OK, ()))
 
+    def test_what_has_passed_is_forgotten(self) -> None:
+        """If it comes again, it lasts from then on. A clock that was put back makes nothing last less than no time."""
+        path = f"{self.folder}/since"
+        for now, things, lasted in ((0, "ab", [0, 0]), (10, "a", [10]), (20, "ab", [20, 0]), (25, "ab", [25, 5]),
+                                    (3, "ab", [3, 0]), (7, "ab", [7, 4])):
+            since = Since(path, now)
+            self.assertEqual([since.seconds(thing) for thing in things], lasted)
+            since.keep()
+
+    def test_a_bound_is_the_least_that_is_told(self) -> None:
+        self.server.reset(1)
+        self.server.by_somebody("confirm", node=2, epoch=1)
+        self.assertEqual([self.look(now)[0] for now in (0, 59, 60)], [Level.OK, Level.OK, Level.WARNING])
+
     def test_a_wave_that_stands_still_and_steps_that_wait(self) -> None:
         line = '{"accepted":9,"links":[],"nodes":[[1,1,"abort",2,0,0]],"settled":7}'
         self.server.faults = [line, line]
@@ -54,6 +68,9 @@ class Watching(Case):
         self.assertIn('resetd_node_epoch{node="2",group="1"} 0\n', text)
         self.assertIn("resetd_up 1\n", text)
         self.assertIn("resetd_up 0\n", metrics(None, False))
+        stopped = metrics(None, True)  # it answers, and takes nothing
+        self.assertIn("resetd_up 1\n", stopped)
+        self.assertIn("resetd_stopped 1\n", stopped)
 
 
 class Lagging(Case):
@@ -108,6 +125,23 @@ class Lagging(Case):
             self.assertEqual((self.look(30), self.look(40)), ((), ()))
         self.server.reset(1)
         self.assertEqual((self.look(50), self.look(60)), ((), self.lag(1, 4, " and 1 more", 10)))
+
+    def test_a_longer_file_in_its_place(self) -> None:
+        """It is another one, in which lines may be missing that were written before it was made."""
+        self.look(0)
+        self.server.reset(1)
+        with open(f"{self.path}.new", "w", encoding="utf-8") as file:
+            file.write("signal 1 1\n" * 50)
+        os.replace(f"{self.path}.new", self.path)
+        self.assertEqual((self.look(10), self.look(20)), ((), ()))
+
+    def test_a_line_that_is_written_in_two_parts(self) -> None:
+        """A look between the two does not lose it."""
+        self.write("a", "sig")
+        self.assertEqual(self.look(0), ())
+        self.server.reset(1)
+        self.write("a", "nal 1 1\nsignal 2 1\n")
+        self.assertEqual((self.look(10), self.look(20)), ((), ()))
 
     def test_a_node_that_came_again(self) -> None:
         self.server.reset(1)

@@ -8,7 +8,7 @@ import threading
 import time
 
 from case import Case, in_memory, over_both
-from resetd_client import Clock, Due, Member, Node, OutOfRun, Port, Shelf, Starts, Stream, View, keep
+from resetd_client import Clock, Due, Member, Node, OutOfRun, Port, Shelf, Starts, Stream, View, keep, read
 
 
 def view_of(*rows: tuple[int, int, int]) -> View:
@@ -298,6 +298,39 @@ class Runs(MemberCase):
             self.assertEqual(self.begun, [1])
         looking.join(5)
         self.assertEqual(self.begun, [1, 2])
+
+    def test_a_begin_is_written_down_before_work_is_dropped(self) -> None:
+        """With nobody to talk with yet: so a death in its midst is known of."""
+        kept: list[str | None] = []
+        orders = self.orders()
+        member = Member(self.port, orders, 1, None, lambda epoch: kept.append(read(f"{orders.folder}/start-1.json")),
+                        told=self.told.append)
+        self.server.reset(1)
+        self.look(member)
+        self.assertEqual(json.loads(kept[0] or "{}"), {"1": {"epoch": 1, "party": None}})
+
+    def test_who_waits_for_a_run_is_woken_by_it(self) -> None:
+        member = self.member()
+        self.look(member)
+        self.confirm_other()
+        looking = threading.Timer(0.3, member.look)
+        looking.start()
+        began = time.monotonic()
+        with member.in_run(wait=120):
+            self.assertLess(time.monotonic() - began, 60)
+        looking.join()
+
+    def test_how_often_it_looks_while_others_are_not_through(self) -> None:
+        """At first soon, and then less often; but never as seldom as while all is well."""
+        member = self.member()
+        self.look(member)
+        waits = [member.wait_seconds(30.0) for _ in range(40)]
+        self.assertLess(waits[0], 0.2)
+        self.assertEqual(waits, sorted(waits))
+        self.assertTrue(1.0 < waits[-1] < 3.0, waits[-1])
+        self.confirm_other()
+        self.look(member)
+        self.assertEqual(member.wait_seconds(30.0), 30.0)
 
     def test_it_waits_for_a_run(self) -> None:
         member = self.member()
