@@ -241,10 +241,12 @@ class Patience(Case):
                 self.assertEqual(connection.line(), RESENT)
 
     def test_waits_that_are_interrupted(self):
-        """Again and again, as by stops of the process. Each goes on, and by a clock that is put forward as long as it may."""
+        """Again and again, as by stops of the process. Each goes on, and by a clock that is put forward as long as it may. A
+        connection that is given up keeps no descriptor."""
         self.needs("a C compiler", preloaded.has_compiler())
         with self.serving(env=preloaded.environment(self.folder, CLOCK=self.clock(0), STOPS=1)) as server:
-            for begun, part, most in ((0, b"", SILENCE), (1_000, b'{"op":', LINE)):
+            descriptors = os.listdir(f"/proc/{server.process.pid}/fd")
+            for begun, part, most in ((0, b"", SILENCE), (1_000, b'{"op":', LINE), (2_000, b"{", LINE), (3_000, b"", SILENCE)):
                 self.clock(begun)
                 with server.connect() as connection:
                     self.expect_served(connection, lines=2)
@@ -254,6 +256,7 @@ class Patience(Case):
                         self.expect_nothing(connection)
                     self.clock(begun + most)
                     self.assertEqual(await_end(connection), b"")
+            self.assertLessEqual(len(os.listdir(f"/proc/{server.process.pid}/fd")), len(descriptors) + 1)
 
     def expect_nothing(self, connection):
         """For some time the server neither says anything nor ends the connection."""
