@@ -1,7 +1,6 @@
 -- What all of the bytes are read as is what they spell.
 use Rattle.std.proofs.Common.{◌≡◌, ◌↔◌, ℕ, Bool, true, false, cond, List, length, Result, Ok, Err, ap, subst, ◌∙◌, IfOk, arith}
 use Rattle.coord_batch.specs.declared.fault.CodecFault.{CodecFault}
-use Rattle.coord_batch.specs.declared.fault.FaultKind.TheVariants as kind
 use Rattle.coord_batch.specs.declared.fault.Flaw.{Flaw}
 use Rattle.coord_batch.specs.Facade.{Answers, Format, bad_version, decoded, is_version, or_fault, whole}
 use Rattle.coord_batch.proofs.Grammars.{IsBytes, IsGrammar, whole_found, whole_again}

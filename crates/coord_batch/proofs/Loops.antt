@@ -2,7 +2,6 @@
 use Rattle.std.proofs.Common.{◌≡◌, ℕ, suc, ◌+◌, ◌-◌, ◌<◌, ◌≤◌, List, [], ◌∷◌, ◌++◌, length, Ok, sym, ap, ◌∙◌, arith}
 use Rattle.std.proofs.lemmas.List.{length-append}
 use Rattle.coord_batch.specs.declared.fault.ReadError.{ReadError}
-use Rattle.coord_batch.specs.declared.fault.ReadError.TheVariants as errors
 use Rattle.coord_batch.specs.Format.{Format, Read, ◌>>=◌, items_at}
 use Rattle.coord_batch.specs.Reading.{Fails}
 
