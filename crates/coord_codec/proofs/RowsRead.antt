@@ -2,14 +2,13 @@
 use Rattle.std.proofs.Common.{◌≡◌, ℕ, ◌+◌, ◌≤◌, true, ◌&&◌, List, [], ◌∷◌, ◌++◌, map, length, refl, ap, ◌∙◌, arith, Ordering, is_lt, nat_cmp, Less, ◌≢◌, ◌-◌, ◌<◌, Bool, false, ◌||◌, Option, Some, None, get_or, set, cond, eqb, sym, IsSome}
 use Rattle.std.specs.Cmp.{IsTotalOrder}
 use Rattle.std.specs.List.{AllByRecursion}
-use Rattle.std.specs.FinMap.Entries.{below_all, is_sorted, find}
+use Rattle.std.specs.FinMap.Entries.{below_all, is_sorted}
 use Rattle.std.proofs.lemmas.Bool.Decides.{nat_tests}
-use Rattle.std.specs.Ordering.{eq_by_cmp}
 use Rattle.std.proofs.Math.ListN.{length-set}
 use Rattle.std.proofs.lemmas.List.{get_or-set_same, get_or-set_other}
 use Rattle.coord_world.proofs.Facade.{both, is_less, by_test}
 use Rattle.coord_codec.specs.Worlds.{last_by, last_ends}
-use Rattle.coord_world.specs.protocol.Rows.{by_id, degree, group_in, group_of, is_end}
+use Rattle.coord_world.specs.protocol.Rows.{degree, group_of, is_end}
 use Rattle.coord_world.specs.declared.rows.parts.NodeRow.{NodeRow}
 use Rattle.coord_tables.specs.declared.links.LinkRow.{LinkRow}
 
@@ -39,11 +38,7 @@ module _ {K A : Type 0} (key : A → K) where
 
     pub sorted_of_rise : (last : K) (xs : List A) → RiseFrom last xs → (below_all R last (keyed xs) ≡ true) × (is_sorted R (keyed xs) ≡ true)
     sorted_of_rise last [] rise = (refl, refl)
-    sorted_of_rise last (x ∷ xs) rise =
-        let rest = sorted_of_rise (key x) xs rise.1 in (
-          ap (λ b. b && below_all R last (keyed xs)) rise.0 ∙ below_more last (key x) xs rise.0 rest.0,
-          ap (λ b. b && is_sorted R (keyed xs)) rest.0 ∙ rest.1,
-        )
+    sorted_of_rise last (x ∷ xs) rise = grind (arith, sorted_of_rise (key x) xs rise.1, below_more)
 
     pub rise_of_sorted : (last : K) (xs : List A) → below_all R last (keyed xs) ≡ true → is_sorted R (keyed xs) ≡ true → RiseFrom last xs
     rise_of_sorted last [] below sorted = tt
@@ -80,14 +75,8 @@ else_none None = refl
 else_none (Some x) = refl
 
 group_push : (u : ℕ) (rows : List NodeRow) (r : NodeRow) → group_of (rows ++ r ∷ []) u ≡ or_else (group_of rows u) (cond (eqb u r.id) (Some r.group) None)
-group_push u [] r = by_test (eqb u r.id) (λ t. group_in (find nat_cmp u (by_id (r ∷ []))) ≡ cond t (Some r.group) None)
-    (λ is. let tied : eq_by_cmp nat_cmp u r.id ≡ true = grind (arith, nat_tests) in ap (λ b. group_in (cond b (Some r) None)) tied)
-    (λ is. let tied : eq_by_cmp nat_cmp u r.id ≡ false = grind (arith, nat_tests) in ap (λ b. group_in (cond b (Some r) None)) tied)
-group_push u (x ∷ rows) r =
-    elim (eq_by_cmp nat_cmp u x.id) as (λ b. group_in (cond b (Some x) (find nat_cmp u (by_id (rows ++ r ∷ [])))) ≡ or_else (group_in (cond b (Some x) (find nat_cmp u (by_id rows)))) (cond (eqb u r.id) (Some r.group) None)) [
-      | true ↦ refl
-      | false ↦ group_push u rows r
-    ]
+group_push u [] r = grind arith
+group_push u (x ∷ rows) r = grind (arith, group_push u rows r)
 
 module _ (groups : List (Option ℕ)) (rows : List NodeRow) (r : NodeRow) (least : 1 ≤ r.id) (all : length groups ≡ 64) (most : r.id ≤ 64)
     (known : (u : ℕ) → 1 ≤ u → u ≤ 64 → get_or groups (u - 1) None ≡ group_of rows u) where
@@ -131,16 +120,12 @@ raised ds i = set ds i (get_or ds i 0 + 1)
 
 degree_push : (u : ℕ) (rows : List LinkRow) (r : LinkRow) → degree u (rows ++ r ∷ []) ≡ degree u rows + one (eqb u r.a || eqb u r.b)
 degree_push u [] r = by_test (is_end u r) (λ t. cond t (1 + 0) 0 ≡ 0 + one t) (λ is. omega arith) (λ is. omega arith)
-degree_push u (x ∷ rows) r =
-    let rest = degree_push u rows r in
-    by_test (is_end u x) (λ t. cond t (1 + degree u (rows ++ r ∷ [])) (degree u (rows ++ r ∷ [])) ≡ cond t (1 + degree u rows) (degree u rows) + one (eqb u r.a || eqb u r.b)) (λ is. omega (arith, rest)) (λ is. rest)
+degree_push u (x ∷ rows) r = grind (arith, degree_push u rows r)
 
 -- no node is an end of more links than there are
 pub degree_most : (u : ℕ) (rows : List LinkRow) → degree u rows ≤ length rows
 degree_most u [] = omega arith
-degree_most u (x ∷ rows) =
-    let rest = degree_most u rows in
-    by_test (is_end u x) (λ t. cond t (1 + degree u rows) (degree u rows) ≤ length (x ∷ rows)) (λ is. omega (arith, rest)) (λ is. omega (arith, rest))
+degree_most u (x ∷ rows) = grind (arith, degree_most u rows)
 
 -- what stands at each place then
 pub get_raised : (ds : List ℕ) (i j : ℕ) → i < length ds → get_or (raised ds i) j 0 ≡ get_or ds j 0 + one (eqb j i)
@@ -158,15 +143,7 @@ module _ (ds : List ℕ) (rows : List LinkRow) (r : LinkRow) (all : length ds �
     (known : (u : ℕ) → 1 ≤ u → u ≤ 64 → get_or ds (u - 1) 0 ≡ degree u rows) where
   -- both ends have one more link
   pub both_raised : r.a - 1 ≢ r.b - 1 → (u : ℕ) → 1 ≤ u → u ≤ 64 → get_or (raised (raised ds (r.a - 1)) (r.b - 1)) (u - 1) 0 ≡ degree u (rows ++ r ∷ [])
-  both_raised differ u from to =
-      get_raised (raised ds (r.a - 1)) (r.b - 1) (u - 1) (omega (arith, length-set {A = ℕ}))
-      ∙ ap (λ n. n + one (eqb (u - 1) (r.b - 1))) (get_raised ds (r.a - 1) (u - 1) (omega arith))
-      ∙ (λ i. (known u from to i + one (place u r.a from least i)) + one (place u r.b from low i))
-      ∙ summed (degree u rows) (one (eqb u r.a)) (one (eqb u r.b)) (one (eqb u r.a || eqb u r.b)) (either (eqb u r.a) (eqb u r.b) (λ is. by_test (eqb u r.b) (λ t. t ≡ false) (λ tied. let e : u ≡ r.a = grind (arith, nat_tests) in let f : u ≡ r.b = grind (arith, nat_tests) in absurd (differ (omega arith))) (λ _. refl)))
-      ∙ sym (degree_push u rows r)
-    where
-      summed : (n p q s : ℕ) → p + q ≡ s → (n + p) + q ≡ n + s
-      summed n p q s e = omega arith
+  both_raised differ u from to = grind (arith, nat_tests, get_raised, length-set, place, either, by_test, degree_push)
 
   -- a link of a node to itself counts once
   pub one_raised : r.a - 1 ≡ r.b - 1 → (u : ℕ) → 1 ≤ u → u ≤ 64 → get_or (raised ds (r.a - 1)) (u - 1) 0 ≡ degree u (rows ++ r ∷ [])

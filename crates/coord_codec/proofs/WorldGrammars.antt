@@ -23,13 +23,11 @@ use Rattle.coord_world.specs.Facade.{InRange, World, rows_of}
 use Rattle.coord_world.proofs.Facade.{rows_give_world, rows_of_world_fit}
 use Rattle.coord_batch.specs.declared.fault.CodecFault.{CodecFault}
 use Rattle.coord_batch.specs.declared.fault.FaultKind.{FaultKind}
-use Rattle.coord_batch.specs.declared.fault.FaultKind.TheVariants.{Short, Extra}
 use Rattle.coord_batch.specs.Decoding.{Answers, Unless, decoded, is_version}
 use Rattle.coord_batch.proofs.Decoded.{answers_found, answers_only}
 use Rattle.coord_codec.proofs.WorldRows.{rows_fit, version_fits}
 use Rattle.coord_batch.proofs.SpellingLaws.{cut_short, more_extra}
 use Rattle.coord_codec.specs.Laws.{BytesBehindWorldsAreExtra, CutWorldsAreShort, WorldsArePrefixFree}
-use Rattle.coord_types.specs.declared.messages.Msg.TheVariants as msg
 
 -- ---- how the parts of a world are spelled, whatever else is asked of them
 
@@ -200,9 +198,7 @@ known : (w : World) → InRange w → is_version w.version ≡ true
 known w range = grind (arith, nat_tests, range.first, range.last)
 
 pub worlds_prefix_free : WorldsArePrefixFree
-worlds_prefix_free v w rest more first second one same =
-    let both = prefix_free (world v.version) (world_grammar v.version) (rows_of v) (rows_of w) rest more (world_fits v first) (rw one (world_fits w second)) same in
-    (rows_give_world v w first second both.0, both.1)
+worlds_prefix_free v w rest more first second one same = grind (arith, nat_tests, prefix_free (world v.version) (world_grammar v.version) (rows_of v) (rows_of w) rest more (world_fits v first) (rw one (world_fits w second)) same, prefix_free, world_grammar, world_fits, rows_give_world)
 
 pub cut_worlds_short : CutWorldsAreShort
 cut_worlds_short w front rest b range is = cut_short world world_grammar w.version (known w range) (rows_of w) front rest b (world_fits w range) is

@@ -83,10 +83,7 @@ module _ {Row : Type 0} (key : Row → ℕ) (row : List Row → Format Row) (IsR
   all_in : ((front : List Row) (r : Row) → (row front).Fits r → IsRow r × IsAbove front r) → (front rs : List Row) → FitBehind row front rs → AllByRecursion IsRow rs × RiseFrom key nat_cmp_total (last_by key 0 front) rs
   unfolding FitBehind
   all_in one_in front [] fits = (tt, tt)
-  all_in one_in front (r ∷ rs) fits =
-      let one = one_in front r fits.0 in
-      let rest = all_in one_in (front ++ r ∷ []) rs fits.1 in
-      ((one.0, rest.0), (one.1, rw (sym (last_push key 0 front r)) rest.1))
+  all_in one_in front (r ∷ rs) fits = grind (arith, nat_tests, one_in front r fits.0, all_in one_in (front ++ r ∷ []) rs fits.1, last_push)
 
   all_fit : ((front : List Row) (r : Row) → IsRow r → IsAbove front r → (row front).Fits r) → (front rs : List Row) → AllByRecursion IsRow rs → RiseFrom key nat_cmp_total (last_by key 0 front) rs → FitBehind row front rs
   unfolding FitBehind
@@ -107,26 +104,7 @@ module _ (version count : ℕ) where
 
   node_row_in : (front : List NodeRow) (r : NodeRow) → (node_row version count front).Fits r → IsRow r × (is_lt (nat_cmp (last_by node_key 0 front) r.id) ≡ true)
   unfolding node_row
-  node_row_in front r fits =
-      let p = fits.0.0 in
-      let f = fits.1.0 in
-      let d = node_distance_in version count fits.0.1 p.1.1.0 fits.1.1 in
-      rw fits.2 (
-        (
-          record {
-            least = (node_in_range p.0 f.0.0).0;
-            greatest = (node_in_range p.0 f.0.0).1;
-            group_least = (group_in_range p.1.0 f.1.0).0;
-            group_greatest = (group_in_range p.1.0 f.1.0).1;
-            parent = parent_in_range p.1.1.1.0 f.1.1.1.0;
-            pend = mask_in_range p.1.1.1.1.0 f.1.1.1.1.0;
-            epoch = at_most_in_range count p.1.1.1.1.1.0 f.1.1.1.1.1.0;
-            confirmed = at_most_in_range count p.1.1.1.1.1.1 f.1.1.1.1.1.1;
-          },
-          record { within = d.0; ready = d.1 },
-        ),
-        grind (arith, nat_tests, f.0.1),
-      )
+  node_row_in front r fits = grind (arith, nat_tests, node_distance_in, node_in_range, group_in_range, parent_in_range, mask_in_range, at_most_in_range)
 
   node_row_fits : count < 2 ^ 64 → (front : List NodeRow) (r : NodeRow) → IsRow r → is_lt (nat_cmp (last_by node_key 0 front) r.id) ≡ true → (node_row version count front).Fits r
   unfolding node_row
@@ -376,11 +354,7 @@ all_both P Q (x ∷ xs) ps qs = ((ps.0, qs.0), all_both P Q xs ps.1 qs.1)
 -- the ends of a link are numbered from 1
 above_none : (count : ℕ) (listed : List NodeRow) (rs : List LinkRow) → AllByRecursion (NodeRowFits count) listed → AllByRecursion (LinkRowFits count listed) rs → below_all pair_cmp (0, 0) (by_ends rs) ≡ true
 above_none count listed [] known all = refl
-above_none count listed (r ∷ rs) known all =
-    let end = listed_node count listed r.a all.0.ends.group known all.0.ends.first in
-    let rest = above_none count listed rs known all.1 in
-    let least = end.0 in
-    grind (arith, nat_tests, rest, least)
+above_none count listed (r ∷ rs) known all = grind (arith, nat_tests, listed_node count listed r.a all.0.ends.group known all.0.ends.first, above_none count listed rs known all.1, listed_node)
 
 -- rows that are spelled in a version have it
 pub version_fits : (version : ℕ) (r : Rows) → (world version).Fits r → r.version ≡ version
