@@ -13,11 +13,13 @@ pub fn posted_together_answered_in_turn<D: Desk>()
 {}
 
 /// Lines that ask for something, and lines with a fault.
+#[tactic(auto, using(crate::proofs::Computes::requests_compute))]
 pub fn worked_requests()
     ensures { WorkedRequests }
 {}
 
 /// Answers and their reply lines.
+#[tactic(auto, using(crate::proofs::Computes::replies_compute))]
 pub fn worked_replies()
     ensures { WorkedReplies }
 {}
