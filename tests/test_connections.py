@@ -37,6 +37,15 @@ class Connections(Case):
             self.assertEqual(server.await_signals(200), [(1, epoch) for epoch in range(1, 201)])
             self.assertEqual(server.close().status, 0)
 
+    def test_fifteen_hundred_that_say_nothing(self):
+        """They come and go. There is no end to those who may come."""
+        with self.serving() as server:
+            host, port = server.address.split(":")
+            for _ in range(1_500):
+                socket.create_connection((host, int(port))).close()
+            self.assertEqual(server.ask({"op": "resend"}), RESENT)
+            self.assertEqual(server.close().status, 0)
+
     def test_an_answer_goes_out_at_once(self):
         """The system is told so of each connection: otherwise it may wait for the client to take what was sent before."""
         self.needs("a C compiler", preloaded.has_compiler())

@@ -194,6 +194,16 @@ class Called(Case):
         """It is cut while it is read."""
         self.expect_refused(COMMANDS[1:], [errno.EIO], READ_ENDS=1)
 
+    def test_calls_that_are_interrupted(self):
+        """One of them, alone: it is made again, and nobody hears of it."""
+        words = ["init", self.path("store"), self.write("topology", ONE)]
+        for call, most in (("WRITE_FAILS", 3), ("READ_FAILS", 1)):
+            for number in range(1, most + 1):
+                environment = self.environment(ERROR=errno.EINTR, **{call: number})
+                self.assertEqual((call, number, ran(*words, env=environment)), (call, number, Ended(0, "created 1\n", "")))
+                self.assertEqual(ran("check", words[1], env=environment), Ended(0, "legal 1\n", ""))
+                os.remove(words[1])
+
     def expect_refused(self, commands, errors=ERRORS, **call):
         """Where this call fails alone, with any error, the commands tell Device, and leave a store as it was."""
         more = {"init": [self.write("topology", ONE)], "serve": ["127.0.0.1:0"]}

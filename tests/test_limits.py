@@ -1,5 +1,6 @@
 """A server to which the system gives few descriptors, or few threads."""
 
+import errno
 import os
 import resource
 import subprocess
@@ -58,6 +59,15 @@ class Descriptors(Case):
         self.assertEqual(seen, {b"listening ", "resetd: Device\n", "resetd: Socket\n"})
         self.assertEqual((self.read("store"), ran("check", store).status), (before, 0))
 
+
+    def test_an_address_that_can_not_be_listened_at(self):
+        """Whatever the reason is."""
+        self.needs("a C compiler", preloaded.has_compiler())
+        store = self.made(topology([(1, 1)]))
+        for error in (errno.EACCES, errno.EADDRINUSE, errno.ENOBUFS, errno.ENOMEM, errno.EINVAL):
+            environment = {**os.environ, **preloaded.environment(self.folder, LISTEN_FAILS=1, ERROR=error)}
+            ended = ran("serve", store, "127.0.0.1:0", env=environment, seconds=60)
+            self.assertEqual((error, ended), (error, faulted(3, "Socket")))
 
     def test_an_address_that_is_not_told(self):
         """It can't be printed, so nobody is served."""

@@ -84,6 +84,21 @@ class Listener(Failing):
             self.assertEqual(server.close().status, 0)
 
 
+    def test_a_client_whose_waits_can_not_be_bounded(self):
+        """It is not waited for: its connection ends before a line, in the midst of one, or before an answer."""
+        resend = b'{"op":"resend"}\n'
+        for call, number, said in (("READ_TIME_FAILS", 1, b""), ("READ_TIME_FAILS", 2, b'{"op":'), ("WRITE_TIME_FAILS", 1, resend)):
+            store = self.made(topology([(1, 1)]), f"store-{call}-{number}")
+            environment = preloaded.environment(self.folder, **{call: number})
+            with self.subTest(call=call, number=number), Serving(store, env=environment) as server:
+                with server.connect() as connection:
+                    connection.socket.settimeout(8)  # less than any wait
+                    connection.send(said)
+                    self.assertEqual(connection.line(), b"")
+                self.assertEqual(server.ask({"op": "resend"}), {"count": 0, "kind": "resent"})
+                self.assertEqual(server.close().status, 0)
+
+
 class LastTry(Failing):
     """A failure that may pass is tried again 100 times in turn, and no more."""
 

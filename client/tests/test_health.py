@@ -13,8 +13,8 @@ from unittest import mock
 
 from case import PROGRAM, Case, over_both
 from real import Real
-from resetd_client import Port
-from resetd_client.health import Bounds, Level, Since, check, metrics
+from resetd_client import Port, View
+from resetd_client.health import Bounds, Level, Since, check, findings, metrics
 from resetd_client.signal_lag import Signals
 
 
@@ -47,9 +47,28 @@ class Watching(Case):
             since.keep()
 
     def test_a_bound_is_the_least_that_is_told(self) -> None:
-        self.server.reset(1)
-        self.server.by_somebody("confirm", node=2, epoch=1)
-        self.assertEqual([self.look(now)[0] for now in (0, 59, 60)], [Level.OK, Level.OK, Level.WARNING])
+        """Of steps that wait, of a wave that stands still, and of an epoch that nobody has confirmed."""
+        bounds = Bounds(steps=5, wave=5, unconfirmed=60)
+        rows = [[1, 1, "abort", 0, 4, 4], [2, 1, "ready", 0, 4, 3], [3, 1, "ready", 0, 4, 4]]
+        view = View.of({"accepted": 9, "settled": 8, "nodes": rows, "links": [[1, 2, 5]]})
+        told = []
+        for now in (0, 4, 5, 59, 60):
+            since = Since(f"{self.folder}/since", now)
+            told.append(len(findings(view, since, bounds)))
+            since.keep()
+        self.assertEqual(told, [0, 0, 2, 2, 3])
+        text = metrics(view, False)
+        self.assertEqual([f'resetd_node_in_reset{{node="{node}",group="1"}} {there}\n' in text for node, there in
+                          ((1, 1), (2, 0), (3, 0))], [True] * 3)
+
+    def test_what_is_not_taken_now(self) -> None:
+        """A server that has stopped has to be started again; one that lacks room has not."""
+        for line, is_stopped in (('{"name":"Stopped","refused":1}', True), ('{"name":"PendingFull","refused":20}', False),
+                                 ('{"fault":"OutOfMemory"}', False)):
+            self.server.faults = [line]
+            health = check(self.port, Since(f"{self.folder}/since", 0), Bounds())
+            self.assertEqual((health.level, health.is_stopped), (Level.CRITICAL, is_stopped))
+        self.assertEqual([int(level) for level in (Level.OK, Level.WARNING, Level.CRITICAL, Level.UNKNOWN)], [0, 1, 2, 3])
 
     def test_a_wave_that_stands_still_and_steps_that_wait(self) -> None:
         line = '{"accepted":9,"links":[],"nodes":[[1,1,"abort",2,0,0]],"settled":7}'
@@ -134,6 +153,12 @@ class Lagging(Case):
             file.write("signal 1 1\n" * 50)
         os.replace(f"{self.path}.new", self.path)
         self.assertEqual((self.look(10), self.look(20)), ((), ()))
+
+    def test_the_first_signal_of_a_new_node(self) -> None:
+        self.look(0)
+        self.server.by_somebody("add", node=9, group=1)
+        self.server.reset(9)
+        self.assertEqual((self.look(10), self.look(20)), ((), self.lag(9, 1, "", 10)))
 
     def test_a_line_that_is_written_in_two_parts(self) -> None:
         """A look between the two does not lose it."""

@@ -51,6 +51,31 @@ class Topologies(unittest.TestCase):
             self.assertLessEqual(len(now.links), 128)
         self.assertEqual(now.links, want.links)
 
+    def test_what_a_network_may_have(self) -> None:
+        """As much as the program takes, and not one more."""
+        def written(groups: dict[int, int], links: list[tuple[int, int]]) -> bytes:
+            return ("".join(f"[[node]]\nid = {node}\ngroup = {group}\n" for node, group in groups.items()) +
+                    "".join(f"[[link]]\na = {a}\nb = {b}\n" for a, b in links)).encode()
+
+        alike = {node: 1 for node in range(1, 65)}
+        star = [(1, node) for node in range(2, 18)]
+        circles = [(node, (node + far - 1) % 64 + 1) for far in (1, 2) for node in range(1, 65)]
+        pair = {63: 16, 64: 16}
+        for groups, links in ((alike, star), (alike, circles), (pair, [(64, 63)])):
+            self.assertEqual(len(read_topology(written(groups, links)).links), len(links))
+        for groups, links in ((alike, [*star, (1, 18)]), (alike, [*circles, (1, 33)]), (pair, [(63, 64), (64, 63)]),
+                              (pair, [(63, 64), (63, 64)]), ({**pair, 62: 17}, []), ({**pair, 65: 1}, []), ({**pair, 0: 1}, [])):
+            self.assertRaises(BadTopology, read_topology, written(groups, links))
+        for half, is_read in ((32_767, False), (32_768, True), (16_777_216, True), (16_777_217, False)):
+            text = f"half = {half}\n".encode()
+            if is_read:
+                read_topology(text)
+            else:
+                self.assertRaises(BadTopology, read_topology, text)
+        read_topology(b" " * 65_536)
+        self.assertRaises(BadTopology, read_topology, b" " * 65_537)
+        self.assertRaises(BadTopology, read_topology, written(pair, []) + b"[[node]]\nid = 63\ngroup = 16\n")
+
     def test_files(self) -> None:
         with open(os.path.join(ROOT, "examples/ring.toml"), "rb") as file:
             ring = read_topology(file.read())

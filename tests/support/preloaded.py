@@ -104,7 +104,11 @@ int flock(int file, int how) {
     static long locks;
     return fails("LOCK_FAILS", "ERROR", &locks) ? -1 : syscall(SYS_flock, file, how);
 }
-// A socket does not tell its address.
+// A socket can't be listened to, or does not tell its address.
+int listen(int socket, int most) {
+    static long listens;
+    return fails("LISTEN_FAILS", "ERROR", &listens) ? -1 : syscall(SYS_listen, socket, most);
+}
 int getsockname(int socket, struct sockaddr *address, socklen_t *length) {
     static long names;
     return fails("NAME_FAILS", "ERROR", &names) ? -1 : syscall(SYS_getsockname, socket, address, length);
@@ -143,9 +147,12 @@ ssize_t write(int file, const void *bytes, size_t count) {
     return syscall(SYS_write, file, bytes, piece(count));
 }
 // With WAITS it is written down too for how many milliseconds a client is waited for, for how many microseconds a thread
-// rests, whether what is sent goes out at once, and that no more will be sent. The first UNREADY connections can't be told the latter.
+// rests, whether what is sent goes out at once, and that no more will be sent. The first UNREADY connections can't be told to
+// send at once. Call READ_TIME_FAILS that bounds a read fails, and call WRITE_TIME_FAILS that bounds a write.
 int setsockopt(int socket, int level, int option, const void *value, socklen_t length) {
-    static long unready;
+    static long unready, reads, writes;
+    if (level == SOL_SOCKET && option == SO_RCVTIMEO && fails("READ_TIME_FAILS", "ERROR", &reads)) return -1;
+    if (level == SOL_SOCKET && option == SO_SNDTIMEO && fails("WRITE_TIME_FAILS", "ERROR", &writes)) return -1;
     if (level == IPPROTO_TCP && option == TCP_NODELAY) {
         if (unready < setting("UNREADY")) {
             unready += 1;
