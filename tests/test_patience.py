@@ -127,7 +127,8 @@ class Patience(Case):
         with self.serving(env=preloaded.environment(self.folder, CALLS=log, WAITS=1)) as server, server.connect() as connection:
             self.expect_times(log, [SILENCE])
             for part, times in ((b'{"op":', [LINE]), (b'"resend"', [LINE]), (b'}\n', [-REPLY, SILENCE]),
-                                (b'{"op":"resend"}\n', [-REPLY, SILENCE]), (b'{"op":"close"', [LINE]),
+                                (b'{"op":"resend"}\n', [-REPLY, SILENCE]), (b"x" * 600, [LINE, LINE]),
+                                (b"\n", [-REPLY, SILENCE]), (b'{"op":"close"', [LINE]),
                                 (b"}\n", [-REPLY, DISCARD])):
                 connection.send(part)
                 self.expect_times(log, times)
