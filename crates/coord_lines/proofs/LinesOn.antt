@@ -51,9 +51,7 @@ going_on-onto_first line byte (part ∷ parts) h = ap (λ l. l ∷ map line_of p
 
 -- any other byte goes on the line
 pub lines_on-byte : (line : Line) (byte : ℕ) (text : List ℕ) → is_line_feed byte ≡ false → lines_on line (byte ∷ text) ≡ lines_on (extended line (byte ∷ [])) text
-lines_on-byte line byte text other =
-    ap (λ t. going_on line (cond t ([] ∷ slice_split is_line_feed text) (onto_first byte (slice_split is_line_feed text)))) other
-    ∙ going_on-onto_first line byte _ (omega (arith, length-slice_split is_line_feed text))
+lines_on-byte line byte text other = grind (arith, going_on-onto_first, length-slice_split)
 
 nothing_more : (line : Line) (parts : List (List ℕ)) → 0 < length parts → going_on line parts ≡ going_on (extended line []) parts
 nothing_more line [] h = absurd (omega arith)
@@ -110,10 +108,7 @@ not_found text (Some place) e f = absurd cc
 
 -- a piece without one goes on the line
 pub lines_on-unended : (line : Line) (piece more : List ℕ) → behind_line_feed piece ≡ None → lines_on line (piece ++ more) ≡ lines_on (extended line (before_line_feed piece)) more
-lines_on-unended line piece more e =
-    let none = not_found piece _ refl e in
-    lines_on-bytes line piece more (λ k d below. fails_before_first is_line_feed piece k d (omega arith))
-    ∙ ap (λ p. lines_on (extended line p) more) (sym (before_all piece none))
+lines_on-unended line piece more e = grind (arith, not_found, lines_on-bytes, fails_before_first, before_all)
 
 pub behind-shorter : (piece behind : List ℕ) → behind_line_feed piece ≡ Some behind → length behind < length piece
 behind-shorter piece behind e = let at = found piece behind _ refl e in omega (arith, at.0, ap length at.1, length-drop (position_or_len is_line_feed piece + 1) piece)
