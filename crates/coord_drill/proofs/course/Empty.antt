@@ -1,5 +1,5 @@
 -- As long as no step was accepted the world of a drill is empty.
-use Rattle.std.proofs.Common.{◌≡◌, ◌≢◌, ℕ, ◌-◌, Bool, false, List, [], ◌∷◌, None, Result, refl, sym, ap, ◌∙◌, subst, arith, inr, is_some}
+use Rattle.std.proofs.Common.{◌≡◌, ◌≢◌, ℕ, Bool, false, List, [], ◌∷◌, None, Result, refl, sym, ap, ◌∙◌, subst, arith, inr, is_some}
 use Rattle.std.specs.Cmp.{nat_cmp_total}
 use Rattle.coord_types.specs.Facade.{get}
 use Rattle.coord_types.specs.Table as table

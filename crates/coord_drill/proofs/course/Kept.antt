@@ -9,7 +9,7 @@ use Rattle.coord_ledger.specs.Facade.{Answered, IsOneOf, Machine, accepted_count
 use Rattle.coord_drill.specs.Answered.{IsAnswered}
 use Rattle.coord_drill.specs.Drill.{DrillState, after_asked, flight_events, machine_of, step_events}
 use Rattle.coord_drill.specs.Told.{flight_told, repeat_told, step_told, told_by}
-use Rattle.coord_drill.specs.Facade.{Accepted, Answer, Asked, Begun, Committed, Refusal, Refused, Repeat, Repeated, Step, Verdict, AllKept, IsKept, Passes}
+use Rattle.coord_drill.specs.Facade.{Accepted, Answer, Asked, Begun, Committed, Refusal, Refused, Repeated, Step, Verdict, AllKept, IsKept, Passes}
 use Rattle.coord_drill.proofs.does.FlownTo.{begun_size}
 use Rattle.coord_disk.proofs.MomentLemmas.{weaker}
 use Rattle.coord_disk.specs.Model.DiskModel.{DiskModel}
@@ -22,7 +22,6 @@ use Rattle.coord_ledger.proofs.machine.ConsistentFlights.{kept_more}
 use Rattle.coord_ledger.proofs.machine.Lists.{all_raised}
 use Rattle.coord_ledger.proofs.machine.Logs.{count_after}
 use Rattle.coord_ledger.proofs.machine.SettledStays.{settled_stays}
-use Rattle.coord_ledger.specs.declared.events.Event.TheVariants as event
 use Rattle.coord_drill.specs.declared.asked.Asked.TheVariants as ask
 use Rattle.coord_store.specs.declared.faults.CommitFault.TheVariants as fault
 

@@ -7,7 +7,7 @@ use Rattle.coord_ledger.specs.Facade.{Machine, Survives, disk_held, failed_until
 use Rattle.coord_ledger.proofs.runs.EachMoment.{reopens_more}
 use Rattle.coord_drill.specs.Drill.{DrillState, line_events}
 use Rattle.coord_drill.specs.declared.asked.Asked.TheVariants.{Crash, Version2}
-use Rattle.coord_drill.specs.Facade.{Answer, Asked, CutShort, Cuts, Drill, Fault, IsEmptyLog, IsKept, IsLeftBy, IsLostInCrash, IsOfDisk, IsOfMemory, IsPromised, LeadsPart, MayCutShort, MayEndBy, Place, RaisesPart, Stands, failed_by, opens_disk, AllKept, Carries, CarriesIf, CarriesLine, CutsIf, FirstCutShort, Goes, LineGoes, Moves, Prints, Refusal, Request, Responds, Step, Tells, UnlessSkipped, asked_in, bad_line, front_of, state_of, told_in}
+use Rattle.coord_drill.specs.Facade.{Answer, Asked, CutShort, Cuts, Drill, Fault, IsEmptyLog, IsKept, IsLeftBy, IsLostInCrash, IsOfDisk, IsOfMemory, IsPromised, LeadsPart, MayCutShort, MayEndBy, Place, RaisesPart, Stands, failed_by, opens_disk, AllKept, CarriesIf, CarriesLine, CutsIf, FirstCutShort, Goes, LineGoes, Moves, Prints, Refusal, Request, Responds, Step, Tells, UnlessSkipped, asked_in, bad_line, front_of, state_of, told_in}
 use Rattle.coord_drill.proofs.does.Moments.{is_version}
 use Rattle.coord_drill.proofs.course.Kept.{kept_of, passes}
 use Rattle.coord_drill.proofs.course.Standing.{failed_is, raises, reached_by}
@@ -15,7 +15,7 @@ use Rattle.coord_lines.specs.Lines.{Line}
 use Rattle.coord_types.specs.declared.packets.DataPacket.{DataPacket}
 use Rattle.coord_world.specs.Facade.{World}
 use Rattle.coord_drill.specs.Answered.{IsAnswered}
-use Rattle.coord_drill.specs.Asked.{asked, asked_of_front, front}
+use Rattle.coord_drill.specs.Asked.{asked, asked_of_front}
 use Rattle.coord_drill.specs.Drilled.{asked_by, is_skipped, unless_late}
 use Rattle.coord_drill.specs.declared.request.Request.TheVariants as request
 

@@ -3,7 +3,7 @@ use Rattle.std.proofs.Common.{Bool, ◌≡◌, ℕ, true, false, cond, List, [],
 use Rattle.coord_types.specs.declared.steps.Kind.{Kind}
 use Rattle.coord_disk.specs.Model.DiskModel.{DiskModel}
 use Rattle.coord_ledger.specs.declared.events.Event.TheVariants as event
-use Rattle.coord_ledger.specs.Facade.{DriverState, IsAnew, after_submit, pending, run as after_run, settled_count, verdict, with_step}
+use Rattle.coord_ledger.specs.Facade.{DriverState, IsAnew, after_submit, run as after_run, settled_count, verdict, with_step}
 use Rattle.coord_ledger.proofs.follows.Follows.{log_behind}
 use Rattle.coord_drill.specs.Answered.{asked_lines, flight_lines, kept_line, repeat_line}
 use Rattle.coord_drill.specs.Drill.{DrillState, after_asked, flight_events, machine_of, seen_as}

@@ -15,7 +15,7 @@ use Rattle.coord_drill.specs.declared.asked.Asked.TheVariants.{Submit}
 use Rattle.coord_ledger.specs.declared.handed.Handed.{Handed}
 use Rattle.coord_drill.specs.Answered.{asked_lines}
 use Rattle.coord_drill.specs.Drill.{after_asked, line_events}
-use Rattle.coord_drill.specs.Facade.{Answer, Begins, Carries, Drill, DrillState, Flies, Hands, IsHeld, IsReady, IsReadyWith, Leads, LeadsPart, Refusal, Repeat, Reply, Step, Verdict, claims_of, drill_of, flight_events, flight_lines, kept_line, machine_of, pending_line, refusal_line, seen_as, state_of}
+use Rattle.coord_drill.specs.Facade.{Answer, Begins, Carries, Drill, DrillState, Flies, Hands, IsHeld, IsReady, IsReadyWith, Leads, LeadsPart, Refusal, Reply, Step, Verdict, claims_of, drill_of, flight_events, flight_lines, kept_line, machine_of, pending_line, refusal_line, seen_as, state_of}
 use Rattle.coord_drill.proofs.does.Does.{flown_after, flown_line, held_after, held_line, refused_after, refused_line, repeat_after, repeat_lines}
 use Rattle.coord_drill.proofs.does.Moments.{Survive, carries, leads_then, none_led}
 use Rattle.coord_drill.proofs.does.Verdicts.{no_refusal, other_refusal}

@@ -1,4 +1,4 @@
-use Rattle.std.proofs.Common.{Ok, Err, refl}
+use Rattle.std.proofs.Common.{refl}
 use Rattle.coord_engine.specs.State.{based_on}
 use Rattle.coord_server.proofs.desk.collect.Goals as goal
 

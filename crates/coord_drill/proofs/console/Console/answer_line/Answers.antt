@@ -1,4 +1,4 @@
-use Rattle.std.proofs.Common.{◌≡◌, ◌+◌, ◌++◌, sym, ap, ◌∙◌, rules, string_bytes}
+use Rattle.std.proofs.Common.{◌≡◌, ◌++◌, sym, ap, ◌∙◌, rules, string_bytes}
 use Rattle.std.specs.Option.{option_copied}
 use Rattle.coord_drill.proofs.does.Moments.{passed_on}
 use Rattle.coord_drill.proofs.console.Console.answer_line.Goals as goal

@@ -1,7 +1,6 @@
-use Rattle.std.proofs.Common.{◌≡◌, None, Some, true, false, sym, ap, ◌∙◌, IfErr, IfOk, rules, string_bytes}
+use Rattle.std.proofs.Common.{◌≡◌, None, Some, true, false, sym, ap, ◌∙◌, rules, string_bytes}
 use Rattle.std.proofs.lemmas.Result.{IfErr-weaker, IfOk-weaker}
 use Rattle.std.specs.Option.{option_copied}
-use Rattle.coord_lines.specs.Lines.{Line}
 use Rattle.coord_drill.specs.Drilled.{asked_by, is_skipped}
 use Rattle.coord_drill.specs.Facade.{CarriesLine, asked_in, state_of}
 use Rattle.coord_drill.proofs.does.Moments.{if_err_both}
