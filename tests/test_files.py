@@ -105,17 +105,18 @@ class Looked(Case):
         """`check` and `show` take no lock, not even for the moment in which they read."""
         self.needs("a C compiler", preloaded.has_compiler())
         store = self.made(ONE)
-        for command, status in (("check", 0), ("show", 0)):
-            environment = {**os.environ, **preloaded.environment(self.folder, SYNC_MILLIS=2_000)}
-            with subprocess.Popen([PROGRAM, command, store], env=environment, stdout=subprocess.DEVNULL) as reader, \
-                    open(store, "rb") as file:
-                until("a look", lambda: store in self.opened(reader.pid))
+        for command in ("check", "show"):
+            environment = {**os.environ, **preloaded.environment(self.folder, SYNC_MILLIS=600_000)}
+            reader = subprocess.Popen([PROGRAM, command, store], env=environment, stdout=subprocess.DEVNULL)
+            self.addCleanup(reader.wait)
+            self.addCleanup(reader.kill)
+            until("a look", lambda: store in self.opened(reader.pid))
+            with open(store, "rb") as file:
                 for _ in range(20):
                     fcntl.flock(file, fcntl.LOCK_EX | fcntl.LOCK_NB)  # which fails where somebody has it
                     fcntl.flock(file, fcntl.LOCK_UN)
                     time.sleep(0.02)
-                self.assertIn(store, self.opened(reader.pid), "the look was over too soon")
-                self.assertEqual(reader.wait(60), status)
+            self.assertIn(store, self.opened(reader.pid))
 
     @staticmethod
     def opened(process):
@@ -194,15 +195,17 @@ class Called(Case):
         """It is cut while it is read."""
         self.expect_refused(COMMANDS[1:], [errno.EIO], READ_ENDS=1)
 
-    def test_calls_that_are_interrupted(self):
-        """One of them, alone: it is made again, and nobody hears of it."""
-        words = ["init", self.path("store"), self.write("topology", ONE)]
-        for call, most in (("WRITE_FAILS", 3), ("READ_FAILS", 1)):
-            for number in range(1, most + 1):
-                environment = self.environment(ERROR=errno.EINTR, **{call: number})
-                self.assertEqual((call, number, ran(*words, env=environment)), (call, number, Ended(0, "created 1\n", "")))
-                self.assertEqual(ran("check", words[1], env=environment), Ended(0, "legal 1\n", ""))
-                os.remove(words[1])
+    def test_a_write_that_is_interrupted(self):
+        """It is made again, and nobody hears of it."""
+        for number in (1, 2, 3):
+            words = ["init", self.path(f"store{number}"), self.write("topology", ONE)]
+            environment = self.environment(ERROR=errno.EINTR, WRITE_FAILS=number)
+            self.assertEqual((number, ran(*words, env=environment)), (number, Ended(0, "created 1\n", "")))
+            self.assertEqual(ran("check", words[1]), Ended(0, "legal 1\n", ""))
+
+    def test_a_read_that_is_interrupted(self):
+        environment = self.environment(ERROR=errno.EINTR, READ_FAILS=1)
+        self.assertEqual(ran("check", self.made(ONE), env=environment), Ended(0, "legal 1\n", ""))
 
     def expect_refused(self, commands, errors=ERRORS, **call):
         """Where this call fails alone, with any error, the commands tell Device, and leave a store as it was."""

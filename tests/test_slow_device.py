@@ -13,21 +13,17 @@ LONGER = (3.0, 10.0)  # where the machine is busy
 WAITED = 2  # seconds for callers, at most
 
 
-class QuickDevice(Case):
-    """A device whose syncs take no time."""
-
-    def test_an_order_that_comes_alone_waits_for_nobody(self):
-        """The quickest of 200 takes less time than a flight would wait for packets. The machine may be busy."""
+class Rests(Case):
+    def test_orders_one_after_the_other(self):
+        """Where nothing fails, no thread rests for a time."""
         self.needs("a C compiler", preloaded.has_compiler())
-        environment = preloaded.environment(self.folder, SYNCS_LEFT_OUT=1)
-        with Serving(self.made(topology([(1, 1)])), env=environment) as server, server.connect() as connection:
-            times = []
-            for number in range(1, 201):
-                begun = time.monotonic()
-                connection.send({"op": "reset", "client": 1, "number": number, "node": 1})
-                self.assertEqual(connection.reply()["step"], 1 + number)
-                times.append(time.monotonic() - begun)
-            self.assertLess(min(times), 0.004)
+        environment = preloaded.environment(self.folder, CALLS=self.path("calls"), WAITS=1)
+        with Serving(self.made(ring(3)), env=environment) as server:
+            for number in range(1, 11):
+                self.assertEqual(server.order(number, "reset", node=1)["kind"], "started")
+                server.await_signals(3 * number)
+            self.assertEqual(server.close().status, 0)
+        self.assertEqual([line for line in self.read("calls").splitlines() if line.startswith(b"rest ")], [])
 
 
 class SlowDevice(Case):
@@ -101,7 +97,7 @@ class SlowDevice(Case):
 
     def test_a_close_settles_what_was_accepted(self):
         """The close of one client does not wait for a wave, and no step of it that was accepted is lost."""
-        with self.serving(ring(4)) as server:
+        with self.serving(ring(4), 1.0) as server:
             self.assertEqual(server.order(1, "reset", node=1)["kind"], "started")
             accepted = server.show()["accepted"]
             self.assertEqual(server.close().status, 0)
