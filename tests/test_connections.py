@@ -75,8 +75,9 @@ class Connections(Case):
         self.expect_served(SEND_STORM=STORM)
 
     def expect_served(self, **settings):
+        """By a clock that stands still: however long it takes, it is in time."""
         self.needs("a C compiler", preloaded.has_compiler())
-        environment = preloaded.environment(self.folder, **settings)
+        environment = preloaded.environment(self.folder, STILL=1, **settings)
         with Serving(self.made(topology([(1, 1)])), env=environment) as server:
             self.assertEqual(server.order(1, "reset", node=1), {"kind": "finished", "step": 2})
             self.assertEqual(server.close().status, 0)

@@ -92,7 +92,7 @@ class Listener(Failing):
             environment = preloaded.environment(self.folder, **{call: number})
             with self.subTest(call=call, number=number), Serving(store, env=environment) as server:
                 with server.connect() as connection:
-                    connection.socket.settimeout(8)  # less than any wait
+                    connection.socket.settimeout(12)  # less than a silence
                     connection.send(said)
                     self.assertEqual(connection.line(), b"")
                 self.assertEqual(server.ask({"op": "resend"}), {"count": 0, "kind": "resent"})

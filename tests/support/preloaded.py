@@ -48,17 +48,22 @@ int accept4(int socket, struct sockaddr *address, socklen_t *length, int flags) 
     }
     return client;
 }
-// The clock is ahead by as many seconds as the file CLOCK has at this moment, a number of 8 bytes.
+// The clock is ahead by as many seconds as the file CLOCK has at this moment, a number of 8 bytes. With STILL it stands still.
 int clock_gettime(clockid_t id, struct timespec *time) {
     static long *ahead;
+    static struct timespec first;
     if (!ahead && getenv("CLOCK")) {
         int file = syscall(SYS_openat, AT_FDCWD, getenv("CLOCK"), O_RDONLY);
         ahead = mmap(0, sizeof *ahead, PROT_READ, MAP_SHARED, file, 0);
         syscall(SYS_close, file);
     }
     int status = syscall(SYS_clock_gettime, id, time);
-    if (ahead && id == CLOCK_MONOTONIC && status == 0) time->tv_sec += *ahead;
-    return status;
+    if (id != CLOCK_MONOTONIC || status) return status;
+    if (ahead) time->tv_sec += *ahead;
+    if (!setting("STILL")) return 0;
+    if (!first.tv_sec) first = *time;
+    *time = first;
+    return 0;
 }
 // Calls of a device and what goes out are written down in the file CALLS, a line each: what is to be written before it is,
 // and a sync once it is over. So what stands before a line was done before what stands behind it.
