@@ -104,7 +104,7 @@ class Threads(Case):
 
 
     def test_one_that_is_refused_to_a_later_life(self):
-        """The flusher or a worker of the second life, or of the third: the server says so and ends, with all that was answered."""
+        """The flusher or a worker of the second life, or of the third: it says so, and ends with all that was answered."""
         self.needs("a C compiler", preloaded.has_compiler())
         for life in (2, 3):
             for number in range(1, THREADS):

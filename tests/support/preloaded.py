@@ -118,7 +118,8 @@ int getsockname(int socket, struct sockaddr *address, socklen_t *length) {
     static long names;
     return fails("NAME_FAILS", "ERROR", &names) ? -1 : syscall(SYS_getsockname, socket, address, length);
 }
-// A sync takes SYNC_MILLIS longer, or with SYNCS_LEFT_OUT no time at all. Sync number SYNC_FAILS fails, and no other. What was synced is written down by its path.
+// A sync takes SYNC_MILLIS longer, or with SYNCS_LEFT_OUT no time at all. Sync number SYNC_FAILS fails, and no other. What was
+// synced is written down by its path.
 static int synced(int number, int file) {
     static long syncs;
     char name[40], path[4096];
