@@ -104,6 +104,11 @@ class Numbers(Case):
     def test_clients_are_1_to_16(self) -> None:
         self.assertRaises(ValueError, self.orders, 17)
         self.assertRaises(ValueError, self.orders, 0)
+        for client in (1, 16):
+            orders, before = self.orders(client, f"of {client}"), self.server.last(client)
+            orders.order("reset", node=1)
+            self.assertEqual(self.server.last(client), before + 1)
+            self.server.settled()
 
     def test_a_lost_count_is_loud_or_found(self) -> None:
         orders = self.orders()
@@ -129,6 +134,55 @@ class Numbers(Case):
             for near in (0, made, made + 1, 5_000):
                 self.assertEqual(find_count(self.port, 3, near), made)
         self.assertEqual(self.server.last(3), 300)
+
+    @in_memory
+    def test_a_far_count_takes_few_connections(self) -> None:
+        self.server.steps = 5_000
+        self.server.sessions[3] = (3_000, {"op": "reset", "node": 1}, {"kind": "started", "step": 5})
+        before = self.server.connections
+        self.assertEqual(find_count(self.port, 3, 0), 3_000)
+        self.assertLess(self.server.connections - before, 20)
+
+    def test_a_count_that_was_found_is_kept(self) -> None:
+        """So the next process has not to look for it."""
+        first = self.orders()
+        first.order("reset", node=1)
+        self.server.settled()
+        found = self.orders(name="found")
+        self.assertEqual(found.recover(), 1)
+        found.close()
+        again = self.orders(name="found")
+        self.assertEqual(again.number, 1)
+        before = len(self.server.seen)
+        again.order("reset", node=1)
+        self.assertEqual((len(self.server.seen) - before, self.server.last(1)), (1, 2))
+
+    def test_a_refusal_of_another_kind_ends_the_search(self) -> None:
+        """It says nothing of the count."""
+        self.server.faults = ["", '{"name":"Exhausted","refused":3}']
+        with self.assertRaises(Refused) as caught:
+            find_count(self.port, 3)
+        self.assertEqual(caught.exception.name, "Exhausted")
+
+    def test_a_count_that_is_lost_again_and_again(self) -> None:
+        """As where others order as the same client: it is looked for three times, and then that is told."""
+        orders = self.orders(recovers=True)
+        orders.order("reset", node=1)
+        with mock.patch.object(orders, "_send", side_effect=CountLost(4, "OutOfTurn")) as send, \
+                mock.patch.object(orders, "recover", return_value=1) as recover:
+            self.assertRaises(CountLost, orders.order, "reset", node=2)
+        self.assertEqual((send.call_count, recover.call_count), (4, 3))
+
+    def test_an_earlier_order_that_is_refused_is_told(self) -> None:
+        """One without an answer comes first, and is given up if it is refused."""
+        orders = self.orders()
+        orders.recover()
+        self.server.faults = ["lose"]
+        self.assertRaises(Away, orders.order, "remove", node=2)
+        self.assertEqual(orders.order("reset", node=1).kind, "started")
+        self.assertEqual(len(self.told), 1, self.told)
+        self.assertIn("'remove'", self.told[0])
+        self.assertIn("had no answer, and now 8 HasLinks", self.told[0])
 
     def test_a_count_is_found_without_nodes(self) -> None:
         self.assertEqual(find_count(Port(self.started().address, 10), 3), 0)
