@@ -6,6 +6,7 @@ ghost use Rattle.coord_config.specs.declared.values.TheConstants.{MAX_HALF, MIN_
 ghost use Rattle.coord_commands.specs.Laws.{CommandsAreTaken};
 
 /// The words of each command are taken, and ask for it with the words behind its name.
+#[tactic(auto, using(crate::proofs::CommandsTaken::commands_are_taken))]
 pub fn commands_are_taken()
     ensures { CommandsAreTaken }
 {}

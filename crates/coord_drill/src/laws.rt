@@ -5,6 +5,7 @@ ghost use Rattle.coord_drill.specs.Laws.{SpelledIsRead};
 ghost use Rattle.coord_drill.specs.WorkedLines.{WorkedLines};
 
 /// What is spelled is read so: no two requests share a line.
+#[tactic(auto, using(crate::proofs::requests::Spelled::spelled_is_read))]
 pub fn spelled_is_read()
     ensures { SpelledIsRead }
 {}
