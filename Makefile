@@ -1,5 +1,5 @@
 # What a person would ask for. The toolchain's command `rt` has to be on the PATH.
-.PHONY: help demo drill example services soak lives takeover build prove test program refusals bench sweep nightly install uninstall deb
+.PHONY: help demo drill example services soak lives takeover build prove test program load refusals bench sweep nightly install uninstall deb
 
 PREFIX ?= /usr/local
 # So many checks run at a time, each on one processor and with up to 3 GB of memory.
@@ -13,13 +13,14 @@ help:
 	@echo 'make build     proves every crate, and leaves the program at bin/resetd; nothing is proved again while that is newer than every source'
 	@echo 'make test      the gate: every changed crate from nothing, the must-fail edits, every test and both programs, then make program; it leaves the program at bin/resetd too'
 	@echo 'make program   tries the program as people run it (tests/), over a trial build of it, in some minutes'
+	@echo 'make load      the same ten times on a busy machine, where none may fail (TIMES=N for N)'
 	@echo 'make refusals  tries the other wrong bodies, which the prover has to refuse (CRATE=NAME for one crate)'
 	@echo 'make bench     measures the drill, its parts, the store, the ledger, the engine and the server, and writes the tables of docs/MEASURES.md'
 	@echo 'make soak      kills a coordinator 200 times and 50 migrations, and looks for what was lost (ROUNDS=N for N kills)'
 	@echo 'make lives     a trial build whose lives are short, which change in the midst of resets: kills it there 100 times (ROUNDS=N)'
 	@echo 'make takeover  a coordinator on a replicated volume of three hosts, each in namespaces; hosts and bricks are lost'
 	@echo 'make sweep     refuses each allocation of every test and of the programs in turn, for 12 seconds each (EACH=N for N, 0 for all)'
-	@echo 'make nightly   what is too long for the gate (soak, lives, services, takeover, sweep, refusals), with a line for each in docs/nightly.tsv'
+	@echo 'make nightly   what is too long for the gate (soak, lives, services, load, takeover, sweep, refusals), with a line for each in docs/nightly.tsv'
 	@echo 'make install   copies the program, resetctl, the client library, examples, documents and manual pages below PREFIX (/usr/local); make uninstall takes them away'
 	@echo 'make deb       builds a Debian package of all that with dpkg-deb'
 	@echo 'make help      prints this'
@@ -80,6 +81,9 @@ test:
 
 program:
 	@tests/run
+
+load:
+	@tools/test_under_load --times $(or $(TIMES),10)
 
 SHARE = $(DESTDIR)$(PREFIX)/share/resetd
 

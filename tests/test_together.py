@@ -9,7 +9,7 @@ import time
 
 from support import preloaded
 from support.case import until
-from support.program import PROGRAM, ROOT, ran
+from support.program import PATIENCE, PROGRAM, ROOT, ran
 from support.refusing import ALL_THREADS, FIRST_THREAD, Refusing
 from support.served import DONE, FINISHED, Served, answered, refused
 from support.serving import Serving
@@ -22,6 +22,7 @@ from resetd_client import Served as Seat  # noqa: E402
 HALF = 1 << 20  # so large that nothing is moved to the other half meanwhile
 NODES = range(1, 65)
 AT_A_START, AT_A_FLIGHT = 2, 2  # how many syncs there are
+AT_ONCE = 10  # seconds within which a reply comes that waits for nothing but its flight, on a busy machine too
 NOT_CARRIED_OUT = [{"fault": "OutOfMemory"}, refused(4, "OutOfTurn"), refused(1, "Stopped")]
 ALONE = topology([(node, 1) for node in range(1, 17)], half=HALF)
 
@@ -49,6 +50,7 @@ class Together(Served):
     def resets(self, server, numbers):
         """Resets a node without links, so often, all in one packet."""
         with server.connect() as connection:
+            connection.socket.settimeout(AT_ONCE)
             connection.send(*({"op": "reset", "client": 1, "number": number, "node": 1} for number in numbers))
             for number in numbers:
                 self.assertEqual(connection.reply(), answered(FINISHED, 16 + number))
@@ -69,7 +71,7 @@ class Together(Served):
     def test_fewer_than_the_last_flight_had(self):
         """Orders that come together wake the flusher, be they more or fewer than it answered before."""
         with self.serving(ALONE) as server, server.connect() as connection:
-            connection.socket.settimeout(60)
+            connection.socket.settimeout(AT_ONCE)
             numbers = iter(range(1, 1_000))
             for count in (20, 10, 30, 2, 1, 32, 3, 40, 33, 9):
                 each = [next(numbers) for _ in range(count)]
@@ -81,6 +83,7 @@ class Together(Served):
     def test_refusals_of_a_whole_flight(self):
         """The text of all replies to orders that came together is written whole, however long it is."""
         with self.serving(ALONE) as server, server.connect() as connection:
+            connection.socket.settimeout(AT_ONCE)
             for _ in range(4):
                 connection.send(*[b'{"op":"reset","client":1,"number":1,"node":64}\n'] * 512)
                 self.assertEqual([connection.reply() for _ in range(512)], [refused(6, "UnknownNode")] * 512)
@@ -89,6 +92,7 @@ class Together(Served):
 
     def test_a_close_behind_nine_orders(self):
         with self.serving(ALONE) as server, server.connect() as connection:
+            connection.socket.settimeout(AT_ONCE)
             connection.send(*({"op": "reset", "client": 1, "number": number, "node": 1} for number in range(1, 10)),
                             {"op": "close"})
             self.assertEqual([connection.reply() for _ in range(10)],
@@ -141,7 +145,7 @@ class Together(Served):
 
             def apply():
                 done = subprocess.run([f"{ROOT}/client/resetctl", "--address", server.address, "--state", self.path("state"),
-                                       "apply", wanted], capture_output=True, text=True, timeout=120)
+                                       "apply", wanted], capture_output=True, text=True, timeout=PATIENCE)
                 self.assertEqual(done.returncode, 0, done.stderr)
             self.assertLessEqual(self.flights(server, apply), 10)
             self.assertEqual(server.show()["accepted"], 128)
@@ -159,7 +163,7 @@ class Refused(Served):
         before them and with them."""
         with Serving(store, env=refusing.environment(first, threads=threads)) as server, server.connect() as connection:
             before = refusing.count()
-            connection.socket.settimeout(60)
+            connection.socket.settimeout(PATIENCE)
             # a connection without memory may be over already
             with contextlib.suppress(OSError):
                 connection.send(*({"op": "reset", "client": 1, "number": number, "node": 1} for number in range(1, 4)))

@@ -16,7 +16,7 @@ from served import faults  # noqa: E402
 
 class Run(Case):
     takes = 60
-    most = 900
+    most = 3_600
 
     def expect(self, *words, ends_with=""):
         """The command ends well, and its last line begins so."""

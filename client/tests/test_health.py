@@ -106,7 +106,7 @@ class Lagging(Case):
             file.write(text)
 
     def look(self, now: float) -> tuple[str, ...]:
-        bounds = Bounds(unconfirmed=1_000_000)
+        bounds = Bounds(steps=1_000_000, wave=1_000_000, unconfirmed=1_000_000)
         return check(self.port, Since(f"{self.folder}/since", now), bounds, 0.0, Signals(self.path, f"{self.folder}/kept")).findings
 
     def lag(self, node: int, epoch: int, more: str, seconds: int) -> tuple[str, ...]:

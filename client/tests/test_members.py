@@ -258,7 +258,7 @@ class Members(MemberCase):
             thread.start()
             time.sleep(0.3)
             member.stop()
-            thread.join(5)
+            thread.join(25)  # less than the time between two looks
             self.assertFalse(thread.is_alive())
 
 
@@ -280,10 +280,10 @@ class Runs(MemberCase):
         looks = threading.Semaphore(0)
         following = threading.Thread(target=member.follow, args=(Clock(), 30, lambda _: looks.release()))
         following.start()
-        self.assertTrue(looks.acquire(timeout=10))
+        self.assertTrue(looks.acquire(timeout=25))
         with self.assertRaises(OutOfRun), member.in_run("another"):
             self.fail("it was taken")
-        self.assertTrue(looks.acquire(timeout=10))
+        self.assertTrue(looks.acquire(timeout=25))
         self.assertFalse(looks.acquire(timeout=0.5))
         member.stop()
         following.join()
@@ -296,7 +296,7 @@ class Runs(MemberCase):
             looking.start()
             time.sleep(0.3)
             self.assertEqual(self.begun, [1])
-        looking.join(5)
+        looking.join()
         self.assertEqual(self.begun, [1, 2])
 
     def test_a_begin_is_written_down_before_work_is_dropped(self) -> None:
@@ -340,7 +340,7 @@ class Runs(MemberCase):
         self.confirm_other()
         looking = threading.Timer(0.2, member.look)
         looking.start()
-        with member.in_run(wait=5) as run:
+        with member.in_run(wait=60) as run:
             self.assertEqual(run, member.run)
         looking.join()
 

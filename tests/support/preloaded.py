@@ -48,7 +48,8 @@ int accept4(int socket, struct sockaddr *address, socklen_t *length, int flags) 
     }
     return client;
 }
-// The clock is ahead by as many seconds as the file CLOCK has at this moment, a number of 8 bytes. With STILL it stands still.
+// The clock is ahead by as many seconds as the file CLOCK has at this moment, a number of 8 bytes. With STILL it stands still
+// but for that.
 int clock_gettime(clockid_t id, struct timespec *time) {
     static long *ahead;
     static struct timespec first;
@@ -59,10 +60,9 @@ int clock_gettime(clockid_t id, struct timespec *time) {
     }
     int status = syscall(SYS_clock_gettime, id, time);
     if (id != CLOCK_MONOTONIC || status) return status;
-    if (ahead) time->tv_sec += *ahead;
-    if (!setting("STILL")) return 0;
     if (!first.tv_sec) first = *time;
-    *time = first;
+    if (setting("STILL")) *time = first;
+    if (ahead) time->tv_sec += *ahead;
     return 0;
 }
 // Calls of a device and what goes out are written down in the file CALLS, a line each: what is to be written before it is,

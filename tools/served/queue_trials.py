@@ -104,12 +104,12 @@ class Queue(Trial):
 
     def reset_epochs(self, *nodes):
         """A reset of some members that are up: each of them has begun and confirmed it."""
-        self.expect("no reset is under way", lambda: all(row.mode == "ready" for row in self.port.show().nodes))
-        before = {row.node: row.epoch for row in self.port.show().nodes}
+        self.expect("no reset is under way", lambda: all(row.mode == "ready" for row in self.shown().nodes))
+        before = {row.node: row.epoch for row in self.shown().nodes}
         self.reset(nodes[0])
 
         def holds():
-            rows = {row.node: row for row in self.port.show().nodes}
+            rows = {row.node: row for row in self.shown().nodes}
             return all(rows[node].epoch > before[node] and rows[node].is_begun for node in nodes)
         self.expect(f"members {nodes} have begun", holds)
 
@@ -132,7 +132,7 @@ class Queue(Trial):
         self.link(node)
 
     def epoch(self, node):
-        return self.port.show().node(node).epoch
+        return self.shown().node(node).epoch
 
 
 # The ways in which a node may show, confirmed, the epoch that its service has begun, though its start is another one

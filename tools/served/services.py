@@ -8,7 +8,7 @@ import subprocess
 import sys
 import time
 
-from .server import Server
+from .server import PATIENCE, Server
 
 ROOT = os.path.dirname(os.path.dirname(os.path.dirname(os.path.abspath(__file__))))
 sys.path.insert(0, os.path.join(ROOT, "client"))
@@ -84,7 +84,11 @@ class Trial:
             self.helpers.remove(helper)
 
     def order(self, op, **members):
-        return patiently(lambda: self.orders.order(op, **members), 20)
+        return patiently(lambda: self.orders.order(op, **members), PATIENCE)
+
+    def shown(self):
+        """The view, which a server that has just been started gives a little later."""
+        return patiently(self.port.show, PATIENCE)
 
     def reset(self, node=1, is_killed=False):
         """Asks for a reset. Where the server is killed, that is somewhere in it."""
@@ -110,7 +114,7 @@ class Trial:
             time.sleep(0.05)
 
     def told(self):
-        rows = patiently(self.port.show, 5).nodes
+        rows = self.shown().nodes
         return "shown (node, epoch, confirmed) " + \
             " ".join(f"{row.node}:{row.epoch}/{row.confirmed}" for row in rows if row.node < 20) + \
             "; begun (node, last epoch, times) " + " ".join(
@@ -123,7 +127,7 @@ class Trial:
         before = before or {}
 
         def holds():
-            rows = {row.node: row for row in patiently(self.port.show, 5).nodes}
+            rows = {row.node: row for row in self.shown().nodes}
             return all(self.begun(node)[0] > before.get(node, 0) and rows[node].is_begun
                        and self.begun(node)[1] == rows[node].epoch for node in nodes or self.nodes)
         self.expect(what, holds)

@@ -6,6 +6,7 @@ import signal
 import subprocess
 import time
 
+from .server import PATIENCE
 from .services import Failed, free_ports, patiently, read
 
 LIMIT = 400_000  # bytes of the file of signals, where a line is to be torn
@@ -74,7 +75,7 @@ def unread(trial):
         server.process = subprocess.Popen([server.program, "serve", server.store, server.wanted], stdin=subprocess.DEVNULL,
                                           stdout=reader.stdin, stderr=errors)
     server.address = server.wanted
-    patiently(trial.port.show, 20)
+    patiently(trial.port.show, PATIENCE)
     fill(reader.stdin.fileno())
     reader.stdin.close()
     trial.reset_all("a reset whose lines nobody reads")
@@ -83,7 +84,7 @@ def unread(trial):
     if server.process.poll() is not None:
         raise Failed(f"the process ended though its lines were not read: {server.ended()}")
     if (second := subprocess.run([server.program, "serve", server.store, "127.0.0.1:0"], capture_output=True, check=False,
-                                 timeout=20)).returncode != 3:
+                                 timeout=PATIENCE)).returncode != 3:
         raise Failed(f"the store was not locked: {second}")
     reader.kill()
     status, told = server.ended()
