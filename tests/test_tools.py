@@ -65,6 +65,10 @@ class Tools(Run):
     def test_links_of_the_documents(self):
         self.expect(tool("links"))
 
+    def test_wrong_bodies_fit_the_sources(self):
+        """Each text that a wrong body exchanges stands in the sources, and each witness is a test."""
+        self.expect(os.path.join(ROOT, "refusals", "gather"), "--check")
+
     def test_what_the_documents_show(self):
         self.expect(tool("test_documents"), "--quick", "--program", PROGRAM,
                     ends_with="what the documents show is what is printed")
