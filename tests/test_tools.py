@@ -55,9 +55,10 @@ class Tools(Run):
         self.expect(tool("closed_output"), PROGRAM)
 
     def test_the_demo(self):
-        printed = self.expect(tool("demo"))
-        self.assertIn("ends with status 0", printed)
-        self.assertIn("legal ", printed.splitlines()[-1])
+        printed = self.expect(tool("demo"), ends_with="nodes: 8, signals: ")
+        self.assertIn("ends with status 0\n  resetd check store                      legal ", printed)
+        self.assertRegex(printed, r"\n  mixed: [1-9]\d* messages, ")
+        self.assertEqual(printed.count("mixed: 0 messages\n"), 2)
 
     def test_the_example(self):
         self.expect("examples/run", ends_with="each of the 8 members was signalled once and started anew")
