@@ -1,5 +1,5 @@
 # What a person would ask for. The toolchain's command `rt` has to be on the PATH.
-.PHONY: help demo drill trial example services soak lives takeover build prove test program load refusals bench sweep nightly install uninstall deb
+.PHONY: help demo drill trial example services soak lives takeover build prove test program load refusals bench sweep nightly install uninstall deb release
 
 PREFIX ?= /usr/local
 # What `make install` and `make deb` take: the proved program. With PROGRAM=bin/resetd-trial it is the trial build.
@@ -26,6 +26,7 @@ help:
 	@echo 'make nightly   what is too long for the gate (soak, lives, services, load, takeover, sweep, refusals), with a line for each in docs/nightly.tsv'
 	@echo 'make install   copies the program, resetctl, the client library, examples, documents and manual pages below PREFIX (/usr/local); make uninstall takes them away (with PROGRAM=bin/resetd-trial the trial build)'
 	@echo 'make deb       builds a Debian package of all that with dpkg-deb'
+	@echo 'make release   makes what a release has in dist/, of the file GATE into which make test has printed (without one of the trial build)'
 	@echo 'make help      prints this'
 
 demo:
@@ -114,6 +115,9 @@ install: $(PROGRAM)
 
 deb: $(PROGRAM)
 	@tools/deb $(PROGRAM)
+
+release:
+	@tools/release $(or $(GATE),--trial)
 
 bin/resetd:
 	@echo 'there is no proved program yet: make build makes it in some 30 minutes.' >&2
