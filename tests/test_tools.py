@@ -63,6 +63,10 @@ class Tools(Run):
     def test_the_example(self):
         self.expect("examples/run", ends_with="each of the 8 members was signalled once and started anew")
 
+    def test_one_for_all(self):
+        printed = self.expect("examples/one_for_all", ends_with="after it: ")
+        self.assertEqual(printed.count(", 300 in all\n"), 2)
+
     def test_links_of_the_documents(self):
         self.expect(tool("links"))
 
