@@ -102,7 +102,7 @@ install: $(PROGRAM)
 	install -m 644 client/pyproject.toml client/build_wheel.py $(SHARE)/client/
 	install -m 644 client/resetd_client/*.py client/resetd_client/py.typed $(SHARE)/client/resetd_client/
 	install -m 644 client/resetd_client/control/*.py $(SHARE)/client/resetd_client/control/
-	install -m 755 tools/wave $(SHARE)/tools/
+	install -m 755 tools/wave tools/container $(SHARE)/tools/
 	install -m 644 tools/picture/*.py $(SHARE)/tools/picture/
 	install -m 755 $(addprefix examples/,account ask gateway hello hello.sh local_check member one_for_all plain_member run service talk) $(SHARE)/examples/
 	install -m 644 examples/coordinator.py examples/*.toml $(SHARE)/examples/
