@@ -2,7 +2,6 @@
 .PHONY: help demo drill trial example services soak lives takeover build prove test program load refusals bench sweep nightly install uninstall deb release
 
 PREFIX ?= /usr/local
-# What `make install` and `make deb` take: the proved program. With PROGRAM=bin/resetd-trial it is the trial build.
 PROGRAM ?= bin/resetd
 # So many checks run at a time, each on one processor and with up to 3 GB of memory.
 JOBS ?= $(shell nproc)
@@ -104,17 +103,20 @@ install: $(PROGRAM)
 	install -m 644 client/resetd_client/control/*.py $(SHARE)/client/resetd_client/control/
 	install -m 755 tools/wave tools/container $(SHARE)/tools/
 	install -m 644 tools/picture/*.py $(SHARE)/tools/picture/
-	install -m 755 $(addprefix examples/,account ask gateway hello hello.sh local_check member one_for_all plain_member run service talk) $(SHARE)/examples/
-	install -m 644 examples/coordinator.py examples/*.toml $(SHARE)/examples/
-	for unit in examples/*.service examples/*.timer; do sed 's|/usr/local/|$(PREFIX)/|' $$unit > $(SHARE)/$$unit; chmod 644 $(SHARE)/$$unit; done
+	install -m 755 examples/ask examples/gateway examples/local_check examples/member examples/plain_member examples/run examples/service examples/talk $(SHARE)/examples/
+	install -m 644 examples/coordinator.py examples/ring.toml $(SHARE)/examples/
+	for unit in examples/*.service examples/*.timer; do sed 's|/usr/local/bin/|$(PREFIX)/bin/|' $$unit > $(SHARE)/$$unit; chmod 644 $(SHARE)/$$unit; done
 	install -m 644 docs/OPERATING.md docs/TAKEOVER.md docs/FORMATS.md docs/SERVICES.md docs/PROTOCOL.md docs/*.svg $(SHARE)/docs/
 	install -m 644 CHANGELOG.md $(SHARE)/
+	install -m 755 examples/account examples/hello examples/hello.sh examples/one_for_all $(SHARE)/examples/
+	install -m 644 examples/pair.toml $(SHARE)/examples/
+	sed 's|/usr/local/|$(PREFIX)/|' examples/resetd-member@.service > $(SHARE)/examples/resetd-member@.service
 	ln -sfn ../share/resetd/client/resetctl $(DESTDIR)$(PREFIX)/bin/resetctl
 	install -D -m 644 docs/resetd.8 $(DESTDIR)$(PREFIX)/share/man/man8/resetd.8
 	install -D -m 644 docs/resetctl.8 $(DESTDIR)$(PREFIX)/share/man/man8/resetctl.8
 
 deb: $(PROGRAM)
-	@tools/deb $(PROGRAM)
+	@PROGRAM=$(PROGRAM) tools/deb
 
 release:
 	@tools/release $(or $(GATE),--trial)
