@@ -13,7 +13,8 @@ FROM docker.io/library/debian:bookworm-slim
 COPY bin/resetd_*.deb /tmp/
 RUN apt-get update \
  && apt-get install -y --no-install-recommends /tmp/resetd_*.deb \
- && rm -rf /tmp/resetd_*.deb /var/lib/apt/lists/*
+ && rm -rf /tmp/resetd_*.deb /var/lib/apt/lists/* \
+ && chown resetd:resetd /var/log/resetd
 USER resetd
 VOLUME ["/var/lib/resetd", "/var/log/resetd"]
 STOPSIGNAL SIGTERM
