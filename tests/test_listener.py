@@ -61,12 +61,18 @@ class Listener(Failing):
 
     def test_what_lasts(self):
         """It fails 60 times in turn, and as often again before the next client: more than it may in turn. The server rests
-        before each further try, for as long as docs/OPERATING.md says; behind a client that has left it does not."""
+        before each further try; behind a client that has left it does not."""
         for name, rests in (("ENFILE", 60), ("EPROTO", 0)):
             with self.subTest(error=name), self.serving(name, 60) as server:
                 for clients in (1, 2):
                     self.assertEqual(server.ask({"op": "resend"}), {"count": 0, "kind": "resent"})
                     self.assertEqual(Counter(self.rests()), Counter({REST * 1_000_000: rests * clients}))
+
+    def test_a_rest_before_each_further_try(self):
+        """It takes as long as docs/OPERATING.md says."""
+        with self.serving("ENFILE", 3) as server:
+            self.assertEqual(server.ask({"op": "resend"}), {"count": 0, "kind": "resent"})
+            self.assertEqual(self.rests(), [REST * 1_000_000] * 3)
 
     def test_connections_that_can_not_be_made_ready(self):
         """Each is ended, and keeps no descriptor. However many come, the next client is served."""

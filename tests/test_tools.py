@@ -55,12 +55,17 @@ class Tools(Run):
         self.expect(tool("closed_output"), PROGRAM)
 
     def test_the_demo(self):
-        printed = self.expect(tool("demo"))
-        self.assertIn("ends with status 0", printed)
-        self.assertIn("legal ", printed.splitlines()[-1])
+        printed = self.expect(tool("demo"), ends_with="nodes: 8, signals: ")
+        self.assertIn("ends with status 0\n  resetd check store                      legal ", printed)
+        self.assertRegex(printed, r"\n  mixed: [1-9]\d* messages, ")
+        self.assertEqual(printed.count("mixed: 0 messages\n"), 2)
 
     def test_the_example(self):
         self.expect("examples/run", ends_with="each of the 8 members was signalled once and started anew")
+
+    def test_one_for_all(self):
+        printed = self.expect("examples/one_for_all", ends_with="after it: ")
+        self.assertEqual(printed.count(", 300 in all\n"), 2)
 
     def test_links_of_the_documents(self):
         self.expect(tool("links"))

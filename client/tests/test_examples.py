@@ -14,7 +14,7 @@ NAMES = ("ask", "gateway", "local_check", "member", "plain_member", "service", "
 
 
 def ran(*words: str) -> tuple[int, str, str]:
-    done = subprocess.run(words, stdin=subprocess.DEVNULL, capture_output=True, encoding="utf-8", timeout=600, check=False)
+    done = subprocess.run(words, stdin=subprocess.DEVNULL, capture_output=True, encoding="utf-8", timeout=300, check=False)
     return done.returncode, done.stdout, done.stderr
 
 

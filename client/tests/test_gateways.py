@@ -159,7 +159,7 @@ class Gateways(Case):
         wakes = UntilEnded()
         thread = threading.Thread(target=self.gateway.follow, args=(wakes, 0.2), daemon=True)
         thread.start()
-        patiently(self._confirmed, 20)
+        patiently(self._confirmed, 300)
         wakes.ended.set()
         thread.join(20)
         self.assertFalse(thread.is_alive())

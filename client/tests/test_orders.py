@@ -185,7 +185,7 @@ class Numbers(Case):
         self.assertIn("had no answer, and now 8 HasLinks", self.told[0])
 
     def test_a_count_is_found_without_nodes(self) -> None:
-        self.assertEqual(find_count(Port(self.started().address, 10), 3), 0)
+        self.assertEqual(find_count(Port(self.started().address, 120), 3), 0)
 
     def test_a_search_is_bounded_and_says_so(self) -> None:
         orders = self.orders()
@@ -227,7 +227,7 @@ class Together(Case):
         return sorted(self.server.nodes)
 
     def patient(self, orders: list[Order]) -> list[Outcome]:
-        return patiently(lambda: self.book.order_all(orders), 20)
+        return patiently(lambda: self.book.order_all(orders), 300)
 
     def test_they_are_answered_in_order(self) -> None:
         outcomes = self.patient(self.adds(*range(3, 33)))
@@ -245,7 +245,7 @@ class Together(Case):
     def test_in_one_packet_to_the_program(self) -> None:
         if not self.is_real:
             self.skipTest("the program alone")
-        book = Orders(Port(self.server.behind, 10), 2, f"{self.folder}/direct", told=self.told.append)
+        book = Orders(Port(self.server.behind, 120), 2, f"{self.folder}/direct", told=self.told.append)
         self.addCleanup(book.close)
         outcomes = book.order_all([*self.adds(*range(3, 60)), {"op": "reset", "node": 1}, *self.adds(1, 60)])
         self.assertEqual([type(outcome) for outcome in outcomes], [*[Reply] * 58, Refused])

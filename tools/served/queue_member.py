@@ -11,8 +11,10 @@ usage: queue_member NODE ADDR FOLDER OWN PEER SIGNALS [WITHOUT..]
     greatest    a member begins an epoch that it began before, or a lower one
     party       a start talks with whoever is connected
     reset       a member without a start of the shown epoch begins it, confirmed or not, and asks for no reset
+    coordinator a member begins once, as it starts, and talks with whoever is connected; ADDR and SIGNALS are not looked at
 """
 
+import contextlib
 import json
 import os
 import secrets
@@ -22,6 +24,7 @@ import socketserver
 import sys
 import threading
 import time
+import types
 
 sys.dont_write_bytecode = True
 sys.path.insert(0, os.path.join(os.path.dirname(os.path.abspath(__file__)), "..", "..", "client"))
@@ -48,6 +51,26 @@ class Weaker(Starts):
         if row.epoch == row.confirmed == self.begun and "party" in self.without:
             return Due.WAIT if view.awaited(row.node) else Due.TALK
         return due
+
+
+class Alone:
+    """A member without a coordinator: all its life is one run."""
+
+    def __init__(self, queue):
+        self.lock = threading.Lock()
+        if queue.work is None:
+            queue.begin(1)
+
+    @contextlib.contextmanager
+    def in_run(self, tag="alone", wait=0):
+        with self.lock:
+            yield types.SimpleNamespace(tag=tag)
+
+    def follow(self, *_):
+        signal.pause()
+
+    def stop(self):
+        sys.exit()
 
 
 class Queue:
@@ -148,10 +171,13 @@ def main():
     node, address, folder, own, peer, signals, *without = sys.argv[1:]
     os.makedirs(folder, exist_ok=True)
     queue = Queue(int(node), folder)
-    port = Port(address, 30)
-    orders = Orders(port, int(node), folder, recovers=True, held_seconds=5)
-    member = Member(port, orders, int(node), queue.work["epoch"] if queue.work else None, queue.begin)
-    if without:
+    if "coordinator" in without:
+        member = Alone(queue)
+    else:
+        port = Port(address, 30)
+        orders = Orders(port, int(node), folder, recovers=True, held_seconds=5)
+        member = Member(port, orders, int(node), queue.work["epoch"] if queue.work else None, queue.begin)
+    if {*without} - {"coordinator"}:
         Weaker.without = frozenset(without)
         member._starts.__class__ = Weaker
     for call, place in ((listen, own), (send, peer)):

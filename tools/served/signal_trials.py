@@ -6,10 +6,10 @@ import signal
 import subprocess
 import time
 
-from .server import PATIENCE
 from .services import Failed, free_ports, patiently, read
 
 LIMIT = 400_000  # bytes of the file of signals, where a line is to be torn
+PATIENCE = 300  # seconds within which a server answers and ends, on a busy machine too
 
 
 def begin_first(trial):
