@@ -177,6 +177,23 @@ int nanosleep(const struct timespec *time, struct timespec *left) {
     if (getenv("WAITS")) note("rest", 0, time->tv_sec * 1000000 + time->tv_nsec / 1000, "", 0);
     return syscall(SYS_nanosleep, time, left);
 }
+// So is for how many microseconds a thread has waited for another one, where that time passed and nobody came.
+long syscall(long number, ...) {
+    static long (*usual)(long, ...);
+    long each[6];
+    va_list words;
+    va_start(words, number);
+    for (int at = 0; at < 6; at++) each[at] = va_arg(words, long);
+    va_end(words);
+    if (!usual) usual = dlsym(RTLD_NEXT, "syscall");
+    long status = usual(number, each[0], each[1], each[2], each[3], each[4], each[5]);
+    if (number == SYS_futex && status < 0 && errno == ETIMEDOUT && getenv("WAITS")) {
+        const struct timespec *time = (const struct timespec *)each[3];
+        note("waited", 0, time->tv_sec * 1000000 + time->tv_nsec / 1000, "", 0);
+        errno = ETIMEDOUT;
+    }
+    return status;
+}
 int shutdown(int socket, int how) {
     if (getenv("WAITS")) note("no-more", socket, how, "", 0);
     return syscall(SYS_shutdown, socket, how);
