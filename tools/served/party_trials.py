@@ -12,12 +12,15 @@ class Slow:
 
     def __init__(self, trial):
         self.trial, self.heard, self.starts, self.sent = trial, {}, 0, []
+        self.while_it_begins = []  # what happens while the next member begins
         self.members = {node: self.member(node) for node in trial.nodes}
 
     def member(self, node):
         def begin(epoch):
             self.starts += 1
             self.heard[node] = {(node, self.starts)}
+            while self.while_it_begins:
+                self.while_it_begins.pop()(self.trial)
         orders = Orders(Port(self.trial.server.address, 30), node, f"{self.trial.folder}/slow{node}", recovers=True,
                         told=lambda _: None)
         return Member(orders.port, orders, node, None, begin, told=lambda _: None)
@@ -64,8 +67,8 @@ def link(trial):
 
 
 def second_hand(trial):
-    """Member 1 is slow, then member 2, while 3 is taken off its links, reset alone and linked again. Members 1 and 2 have
-    then talked with two starts of 3, and are shown the same."""
+    """Member 1 is slow, then member 2, while 3 is taken off its links, reset alone, and linked again while it begins. Members
+    1 and 2 have then talked with two starts of 3, and are shown the same."""
     slow = Slow(trial)
     trial.reset()
     trial.expect_quiet()
@@ -74,9 +77,9 @@ def second_hand(trial):
     unlink(trial)
     trial.order("reset", node=3)
     trial.expect_quiet()
+    slow.while_it_begins.append(link)
     slow.look(3)
-    link(trial)
-    slow.look(1, 3)      # they talk with each other
+    slow.look(1)         # it talks with 3
     unlink(trial)
     slow.look(1, 2)
     link(trial)
