@@ -87,11 +87,13 @@ class Member(Following):
     def in_run(self, tag: str | None = None, wait: float = 0.0) -> Iterator[Run]:
         """While the body works, no begin and no other `in_run` comes in between. `tag` is that of a message: the body
         works only if it is of this run. Raises OutOfRun at the tag of another run, and if no run is on after `wait`
-        seconds; at another tag the member looks, since this run may be over. Keep the body short, and don't wait for
-        others in it."""
+        seconds; at another tag the member looks, since this run may be over. Raises what has ended the member's own
+        thread, if something has. Keep the body short, and don't wait for others in it."""
         with self._changes:
             self._changes.wait_for(lambda: self._run is not None, wait)
             run = self._run
+            if self._fault:
+                raise self._fault
             if run is None:
                 raise OutOfRun("no run is on")
             if tag is not None and not run.takes(tag):

@@ -360,7 +360,7 @@ class Lives(MemberCase):
 
         with self.assertRaises(ZeroDivisionError), self.followed(begin) as member:
             self.expect(lambda: any("follows no more" in told for told in self.told))
-            with self.assertRaises(OutOfRun), member.in_run():
+            with self.assertRaises(ZeroDivisionError), member.in_run():
                 self.fail("there is no run")
         member.orders.close()
         with self.assertRaises(KeyError), self.followed(begin):
