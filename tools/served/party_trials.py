@@ -10,10 +10,10 @@ class Slow:
     """The members of a group in one process, of which each looks when it is told to. What a start has heard of, at
     first or at second hand, goes with each message that it sends; messages may come late."""
 
-    def __init__(self, trial):
+    def __init__(self, trial, nodes):
         self.trial, self.heard, self.starts, self.sent = trial, {}, 0, []
         self.while_it_begins = []  # what happens while the next member begins
-        self.members = {node: self.member(node) for node in trial.nodes}
+        self.members = {node: self.member(node) for node in nodes}
 
     def member(self, node):
         def begin(epoch):
@@ -69,7 +69,7 @@ def link(trial):
 def second_hand(trial):
     """Member 1 is slow, then member 2, while 3 is taken off its links, reset alone, and linked again while it begins. Members
     1 and 2 have then talked with two starts of 3, and are shown the same."""
-    slow = Slow(trial)
+    slow = Slow(trial, trial.nodes)
     trial.reset()
     trial.expect_quiet()
     slow.look(1, 2, 3)   # all begin; the last one sees that all are through
