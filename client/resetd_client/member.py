@@ -193,12 +193,12 @@ class Member(Following):
         return True
 
     def _begin_anew(self, row: Node) -> None:
-        with self._changes:
-            self._starts.note_begin()
-            self._shelf.keep()
-            self._begin(row.epoch)
-            self._starts.note_begun(row.epoch)
-            self._shelf.keep()
+        """No run is on: no work `in_run` is under way, and none begins."""
+        self._starts.note_begin()
+        self._shelf.keep()
+        self._begin(row.epoch)
+        self._starts.note_begun(row.epoch)
+        self._shelf.keep()
         self._confirm({self.node: row.epoch})
 
     def _set_run(self, run: Run | None) -> set[str]:

@@ -114,7 +114,6 @@ class Starts:
     def note_begin(self, told: str | None = None) -> None:
         """A start begins: to be called, and kept, before any work of the one before is dropped. That one talks no more
         by what is kept, whatever becomes of its work."""
-        self.work = None
         self._shelf.put(self._node, Kept(), told=told)
 
     def note_begun(self, epoch: int) -> None:

@@ -74,6 +74,13 @@ class Kept(Case):
         other = view_of((1, 4, 4), (9, 7, 7))
         self.assertEqual(self.due(Starts(Shelf(self.path), 1, 4), other), Due.RESET)
 
+    def test_a_start_that_is_begun_has_talked_with_nobody(self) -> None:
+        shelf, starts = self.begun(4)
+        self.due(starts, THROUGH)
+        starts.note_begun(5)
+        shelf.keep()
+        self.assertEqual(json.loads(read(self.path) or ""), {"1": {"begun": 5, "party": None}})
+
     def test_the_tag_is_of_the_first_party(self) -> None:
         shelf, starts = self.begun(4)
         first = view_of((1, 4, 4), (2, 7, 7), (3, 1, 1))
@@ -197,6 +204,11 @@ class Earlier(Case):
 
     def test_none_if_the_shown_epoch_is_above(self) -> None:
         self.assertEqual(self.due(self.of(3, view_of((1, 3, 3), (2, 6, 6))), UNCONFIRMED), Due.BEGIN)
+
+    def test_the_epoch_that_it_knows_is_not_begun_again(self) -> None:
+        """Without a reset: though nobody has confirmed it, and others are connected."""
+        other = view_of((1, 4, 3), (9, 7, 7))
+        self.assertEqual([self.due(self.of(4, THROUGH), other), self.due(self.of(3, THROUGH), other)], [Due.RESET, Due.BEGIN])
 
     def test_its_party_does_not_come_again(self) -> None:
         """Nor by another start of this version."""
