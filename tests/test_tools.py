@@ -54,6 +54,22 @@ class Tools(Run):
     def test_a_closed_output(self):
         self.expect(tool("closed_output"), PROGRAM)
 
+    def test_what_members_hear_through_others(self):
+        self.expect(tool("test_services"), "--program", PROGRAM, "--seconds", "300", "second-hand", ends_with="services lose no reset")
+
+    def test_the_search_of_the_members_rule(self):
+        """It ends with nothing left to try; and it finds the mix where a part of the rule is left out."""
+        search = [tool("member_search"), "--seconds", "800", "--about"]
+        self.expect(*search, "links", ends_with="links, 3 members: nothing is mixed after 20 events, 12580 states")
+        weaker = subprocess.run([*search, "readd", "--without", "dropped"], stdin=subprocess.DEVNULL, capture_output=True, text=True,
+                                check=False)
+        self.assertEqual(weaker.returncode, 1, weaker.stderr)
+        self.assertIn("mixed after 10 events", weaker.stdout)
+
+    def test_a_member_in_bash_keeps_the_rule(self):
+        self.expect(tool("try_member"), "--program", PROGRAM, "--seconds", "300", f"{ROOT}/examples/plain_member", "{node}", "{host}",
+                    "{port}", "{folder}", ends_with="the member keeps the rule")
+
     def test_the_demo(self):
         printed = self.expect(tool("demo"), ends_with="nodes: 8, signals: ")
         self.assertIn("ends with status 0\n  resetd check store                      legal ", printed)

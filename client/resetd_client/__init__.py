@@ -11,12 +11,15 @@ A service is a `Member`, or sits behind a `Gateway`; docs/SERVICES.md says what 
 
 from .answers import (Away, Fault, Faulted, Garbled, NotNow, NotTaken, Refusal, Refused, Reply)
 from .files import Held, hold, keep, read
-from .gateway import Gateway, Served
-from .member import LOOK_SECONDS, Member, OutOfRun, Run
+from .following import LOOK_SECONDS
+from .gateway import Gateway
+from .member import Member, OutOfRun, Run
 from .orders import CLIENTS, CountLost, CountNotFound, Orders, find_count
 from .port import Port, patiently
+from .rule import Due
+from .seats import Served
 from .signals import Clock, Follower, Stream, Wake, Wakes
-from .starts import Due, Shelf, Starts
+from .starts import Shelf, Starts
 from .view import Link, Node, View
 
 __version__ = "0.15.0"  # that of the first heading of CHANGELOG.md

@@ -10,7 +10,7 @@ import unittest
 from case import ROOT
 
 EXAMPLES = os.path.join(ROOT, "examples")
-NAMES = ("ask", "gateway", "local_check", "member", "plain_member", "service", "talk")
+NAMES = ("ask", "gateway", "local_check", "member", "plain_member", "service", "talk", "worker")
 
 
 def ran(*words: str) -> tuple[int, str, str]:
@@ -31,6 +31,7 @@ class Examples(unittest.TestCase):
         with tempfile.TemporaryDirectory() as folder:
             for words in (("service", "3", "127.0.0.1:1", "/dev/null/folder", "--no-signals"),
                           ("service", "3", "127.0.0.1:1", folder, "--no-signals", "--look", "0"),
+                          ("worker", "3", "127.0.0.1:1", "/dev/null/folder", "/dev/null/signals"),
                           ("gateway", "1-8", "3", "127.0.0.1:1", "/dev/null/folder"),
                           ("gateway", "1-8", "3", "127.0.0.1:1", folder, "--look", "nan"),
                           ("local_check", "3", "4", "127.0.0.1:1", "/dev/null/folder")):

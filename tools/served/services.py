@@ -12,7 +12,7 @@ from .server import PATIENCE, Server
 
 ROOT = os.path.dirname(os.path.dirname(os.path.dirname(os.path.abspath(__file__))))
 sys.path.insert(0, os.path.join(ROOT, "client"))
-from resetd_client import Away, Orders, Port, patiently  # noqa: E402, F401
+from resetd_client import Away, Member, Orders, OutOfRun, Port, patiently  # noqa: E402, F401
 
 OPERATOR = 16
 
@@ -96,6 +96,15 @@ class Trial:
         if is_killed:
             time.sleep(random.uniform(0, 0.004))
             self.kill()
+
+    def expect_quiet(self):
+        self.expect("no reset is at any node", lambda: all(row.mode == "ready" for row in patiently(self.port.show, 20).nodes))
+
+    def is_at_rest(self):
+        """Whether nobody has anything to do: each node is confirmed, and stays so for a while."""
+        rows = self.port.show().nodes
+        time.sleep(0.3)
+        return all(row.is_begun for row in rows) and self.port.show().nodes == rows
 
     def begun(self, node):
         """How often a service has begun anew, and the epoch of the last time."""
@@ -181,3 +190,9 @@ def read(path):
         return ""
     with open(path, encoding="utf-8") as file:
         return file.read()
+
+
+def tag_in(path):
+    """The tag of a member's run, by its file; empty where there is none."""
+    fields = read(path).split()
+    return fields[1] if len(fields) > 1 else ""

@@ -6,7 +6,7 @@ import signal
 import subprocess
 import time
 
-from .services import Failed, free_ports, patiently, read
+from .services import Failed, free_ports, patiently, read, tag_in
 
 LIMIT = 400_000  # bytes of the file of signals, where a line is to be torn
 PATIENCE = 300  # seconds within which a server answers and ends, on a busy machine too
@@ -130,8 +130,8 @@ def members(trial):
     trial.expect_begun("64 members started")
     trial.reset_all("a reset of 64 members")
     trial.reset_all("a reset of 64 members with a kill in it", node=33, is_killed=True)
-    trial.expect("all members have one tag", lambda: len({read(f"{trial.folder}/gateway/{node}/run").split(" ")[-1]
-                 for node in trial.nodes}) == 1 and read(f"{trial.folder}/gateway/1/run") != "")
+    trial.expect("all members have one tag", lambda: len({tag_in(f"{trial.folder}/gateway/{node}/run")
+                 for node in trial.nodes}) == 1 and tag_in(f"{trial.folder}/gateway/1/run") != "")
 
 
 def messages(trial):
