@@ -7,9 +7,11 @@ import os
 import time
 from typing import IO
 
+from .errors import ResetdError, Unreadable
 
-class Held(Exception):
-    """Another process holds the folder."""
+
+class Held(ResetdError):
+    """Another process holds the folder. Needs a person, unless that process ends by itself."""
 
 
 def keep(path: str, text: str) -> None:
@@ -51,12 +53,14 @@ def sync_folder(path: str) -> None:
 
 
 def read(path: str) -> str | None:
-    """The text of a file, None where there is none."""
+    """The text of a file, None where there is none. Raises Unreadable at bytes that are no text."""
     try:
         with open(path, encoding="utf-8") as file:
             return file.read()
     except FileNotFoundError:
         return None
+    except UnicodeDecodeError as fault:
+        raise Unreadable(path, ": it holds no text; if a program of the library wrote it, remove it") from fault
 
 
 def hold(folder: str, seconds: float = 0.0) -> IO[str]:

@@ -9,6 +9,7 @@ from contextlib import contextmanager
 from dataclasses import dataclass
 
 from .answers import Away
+from .errors import ResetdError
 from .following import Following, check_every
 from .orders import Orders, warn
 from .port import Port
@@ -30,8 +31,10 @@ class Run:
     tag: str
 
 
-class OutOfRun(Exception):
-    """No run is on, or the message is of another one: don't take it, and close its connection."""
+class OutOfRun(ResetdError):
+    """No run is on, or the message is of another one: don't take it, and close its connection. Needs no person."""
+
+    needs_person = False
 
 
 class Member(Following):

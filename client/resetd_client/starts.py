@@ -14,6 +14,7 @@ import enum
 import json
 
 from . import files
+from .errors import Unreadable
 from .view import Node, View
 
 
@@ -56,7 +57,7 @@ class Shelf:
             return {int(node): (int(start["epoch"]), None if start["party"] is None else frozenset(map(str, start["party"])))
                     for node, start in json.loads(text or "{}").items()}
         except (ValueError, KeyError, TypeError, AttributeError) as fault:
-            raise ValueError(f"{self._path} does not read: remove it, and a reset is asked for") from fault
+            raise Unreadable(self._path, ": remove it, and a reset is asked for") from fault
 
 
 class Starts:

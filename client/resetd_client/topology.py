@@ -7,18 +7,18 @@ from collections.abc import Iterable, Iterator
 from dataclasses import dataclass, field
 from typing import Any
 
+from .errors import ResetdError
+from .limits import GROUPS, MOST_LINKS, MOST_LINKS_AT_NODE, NODES
 from .view import View
 
 MOST_BYTES = 65_536
-MOST_NODES, MOST_GROUPS = 64, 16
-MOST_LINKS_AT_NODE, MOST_LINKS = 16, 128
 HALVES = range(32_768, 16_777_217)
 
 Pair = tuple[int, int]
 
 
-class BadTopology(Exception):
-    """The file is no topology, or one that no network can have."""
+class BadTopology(ResetdError):
+    """The file is no topology, or one that no network can have. Needs a person: who wrote it."""
 
 
 @dataclass
@@ -72,12 +72,12 @@ def read_topology(text: bytes) -> Network:
         number(top["half"], HALVES, "half")
     network = Network()
     for row in tables(top, "node", {"id", "group"}):
-        node = number(row["id"], range(1, MOST_NODES + 1), "id")
+        node = number(row["id"], NODES, "id")
         if node in network.groups:
             raise BadTopology(f"node {node} stands twice")
-        network.groups[node] = number(row["group"], range(1, MOST_GROUPS + 1), f"group of node {node}")
+        network.groups[node] = number(row["group"], GROUPS, f"group of node {node}")
     for row in tables(top, "link", {"a", "b"}):
-        add_link(network, *(number(row[end], range(1, MOST_NODES + 1), end) for end in ("a", "b")))
+        add_link(network, *(number(row[end], NODES, end) for end in ("a", "b")))
     return network
 
 
@@ -100,6 +100,7 @@ def add_link(network: Network, a: int, b: int) -> None:
 
 
 def tables(top: dict[str, Any], key: str, members: set[str]) -> Iterator[dict[str, Any]]:
+    """The tables of an array, each with just these members. Raises BadTopology."""
     rows = top.get(key, [])
     if not isinstance(rows, list) or not all(isinstance(row, dict) for row in rows):
         raise BadTopology(f"{key} is to be written as [[{key}]]")
@@ -109,6 +110,7 @@ def tables(top: dict[str, Any], key: str, members: set[str]) -> Iterator[dict[st
 
 
 def check_keys(table: dict[str, Any], required: set[str], optional: set[str], where: str) -> None:
+    """Raises BadTopology if a table lacks a key, or has one that means nothing."""
     if missing := required - set(table):
         raise BadTopology(f"{where} lacks {' and '.join(sorted(missing))}")
     if extra := set(table) - required - optional:
@@ -116,6 +118,7 @@ def check_keys(table: dict[str, Any], required: set[str], optional: set[str], wh
 
 
 def number(value: Any, limits: range, what: str) -> int:
+    """A whole number of a range. Raises BadTopology."""
     if not isinstance(value, int) or isinstance(value, bool) or value not in limits:
         raise BadTopology(f"{what} is to be a whole number from {limits[0]} to {limits[-1]}")
     return value

@@ -11,6 +11,7 @@ from contextlib import contextmanager
 from dataclasses import dataclass
 from typing import Any, TypeVar
 
+from ..address import Credentials
 from ..advice import explained
 from ..answers import Away, NotNow, NotTaken, Refused, Reply
 from ..orders import CountLost, Order, Orders
@@ -47,7 +48,8 @@ class Control:
         self.words = words
         self.patience: float = words.patience if words.patience is not None else LOOK_SECONDS if words.is_look else PATIENCE
         self.seconds: float = words.seconds if words.seconds is not None else LOOK_SECONDS if words.is_look else SECONDS
-        self.port = Port(words.address, self.seconds)
+        self.port = Port(words.address, self.seconds, Credentials.found().over(
+            certificate=words.certificate, key=words.key, authority=words.authority))
         self.folder = os.path.join(words.state, words.address.replace(":", "_").replace("/", "_"))
         self._asked: Mapping[str, Any] = {}
 

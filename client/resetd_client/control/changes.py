@@ -81,7 +81,7 @@ def apply(control: Control) -> int:
 def numbers(*names: str) -> Callable[[argparse.ArgumentParser], None]:
     def add_words(parser: argparse.ArgumentParser) -> None:
         for name in names:
-            parser.add_argument(name, type=int, metavar=name.upper(), help=NUMBERS[name])
+            parser.add_argument(name, type=ranges.of(name), metavar=name.upper(), help=NUMBERS[name])
     return add_words
 
 
