@@ -12,6 +12,7 @@ from resetd_client import (
 from resetd_client.answers import CARRIED_OUT, Outcome
 from resetd_client.orders import Order, outwards
 from resetd_client.port import TooLong
+from resetd_client.store_file import read_store
 
 STOPPED = '{"name":"Stopped","refused":1}'
 
@@ -265,9 +266,12 @@ class Together(Case):
             self.skipTest("the program alone")
         book = Orders(Port(self.server.behind, 10), 2, f"{self.folder}/direct", told=self.told.append)
         self.addCleanup(book.close)
+        accepted = self.port.show().accepted
         outcomes = book.order_all([*self.adds(*range(3, 60)), {"op": "reset", "node": 1}, *self.adds(1, 60)])
         self.assertEqual([type(outcome) for outcome in outcomes], [*[Reply] * 58, Refused])
         self.assertEqual((self.nodes(), self.server.last(2)), (list(range(1, 60)), 58))
+        flights = [batch for batch in read_store(self.server.store).batches if accepted < batch.first <= accepted + 58]
+        self.assertLess(len(flights), 12)  # the first order has one of its own, and the others come in together
 
     def test_more_than_one_part(self) -> None:
         pairs = [(3, 4), *[(a, b) for a in range(1, 13) for b in range(a + 1, 13)]]
