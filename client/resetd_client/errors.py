@@ -9,6 +9,7 @@ Beside these the library raises the OSError of a file or a folder that can't be 
 
 from __future__ import annotations
 
+import sys
 from typing import ClassVar
 
 
@@ -40,3 +41,10 @@ class Untrusted(ResetdError):
 class InLoop(ResetdError, RuntimeError):
     """The call would block the event loop that runs in this thread: `resetd_client.aio` has one that does not. Needs a
     person: the program's author."""
+
+
+def refuse_in_loop(what: str) -> None:
+    """Raises InLoop if an event loop of asyncio runs in this thread."""
+    asyncio = sys.modules.get("asyncio")  # a loop runs only where somebody has imported it
+    if asyncio is not None and asyncio._get_running_loop() is not None:
+        raise InLoop(f"{what} would block the event loop that runs in this thread: use resetd_client.aio")

@@ -9,7 +9,7 @@ from contextlib import contextmanager
 from dataclasses import dataclass
 
 from .answers import Away
-from .errors import ResetdError
+from .errors import ResetdError, refuse_in_loop
 from .following import Following, check_every
 from .orders import Orders, warn
 from .port import Port
@@ -76,7 +76,9 @@ class Member(Following):
     def in_run(self, tag: str | None = None, wait: float = 0.0) -> Iterator[Run]:
         """While the body works, no begin and no other `in_run` comes in between. `tag` is that of a message: the body
         works only if it is this run's. Raises OutOfRun at another tag, and if no run is on after `wait` seconds; at
-        another tag `follow` looks, since this run may be over. Keep the body short, and don't wait for others in it."""
+        another tag `follow` looks, since this run may be over. Keep the body short, and don't wait for others in it.
+        Where an event loop runs it raises InLoop: use `resetd_client.aio`."""
+        refuse_in_loop("in_run")
         with self._changes:
             if not self._changes.wait_for(lambda: self._run is not None, wait):
                 raise OutOfRun("no run is on")
