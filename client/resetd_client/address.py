@@ -36,6 +36,9 @@ class Address(Protocol):
     def connect(self, seconds: float) -> socket.socket:
         """A connection, each answer of which may take so many seconds. Raises Away and Untrusted."""
 
+    def refusal(self) -> Untrusted | None:
+        """Why a front ends each connection without an answer, if it is this client's certificate."""
+
 
 @dataclass(frozen=True)
 class Tcp:
@@ -53,6 +56,9 @@ class Tcp:
             return connected_to(self.host, self.port, seconds)
         except OSError as fault:
             raise away(self, fault) from fault
+
+    def refusal(self) -> Untrusted | None:
+        return None
 
 
 @dataclass(frozen=True)
@@ -75,6 +81,9 @@ class Unix:
             connection.close()
             raise away(self, fault) from fault
         return connection
+
+    def refusal(self) -> Untrusted | None:
+        return None
 
 
 @dataclass(frozen=True)
@@ -100,6 +109,20 @@ class Tls:
         except OSError as fault:
             plain.close()
             raise untrusted(self, fault) or away(self, fault) from fault
+
+    def refusal(self) -> Untrusted | None:
+        """In TLS 1.3 a front judges the client's certificate behind the handshake, and what the client sends meanwhile may
+        hide its alert: so this connection sends nothing."""
+        try:
+            with self.connect(CONNECT_SECONDS) as connection:
+                connection.recv(1)
+        except Untrusted as refused:
+            return refused
+        except OSError as fault:
+            return untrusted(self, fault)
+        except Away:
+            pass
+        return None
 
 
 @dataclass(frozen=True)
@@ -212,8 +235,7 @@ def away(address: Address, fault: OSError) -> Away:
 
 
 def untrusted(address: Address, fault: OSError) -> Untrusted | None:
-    """What a fault of a TLS connection says of certificates, if it does. A front that refuses a certificate says so by an
-    alert, in TLS 1.3 only in place of its first answer."""
+    """What a fault of a TLS connection says of certificates, if it does."""
     if isinstance(fault, ssl.SSLCertVerificationError):
         return Untrusted(f"{address}: its certificate is not taken: {fault.verify_message}")
     reason = getattr(fault, "reason", None) if isinstance(fault, ssl.SSLError) else None

@@ -2,6 +2,7 @@
 
 from __future__ import annotations
 
+import contextlib
 import json
 import random
 import socket
@@ -9,7 +10,7 @@ import time
 from collections.abc import Callable, Iterator, Mapping, Sequence
 from typing import Any, TypeVar
 
-from .address import Address, Credentials, addresses_of, untrusted
+from .address import Address, Credentials, addresses_of
 from .answers import Away, Garbled, NotNow, NotTaken, members_of
 from .errors import BadWords
 from .view import View
@@ -113,15 +114,14 @@ class Port:
             for place in range(0, len(requests), AT_ONCE):
                 part = requests[place:place + AT_ONCE]
                 began, came = time.monotonic(), 0
-                try:
+                with contextlib.suppress(OSError):
                     for line in spoken(connection, part):
                         came += 1
                         yield line
-                except OSError as fault:
-                    if refused := untrusted(address, fault):
-                        raise refused from fault
                 if came < len(part):
                     is_silent = time.monotonic() - began >= self.seconds
+                    if not came and not is_silent and (refusal := address.refusal()):
+                        raise refusal
                     raise Away(f"{address}: " + (
                         f"connected, and no answer for {self.seconds:g} s: another client may keep the one connection"
                         if is_silent else "it ended the connection without an answer"))

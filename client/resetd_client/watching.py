@@ -9,7 +9,7 @@ import ssl
 import time
 from collections.abc import Iterator
 
-from .address import Address, untrusted
+from .address import Address, away
 from .answers import Away, Garbled, NotTaken, members_of
 from .errors import BadWords
 from .port import Port, line_of
@@ -27,13 +27,14 @@ class Pushed:
     def __init__(self, address: Address, seconds: float) -> None:
         """`seconds` is how long it may take to connect. Raises Away and Untrusted."""
         self._address, self._rest, self.is_over = address, b"", False
+        self._is_answered = False
         self._connection = address.connect(seconds)
         try:
             self._connection.sendall(line_of({"op": "watch"}))
             self._connection.setblocking(False)
         except OSError as fault:
             self._connection.close()
-            raise untrusted(address, fault) or Away(f"{address}: {fault.strerror or fault}") from fault
+            raise address.refusal() or away(address, fault) from fault
         self.heard = time.monotonic()
 
     def close(self) -> None:
@@ -48,6 +49,9 @@ class Pushed:
         elif silence <= 0:
             raise Away(f"{self._address}: no line for {SILENCE_SECONDS:g} s")
         *lines, self._rest = self._rest.split(b"\n")
+        self._is_answered = self._is_answered or bool(lines)
+        if self.is_over and not self._is_answered and (refusal := self._address.refusal()):
+            raise refusal
         if len(self._rest) > MOST_BYTES:
             raise Garbled(self._rest[:100].decode("utf-8", "replace"), str(self._address))
         return [view_of(line.decode("utf-8", "replace"), str(self._address)) for line in lines]
@@ -65,9 +69,7 @@ class Pushed:
                 read = self._connection.recv(65536)
             except (BlockingIOError, ssl.SSLWantReadError):
                 return
-            except OSError as fault:
-                if refused := untrusted(self._address, fault):
-                    raise refused from fault
+            except OSError:
                 read = b""
             self.is_over = not read
             self._rest += read

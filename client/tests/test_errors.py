@@ -10,7 +10,7 @@ import pkgutil
 import unittest
 from collections.abc import Iterator
 
-from case import ROOT, Case  # isort: skip: it says where the library is
+from case import ROOT, Case  # first: it says where the library is
 
 import resetd_client
 from resetd_client import BadWords, Member, Orders, Port, ResetdError, Unreadable
