@@ -23,12 +23,9 @@ import threading
 from collections.abc import AsyncIterator, Awaitable, Callable
 from contextlib import asynccontextmanager, suppress
 
-from . import member as blocking
-from .errors import ResetdError
-from .member import LOOK_SECONDS, Run
-from .orders import Orders, warn
-from .port import Port
-from .signals import Wakes
+from . import LOOK_SECONDS, Orders, Port, ResetdError, Run, Wakes
+from . import Member as Blocking
+from .orders import warn
 
 
 
@@ -41,7 +38,7 @@ class Member:
         Unreadable, and RuntimeError where no loop runs."""
         self._loop = asyncio.get_running_loop()
         self._begin = begin
-        self._member = blocking.Member(port, orders, node, begun, self._begin_in_loop, word=word, told=told)
+        self._member = Blocking(port, orders, node, begun, self._begin_in_loop, word=word, told=told)
 
     @property
     def begun(self) -> int | None:

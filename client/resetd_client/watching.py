@@ -40,6 +40,9 @@ class Pushed:
     def close(self) -> None:
         self._connection.close()
 
+    def fileno(self) -> int:
+        return self._connection.fileno()
+
     def views(self, seconds: float) -> list[View]:
         """The views that have come, after at most so many seconds; `is_over` is then true if no more will. Raises Away
         after a silence, NotTaken (Garbled, Faulted) if what came is no view, and Untrusted."""
@@ -101,6 +104,11 @@ class Watched:
                     return Wake.CAME
             if time.monotonic() >= until:
                 return Wake.QUIET
+
+    def descriptors(self) -> list[int] | None:
+        """What can be read once something may be new after the last wait; None while there is no connection, so that
+        `wait` has to be called."""
+        return None if self._pushed is None else [self._pushed.fileno()]
 
     def close(self) -> None:
         """Ends its connection."""

@@ -2,6 +2,7 @@
 
 from __future__ import annotations
 
+import select
 import threading
 from unittest import mock
 
@@ -34,6 +35,21 @@ class Told(Case):
             self.front.push()
             self.assertIs(self.watched.wait(SECONDS), Wake.CAME)
         self.assertEqual(self.front.connections, 1)
+
+    def test_it_says_what_to_wait_for(self) -> None:
+        self.assertIsNone(self.watched.descriptors())
+        self.assertIs(self.watched.wait(SECONDS), Wake.CAME)
+        self.assertIs(self.watched.wait(0), Wake.QUIET)
+        descriptors = self.watched.descriptors() or []
+        self.assertEqual(select.select(descriptors, [], [], 0)[0], [])
+        self.server.reset(1)
+        self.front.push()
+        self.assertEqual(select.select(descriptors, [], [], SECONDS)[0], descriptors)
+        self.assertIs(self.watched.wait(0), Wake.CAME)
+        self.front.drop()
+        self.assertEqual(select.select(descriptors, [], [], SECONDS)[0], descriptors)
+        self.assertIs(self.watched.wait(0), Wake.QUIET)
+        self.assertIsNone(self.watched.descriptors())
 
     def test_all_that_came_is_one_wake_up_at_least_and_none_is_lost(self) -> None:
         self.assertIs(self.watched.wait(SECONDS), Wake.CAME)

@@ -3,6 +3,7 @@
 from __future__ import annotations
 
 import argparse
+import json
 import os
 import sys
 import threading
@@ -24,6 +25,15 @@ LOOK_SECONDS = 2.0  # how long a command that only looks waits, in all and for o
 SILENCE_SECONDS = 1.0  # after so long without an answer a person is told what is waited for
 Words = argparse.Namespace
 T = TypeVar("T")
+
+
+def add_json(parser: argparse.ArgumentParser) -> None:
+    parser.add_argument("--json", action="store_true", help="as one line of JSON")
+
+
+def print_json(value: object) -> None:
+    """One line, compact, as the port answers."""
+    print(json.dumps(value, separators=(",", ":")), flush=True)
 
 
 def no_words(_: argparse.ArgumentParser) -> None:

@@ -3,7 +3,6 @@
 from __future__ import annotations
 
 import argparse
-import json
 import math
 import shutil
 import sys
@@ -15,7 +14,7 @@ from ..answers import Away, NotNow
 from ..view import View
 from ..watching import Watched, wakes_of
 from . import ranges
-from .base import DONE, Command, Control
+from .base import DONE, Command, Control, add_json, print_json
 
 MARKS = {"ready": "·", "abort": "A", "converge": "C"}
 FRONT_SECONDS = 30.0  # between two looks where a front tells of changes
@@ -23,9 +22,12 @@ LEGEND = "· through  o to be confirmed  A abort  C converge; epoch/confirmed"
 
 
 def show(control: Control) -> int:
-    """Prints the nodes and links as tables, or as one line of JSON with --json."""
+    """Prints the nodes and links as tables, or as the line that the port answers, with --json."""
     view = control.show()
-    print(json.dumps(view.members(), separators=(",", ":")) if control.words.json else table(view), flush=True)
+    if control.words.json:
+        print_json(view.members())
+    else:
+        print(table(view), flush=True)
     return DONE
 
 
@@ -89,17 +91,13 @@ def note(picture: list[str]) -> None:
     print(datetime.now().astimezone().isoformat(timespec="milliseconds"), *picture, sep="  ", flush=True)
 
 
-def add_show_words(parser: argparse.ArgumentParser) -> None:
-    parser.add_argument("--json", action="store_true", help="as one line, of the form that the port answers")
-
-
 def add_watch_words(parser: argparse.ArgumentParser) -> None:
     parser.add_argument("--every", type=ranges.some_seconds, default=0.2, metavar="SECONDS", help="how often it looks where no front tells it (0.2)")
     parser.add_argument("--for", dest="for_seconds", type=ranges.span, metavar="SECONDS", help="ends after so long (never)")
 
 
 COMMANDS = (
-    Command("show", "prints the nodes and links", show, add_show_words, is_look=True),
+    Command("show", "prints the nodes and links", show, add_json, is_look=True),
     Command("watch", "draws the modes of the nodes as they change; where the output is no terminal, a line a change", watch,
             add_watch_words, is_look=True),
 )
