@@ -63,10 +63,13 @@ class Topologies(unittest.TestCase):
         star = [(1, node) for node in range(2, 18)]
         circles = [(node, (node + far - 1) % 64 + 1) for far in (1, 2) for node in range(1, 65)]
         pair = {63: 16, 64: 16}
-        for groups, links in ((alike, star), (alike, circles), (pair, [(64, 63)])):
+        fit: list[tuple[dict[int, int], list[tuple[int, int]]]] = [(alike, star), (alike, circles), (pair, [(64, 63)])]
+        for groups, links in fit:
             self.assertEqual(len(read_topology(written(groups, links)).links), len(links))
-        for groups, links in ((alike, [*star, (1, 18)]), (alike, [*circles, (1, 33)]), (pair, [(63, 64), (64, 63)]),
-                              (pair, [(63, 64), (63, 64)]), ({**pair, 62: 17}, []), ({**pair, 65: 1}, []), ({**pair, 0: 1}, [])):
+        unfit: list[tuple[dict[int, int], list[tuple[int, int]]]] = [
+            (alike, [*star, (1, 18)]), (alike, [*circles, (1, 33)]), (pair, [(63, 64), (64, 63)]), (pair, [(63, 64), (63, 64)]),
+            ({**pair, 62: 17}, []), ({**pair, 65: 1}, []), ({**pair, 0: 1}, [])]
+        for groups, links in unfit:
             self.assertRaises(BadTopology, read_topology, written(groups, links))
         for half, is_read in ((32_767, False), (32_768, True), (16_777_216, True), (16_777_217, False)):
             text = f"half = {half}\n".encode()

@@ -48,6 +48,20 @@ def count(text: str) -> int:
     return int(text)
 
 
+def amount(text: str) -> int:
+    """How many, perhaps none."""
+    if not is_number(text, 1_000_000):
+        raise argparse.ArgumentTypeError(f"{text!r} is no count")
+    return int(text)
+
+
+def some_orders(text: str) -> int:
+    """How many orders, two at least."""
+    if (value := amount(text)) < 2:
+        raise argparse.ArgumentTypeError(f"{text!r} are too few")
+    return value
+
+
 def is_number(text: str, most: int) -> bool:
     """Whether a text is digits, and no more of them than this number has."""
     return text.isascii() and text.isdigit() and len(text) <= len(str(most))
