@@ -96,12 +96,14 @@ class Topologies(unittest.TestCase):
         """Keys are judged before values, values before what is made of them, and each in the order of the file."""
         one, two = "[[node]]\nid = 1\ngroup = 1\n", "[[node]]\nid = 2\ngroup = 2\n"
         link = "[[link]]\na = {}\nb = {}\n".format
+        texts = (
+            "x", "ring = 1", "half = 1", "half = true", "node = 1", "node = [[]]", "[node]\nid = 1\ngroup = 1", "[[node]]\nid = 1",
+            "half = 1\n[[node]]\nid = 1", "half = 1\nring = 1", "[[node]]\nid = 65\ngroup = 1\n[[link]]\na = 1", one + one,
+            one + "[[node]]\nid = 0\ngroup = 1", one + link(1, 1), one + link(1, 2), one + link(2, 1), one + two + link(1, 2),
+            one + one + link(1, 65), one + link(1, 2) + "[[node]]\nid = 3\n", one + two.replace("= 2\ng", "= 3\ng") + link(3, 1),
+            one + two.replace("group = 2", "group = 1") + link(1, 2) + link(2, 1))
         with tempfile.TemporaryDirectory() as folder:
-            for place, text in enumerate(("x", "ring = 1", "half = 1", "half = true", "node = 1", "node = [[]]", "[node]\nid = 1\ngroup = 1", "[[node]]\nid = 1",
-                         "half = 1\n[[node]]\nid = 1", "half = 1\nring = 1", "[[node]]\nid = 65\ngroup = 1\n[[link]]\na = 1", one + one,
-                         one + "[[node]]\nid = 0\ngroup = 1", one + link(1, 1), one + link(1, 2), one + link(2, 1), one + two + link(1, 2),
-                         one + one + link(1, 65), one + link(1, 2) + "[[node]]\nid = 3\n", one + two.replace("= 2\ng", "= 3\ng") + link(3, 1),
-                         one + two.replace("group = 2", "group = 1") + link(1, 2) + link(2, 1))):
+            for place, text in enumerate(texts):
                 path = f"{folder}/topology.toml"
                 with open(path, "w", encoding="utf-8") as file:
                     file.write(text)

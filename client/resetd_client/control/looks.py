@@ -92,7 +92,8 @@ def note(picture: list[str]) -> None:
 
 
 def add_watch_words(parser: argparse.ArgumentParser) -> None:
-    parser.add_argument("--every", type=ranges.some_seconds, default=0.2, metavar="SECONDS", help="how often it looks where no front tells it (0.2)")
+    parser.add_argument("--every", type=ranges.some_seconds, default=0.2, metavar="SECONDS",
+                        help="how often it looks where no front tells it (0.2)")
     parser.add_argument("--for", dest="for_seconds", type=ranges.span, metavar="SECONDS", help="ends after so long (never)")
 
 
