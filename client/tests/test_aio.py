@@ -87,7 +87,12 @@ class Coroutines(Case):
             pass
 
     def test_out_of_a_run(self) -> None:
+        self.server.ring(2)  # a member that is alone has no tag
+
         async def strange(member: aio.Member) -> None:
+            while self.begun != [1]:
+                await asyncio.sleep(0.01)
+            await asyncio.to_thread(self.server.by_somebody, "confirm", node=2, epoch=1)
             await self.waits(member, SECONDS)
             with self.assertRaises(OutOfRun):
                 await self.waits(member, 0, "another tag")
