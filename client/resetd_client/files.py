@@ -7,9 +7,11 @@ import os
 import time
 from typing import IO
 
+from .errors import ResetdError, Unreadable
 
-class Held(Exception):
-    """Another process holds the folder."""
+
+class Held(ResetdError):
+    """Another process holds the folder. Needs a person, unless that process ends by itself."""
 
 
 def keep(path: str, text: str) -> None:
@@ -76,12 +78,14 @@ def append(path: str, size: int, text: bytes) -> None:
 
 
 def read(path: str) -> str | None:
-    """The text of a file, None where there is none."""
+    """The text of a file, None where there is none. Raises Unreadable at bytes that are no text."""
     try:
         with open(path, encoding="utf-8") as file:
             return file.read()
     except FileNotFoundError:
         return None
+    except UnicodeDecodeError as fault:
+        raise Unreadable(path, ": it holds no text; if a program of the library wrote it, remove it") from fault
 
 
 def read_bytes(path: str) -> bytes | None:

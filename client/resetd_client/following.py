@@ -9,6 +9,7 @@ from collections.abc import Callable, Mapping
 from .answers import Away, NotTaken, Outcome, Refusal, Refused
 from .bell import Bell
 from .changes import Changes, wait_for
+from .errors import BadWords
 from .orders import Order, Orders, warn
 from .port import patiently
 from .signals import Clock, Wake, Wakes
@@ -26,9 +27,9 @@ class Stopped(Exception):
 
 
 def check_every(seconds: float) -> None:
-    """Raises ValueError at a time between two looks that would let no time pass, or is no number."""
+    """Raises BadWords at a time between two looks that would let no time pass, or is no number."""
     if not seconds > 0:
-        raise ValueError(f"{seconds} seconds between two looks: it takes more than 0")
+        raise BadWords(f"{seconds} seconds between two looks: it takes more than 0")
 
 
 class Following:

@@ -104,7 +104,7 @@ class Gateway(Following):
 
     def __init__(self, port: Port, orders: Orders, members: Mapping[int, Iterable[str]], folder: str, *,
                  word: str = "", told: Callable[[str], None] = warn) -> None:
-        """Raises ValueError if a file of its own does not read."""
+        """Raises Unreadable if a file of its own does not read."""
         super().__init__(orders, told)
         self.port, self._word = port, word
         os.makedirs(folder, exist_ok=True)

@@ -7,6 +7,7 @@ import os
 import re
 
 from . import files
+from .errors import Unreadable
 
 LINES = re.compile(rb"(?:[0-9a-f]{64}\n)*")
 
@@ -17,12 +18,12 @@ class History:
     never talked, so it is passed over, and the next one takes its place."""
 
     def __init__(self, path: str) -> None:
-        """Raises ValueError if the file does not read."""
+        """Raises Unreadable if the file does not read."""
         self._path = path
         text = files.read_bytes(path) or b""
         self._size = text.rfind(b"\n") + 1  # of the lines that are whole
         if not LINES.fullmatch(text, 0, self._size):
-            raise ValueError(f"{path} does not read: remove it with the member's other files, and a reset is asked for")
+            raise Unreadable(path, ": remove it with the member's other files, and a reset is asked for")
         self._digests = {bytes.fromhex(line.decode()) for line in text[:self._size].splitlines()}
         self._added: list[str] = []
 

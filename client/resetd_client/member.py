@@ -10,6 +10,7 @@ from contextlib import contextmanager
 from dataclasses import dataclass
 
 from .answers import Away
+from .errors import ResetdError, refuse_in_loop
 from .following import DOUBT_SECONDS, LOOK_SECONDS, Following, check_every
 from .orders import Orders, warn
 from .party import are_parted, is_same_run
@@ -36,8 +37,10 @@ class Run:
         return is_same_run(self.tag, tag)
 
 
-class OutOfRun(Exception):
-    """No run is on, or the message is of another one: don't take it, and close its connection."""
+class OutOfRun(ResetdError):
+    """No run is on, or the message is of another one: don't take it, and close its connection. Needs no person."""
+
+    needs_person = False
 
 
 class Member(Following):
@@ -88,7 +91,9 @@ class Member(Following):
         """While the body works, no begin and no other `in_run` comes in between. `tag` is that of a message: the body
         works only if it is of this run. Raises OutOfRun at the tag of another run, and if no run is on after `wait`
         seconds; at another tag the member looks, since this run may be over. Raises what has ended the member's own
-        thread, if something has. Keep the body short, and don't wait for others in it."""
+        thread, if something has. Keep the body short, and don't wait for others in it. Where an event loop runs it raises
+        InLoop: use `resetd_client.aio`."""
+        refuse_in_loop("in_run")
         with self._changes:
             self._changes.wait_for(lambda: self._run is not None, wait)
             run = self._run

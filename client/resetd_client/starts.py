@@ -6,6 +6,7 @@ import json
 import os
 
 from . import files
+from .errors import Unreadable
 from .history import History
 from .party import digest_of, is_alone, tag_of
 from .rule import Due, Judged, Kept, judge, shown_to
@@ -21,7 +22,7 @@ class Shelf:
     version (Starts)."""
 
     def __init__(self, path: str) -> None:
-        """Raises ValueError if a file does not read."""
+        """Raises Unreadable if a file does not read."""
         self._path, self._is_kept = path, True
         self.history = History(os.path.splitext(path)[0] + ".history")
         self._starts: dict[int, Kept] = {}
@@ -31,7 +32,7 @@ class Shelf:
             for node, start in json.loads(files.read(path) or "{}").items():
                 self._take(int(node), start)
         except (ValueError, KeyError, TypeError, AttributeError) as fault:
-            raise ValueError(f"{path} does not read: remove it, and a reset is asked for") from fault
+            raise Unreadable(path, ": remove it, and a reset is asked for") from fault
         self.history.keep()
 
     def get(self, node: int) -> Kept:

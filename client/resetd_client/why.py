@@ -13,8 +13,9 @@ import stat
 from collections.abc import Iterator
 from dataclasses import dataclass
 
+from .address import host_and_port
 from .answers import Away, NotNow, NotTaken
-from .port import Port, address_of
+from .port import Port
 from .processes import commanded, file_limit, listening, lock_holders, output_pipe
 from .store_file import HALVES, HEADER, NoStore, Restless, Store, read_store
 
@@ -164,7 +165,7 @@ def half_size(path: str) -> int:
 def of_address(text: str, seconds: float, path: str) -> Iterator[Finding]:
     """What listens at an address, whether a server could, and whether a coordinator there has the store on this file."""
     try:
-        host, port = address_of(text)
+        host, port = host_and_port(text)
         socket.inet_aton(host)
     except (ValueError, OSError):
         yield Finding("address", f"{text} is not of the form A.B.C.D:P", "Usage")

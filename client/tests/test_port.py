@@ -113,8 +113,12 @@ class Strange(unittest.TestCase):
         """They are told apart, since another client may keep the one connection of a server."""
         ended = threading.Event()
         self.addCleanup(ended.set)
+
+        def silent(_: socket.socket) -> None:
+            ended.wait(20)
+
         with self.assertRaisesRegex(Away, r"connected, and no answer for 0\.3 s"):
-            self.port(lambda _: bool(ended.wait(20)) and None, 0.3).show()
+            self.port(silent, 0.3).show()
         with self.assertRaisesRegex(Away, "it ended the connection without an answer"):
             self.port(lambda _: None, 20).show()
 

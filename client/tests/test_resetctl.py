@@ -50,12 +50,9 @@ class Controls(Case):
     def test_a_mistyped_number_locks_nothing(self) -> None:
         self.assertEqual(self.run_words("reset", "1")[0], 0)
         self.server.settled()
-        status, _, told = self.run_words("reset", "65")
-        self.assertEqual((status, told), (1, "resetctl: BadRequest: nodes are 1 to 64, groups and clients 1 to 16, a number and "
-                                             "an epoch below 2^64; nothing was carried out\n"))
-        status, _, told = self.run_words("reset", "1" * 600)
-        self.assertEqual(status, 2)
-        self.assertIn("a line has at most 512 bytes", told)
+        for words in ("reset 65", "reset 0", "reset -1", f"reset {'1' * 600}", f"reset {'1' * 5_000}", "add 1 17", "join 1 x",
+                      f"confirm 1 {1 << 64}", "drop 1 65"):
+            self.expect_wrong(*words.split())
         self.assertEqual(self.run_words("reset", "2")[0], 0)
         self.server.settled()  # a reset that still runs would be joined
         self.assertEqual(self.run_words("reset", "2")[2], "")
@@ -213,7 +210,8 @@ class Controls(Case):
         self.assertEqual((sorted(self.server.nodes), self.server.pairs()), ([1, 2, 3, 4], []))
 
     def test_health_and_metrics(self) -> None:
-        self.assertEqual(self.run_words("health")[:2], (0, "resetd OK: well\n"))
+        status, text, _ = self.run_words("health")
+        self.assertIn((status, text.split()[1][:-1]), ((0, "OK"), (1, "WARNING")))  # a slow disk warns
         self.server.is_stopped = True
         status, text, _ = self.run_words("health", "--close-stopped")
         self.assertEqual((status, self.server.seen[-1]), (2, {"op": "close"}))

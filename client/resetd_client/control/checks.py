@@ -7,12 +7,13 @@ import os
 import time
 
 from .. import files
-from ..answers import Away, NotNow, NotTaken
+from ..answers import Away, NotNow
+from ..errors import ResetdError
 from ..health import Bounds, Level, Since, check, metrics
 from ..port import patiently
 from ..signal_lag import Signals
 from . import ranges
-from .base import DONE, Command, Control
+from .base import DONE, Command, Control, add_json, print_json
 
 
 def health(control: Control) -> int:
@@ -26,9 +27,15 @@ def health(control: Control) -> int:
         if found.is_stopped and words.close_stopped:
             control.port.close()
             print("resetctl: the server answered Stopped, and was closed")
-    except (Away, NotTaken, OSError) as fault:
-        print(f"resetd UNKNOWN: {fault}")
+    except (ResetdError, OSError) as fault:
+        if words.json:
+            print_json({"findings": [str(fault)], "level": Level.UNKNOWN.name})
+        else:
+            print(f"resetd UNKNOWN: {fault}")
         return Level.UNKNOWN
+    if words.json:
+        print_json({"findings": list(found.findings), "level": found.level.name})
+        return found.level
     print(f"resetd {found.level.name}: {'; '.join(found.findings) or 'well'}")
     return found.level
 
@@ -52,6 +59,7 @@ def write_metrics(control: Control) -> int:
 
 
 def add_health_words(parser: argparse.ArgumentParser) -> None:
+    add_json(parser)
     parser.add_argument("--steps", type=ranges.span, default=5.0, metavar="SECONDS", help="how long steps may wait for the disk (5)")
     parser.add_argument("--wave", type=ranges.span, default=5.0, metavar="SECONDS", help="how long a wave may stand still (5)")
     parser.add_argument("--unconfirmed", type=ranges.span, default=60.0, metavar="SECONDS",
