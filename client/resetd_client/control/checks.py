@@ -4,13 +4,13 @@ from __future__ import annotations
 
 import argparse
 import os
-import time
 
 from .. import files
 from ..answers import Away, NotNow, NotTaken
-from ..health import Bounds, Level, Since, check, metrics
+from ..health import Bounds, Level, check, metrics
 from ..port import patiently
 from ..signal_lag import Signals
+from ..since import Since, boot_clock, boot_name
 from . import ranges
 from .base import DONE, Command, Control
 
@@ -20,9 +20,9 @@ def health(control: Control) -> int:
     words = control.words
     try:
         os.makedirs(control.folder, exist_ok=True)
-        since = Since(os.path.join(control.folder, "health.json"), time.time())
+        since = Since(os.path.join(control.folder, "health.json"), boot_clock(), boot_name())
         signals = Signals(words.signals, os.path.join(control.folder, "signals.json")) if words.signals else None
-        found = check(control.port, since, Bounds(words.steps, words.wave, words.unconfirmed), control.patience, signals)
+        found = check(control.port, since, Bounds(words.steps, words.wave, words.unconfirmed), control.patience, signals, words.store)
         if found.is_stopped and words.close_stopped:
             control.port.close()
             print("resetctl: the server answered Stopped, and was closed")
@@ -57,6 +57,7 @@ def add_health_words(parser: argparse.ArgumentParser) -> None:
     parser.add_argument("--unconfirmed", type=ranges.span, default=60.0, metavar="SECONDS",
                         help="how long an epoch may be unconfirmed (60)")
     parser.add_argument("--signals", metavar="FILE", help="warns where the server's file of signals lacks lines")
+    parser.add_argument("--store", metavar="FILE", help="critical where that is not the store of the server")
     parser.add_argument("--close-stopped", action="store_true",
                         help="closes a server that answers Stopped, so that its service manager starts it again")
 
