@@ -4,6 +4,7 @@ from __future__ import annotations
 
 import argparse
 
+from ..access import Account, account_named
 from ..orders import CLIENTS
 
 MOST_SECONDS = 1_000_000_000.0  # some thirty years
@@ -38,3 +39,11 @@ def count(text: str) -> int:
     if not text.isascii() or not text.isdigit() or int(text) == 0:
         raise argparse.ArgumentTypeError(f"{text!r} is no count")
     return int(text)
+
+
+def account(text: str) -> Account:
+    """A user of this machine, by name or number."""
+    try:
+        return account_named(text)
+    except KeyError:
+        raise argparse.ArgumentTypeError(f"there is no user {text!r}") from None
