@@ -2,6 +2,7 @@
 .PHONY: help demo drill example services soak lives takeover build prove test program refusals bench sweep nightly install uninstall deb
 
 PREFIX ?= /usr/local
+PROGRAM ?= bin/resetd
 # So many checks run at a time, each on one processor and with up to 3 GB of memory.
 JOBS ?= $(shell nproc)
 
@@ -84,8 +85,8 @@ program:
 SHARE = $(DESTDIR)$(PREFIX)/share/resetd
 
 # What stands below share/resetd has the places of the repository, so that each part finds the others.
-install: bin/resetd
-	install -D -m 755 bin/resetd $(DESTDIR)$(PREFIX)/bin/resetd
+install: $(PROGRAM)
+	install -D -m 755 $(PROGRAM) $(DESTDIR)$(PREFIX)/bin/resetd
 	install -d $(SHARE)/client/resetd_client/control $(SHARE)/tools/picture $(SHARE)/examples $(SHARE)/docs
 	install -m 755 client/resetctl $(SHARE)/client/
 	install -m 644 client/pyproject.toml client/build_wheel.py $(SHARE)/client/
@@ -94,7 +95,7 @@ install: bin/resetd
 	install -m 755 tools/wave $(SHARE)/tools/
 	install -m 644 tools/picture/*.py $(SHARE)/tools/picture/
 	install -m 755 examples/ask examples/gateway examples/local_check examples/member examples/plain_member examples/run examples/service examples/talk $(SHARE)/examples/
-	install -m 644 examples/coordinator.py examples/ring.toml $(SHARE)/examples/
+	install -m 644 examples/coordinator.py examples/ring.toml examples/resetd.logrotate examples/resetd.rules.yml $(SHARE)/examples/
 	for unit in examples/*.service examples/*.timer; do sed 's|/usr/local/bin/|$(PREFIX)/bin/|' $$unit > $(SHARE)/$$unit; chmod 644 $(SHARE)/$$unit; done
 	install -m 644 docs/OPERATING.md docs/TAKEOVER.md docs/FORMATS.md docs/SERVICES.md docs/PROTOCOL.md docs/*.svg $(SHARE)/docs/
 	install -m 644 CHANGELOG.md $(SHARE)/

@@ -75,6 +75,11 @@ class Comparison:
         except NotCompared:
             pass  # the reading behind the view says so
 
+    def differs(self, view: View) -> bool | None:
+        """Whether the store is another one; None where that is not known."""
+        level = self.judged(view)[0] if self._path else Level.UNKNOWN
+        return None if level is Level.UNKNOWN else level is Level.CRITICAL
+
     def judged(self, view: View) -> tuple[Level, list[str]]:
         if not self._path:
             return Level.OK, []
@@ -146,10 +151,13 @@ def missing_signals(view: View, signals: Signals, since: Since, bounds: Bounds) 
             "looking alone; make room and start it again".format(*late[0], more, lasted[late[0]])]
 
 
-def metrics(view: View | None, is_stopped: bool) -> str:
-    """A text for the collector of text files of node_exporter."""
+def metrics(view: View | None, is_stopped: bool, differs: bool | None = None) -> str:
+    """A text for the collector of text files of node_exporter. `differs`: the store is not the one on its file, None where
+    that is not known."""
     rows = [("resetd_up", "gauge", "1 where the server answers", [("", int(view is not None or is_stopped))]),
             ("resetd_stopped", "gauge", "1 where the server answers Stopped", [("", int(is_stopped))])]
+    if differs is not None:
+        rows.append(("resetd_store_differs", "gauge", "1 where the server's store is not on its file", [("", int(differs))]))
     if view:
         names = [(f'{{node="{node.node}",group="{node.group}"}}', node) for node in view.nodes]
         rows += [

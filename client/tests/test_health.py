@@ -279,10 +279,13 @@ class OtherStore(Case):
                 self.server.reset(1)
                 self.server.settled()
                 self.assertEqual(self.look(), (0, "resetd OK: well\n"))
+                self.assertIn("resetd_store_differs 0\n", self.run_words("metrics", "--store", self.server.store)[1])
+                self.assertNotIn("resetd_store_differs", self.run_words("metrics")[1])
                 self.spoil(how, copy)
                 self.server.reset(1)
                 status, told = self.look()
                 self.assertEqual((status, told[:len(self.LOST)]), (2, self.LOST), how)
+                self.assertIn("resetd_store_differs 1\n", self.run_words("metrics", "--store", self.server.store)[1])
                 self.assertEqual(self.run_words("health", "--unconfirmed", "1000000")[0], 0)
 
     def test_a_file_that_may_not_be_read_is_unknown(self) -> None:

@@ -7,7 +7,7 @@ import os
 
 from .. import files
 from ..answers import Away, NotNow, NotTaken
-from ..health import Bounds, Level, check, metrics
+from ..health import Bounds, Comparison, Level, check, metrics
 from ..port import patiently
 from ..signal_lag import Signals
 from ..since import Since, boot_clock, boot_name
@@ -35,14 +35,16 @@ def health(control: Control) -> int:
 
 def write_metrics(control: Control) -> int:
     """Writes the metrics to a file, as a whole, or prints them."""
-    view, is_stopped = None, False
+    view, is_stopped, differs = None, False, None
+    comparison = Comparison(control.words.store)
     try:
         view = patiently(control.port.show, control.patience)
+        differs = comparison.differs(view)
     except NotNow as not_now:
         is_stopped = not_now.name == "Stopped"
     except Away:
         pass
-    text = metrics(view, is_stopped)
+    text = metrics(view, is_stopped, differs)
     if control.words.file == "-":
         print(text, end="")
     else:
@@ -63,6 +65,7 @@ def add_health_words(parser: argparse.ArgumentParser) -> None:
 
 
 def add_metrics_words(parser: argparse.ArgumentParser) -> None:
+    parser.add_argument("--store", metavar="STORE", help="tells also whether that is the store of the server")
     parser.add_argument("file", metavar="FILE", nargs="?", default="-",
                         help="a file, which is replaced as a whole (standard output)")
 
