@@ -18,12 +18,12 @@ from ..orders import CLIENTS, CountLost, CountNotFound
 from ..port import TooLong
 from ..store_file import NoStore, Restless
 from ..topology import BadTopology
-from . import changes, checks, looks, ranges, restored, stores
+from . import changes, checks, looks, ranges, report, restored, stores
 from .base import AWAY, COUNT, REFUSED, WRONG_WORDS, Control, complain
 
 LEFT, INTERRUPTED = 141, 130  # as a shell has them of an end by SIGPIPE and SIGINT
 
-COMMANDS = (*looks.COMMANDS, *changes.COMMANDS, *restored.COMMANDS, *checks.COMMANDS, *stores.COMMANDS)
+COMMANDS = (*looks.COMMANDS, *changes.COMMANDS, *restored.COMMANDS, *checks.COMMANDS, *stores.COMMANDS, *report.COMMANDS)
 
 
 def parser() -> argparse.ArgumentParser:
