@@ -99,6 +99,8 @@ class Report(Case):
             self.assertEqual(kernel_lines(self.store), "kernel: I/O error, dev vdz9, sector 7\n")
         with mock.patch("resetd_client.device.devices_of", return_value=["vdz"]):
             self.assertEqual(kernel_lines(self.store), "nothing of vdz among 3 lines\n")
+        with mock.patch("resetd_client.device.devices_of", return_value=["dz9"]):
+            self.assertEqual(kernel_lines(self.store), "nothing of dz9 among 3 lines\n")
         with mock.patch("resetd_client.device.devices_of", return_value=[]):
             self.assertIn("no block device", kernel_lines(self.store))
         self.assertEqual(devices_of("/proc/self/status"), [])

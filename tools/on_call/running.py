@@ -16,6 +16,10 @@ from support.program import PROGRAM, ROOT, ran
 from support.refusing import WORKERS, Refusing
 from support.serving import Serving, spelled
 
+from resetd_client import Port
+from resetd_client.health import Bounds, check
+from resetd_client.since import Since, boot_clock
+
 from .desk import LEFT_OUT, LONG, NotSeen, row, see
 
 LEFT_OUT["`20 PendingFull`"] = ("no client reaches it, since a server posts no more orders at a time than one flight has; "
@@ -113,19 +117,28 @@ def a_file_of_signals_that_is_full(desk):
 
 @row("`N steps have waited for the disk`", is_slow=True)
 def a_slow_disk(desk):
-    """At 2, 4 and 7 seconds a sync. No wave is told as one that stands still; one that takes longer than 5 s is told."""
+    """At 2, 4 and 7 seconds a sync, of which a flight has two. A flight that takes longer than 5 s is told, and no wave as
+    one that stands still, since it moves with its flights."""
     for seconds in (2, 4, 7):
         store = desk.store(name=f"slow{seconds}")
         with desk.serve(store, SYNC_MILLIS=1_000 * seconds) as server:
             with server.connect() as connection:
                 connection.send({"op": "reset", "client": 1, "number": 1, "node": 1})
-            told = set()
-            while not (view := server.show())["settled"] == view["accepted"] > 3 or any(row[2] != "ready" for row in view["nodes"]):
-                told |= {word for word in ("have waited for the disk", "stood still") if word in desk.health(server).text}
-                time.sleep(0.2)
-            if "stood still" in told or seconds > 2 and "have waited for the disk" not in told:
-                raise NotSeen(f"at {seconds} s a sync the check told {told or 'nothing'}")
+            told = told_of_a_wave(server, desk.path(f"health{seconds}"))
             see(desk.why(store, server), "a sync of both took ")
+        if "stood still" in told or ("have waited for the disk" in told) != (seconds > 2):
+            raise NotSeen(f"at {seconds} s a sync the check told: {told or 'nothing'}")
+
+
+def told_of_a_wave(server, memory):
+    """What the check tells from the begin of a wave to its end, by looks that follow each other closely."""
+    port, told = Port(server.address, LONG), ""
+    while True:
+        view = port.show()
+        if view.settled == view.accepted > 4 and all(node.mode == "ready" for node in view.nodes):
+            return told
+        told += " ".join(check(port, Since(memory, boot_clock()), Bounds(unconfirmed=1_000_000), LONG).findings)
+        time.sleep(0.1)
 
 
 @row("`a wave has stood still at node N`")
