@@ -126,18 +126,19 @@ def a_slow_disk(desk):
                 connection.send({"op": "reset", "client": 1, "number": 1, "node": 1})
             told = told_of_a_wave(server, desk.path(f"health{seconds}"))
             see(desk.why(store, server), "a sync of both took ")
-        if "stood still" in told or ("have waited for the disk" in told) != (seconds > 2):
-            raise NotSeen(f"at {seconds} s a sync the check told: {told or 'nothing'}")
+        if "stood still" in told or seconds > 2 and "have waited for the disk" not in told:
+            raise NotSeen(f"at {seconds} s a sync the check told: {sorted(told)}")
 
 
 def told_of_a_wave(server, memory):
-    """What the check tells from the begin of a wave to its end, by looks that follow each other closely."""
-    port, told = Port(server.address, LONG), ""
+    """What the check tells from the begin of a wave to its end, by looks that follow each other closely: words of it."""
+    port, told, words = Port(server.address, LONG), set(), {"stood still", "have waited for the disk"}
     while True:
         view = port.show()
         if view.settled == view.accepted > 4 and all(node.mode == "ready" for node in view.nodes):
             return told
-        told += " ".join(check(port, Since(memory, boot_clock()), Bounds(unconfirmed=1_000_000), LONG).findings)
+        findings = check(port, Since(memory, boot_clock()), Bounds(unconfirmed=1_000_000), LONG).findings
+        told |= {each for each in words if each in " ".join(findings)}
         time.sleep(0.1)
 
 
