@@ -20,13 +20,13 @@ from ..limits import CLIENTS
 from ..orders import CountLost, CountNotFound
 from ..store_file import NoStore, Restless
 from ..topology import BadTopology
-from . import audit, bench, changes, checks, completion, looks, ranges, restored, stores
+from . import audit, bench, changes, checks, completion, looks, ranges, report, restored, stores
 from .base import AWAY, COUNT, REFUSED, WRONG_WORDS, Control, complain
 
 LEFT, INTERRUPTED = 141, 130  # as a shell has them of an end by SIGPIPE and SIGINT
 
 COMMANDS = (*looks.COMMANDS, *changes.COMMANDS, *restored.COMMANDS, *checks.COMMANDS, *audit.COMMANDS, *bench.COMMANDS,
-            *stores.COMMANDS, *completion.COMMANDS)
+            *stores.COMMANDS, *report.COMMANDS, *completion.COMMANDS)
 
 
 def parser() -> argparse.ArgumentParser:

@@ -5,6 +5,7 @@ from __future__ import annotations
 import argparse
 from collections.abc import Callable
 
+from ..access import Account, account_named
 from ..errors import BadWords
 from ..limits import RANGES, check_number
 
@@ -65,3 +66,11 @@ def some_orders(text: str) -> int:
 def is_number(text: str, most: int) -> bool:
     """Whether a text is digits, and no more of them than this number has."""
     return text.isascii() and text.isdigit() and len(text) <= len(str(most))
+
+
+def account(text: str) -> Account:
+    """A user of this machine, by name or number."""
+    try:
+        return account_named(text)
+    except KeyError:
+        raise argparse.ArgumentTypeError(f"there is no user {text!r}") from None

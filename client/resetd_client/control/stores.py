@@ -8,27 +8,39 @@ import tempfile
 from collections.abc import Iterator
 from dataclasses import asdict
 
+from ..access import Account
 from ..files import sync_folder
+from ..finding import Finding
 from ..processes import lock_holders
 from ..store_file import HEADER, MAGIC, Store, open_store, read_half, read_store, reader_of, store_of
-from ..why import Finding, of_address, of_file
+from ..why import of_file
+from ..why_server import of_address
+from . import ranges
 from .base import DONE, REFUSED, WRONG_WORDS, Command, Control, add_json, complain, print_json
 
 
 def why(control: Control) -> int:
     """Prints what is behind a fault of a start, of a store's file and of an address."""
     words = control.words
-    findings = list(of_file(words.file))
-    if words.at:
-        findings += of_address(words.at, control.seconds, words.file)
+    findings = []
+    for finding in looked_at(words.file, words.user, words.at, control.seconds):
+        if not words.json:
+            print(f"{finding.about:8s} {finding.text}", flush=True)
+        findings.append(finding)
     told = told_start(findings)
     if words.json:
         print_json({"findings": [asdict(finding) for finding in findings], "told": told.splitlines()})
         return REFUSED if told else DONE
-    for finding in findings:
-        print(f"{finding.about:8s} {finding.text}", flush=True)
-    print(told or "nothing seen here stands in the way of a start")
+    left_out = "".join(f"; {finding.left_out} is not known" for finding in findings if finding.left_out)
+    print(told or f"nothing seen here stands in the way of a start{left_out}")
     return REFUSED if told else DONE
+
+
+def looked_at(path: str, user: Account | None, address: str | None, seconds: float) -> Iterator[Finding]:
+    """What there is to say of a store's file, and of the server at an address, where one is given."""
+    yield from of_file(path, user)
+    if address:
+        yield from of_address(address, seconds, path)
 
 
 def told_start(findings: list[Finding]) -> str:
@@ -129,6 +141,7 @@ def add_why_words(parser: argparse.ArgumentParser) -> None:
     add_json(parser)
     add_file_words(parser)
     parser.add_argument("at", metavar="ADDRESS", nargs="?", help="the address of the server, A.B.C.D:P")
+    parser.add_argument("--user", type=ranges.account, metavar="NAME", help="the user as whom the server runs (who owns the folder)")
 
 
 def add_file_words(parser: argparse.ArgumentParser) -> None:
