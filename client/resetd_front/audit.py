@@ -23,11 +23,12 @@ class Audit:
         self._complained = -COMPLAINT_SECONDS
         self.lost = 0  # lines that could not be written
 
-    def note(self, event: str, **members: Any) -> None:
-        """Adds a line, which `write` writes. Members that are None are left out."""
-        time_now = datetime.now(timezone.utc).isoformat(timespec="milliseconds").replace("+00:00", "Z")
+    def note(self, event: str, **members: Any) -> dict[str, Any]:
+        """Adds a line, which `write` writes, and answers its members. Those that are None are left out."""
         told = {name: value for name, value in members.items() if value is not None}
-        self._lines.append(json.dumps({"time": time_now, "event": event, **told}, separators=(",", ":")))
+        line = {"time": moment(), "event": event, **told}
+        self._lines.append(json.dumps(line, separators=(",", ":")))
+        return line
 
     def write(self) -> str | None:
         """Writes what was noted, each line whole. If that fails, answers why, once a minute."""
@@ -62,3 +63,8 @@ class Audit:
         if self._path == STANDARD_OUTPUT:
             return 1
         return os.open(self._path, os.O_WRONLY | os.O_APPEND | os.O_CREAT | os.O_CLOEXEC | os.O_NOFOLLOW, 0o640)
+
+
+def moment() -> str:
+    """The time now, in UTC, with milliseconds."""
+    return datetime.now(timezone.utc).isoformat(timespec="milliseconds").replace("+00:00", "Z")

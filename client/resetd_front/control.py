@@ -23,7 +23,9 @@ from . import policy
 from .audit import Audit
 from .front import Front, complain
 from .listeners import Listeners
+from .metrics import Metrics
 from .own_orders import OwnOrders
+from .page import Page
 from .peers import server_context
 from .signals import Signals
 from .upstream import address_of
@@ -113,6 +115,21 @@ class Process:
             listeners.tcp(words.tcp)
         return listeners
 
+    async def show(self) -> Page | None:
+        """The page and the metrics, as far as what they need is installed. Raises OSError, and ValueError."""
+        try:
+            metrics = Metrics(self.front)
+        except ImportError:
+            metrics = None
+            complain("there are no metrics: python3-prometheus-client is not installed")
+        try:
+            page = Page(self.front, metrics)
+        except ImportError:
+            complain("there is no page: python3-aiohttp is not installed")
+            return None
+        await page.listen(self.words.page)
+        return page
+
     def reload(self) -> None:
         """What is broken is not taken, and what there was stays."""
         try:
@@ -152,6 +169,7 @@ async def served(words: argparse.Namespace) -> None:
         process = Process(words, front)
         listeners = process.listen()
         stack.callback(listeners.close)
+        page = await process.show() if words.page else None
         for number in (signal.SIGTERM, signal.SIGINT):
             loop.add_signal_handler(number, ended.set)
         loop.add_signal_handler(signal.SIGHUP, process.reload)
@@ -159,6 +177,8 @@ async def served(words: argparse.Namespace) -> None:
         audit.write()
         tell_manager("READY=1")
         await ended.wait()
+        if page:
+            await page.close()
         audit.note("stops")
         audit.write()
 

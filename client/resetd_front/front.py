@@ -267,9 +267,9 @@ class Front(Events):
 
     def _note(self, event: str, connection: object, **members: Any) -> None:
         assert isinstance(connection, Connection)
-        self.audit.note(event, who=connection.peer.told, connection=connection.number, **members)
+        noted = self.audit.note(event, who=connection.peer.told, connection=connection.number, **members)
         if "line" in members:
-            self.recent.append({"who": connection.peer.who, "event": event, **members})
+            self.recent.append({**noted, "who": connection.peer.who})
             self._changed()
         self._soon("give", 0.0, self._give)
 

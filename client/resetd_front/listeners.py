@@ -63,7 +63,7 @@ class Listeners:
         if not ipaddress.ip_address(address[0]).is_loopback:
             raise ValueError(f"{address[0]} is no address of the loopback: use TLS for others")
         listener = listening(address)
-        self._begin(listener, name_of(listener.getsockname()), None)
+        self._begin(listener, f"tcp:{name_of(listener.getsockname())}", None)
 
     def close(self) -> None:
         for task in self._tasks:

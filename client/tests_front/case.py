@@ -130,7 +130,7 @@ class Front:
 
     def wanted(self, begin: int) -> bool:
         """Whether it listens at each address that it was given."""
-        return all(self.said(begin).count(word) for flag, word in (("--tls", "listening tls:"), ("--page", "page at"))
+        return all(self.said(begin).count(word) for flag, word in (("--tls", "listening tls:"), ("--tcp", "listening tcp:"), ("--page", "the page is at"))
                    if flag in self._words)
 
     def said(self, begin: int = 0) -> str:

@@ -1,0 +1,220 @@
+"""Who comes in: users by their credentials, certificates over TLS, nobody over the loopback; and reloads."""
+
+from __future__ import annotations
+
+import os
+import shutil
+import socket
+import ssl
+import subprocess
+import sys
+import unittest
+from typing import Any
+
+from case import DEADLINE, Case, Client, until
+
+POLICY = """
+[[allow]]
+user = "root"
+ops = ["show", "close"]
+[[allow]]
+user = "daemon"
+ops = ["show", "reset"]
+nodes = [1]
+[[allow]]
+group = "games"
+ops = ["watch"]
+[[allow]]
+certificate = "service2"
+ops = ["show", "watch", "confirm"]
+nodes = [2]
+[[allow]]
+user = "nobody"
+ops = ["show"]
+"""
+ASKING = """
+import socket, sys
+connection = socket.socket(socket.AF_UNIX); connection.connect(sys.argv[1])
+connection.sendall(sys.argv[2].encode() + b"\\n"); print(connection.makefile("rb").readline().decode(), end="")
+"""
+SHOW, WATCH, RESET_1, RESET_2 = '{"op":"show"}', '{"op":"watch"}', '{"op":"reset","node":1}', '{"op":"reset","node":2}'
+DENIED = '{"fault":"NotAllowed"}\n'
+
+
+class Ruled(Case):
+    nodes = 2
+
+    def setUp(self) -> None:
+        super().setUp()
+        self.front.kill()
+        self.policy = f"{self.folder}/policy"
+        self.write(POLICY)
+
+    def write(self, text: str) -> None:
+        with open(self.policy, "w", encoding="ascii") as file:
+            file.write(text)
+
+
+@unittest.skipUnless(os.getuid() == 0 and shutil.which("setpriv"), "it needs root and setpriv, to be other users")
+class Users(Ruled):
+    def ask_as(self, user: str, group: str, line: str) -> str:
+        """What a process of this user and this group is answered."""
+        ran = subprocess.run(["setpriv", f"--reuid={user}", f"--regid={group}", "--clear-groups", sys.executable, "-c", ASKING,
+                              self.front.path, line], capture_output=True, text=True, timeout=DEADLINE, check=False, cwd="/")
+        return ran.stdout if ran.returncode == 0 else "no connection" if "PermissionError" in ran.stderr else ran.stderr
+
+    def open_folder(self) -> None:
+        os.chmod(self.folder, 0o755)
+
+    def test_each_does_what_its_rules_allow(self) -> None:
+        self.open_folder()
+        self.front = self.started("--policy", self.policy, "--mode", "666")
+        for user, group, line, is_allowed in (
+                ("root", "root", SHOW, True), ("root", "root", RESET_1, False), ("root", "root", WATCH, False),
+                ("daemon", "daemon", RESET_1, True), ("daemon", "daemon", RESET_2, False), ("daemon", "daemon", WATCH, False),
+                ("mail", "games", WATCH, True), ("mail", "games", SHOW, False), ("mail", "mail", SHOW, False),
+                ("mail", "mail", '{"op":"close"}', False), ("nobody", "nogroup", SHOW, True), ("nobody", "nogroup", RESET_1, False)):
+            with self.subTest(user=user, group=group, line=line):
+                answer = self.ask_as(user, group, line)
+                self.assertEqual(answer != DENIED, is_allowed, answer)
+                self.assertNotIn("Traceback", answer)
+        denied = [(line["who"]["user"], line["line"]["op"]) for line in self.front.audited() if line["event"] == "denied"]
+        self.assertEqual(len(denied), 8)
+        self.assertIn(("mail", "close"), denied)
+
+    def test_rights_are_judged_line_by_line(self) -> None:
+        self.front = self.started("--policy", self.policy)
+        with self.front.connect() as client:
+            self.assertIn("nodes", client.ask(op="show"))
+            self.assertEqual(client.ask(op="reset", node=1), {"fault": "NotAllowed"})
+            self.assertIn("nodes", client.ask(op="show"))
+
+    def test_without_a_policy_the_group_looks_and_others_stay_out(self) -> None:
+        self.open_folder()
+        self.front = self.started("--group", "games", "--mode", "660")
+        self.assertIn('"nodes"', self.ask_as("mail", "games", SHOW))
+        self.assertEqual(self.ask_as("mail", "games", RESET_1), DENIED)
+        self.assertEqual(self.ask_as("mail", "mail", SHOW), "no connection")
+        self.assertIn('"kind"', self.ask_as("root", "root", RESET_1))
+
+
+class Reloads(Ruled):
+    def test_a_broken_policy_is_not_taken(self) -> None:
+        self.front = self.started("--policy", self.policy)
+        client = self.client()
+        self.assertEqual(client.ask(op="reset", node=1), {"fault": "NotAllowed"})
+        self.write("[[allow]]\nuser = 'root'\nops = ['reset', 'fly']\n")
+        self.front.reload()
+        self.front.await_audited("a line of it", lambda line: line["event"] == "policy" and "fly" in line["why"])
+        self.assertIn("the old policy stays", self.front.said())
+        self.assertEqual(client.ask(op="reset", node=1), {"fault": "NotAllowed"})
+        self.assertIn("nodes", client.ask(op="show"))
+        self.write("[[allow]]\nuser = 'root'\nops = ['reset']\n")
+        self.front.reload()
+        self.front.await_audited("a line of it", lambda line: line["event"] == "policy" and line["why"] == "it was read")
+        self.assertEqual(client.ask(op="reset", node=1)["kind"], "started")
+        self.assertEqual(client.ask(op="show"), {"fault": "NotAllowed"})
+
+    def test_it_does_not_begin_with_a_broken_policy(self) -> None:
+        self.write("[[allow]]\n")
+        with self.assertRaisesRegex(AssertionError, "(?s)the front ended: .*rule 1"):
+            self.started("--policy", self.policy)
+
+    def test_the_loopback_counts_as_nobody(self) -> None:
+        self.front = self.started("--policy", self.policy, "--tcp", "127.0.0.1:0")
+        with Client(socket.create_connection(self.front.listening("tcp:"), DEADLINE)) as client:
+            self.assertIn("nodes", client.ask(op="show"))
+            self.assertEqual(client.ask(op="close"), {"fault": "NotAllowed"})
+        line = self.front.await_audited("a line of it", lambda line: line["event"] == "denied")
+        self.assertEqual(line["who"]["user"], "nobody")
+
+    def test_only_the_loopback(self) -> None:
+        with self.assertRaisesRegex(AssertionError, "no address of the loopback"):
+            self.started("--policy", self.policy, "--tcp", "0.0.0.0:0")
+
+
+@unittest.skipUnless(shutil.which("openssl"), "it needs openssl, to make certificates")
+class Certificates(Ruled):
+    def setUp(self) -> None:
+        super().setUp()
+        for name in ("authority", "foreign"):
+            self.openssl("req", "-x509", "-newkey", "ec", "-pkeyopt", "ec_paramgen_curve:prime256v1", "-nodes", "-days", "30",
+                         "-subj", f"/CN={name}", "-keyout", f"{name}.key", "-out", f"{name}.pem")
+        self.signed("front", "-addext", "subjectAltName=DNS:localhost")
+        self.signed("service2", "-addext", "subjectAltName=DNS:service2")
+        self.front = self.started("--policy", self.policy, "--tls", "127.0.0.1:0", "--certificate", f"{self.folder}/front.pem",
+                                  "--key", f"{self.folder}/front.key", "--authority", f"{self.folder}/authority.pem")
+
+    def openssl(self, *words: str) -> None:
+        subprocess.run(["openssl", *words], cwd=self.folder, check=True, capture_output=True, timeout=DEADLINE)
+
+    def signed(self, name: str, *more: str, authority: str = "authority", days: str = "30") -> None:
+        """A certificate of this name, signed by an authority; of the past where the days are negative."""
+        self.openssl("req", "-newkey", "ec", "-pkeyopt", "ec_paramgen_curve:prime256v1", "-nodes", "-subj", f"/CN={name}",
+                     "-keyout", f"{name}.key", "-out", f"{name}.csr", *more)
+        self.openssl("x509", "-req", "-in", f"{name}.csr", "-CA", f"{authority}.pem", "-CAkey", f"{authority}.key",
+                     "-CAcreateserial", "-days", days, "-copy_extensions", "copy", "-out", f"{name}.pem")
+
+    def connected(self, name: str | None, version: ssl.TLSVersion = ssl.TLSVersion.TLSv1_3) -> Client:
+        """Raises OSError."""
+        context = ssl.create_default_context(cafile=f"{self.folder}/authority.pem")
+        context.maximum_version = version
+        if name:
+            context.load_cert_chain(f"{self.folder}/{name}.pem", f"{self.folder}/{name}.key")
+        connection = socket.create_connection(self.front.listening("tls:"), DEADLINE)
+        client = Client(context.wrap_socket(connection, server_hostname="localhost"))
+        self.addCleanup(client.close)
+        return client
+
+    def refused(self, name: str | None, why: str, **how: Any) -> None:
+        """It is not let in, and the audit says why."""
+        before = len(self.handshakes())
+        with self.assertRaises(OSError):
+            self.connected(name, **how).ask(op="show")
+        line = until("a line of the handshake", lambda: self.handshakes()[before:])[0]
+        self.assertIn(why, line["why"])
+        self.assertTrue(line["who"]["address"].startswith("127.0.0.1:"))
+
+    def handshakes(self) -> list[dict[str, Any]]:
+        return [line for line in self.front.audited() if line["event"] == "handshake"]
+
+    def test_each_does_what_its_rules_allow(self) -> None:
+        client = self.connected("service2")
+        self.assertIn("nodes", client.ask(op="show"))
+        self.assertIn("nodes", client.ask(op="watch"))
+        self.assertEqual(client.ask(op="reset", node=2), {"fault": "NotAllowed"})
+        self.assertEqual(client.ask(op="confirm", node=1, epoch=1), {"fault": "NotAllowed"})
+        self.assertEqual(client.ask(op="confirm", node=2, epoch=1), {"name": "BadEpoch", "refused": 15})
+        line = self.front.await_audited("a line of it", lambda line: line["event"] == "denied")
+        self.assertEqual(line["who"]["certificate"], "service2")
+        self.assertTrue(line["who"]["address"].startswith("127.0.0.1:"))
+
+    def test_a_certificate_without_a_rule_may_nothing(self) -> None:
+        self.signed("root")
+        client = self.connected("root")
+        for op in ("show", "watch", "close"):
+            self.assertEqual(client.ask(op=op), {"fault": "NotAllowed"})
+
+    def test_who_is_not_let_in(self) -> None:
+        self.signed("stranger", authority="foreign")
+        self.signed("old", days="-1")
+        self.refused("stranger", "unable to get local issuer certificate")
+        self.refused("old", "expired")
+        self.refused(None, "certificate")
+        self.refused("service2", "unsupported protocol", version=ssl.TLSVersion.TLSv1_2)
+        with socket.create_connection(self.front.listening("tls:"), DEADLINE) as plain:
+            plain.sendall(b'{"op":"show"}\n' * 10)
+            until("a fifth line", lambda: len(self.handshakes()) == 5)
+
+    def test_a_name_that_is_taken_out_of_the_policy(self) -> None:
+        client = self.connected("service2")
+        self.assertIn("nodes", client.ask(op="show"))
+        self.write(POLICY.replace("service2", "service3"))
+        self.front.reload()
+        self.front.await_audited("a line of it", lambda line: line["event"] == "policy")
+        self.assertEqual(client.ask(op="show"), {"fault": "NotAllowed"})
+        self.assertEqual(self.connected("service2").ask(op="show"), {"fault": "NotAllowed"})
+
+
+if __name__ == "__main__":
+    unittest.main()
