@@ -37,15 +37,15 @@ class Page:
         web = self._web
         application = web.Application()
         application.add_routes([web.get("/", self._page), web.get("/events", self._events), web.get("/metrics", self._numbers)])
-        self._runner = web.AppRunner(application, access_log=None, shutdown_timeout=1.0)
+        self._runner = web.AppRunner(application, access_log=None)
         await self._runner.setup()
         if address.startswith("unix:"):
-            site = web.UnixSite(self._runner, address.removeprefix("unix:"))
+            site = web.UnixSite(self._runner, address.removeprefix("unix:"), shutdown_timeout=1.0)
         else:
             host, port = address_of(address) if not address.endswith(":0") else (address[:-2], 0)
             if not ipaddress.ip_address(host).is_loopback:
                 raise ValueError(f"{host} is no address of the loopback")
-            site = web.TCPSite(self._runner, host, port)
+            site = web.TCPSite(self._runner, host, port, shutdown_timeout=1.0)
         await site.start()
         where = site.name if address.startswith("unix:") else "http://{}:{}".format(*self._runner.addresses[0][:2])
         complain(f"the page is at {where}")

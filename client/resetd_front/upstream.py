@@ -100,7 +100,7 @@ class Upstream:
 
     def look(self) -> None:
         """Something may have changed: the next flight ends with a look."""
-        self._wants_look, self._is_fresh = True, False
+        self._wants_look = True
         self.wake()
 
     def close(self) -> None:
@@ -113,6 +113,7 @@ class Upstream:
         self._let_go()
 
     def _go_on(self) -> None:
+        """Does what is next. A view is fresh only for the flight right behind it."""
         self._is_due = False
         if self._task or self._is_sent:
             return
@@ -129,6 +130,7 @@ class Upstream:
             self.wake()
         else:
             self._send()
+        self._is_fresh = False
 
     def _send(self) -> None:
         """The next flight goes out, or that whose answers did not come goes once more."""
@@ -159,7 +161,7 @@ class Upstream:
                 line.text = line.request.line(client=self._own.client, number=line.number) if line.number else line.request.line()
             line.sent += 1
         assert self._link and self._link.transport
-        self._is_sent, self._is_fresh = True, False
+        self._is_sent = True
         self.flights += 1
         self.resends += len(lines) if is_again else 0
         self._link.transport.write(b"".join(line.text for line in lines))

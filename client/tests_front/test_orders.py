@@ -70,7 +70,7 @@ class Unnumbered(Case):
         self.front.ask(op="reset", node=1)
         self.server.settled()
         client, other = self.client(), self.client()
-        client.send(*({"op": "confirm", "node": 1, "epoch": epoch} for epoch in (7, 1, 1, 8)), {"op": "reset", "node": 64})
+        client.send(*({"op": "confirm", "node": 1, "epoch": epoch} for epoch in (7, 1, 8, 9)), {"op": "reset", "node": 64})
         other.send({"op": "confirm", "node": 2, "epoch": 1})
         self.assertEqual(other.reply()["kind"], "done")
         self.assertEqual([client.reply().get("name") for _ in range(5)], ["BadEpoch", None, "BadEpoch", "BadEpoch", "UnknownNode"])

