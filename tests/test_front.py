@@ -24,7 +24,7 @@ class Front(Run):
         self.files("test_pairing", "test_policy", "test_own_orders")
 
     def test_lines_and_orders(self):
-        self.files("test_requests", "test_orders")
+        self.files("test_requests", "test_orders", "test_lost_answers")
 
     def test_watchers(self):
         self.files("test_watch")

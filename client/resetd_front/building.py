@@ -41,7 +41,7 @@ class Asked:
     request: Request | bytes
     since: float
     answer: bytes | None = None
-    tries: int = 0  # how often the number that the front gave it was not the next
+    tries: int = 0  # how often the number that the front gave it was lost
 
 
 @dataclass(eq=False, slots=True)

@@ -36,7 +36,10 @@ class Judging:
         if not self._own.is_known:
             self.wants_count = True
             return Hold.HOLD
-        return Place.DOUBTFUL if self._is_doubtful(request) else Place.ORDER
+        if not self._is_doubtful(request):
+            return Place.ORDER
+        self.wants_look = self.wants_look or not self._is_fresh
+        return Place.DOUBTFUL if self._is_fresh else Hold.HOLD
 
     def _of_reset(self, number: int, epoch: int) -> Verdict:
         """A reset goes to the server only if its node has the epoch that its asker saw, and no reset will change it."""
@@ -56,8 +59,8 @@ class Judging:
         return Place.ORDER
 
     def _is_doubtful(self, request: Request) -> bool:
-        """Whether the server may refuse it, by a view that may be an older one."""
+        """Whether the server would refuse it, by the last view. That may be an old one, so then the front looks first."""
         if self._views.view is None:
-            return False
+            return True
         node: Node | None = self._views.node(request.members["node"])
         return node is None or request.op == "confirm" and not node.confirmed < request.members["epoch"] <= node.epoch

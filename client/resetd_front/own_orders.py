@@ -13,7 +13,7 @@ from typing import Any
 
 from resetd_client import Port, Refusal, files, find_count
 
-from .building import Line
+from .building import Line, Place
 
 MOST_TRIES = 3  # of one order whose number was not the next: somebody else may order as the same client
 CARRIED_OUT = b'{"kind":"carried out","step":0}'  # it was carried out, and its reply was lost with a connection
@@ -53,12 +53,13 @@ class OwnOrders:
         self._number, self.is_known = number, True
 
     def give_numbers(self, lines: Sequence[Line]) -> None:
-        """Numbers the own orders of a new flight, and keeps the last number before any is sent."""
+        """Numbers the own orders of a new flight, and keeps the last number before any is sent. Those that will be refused,
+        by all that is known, have one number together: a refused order leaves it to the next."""
         number = self._number
         for line in lines:
             if line.request.is_unnumbered:
-                number += 1
-                line.number = number
+                line.number = number + 1
+                number += line.place is Place.ORDER
         if number != self._number:
             keep_number(self._path, number)
 
@@ -68,7 +69,8 @@ class OwnOrders:
         if refused == Refusal.OUT_OF_TURN:
             return self._out_of_turn(line, text)
         if refused == Refusal.NUMBER_REUSED:
-            return [self._lost(line, text)]
+            is_taken = line.place is Place.DOUBTFUL and self._number == line.number  # by another of this flight
+            return [Outcome(line, None) if is_taken else self._lost(line, text)]
         if "fault" in answer or refused in PASSING:
             self.is_known, self._is_free = False, True
             return [Outcome(line, text)]
@@ -101,6 +103,8 @@ class OwnOrders:
         self.is_known = False
         self._is_free = True
         is_given_up = any(asked.tries >= MOST_TRIES for asked in line.asked)
+        for asked in line.asked:
+            asked.tries += 1
         return Outcome(line, (text or b'{"name":"OutOfTurn","refused":4}') if is_given_up else None)
 
 

@@ -98,8 +98,6 @@ class Pairing:
         for whom it does not."""
         gone = [asked for asked in line.asked if asked.asker not in self._asked]
         line.asked = [asked for asked in line.asked if asked.asker in self._asked]
-        for asked in line.asked:
-            asked.tries += 1
         self._back.append(line)
         return gone
 

@@ -202,6 +202,7 @@ class Upstream:
 
     def _settle(self, line: Line, answer: bytes | None) -> None:
         if answer is None:
+            self._wants_look = True  # by the next view fewer orders are refused
             self._events.unanswered(self._pairing.put_back(line))
         else:
             self._events.answered(self._pairing.give(line, answer), line)

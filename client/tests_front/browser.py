@@ -35,6 +35,12 @@ def order(path: str, **request: Any) -> None:
         connection.makefile("rb").readline()
 
 
+def pictured(driver: Any, picture: str) -> bool:
+    """Takes a picture once several nodes are in the reset."""
+    states = driver.execute_script(STATES)
+    return len(states) - states.count("ready") - states.count("confirm") >= 12 and bool(driver.save_screenshot(picture))
+
+
 def main() -> None:
     address, path, picture = sys.argv[1:]
     options = Options()
@@ -51,7 +57,7 @@ def main() -> None:
         order(path, op="reset", node=1)
         until("a reset under way", lambda: "abort" in driver.execute_script(STATES))
         if picture:
-            driver.save_screenshot(picture)
+            until("a picture", lambda: pictured(driver, picture))
         until("its end", lambda: set(driver.execute_script(STATES)) == {"confirm"})
         order(path, op="confirm", node=1, epoch=1)
         until("a confirmed node", lambda: driver.execute_script(STATES)[0] == "ready")

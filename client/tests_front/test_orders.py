@@ -77,6 +77,7 @@ class Unnumbered(Case):
 
     def test_a_count_that_somebody_else_changed_is_found(self) -> None:
         self.front.ask(op="reset", node=1)
+        self.server.settled()
         for number in range(2, 5):
             self.assertEqual(self.server.ask(op="reset", client=OWN, number=number, node=1)["kind"] != "", True)
             self.server.settled()

@@ -55,7 +55,11 @@ class Book:
 
     def ask(self, epoch: int) -> None:
         request = Request("confirm", {"node": 1, "epoch": epoch})
-        self.waiting.append(Line(request, Place.ORDER, [Asked("a", request, 0.0)]))
+        self.waiting.append(Line(request, self.place(epoch), [Asked("a", request, 0.0)]))
+
+    def place(self, epoch: int) -> Place:
+        """What will be refused stands among the doubtful, for the most part, and sometimes what will not."""
+        return Place.DOUBTFUL if self.random.random() < (0.8 if epoch % 2 else 0.2) else Place.ORDER
 
     def fly(self, breaks: bool) -> None:
         """One flight, or as much of it as comes before the connection breaks."""
@@ -64,7 +68,8 @@ class Book:
         if not self.flight:
             self.waiting.extendleft(reversed(self.back))
             self.back = []
-            self.flight = deque(self.waiting.popleft() for _ in range(min(len(self.waiting), self.random.randrange(1, 6))))
+            taken = [self.waiting.popleft() for _ in range(min(len(self.waiting), self.random.randrange(1, 6)))]
+            self.flight = deque(sorted(taken, key=lambda line: line.place))
             self.own.give_numbers(list(self.flight))
         carried_out = len(self.flight) if not breaks else self.random.randrange(len(self.flight) + 1)
         answers = []
@@ -86,7 +91,6 @@ class Book:
         for outcome in outcomes:
             if outcome.answer is None:
                 outcome.line.number, outcome.line.sent = 0, 0
-                outcome.line.asked[0].tries += 1
                 self.back.append(outcome.line)
             else:
                 self.outcomes[outcome.line.request.members["epoch"]] = outcome.answer
@@ -115,7 +119,7 @@ class Counts(unittest.TestCase):
             while book.waiting or book.flight or book.back:
                 book.fly(book.random.random() < 0.4)
             with self.subTest(seed=seed):
-                self.assertEqual(session.carried_out, [epoch for epoch in wanted if epoch % 2 == 0])
+                self.assertEqual(sorted(session.carried_out), [epoch for epoch in wanted if epoch % 2 == 0])
                 for epoch in wanted:
                     answer = book.outcomes[epoch]
                     self.assertEqual(b"BadEpoch" in answer, epoch % 2 == 1, answer)
@@ -150,6 +154,19 @@ class Counts(unittest.TestCase):
         self.addCleanup(own.close)
         own.found(0)
         return own
+
+    def test_doubtful_ones_are_refused_in_one_flight(self) -> None:
+        own, session = self.own(), Session()
+        own.found(0)
+        lines = [Line(Request("confirm", {"node": 1, "epoch": epoch}), Place.DOUBTFUL, [], sent=1) for epoch in (1, 3, 2, 4, 5)]
+        own.give_numbers(lines)
+        outcomes = []
+        for line in lines:
+            answer = session.answer(line.number, line.request.members["epoch"])
+            outcomes += own.answered(line, json.dumps(answer).encode(), answer)
+        outcomes += own.flight_over()
+        self.assertEqual([outcome.answer is None for outcome in outcomes], [False, False, False, True, True])
+        self.assertEqual((own.is_known, session.carried_out), (True, [2]))
 
     def test_the_number_is_kept_before_it_is_sent(self) -> None:
         own = self.own()

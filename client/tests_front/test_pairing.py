@@ -195,7 +195,6 @@ class Pairs(unittest.TestCase):
             self.assertEqual(pairing.put_back(pairing.next_answered()), [])
         again, _ = pairing.take(place_of)
         self.assertEqual([line.request.members["node"] for line in again], [1, 2, 3])
-        self.assertEqual([line.asked[0].tries for line in again], [1, 1, 0])
 
     def test_late(self) -> None:
         pairing = Pairing()
