@@ -61,6 +61,7 @@ def add_serve_words(serve: argparse.ArgumentParser) -> None:
     serve.add_argument("--state", default=os.environ.get("STATE_DIRECTORY") or "/var/lib/resetd-front", metavar="FOLDER", help="where the front's own number is kept (/var/lib/resetd-front)")
     serve.add_argument("--client", type=int, choices=CLIENTS, default=15, metavar="C", help="the client as which the front orders for others, and nobody else (15)")
     serve.add_argument("--patience", type=float, default=30.0, metavar="SECONDS", help="how long a line waits for its answer (30)")
+    serve.add_argument("--stuck", type=float, default=10.0, metavar="SECONDS", help="how long a client may take nothing of its answers (10)")
     serve.add_argument("--page", metavar="ADDRESS", help="unix:PATH or a loopback HOST:PORT, for a page and metrics (read only)")
 
 
@@ -162,7 +163,7 @@ async def served(words: argparse.Namespace) -> None:
         stack.callback(own.close)
         audit = Audit(words.audit)
         stack.callback(audit.close)
-        front = Front(words.server, own, rules, audit, words.patience)
+        front = Front(words.server, own, rules, audit, words.patience, words.stuck)
         stack.callback(front.close)
         if words.signals:
             stack.callback(Signals(words.signals, front.signalled).close)

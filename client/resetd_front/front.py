@@ -22,7 +22,6 @@ from .views import Views
 from .watchers import Watchers
 
 BEAT_SECONDS = 15.0  # after which a watcher gets a view again, whatever was new
-STUCK_SECONDS = 10.0  # for which a client may take nothing of its answers
 TICK_SECONDS = 1.0
 NOT_ALLOWED = {"fault": "NotAllowed"}
 MOST_RECENT = 50  # lines that the page shows
@@ -48,9 +47,11 @@ def text_of(answer: dict[str, Any]) -> bytes:
 class Front(Events):
     """All connections, and the server behind them."""
 
-    def __init__(self, addresses: str, own: OwnOrders, policy: Policy, audit: Audit, patience: float) -> None:
+    def __init__(self, addresses: str, own: OwnOrders, policy: Policy, audit: Audit, patience: float, stuck: float) -> None:
+        """`patience` is for how many seconds a line waits for its answer, `stuck` for how many a client may take nothing of
+        its answers. Raises ValueError."""
         self._loop = asyncio.get_running_loop()
-        self._own, self.audit, self._patience = own, audit, patience
+        self._own, self.audit, self._patience, self._most_stuck = own, audit, patience, stuck
         self._policy = policy
         self.views, self.watchers, self.counts = Views(), Watchers(), Counts()
         self._pairing = Pairing()
@@ -240,8 +241,8 @@ class Front(Events):
         for connection in list(self._stuck):
             if connection.unsent < connection.left:
                 connection.stuck_since, connection.left = now, connection.unsent
-            elif connection.stuck_since is not None and now - connection.stuck_since >= STUCK_SECONDS:
-                connection.drop(f"it took no answer for {STUCK_SECONDS:g} s")
+            elif connection.stuck_since is not None and now - connection.stuck_since >= self._most_stuck:
+                connection.drop(f"it took no answer for {self._most_stuck:g} s")
         if self._stuck or not self._pairing.is_idle:
             self._soon("tick", TICK_SECONDS, self._tick)
 

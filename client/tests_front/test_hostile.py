@@ -35,6 +35,8 @@ class Beside(Case):
 
     def test_one_that_never_reads(self) -> None:
         """It is read no further once its answers do not go out, and ended after a while."""
+        self.front.kill()
+        self.front = self.started("--stuck", "1")
         client = self.client()
         client.socket.setblocking(False)
         with contextlib.suppress(BlockingIOError):
@@ -44,6 +46,16 @@ class Beside(Case):
         line = self.front.await_audited("its end", lambda line: line["event"] == "ends" and "took no answer" in line.get("why", ""))
         self.assertEqual(line["connection"], 1)
         self.others_are_served()
+
+    def test_one_that_reads_late(self) -> None:
+        """Nothing of its answers is lost, and no more is read of it than it may have in the works."""
+        client = self.client()
+        sending = threading.Thread(target=client.send, args=[SHOW * 5_000])
+        sending.start()
+        self.others_are_served()
+        for _ in range(5_000):
+            self.assertIn("nodes", client.reply())
+        sending.join()
 
     def test_one_that_floods(self) -> None:
         stop = threading.Event()

@@ -132,7 +132,6 @@ class Unnumbered(Case):
 
 class Away(Case):
     nodes = 2
-    words = ("--patience", "600")
 
     def test_lines_wait_for_a_server_that_is_away(self) -> None:
         self.server.kill()

@@ -125,6 +125,19 @@ class Counts(unittest.TestCase):
                     self.assertEqual(b"BadEpoch" in answer, epoch % 2 == 1, answer)
                     self.assertTrue(epoch % 2 or answer == CARRIED_OUT or b"done" in answer, answer)
 
+    def test_refusals_lose_no_count(self) -> None:
+        """Without a break the number is never looked for, whichever orders are refused, and wherever they stand."""
+        own = self.own()
+        for seed in range(100):
+            session = Session()
+            own.found(0)
+            book = Book(own, session, seed)
+            for place in range(1, 13):
+                book.ask(2 * place + (book.random.random() < 0.5))
+            while book.waiting or book.flight or book.back:
+                book.fly(False)
+                self.assertTrue(own.is_known, f"seed {seed}")
+
     def test_a_count_that_is_not_the_server_s_is_looked_for(self) -> None:
         own, session = self.own(), Session()
         session.number = 7
