@@ -33,7 +33,7 @@ class Audit:
     def write(self) -> str | None:
         """Writes what was noted, each line whole. If that fails, answers why, once a minute."""
         lines, self._lines = self._lines, []
-        if not lines:
+        if not lines or self._file < 0:
             return None
         text = memoryview("".join(f"{line}\n" for line in lines).encode())
         try:
@@ -56,8 +56,10 @@ class Audit:
             os.close(old)
 
     def close(self) -> None:
-        if self._file != 1:
-            os.close(self._file)
+        """Writes no more."""
+        file, self._file = self._file, -1
+        if file > 1:
+            os.close(file)
 
     def _opened(self) -> int:
         if self._path == STANDARD_OUTPUT:

@@ -9,7 +9,6 @@ from __future__ import annotations
 import argparse
 import asyncio
 import contextlib
-import grp
 import os
 import signal
 import socket
@@ -26,7 +25,7 @@ from .listeners import Listeners
 from .metrics import Metrics
 from .own_orders import OwnOrders
 from .page import Page
-from .peers import server_context
+from .peers import group_number, server_context
 from .signals import Signals
 from .upstream import address_of
 
@@ -49,7 +48,7 @@ def add_serve_words(serve: argparse.ArgumentParser) -> None:
     serve.add_argument("--server", default="127.0.0.1:4170", metavar="HOST:PORT", help="the server's port, or several with commas (127.0.0.1:4170)")
     serve.add_argument("--socket", default=SOCKET, metavar="PATH", help=f"the Unix socket ({SOCKET})")
     serve.add_argument("--mode", type=lambda text: int(text, 8), default=0o660, metavar="OCTAL", help="its mode (660)")
-    serve.add_argument("--group", type=lambda name: grp.getgrnam(name).gr_gid, metavar="NAME", help="its group")
+    serve.add_argument("--group", type=group_named, metavar="NAME", help="its group")
     serve.add_argument("--tls", type=listened, metavar="HOST:PORT", help="also TLS 1.3 with client certificates")
     serve.add_argument("--certificate", metavar="PEM", help="the front's certificate for TLS, with its chain")
     serve.add_argument("--key", metavar="PEM", help="its key")
@@ -63,6 +62,14 @@ def add_serve_words(serve: argparse.ArgumentParser) -> None:
     serve.add_argument("--patience", type=float, default=30.0, metavar="SECONDS", help="how long a line waits for its answer (30)")
     serve.add_argument("--stuck", type=float, default=10.0, metavar="SECONDS", help="how long a client may take nothing of its answers (10)")
     serve.add_argument("--page", metavar="ADDRESS", help="unix:PATH or a loopback HOST:PORT, for a page and metrics (read only)")
+
+
+def group_named(name: str) -> int:
+    """Raises ValueError."""
+    try:
+        return group_number(name)
+    except KeyError:
+        raise ValueError(f"no group {name!r}") from None
 
 
 def listened(text: str) -> tuple[str, int]:
@@ -180,6 +187,8 @@ async def served(words: argparse.Namespace) -> None:
         await ended.wait()
         if page:
             await page.close()
+        front.close()
+        await asyncio.sleep(0)  # so that the ends of connections are written down
         audit.note("stops")
         audit.write()
 

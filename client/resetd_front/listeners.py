@@ -11,8 +11,9 @@ import resource
 import socket
 import ssl
 import stat
-from collections.abc import Callable
+from collections.abc import Callable, Coroutine
 from itertools import count
+from typing import Any
 
 from .connection import Connection
 from .front import Front, complain
@@ -77,8 +78,8 @@ class Listeners:
         self._spawn(self._accept(listener, context))
         complain(f"listening {name}")
 
-    def _spawn(self, work: object) -> None:
-        task: asyncio.Task[None] = self._loop.create_task(work)  # type: ignore[arg-type]
+    def _spawn(self, work: Coroutine[Any, Any, None]) -> None:
+        task = self._loop.create_task(work)
         self._tasks.add(task)
         task.add_done_callback(self._tasks.discard)
 

@@ -5,13 +5,16 @@ Nothing here waits for a time to pass: it waits for what it needs, with a deadli
 
 from __future__ import annotations
 
+import fcntl
 import json
 import os
 import signal
 import socket
+import struct
 import subprocess
 import sys
 import tempfile
+import termios
 import time
 import unittest
 from collections.abc import Callable
@@ -225,6 +228,11 @@ class Client:
     def ask(self, **request: Any) -> dict[str, Any]:
         self.send(request)
         return self.reply()
+
+
+def unread(client: Client) -> int:
+    """How many bytes of what a client sent the front has not read."""
+    return int(struct.unpack("i", fcntl.ioctl(client.socket, termios.TIOCOUTQ, bytes(4)))[0])
 
 
 @unittest.skipUnless(PROGRAM, "RESETD names no program")

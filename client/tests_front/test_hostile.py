@@ -11,7 +11,7 @@ import threading
 import unittest
 from typing import Any
 
-from case import Case, Client, Front, until
+from case import Case, Client, Front, unread, until
 
 SHOW = b'{"op":"show"}\n'
 
@@ -34,7 +34,7 @@ class Beside(Case):
         self.others_are_served()
 
     def test_one_that_never_reads(self) -> None:
-        """It is read no further once its answers do not go out, and ended after a while."""
+        """It is ended after a while."""
         self.front.kill()
         self.front = self.started("--stuck", "1")
         client = self.client()
@@ -46,6 +46,16 @@ class Beside(Case):
         line = self.front.await_audited("its end", lambda line: line["event"] == "ends" and "took no answer" in line.get("why", ""))
         self.assertEqual(line["connection"], 1)
         self.others_are_served()
+
+    def test_one_that_does_not_read_is_read_no_further(self) -> None:
+        client = self.client()
+        client.socket.setblocking(False)
+        for _ in range(3):
+            with contextlib.suppress(BlockingIOError):
+                while True:
+                    client.socket.send(SHOW * 1_000)
+            self.others_are_served()
+        self.assertGreater(unread(client), 0)
 
     def test_one_that_reads_late(self) -> None:
         """Nothing of its answers is lost, and no more is read of it than it may have in the works."""

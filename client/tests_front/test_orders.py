@@ -10,7 +10,7 @@ import time
 import unittest
 from typing import Any
 
-from case import Case, until
+from case import Case, unread, until
 from resetd_client import Orders, Port
 
 OWN = 15
@@ -89,17 +89,19 @@ class Unnumbered(Case):
         self.assertEqual(self.front.ask(op="reset", client=OWN - 1, number=1, node=1)["kind"], "started")
 
     def test_equal_confirms_are_one_order(self) -> None:
-        """While the server stands still they wait, and then go together."""
+        """While the server stands still they wait behind a look, and then go together."""
         self.front.ask(op="reset", node=1)
         self.server.settled()
         self.hold()
-        clients = [self.client() for _ in range(20)]
+        looking, clients = self.client(), [self.client() for _ in range(20)]
+        looking.send({"op": "show"})
+        until("that the front has read it", lambda: unread(looking) == 0)
         for client in clients:
             client.send({"op": "confirm", "node": 1, "epoch": 1})
+        until("that the front has read them", lambda: sum(map(unread, clients)) == 0)
         self.go_on()
-        answers = [client.reply() for client in clients]
-        self.assertIn("done", {answer.get("kind") for answer in answers})
-        self.assertLessEqual(len({json.dumps(answer) for answer in answers}), 3, answers)
+        answers = {json.dumps(client.reply()) for client in clients}
+        self.assertEqual((len(answers), json.loads(answers.pop())["kind"]), (1, "done"))
 
     def test_resets_that_name_the_epoch_cost_one(self) -> None:
         """Members that ask one after the other, each for the epoch that it saw, make one reset."""
