@@ -50,8 +50,8 @@ def ring(nodes: int) -> str:
 class Server:
     """`resetd serve`, which may be killed and started again at the same address."""
 
-    def __init__(self, folder: str, topology: str) -> None:
-        self.store, self.signals = f"{folder}/store", f"{folder}/signals"
+    def __init__(self, folder: str, topology: str, before: tuple[str, ...] = ()) -> None:
+        self.store, self.signals, self._before = f"{folder}/store", f"{folder}/signals", before
         with open(f"{folder}/topology", "w", encoding="ascii") as file:
             file.write("half = 32768\n" + topology)
         subprocess.run([PROGRAM, "init", self.store, f"{folder}/topology"], check=True, capture_output=True)
@@ -66,7 +66,7 @@ class Server:
     def _started(self) -> str:
         with open(self.signals, "ab") as file:
             begin = file.tell()
-            self.process = subprocess.Popen([PROGRAM, "serve", self.store, self.address], stdin=subprocess.DEVNULL,
+            self.process = subprocess.Popen([*self._before, PROGRAM, "serve", self.store, self.address], stdin=subprocess.DEVNULL,
                                             stdout=file, stderr=subprocess.DEVNULL)
         return until("its first line", lambda: self._address(begin) or ("-" if self._has_ended() else "")).strip("-")
 
@@ -246,12 +246,16 @@ class Case(unittest.TestCase):
         temporary = tempfile.TemporaryDirectory()
         self.addCleanup(temporary.cleanup)
         self.folder = temporary.name
-        self.server = Server(self.folder, self.topology())
+        self.server = Server(self.folder, self.topology(), self.before())
         self.addCleanup(self.server.kill)
         self.front = self.started(*self.words)
 
     def topology(self) -> str:
         return ring(self.nodes)
+
+    def before(self) -> tuple[str, ...]:
+        """What the server is begun by."""
+        return ()
 
     def started(self, *words: str, **how: Any) -> Front:
         front = Front(self.folder, self.server.address, *words, **how)

@@ -2,6 +2,7 @@
 
 from __future__ import annotations
 
+import contextlib
 import os
 import shutil
 import socket
@@ -142,8 +143,16 @@ class Certificates(Ruled):
                          "-subj", f"/CN={name}", "-keyout", f"{name}.key", "-out", f"{name}.pem")
         self.signed("front", "-addext", "subjectAltName=DNS:localhost")
         self.signed("service2", "-addext", "subjectAltName=DNS:service2")
-        self.front = self.started("--policy", self.policy, "--tls", "127.0.0.1:0", "--certificate", f"{self.folder}/front.pem",
-                                  "--key", f"{self.folder}/front.key", "--authority", f"{self.folder}/authority.pem")
+        self.front = self.started("--policy", self.policy, "--tls", self.address(), "--certificate", f"{self.folder}/front.pem",
+                                  "--key", f"{self.folder}/front.key", "--authority", f"{self.folder}/authority.pem", before=self.before())
+
+    def before(self) -> tuple[str, ...]:
+        """What the front and the server are begun by."""
+        return ()
+
+    def address(self) -> str:
+        """Where the front listens for TLS."""
+        return "127.0.0.1:0"
 
     def openssl(self, *words: str) -> None:
         subprocess.run(["openssl", *words], cwd=self.folder, check=True, capture_output=True, timeout=DEADLINE)
@@ -214,6 +223,79 @@ class Certificates(Ruled):
         self.front.await_audited("a line of it", lambda line: line["event"] == "policy")
         self.assertEqual(client.ask(op="show"), {"fault": "NotAllowed"})
         self.assertEqual(self.connected("service2").ask(op="show"), {"fault": "NotAllowed"})
+
+
+def namespaces() -> bool:
+    """Whether this process may make network namespaces."""
+    name = f"resetd-{os.getpid()}"
+    with contextlib.suppress(FileNotFoundError):
+        if subprocess.run(["ip", "netns", "add", name], capture_output=True, check=False).returncode == 0:
+            return subprocess.run(["ip", "netns", "del", name], capture_output=True, check=False).returncode == 0
+    return False
+
+
+FAR = """
+import socket, ssl, sys
+host, port, folder, name, line = sys.argv[1:]
+context = ssl.create_default_context(cafile=f"{folder}/authority.pem")
+context.load_cert_chain(f"{folder}/{name}.pem", f"{folder}/{name}.key")
+connection = context.wrap_socket(socket.create_connection((host, int(port)), 120), server_hostname="localhost")
+connection.sendall(line.encode() + b"\\n"); print(connection.makefile("rb").readline().decode(), end="")
+"""
+
+
+@unittest.skipUnless(namespaces(), "optional: it needs network namespaces")
+class Hosts(Certificates):
+    """Two hosts, as network namespaces: the server and the front on one, a service on the other."""
+
+    def setUp(self) -> None:
+        self.near, self.far = f"resetd-{os.getpid()}-near", f"resetd-{os.getpid()}-far"
+        for name, address in ((self.near, "10.99.7.1/24"), (self.far, "10.99.7.2/24")):
+            self.ip("netns", "add", name)
+            self.addCleanup(self.ip, "netns", "del", name)
+            self.ip("-n", name, "link", "set", "lo", "up")
+        self.ip("-n", self.near, "link", "add", "wire", "type", "veth", "peer", "name", "wire", "netns", self.far)
+        for name, address in ((self.near, "10.99.7.1/24"), (self.far, "10.99.7.2/24")):
+            self.ip("-n", name, "address", "add", address, "dev", "wire")
+            self.ip("-n", name, "link", "set", "wire", "up")
+        super().setUp()
+
+    def ip(self, *words: str) -> None:
+        subprocess.run(["ip", *words], check=True, capture_output=True, timeout=DEADLINE)
+
+    def before(self) -> tuple[str, ...]:
+        return ("ip", "netns", "exec", self.near)
+
+    def address(self) -> str:
+        return "10.99.7.1:0"
+
+    def asked_far(self, name: str, line: str) -> str:
+        """What the other host is answered."""
+        host, port = self.front.listening("tls:")
+        ran = subprocess.run(["ip", "netns", "exec", self.far, sys.executable, "-c", FAR, host, str(port), self.folder, name, line],
+                             capture_output=True, text=True, timeout=DEADLINE, check=False)
+        return ran.stdout or ran.stderr
+
+    def test_each_does_what_its_rules_allow(self) -> None:
+        self.assertIn('"nodes"', self.asked_far("service2", SHOW))
+        self.assertEqual(self.asked_far("service2", RESET_1), DENIED)
+        line = self.front.await_audited("a line of it", lambda line: line["event"] == "denied")
+        self.assertEqual(line["who"]["certificate"], "service2")
+        self.assertTrue(line["who"]["address"].startswith("10.99.7.2:"), line)
+
+    def test_who_is_not_let_in(self) -> None:
+        self.signed("stranger", authority="foreign")
+        self.assertNotIn("nodes", self.asked_far("stranger", SHOW))
+        self.assertIn("local issuer", until("a line of the handshake", self.handshakes)[0]["why"])
+
+    def test_the_port_is_not_reached_from_the_other_host(self) -> None:
+        port = self.server.address.rsplit(":", 1)[1]
+        for host in ("127.0.0.1", "10.99.7.1"):
+            ran = subprocess.run(["ip", "netns", "exec", self.far, sys.executable, "-c",
+                                  f"import socket; socket.create_connection(('{host}', {port}), 120)"], capture_output=True, text=True, check=False)
+            self.assertIn("ConnectionRefusedError", ran.stderr)
+
+    test_a_certificate_without_a_rule_may_nothing = test_a_name_that_is_taken_out_of_the_policy = None  # type: ignore[assignment]
 
 
 if __name__ == "__main__":
