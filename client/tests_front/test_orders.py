@@ -2,9 +2,11 @@
 
 from __future__ import annotations
 
+import contextlib
 import json
 import os
 import signal
+import socket
 import threading
 import time
 import unittest
@@ -145,20 +147,30 @@ class Away(Case):
         self.assertEqual({client.reply()["kind"] for client in clients} - {"started", "joined"}, set())
 
     def test_the_port_is_left_to_others(self) -> None:
-        """A client that asks all the time does not keep others from the port itself."""
-        client, stop = self.client(), threading.Event()
+        """A client that always has something waiting does not keep others from the port itself."""
+        client, sent = self.client(), []
 
-        def ask() -> None:
-            while not stop.is_set():
-                client.ask(op="show")
-        busy = threading.Thread(target=ask)
-        busy.start()
+        def flood() -> None:
+            with contextlib.suppress(OSError):
+                while True:
+                    client.send(b'{"op":"resend"}\n' * 500)
+                    sent.append(500)
+
+        def read() -> None:
+            with contextlib.suppress(OSError):
+                while client.reply():
+                    pass
+        busy = [threading.Thread(target=each, daemon=True) for each in (flood, read)]
+        for each in busy:
+            each.start()
+        until("a flood", lambda: len(sent) > 10)
         try:
             for _ in range(3):
                 self.assertIn("nodes", self.server.ask(op="show"))
         finally:
-            stop.set()
-            busy.join()
+            client.socket.shutdown(socket.SHUT_RDWR)
+        for each in busy:
+            each.join()
 
     def test_the_library_orders_through_it(self) -> None:
         """`Orders` of the library, over the loopback, with its own client."""
