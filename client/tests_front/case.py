@@ -241,14 +241,17 @@ class Case(unittest.TestCase):
 
     nodes = 4
     words: tuple[str, ...] = ()
+    has_front = True  # whether one is begun with the test
+    parent: str | None = None  # of the folder, where others than this user have to reach it
 
     def setUp(self) -> None:
-        temporary = tempfile.TemporaryDirectory()
+        temporary = tempfile.TemporaryDirectory(dir=self.parent)
         self.addCleanup(temporary.cleanup)
         self.folder = temporary.name
         self.server = Server(self.folder, self.topology(), self.before())
         self.addCleanup(self.server.kill)
-        self.front = self.started(*self.words)
+        if self.has_front:
+            self.front = self.started(*self.words)
 
     def topology(self) -> str:
         return ring(self.nodes)

@@ -3,12 +3,14 @@
 from __future__ import annotations
 
 import contextlib
+import functools
 import os
 import shutil
 import socket
 import ssl
 import subprocess
 import sys
+import tempfile
 import unittest
 from typing import Any
 
@@ -38,16 +40,17 @@ import socket, sys
 connection = socket.socket(socket.AF_UNIX); connection.connect(sys.argv[1])
 connection.sendall(sys.argv[2].encode() + b"\\n"); print(connection.makefile("rb").readline().decode(), end="")
 """
+PYTHON = "/usr/bin/python3" if os.path.exists("/usr/bin/python3") else sys.executable  # which other users can run
 SHOW, WATCH, RESET_1, RESET_2 = '{"op":"show"}', '{"op":"watch"}', '{"op":"reset","node":1}', '{"op":"reset","node":2}'
 DENIED = '{"fault":"NotAllowed"}\n'
 
 
 class Ruled(Case):
     nodes = 2
+    has_front = False
 
     def setUp(self) -> None:
         super().setUp()
-        self.front.kill()
         self.policy = f"{self.folder}/policy"
         self.write(POLICY)
 
@@ -58,9 +61,11 @@ class Ruled(Case):
 
 @unittest.skipUnless(os.getuid() == 0 and shutil.which("setpriv"), "it needs root and setpriv, to be other users")
 class Users(Ruled):
+    parent = "/tmp"
+
     def ask_as(self, user: str, group: str, line: str) -> str:
         """What a process of this user and this group is answered."""
-        ran = subprocess.run(["setpriv", f"--reuid={user}", f"--regid={group}", "--clear-groups", sys.executable, "-c", ASKING,
+        ran = subprocess.run(["setpriv", f"--reuid={user}", f"--regid={group}", "--clear-groups", PYTHON, "-c", ASKING,
                               self.front.path, line], capture_output=True, text=True, timeout=DEADLINE, check=False, cwd="/")
         return ran.stdout if ran.returncode == 0 else "no connection" if "PermissionError" in ran.stderr else ran.stderr
 
@@ -134,15 +139,38 @@ class Reloads(Ruled):
             self.started("--policy", self.policy, "--tcp", "0.0.0.0:0")
 
 
+def openssl(folder: str, *words: str) -> None:
+    subprocess.run(["openssl", *words], cwd=folder, check=True, capture_output=True, timeout=DEADLINE)
+
+
+def signed(folder: str, name: str, *more: str, authority: str = "authority", days: str = "30") -> None:
+    """Makes a certificate of this name, signed by an authority; of the past where the days are negative."""
+    openssl(folder, "req", "-newkey", "ec", "-pkeyopt", "ec_paramgen_curve:prime256v1", "-nodes", "-subj", f"/CN={name}",
+            "-keyout", f"{name}.key", "-out", f"{name}.csr", *more)
+    openssl(folder, "x509", "-req", "-in", f"{name}.csr", "-CA", f"{authority}.pem", "-CAkey", f"{authority}.key",
+            "-CAcreateserial", "-days", days, "-copy_extensions", "copy", "-out", f"{name}.pem")
+
+
+@functools.cache
+def certificates() -> tempfile.TemporaryDirectory[str]:
+    """A folder with two authorities, and what they have signed, made once."""
+    folder = tempfile.TemporaryDirectory()
+    for name in ("authority", "foreign"):
+        openssl(folder.name, "req", "-x509", "-newkey", "ec", "-pkeyopt", "ec_paramgen_curve:prime256v1", "-nodes", "-days", "30",
+                "-subj", f"/CN={name}", "-keyout", f"{name}.key", "-out", f"{name}.pem")
+    signed(folder.name, "front", "-addext", "subjectAltName=DNS:localhost")
+    signed(folder.name, "service2", "-addext", "subjectAltName=DNS:service2")
+    signed(folder.name, "root")
+    signed(folder.name, "stranger", authority="foreign")
+    signed(folder.name, "old", days="-1")
+    return folder
+
+
 @unittest.skipUnless(shutil.which("openssl"), "it needs openssl, to make certificates")
 class Certificates(Ruled):
     def setUp(self) -> None:
         super().setUp()
-        for name in ("authority", "foreign"):
-            self.openssl("req", "-x509", "-newkey", "ec", "-pkeyopt", "ec_paramgen_curve:prime256v1", "-nodes", "-days", "30",
-                         "-subj", f"/CN={name}", "-keyout", f"{name}.key", "-out", f"{name}.pem")
-        self.signed("front", "-addext", "subjectAltName=DNS:localhost")
-        self.signed("service2", "-addext", "subjectAltName=DNS:service2")
+        shutil.copytree(certificates().name, self.folder, dirs_exist_ok=True)
         self.front = self.started("--policy", self.policy, "--tls", self.address(), "--certificate", f"{self.folder}/front.pem",
                                   "--key", f"{self.folder}/front.key", "--authority", f"{self.folder}/authority.pem", before=self.before())
 
@@ -153,16 +181,6 @@ class Certificates(Ruled):
     def address(self) -> str:
         """Where the front listens for TLS."""
         return "127.0.0.1:0"
-
-    def openssl(self, *words: str) -> None:
-        subprocess.run(["openssl", *words], cwd=self.folder, check=True, capture_output=True, timeout=DEADLINE)
-
-    def signed(self, name: str, *more: str, authority: str = "authority", days: str = "30") -> None:
-        """A certificate of this name, signed by an authority; of the past where the days are negative."""
-        self.openssl("req", "-newkey", "ec", "-pkeyopt", "ec_paramgen_curve:prime256v1", "-nodes", "-subj", f"/CN={name}",
-                     "-keyout", f"{name}.key", "-out", f"{name}.csr", *more)
-        self.openssl("x509", "-req", "-in", f"{name}.csr", "-CA", f"{authority}.pem", "-CAkey", f"{authority}.key",
-                     "-CAcreateserial", "-days", days, "-copy_extensions", "copy", "-out", f"{name}.pem")
 
     def connected(self, name: str | None, version: ssl.TLSVersion = ssl.TLSVersion.TLSv1_3) -> Client:
         """Raises OSError."""
@@ -199,14 +217,11 @@ class Certificates(Ruled):
         self.assertTrue(line["who"]["address"].startswith("127.0.0.1:"))
 
     def test_a_certificate_without_a_rule_may_nothing(self) -> None:
-        self.signed("root")
         client = self.connected("root")
         for op in ("show", "watch", "close"):
             self.assertEqual(client.ask(op=op), {"fault": "NotAllowed"})
 
     def test_who_is_not_let_in(self) -> None:
-        self.signed("stranger", authority="foreign")
-        self.signed("old", days="-1")
         self.refused("stranger", "unable to get local issuer certificate")
         self.refused("old", "expired")
         self.refused(None, "certificate")
@@ -284,7 +299,6 @@ class Hosts(Certificates):
         self.assertTrue(line["who"]["address"].startswith("10.99.7.2:"), line)
 
     def test_who_is_not_let_in(self) -> None:
-        self.signed("stranger", authority="foreign")
         self.assertNotIn("nodes", self.asked_far("stranger", SHOW))
         self.assertIn("local issuer", until("a line of the handshake", self.handshakes)[0]["why"])
 
