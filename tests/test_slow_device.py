@@ -64,11 +64,17 @@ class SlowDevice(Case):
         with self.serving(topology([(1, 1), (2, 1)], [(1, 2)]), seconds) as server:
             self.assertEqual(server.order(1, "reset", node=1), {"kind": "started", "step": 4})
             with server.connect() as connection:
+                until("the second step", lambda: self.accepted(connection) > 4)
                 connection.send({"op": "show"}, {"op": "resend"}, {"op": "show"})
                 shown, resent, again = connection.reply(), connection.reply(), connection.reply()
             server.await_quiet(1)
             self.assertEqual(sorted(server.await_signals(2)), [(1, 1), (2, 1)])
         return (shown, resent) if shown == again and (shown["accepted"], shown["settled"]) == (5, 4) else None
+
+    @staticmethod
+    def accepted(connection):
+        connection.send({"op": "show"})
+        return connection.reply()["accepted"]
 
     def test_no_signal_before_it_is_settled(self):
         """Each node of which one is printed is shown in its new epoch."""

@@ -22,7 +22,7 @@ from resetd_client import Served as Seat  # noqa: E402
 HALF = 1 << 20  # so large that nothing is moved to the other half meanwhile
 NODES = range(1, 65)
 AT_A_START, AT_A_FLIGHT = 2, 2  # how many syncs there are
-AT_ONCE = 5  # seconds for which threads may have waited in vain, or rested, where each reply comes with its flight
+AT_ONCE = 12  # seconds for which threads may have waited in vain, or rested, where each reply comes with its flight
 NOT_CARRIED_OUT = [{"fault": "OutOfMemory"}, refused(4, "OutOfTurn"), refused(1, "Stopped")]
 ALONE = topology([(node, 1) for node in range(1, 17)], half=HALF)
 

@@ -177,23 +177,27 @@ int nanosleep(const struct timespec *time, struct timespec *left) {
     if (getenv("WAITS")) note("rest", 0, time->tv_sec * 1000000 + time->tv_nsec / 1000, "", 0);
     return syscall(SYS_nanosleep, time, left);
 }
-// So is for how many microseconds a thread has waited for another one, where that time passed and nobody came.
+#ifdef __x86_64__
+// So is for how many microseconds a thread has waited for another one, where that time passed and nobody came. (The C library's
+// own `syscall` can't be looked up yet where the first call comes.)
 long syscall(long number, ...) {
-    static long (*usual)(long, ...);
-    long each[6];
+    long each[6], status;
     va_list words;
     va_start(words, number);
     for (int at = 0; at < 6; at++) each[at] = va_arg(words, long);
     va_end(words);
-    if (!usual) usual = dlsym(RTLD_NEXT, "syscall");
-    long status = usual(number, each[0], each[1], each[2], each[3], each[4], each[5]);
-    if (number == SYS_futex && status < 0 && errno == ETIMEDOUT && getenv("WAITS")) {
+    register long fourth __asm__("r10") = each[3], fifth __asm__("r8") = each[4], sixth __asm__("r9") = each[5];
+    __asm__ volatile("syscall" : "=a"(status) : "a"(number), "D"(each[0]), "S"(each[1]), "d"(each[2]), "r"(fourth), "r"(fifth),
+                     "r"(sixth) : "rcx", "r11", "memory");
+    if (status >= 0 || status < -4095) return status;
+    if (number == SYS_futex && status == -ETIMEDOUT && getenv("WAITS")) {
         const struct timespec *time = (const struct timespec *)each[3];
         note("waited", 0, time->tv_sec * 1000000 + time->tv_nsec / 1000, "", 0);
-        errno = ETIMEDOUT;
     }
-    return status;
+    errno = -status;
+    return -1;
 }
+#endif
 int shutdown(int socket, int how) {
     if (getenv("WAITS")) note("no-more", socket, how, "", 0);
     return syscall(SYS_shutdown, socket, how);
