@@ -97,6 +97,14 @@ class Kept(Case):
         self.assertEqual(self.due(Starts(Shelf(self.path), 1, 4), THROUGH), Due.TALK)
         self.assertEqual(self.due(Starts(Shelf(f"{self.folder}/none.json"), 1, 4), THROUGH), Due.RESET)
 
+    def test_what_a_gateway_tells_again_is_written(self) -> None:
+        """Also where nothing else changes."""
+        shelf = Shelf(self.path)
+        for told in ("1 1\n", "1 2\n"):
+            Starts(shelf, 1, None).note_begin(told)
+            shelf.keep()
+            self.assertEqual(Shelf(self.path).told, {1: told})
+
     def test_nothing_is_written_where_nothing_changes(self) -> None:
         shelf, starts = self.begun(4)
         for _ in range(2):
