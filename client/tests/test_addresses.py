@@ -120,6 +120,7 @@ class Certificates(Case):
     def test_a_client_that_is_not_taken_without_a_word(self) -> None:
         """As by a server on asyncio, which ends the connection and sends no alert."""
         listener, stop = socket.create_server(("127.0.0.1", 0)), threading.Event()
+        self.addCleanup(stop.set)
 
         async def serve() -> None:
             asyncio.get_running_loop().set_exception_handler(lambda *_: None)
