@@ -98,7 +98,7 @@ class Tls:
     def __str__(self) -> str:
         return f"tls:{self.host}:{self.port}"
 
-    def connect(self, seconds: float) -> socket.socket:
+    def connect(self, seconds: float) -> ssl.SSLSocket:
         context = self.credentials.context()
         try:
             plain = connected_to(self.host, self.port, seconds)
@@ -111,18 +111,23 @@ class Tls:
             raise untrusted(self, fault) or away(self, fault) from fault
 
     def refusal(self) -> Untrusted | None:
-        """In TLS 1.3 a front judges the client's certificate behind the handshake, and what the client sends meanwhile may
-        hide its alert: so this connection sends nothing."""
+        """In TLS 1.3 a front judges the client's certificate when the client takes the handshake for done, and what the
+        client then sends may hide the alert: so this connection sends nothing. A front that has taken a certificate sends
+        a ticket; one that ends a connection without a ticket and without an alert has not."""
         try:
             with self.connect(CONNECT_SECONDS) as connection:
-                connection.recv(1)
+                try:
+                    connection.recv(1)
+                except ConnectionError:
+                    pass
+                is_taken = connection.session is not None and connection.session.has_ticket
         except Untrusted as refused:
             return refused
         except OSError as fault:
             return untrusted(self, fault)
         except Away:
-            pass
-        return None
+            return None
+        return None if is_taken else Untrusted(f"{self}: it ends the handshake: it does not take this client's certificate")
 
 
 @dataclass(frozen=True)

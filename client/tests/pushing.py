@@ -23,6 +23,7 @@ class Pushing:
         self.names: list[str] = []
         self.connections = 0
         self.answer = ""  # to a watch, in place of views
+        self.ends = False  # each connection as soon as it is there
         self._watchers: list[socket.socket] = []
         self._open: list[socket.socket] = []
         self._changes = threading.Condition()
@@ -73,6 +74,9 @@ class Pushing:
             with self._changes:
                 self.connections += 1
                 self._open.append(connection)
+            if self.ends:
+                connection.close()
+                return
             with connection, connection.makefile("rb") as lines:
                 for line in lines:
                     self._answer(connection, line)
@@ -121,12 +125,17 @@ def of_unix(fake: Fake, path: str) -> Pushing:
     return Pushing(fake, listener)
 
 
-def of_tls(fake: Fake, folder: str, name: str = "front") -> tuple[Pushing, str]:
-    """A front that shows this certificate, and its address."""
+def context_of(folder: str, name: str = "front") -> ssl.SSLContext:
+    """Of a front that shows this certificate, and wants one of the authority's."""
     context = ssl.SSLContext(ssl.PROTOCOL_TLS_SERVER)
     context.minimum_version = ssl.TLSVersion.TLSv1_3
     context.load_cert_chain(os.path.join(folder, f"{name}.pem"), os.path.join(folder, f"{name}.key"))
     context.load_verify_locations(os.path.join(folder, "authority.pem"))
     context.verify_mode = ssl.CERT_REQUIRED
+    return context
+
+
+def of_tls(fake: Fake, folder: str, name: str = "front") -> tuple[Pushing, str]:
+    """A front that shows this certificate, and its address."""
     listener = socket.create_server(("127.0.0.1", 0))
-    return Pushing(fake, listener, context), f"tls:127.0.0.1:{listener.getsockname()[1]}"
+    return Pushing(fake, listener, context_of(folder, name)), f"tls:127.0.0.1:{listener.getsockname()[1]}"

@@ -2,14 +2,17 @@
 
 from __future__ import annotations
 
+import asyncio
 import os
 import shutil
+import socket
 import tempfile
+import threading
 import unittest
 from unittest import mock
 
 from case import Case
-from pushing import make_certificates, of_tls, of_unix
+from pushing import context_of, make_certificates, of_tls, of_unix
 from resetd_client import Away, BadWords, Credentials, Fault, Faulted, Orders, Port, Unreadable, Untrusted
 from resetd_client.address import SERVER, addresses_of, default_address
 from resetd_client.control import main
@@ -113,6 +116,33 @@ class Certificates(Case):
         for _ in range(3):
             with self.assertRaisesRegex(Untrusted, "does not take this client's certificate"):
                 Port(self.address, 30, self.credentials("stranger")).show()
+
+    def test_a_client_that_is_not_taken_without_a_word(self) -> None:
+        """As by a server on asyncio, which ends the connection and sends no alert."""
+        listener, stop = socket.create_server(("127.0.0.1", 0)), threading.Event()
+        self.addCleanup(stop.set)
+
+        async def serve() -> None:
+            asyncio.get_running_loop().set_exception_handler(lambda *_: None)
+            async with await asyncio.start_server(lambda _, writer: writer.close(), sock=listener, ssl=context_of(self.pem)):
+                await asyncio.to_thread(stop.wait)
+            await asyncio.sleep(0.1)  # what it has ended is closed
+
+        thread = threading.Thread(target=lambda: asyncio.run(serve()), daemon=True)
+        thread.start()
+        port = f"tls:127.0.0.1:{listener.getsockname()[1]}"
+        for _ in range(3):
+            with self.assertRaisesRegex(Untrusted, "does not take this client's certificate"):
+                Port(port, 30, self.credentials("stranger")).show()
+        with self.assertRaises(Away):
+            Port(port, 30, self.credentials()).show()
+        stop.set()
+        thread.join(60)
+
+    def test_a_front_that_takes_a_client_and_ends_is_away(self) -> None:
+        self.front.ends = True
+        for _ in range(3):
+            self.assertRaises(Away, Port(self.address, 30, self.credentials()).show)
 
     def test_what_is_missing_or_is_no_certificate(self) -> None:
         wrong = (Credentials(), self.credentials().over(key=f"{self.pem}/none"), self.credentials().over(key=f"{self.pem}/foreign.key"),
