@@ -52,7 +52,7 @@ from .topology import BadTopology
 from .view import Link, Node, View
 from .watching import Watched, views, wakes_of
 
-__version__ = "0.15.0"  # that of the first heading of CHANGELOG.md
+__version__ = "0.16.0"  # that of the first heading of CHANGELOG.md
 
 __all__ = [
     "Away", "BadTopology", "BadWords", "CLIENTS", "Clock", "CountLost", "CountNotFound", "Credentials", "Due", "Fault", "Faulted",
