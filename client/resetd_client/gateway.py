@@ -39,11 +39,11 @@ class Desk:
 
     def due(self, view: View, row: Node) -> Due:
         """What a view with the node's row asks for."""
-        begun = self._begun()
-        if begun is None or begun != self.telling:
-            self.starts.work = begun
-        elif self.starts.begun != begun:
+        self.starts.work = begun = self._begun()
+        if begun is not None and self.starts.begun != begun:
             self.starts.note_begun(begun)
+        if self.telling != row.epoch or row.epoch == row.confirmed:
+            self.telling = None
         return Due.WAIT if self._is_told(row) else self.starts.due(view, row)
 
     def has_begun(self, row: Node) -> bool:
@@ -83,7 +83,7 @@ class Desk:
         return any(are_parted(self.tag, tag) for tag in refused)
 
     def _is_told(self, row: Node) -> bool:
-        return self.telling == row.epoch and row.epoch > row.confirmed and not any(seat.has_lost(self.told) for seat in self.seats)
+        return self.telling == row.epoch and not any(seat.has_lost(self.told) for seat in self.seats)
 
     def _begun(self) -> int | None:
         told = self.told

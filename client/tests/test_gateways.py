@@ -272,8 +272,20 @@ class Gateways(Case):
             self.look()
         self.assertEqual(self.rows(), [(1, 1)] * 3)
 
+    def test_what_somebody_else_confirms(self) -> None:
+        """Is a run, if its members have begun it; and what was told before is not told for the same epoch again."""
+        self.look()
+        for node in (1, 2, 3):
+            self.begin(node)
+            self.server.by_somebody("confirm", node=node, epoch=1)
+        self.assertEqual((self.all_begin(), self.all_begin(), len(self.tags()), None in self.tags()), ([None] * 3, [None] * 3, 1, False))
+        for op, members in (("drop", {"a": 1, "b": 2}), ("drop", {"a": 2, "b": 3}), ("remove", {"node": 2}),
+                            ("add", {"node": 2, "group": 1}), ("reset", {"node": 2})):
+            self.server.by_somebody(op, **members)
+        self.assertEqual((self.all_begin(), self.rows()), ([None, 1, None], [(1, 1)] * 3))
+
     def test_the_greatest_number_is_told(self) -> None:
-        """Also where its own file is gone."""
+        """Also where its own file is gone, or those of its members are."""
         self.all_begin()
         numbers = [read(f"{self.folder}/members/{node}/wanted") for node in (1, 2, 3)]
         self.book.close()
@@ -282,6 +294,10 @@ class Gateways(Case):
         self.gateway = self.gateway_of("next")
         self.assertEqual((self.all_begin(), self.rows()), ([2, 2, 2], [(2, 2)] * 3))
         self.assertEqual([(numbers[0], read(f"{self.folder}/members/1/wanted"))], [("1 1\n", "2 2\n")])
+        for node in (1, 2, 3):
+            shutil.rmtree(f"{self.folder}/members/{node}")
+        self.assertEqual(self.all_begin(), [3, 3, 3])
+        self.assertEqual(read(f"{self.folder}/members/1/wanted"), "3 3\n")
 
     def test_a_file_of_an_earlier_version(self) -> None:
         """All begin anew, after one reset, and what members had begun is not taken for it."""
