@@ -42,8 +42,6 @@ class Desk:
         self.starts.work = begun = self._begun()
         if begun is not None and self.starts.begun != begun:
             self.starts.note_begun(begun)
-        if self.telling != row.epoch or row.epoch == row.confirmed:
-            self.telling = None
         return Due.WAIT if self._is_told(row) else self.starts.due(view, row)
 
     def has_begun(self, row: Node) -> bool:
