@@ -76,7 +76,7 @@ class Desk:
             seat.set_run(None)
 
     def is_parted(self) -> bool:
-        """Whether a member, which talks, has refused a tag that will not come to be its own."""
+        """Whether a member, which talks now, has refused a tag that will not come to be its own."""
         refused = [tag for seat in self.seats if (tag := seat.take_refused())]
         return any(are_parted(self.tag, tag) for tag in refused)
 
@@ -175,7 +175,7 @@ class Gateway(Following):
             each.desk.note_confirmed()
         unfit = {each.desk.node: each.desk.starts.why(each.row) for each in judged if each.due is Due.RESET}
         unfit.update({each.desk.node: "a member refuses another's tag, and the same is shown to both"
-                      for each in judged if each.due is Due.TALK and each.desk.is_parted()})
+                      for each in judged if each.desk.is_parted()})
         for node in list(unfit)[:1]:
             self._ask_reset(node, unfit[node])
         return bool(begun or unfit)

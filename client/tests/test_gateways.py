@@ -3,6 +3,7 @@
 from __future__ import annotations
 
 import json
+import math
 import os
 import shutil
 import tempfile
@@ -14,6 +15,7 @@ from unittest import mock
 
 from case import Case, in_memory, over_both
 from resetd_client import Away, Clock, Gateway, Served, Wake, keep, patiently, read
+from resetd_client.following import DOUBT_SECONDS
 from resetd_client.seats import Seat
 
 
@@ -336,6 +338,30 @@ class Gateways(Case):
             self.server.reset(node)
         self.assertEqual((self.all_begin(), self.tags()), ([2, 2, 2], {None}))
         self.assertTrue((read(f"{self.folder}/members/1/run") or "").startswith("2 - "))
+
+    def test_a_run_ends_where_somebody_comes(self) -> None:
+        """Before any member is told to begin anew."""
+        self.all_begin()
+        self.server.by_somebody("add", node=9, group=1)
+        self.server.by_somebody("join", a=3, b=9)
+        with mock.patch.object(self.gateway, "_order_what_is_due", return_value=False):
+            self.gateway.look()
+        self.assertEqual(self.tags(), {None})
+
+    def test_what_a_member_writes_brings_a_look(self) -> None:
+        """At once what it has begun, and soon what it has refused; what the gateway writes brings none."""
+        self.look()
+        self.assertEqual(self.gateway._sooner(), math.inf)
+        self.begin(1)
+        self.assertEqual([self.gateway._sooner() for _ in range(2)], [0.0, 0.0])
+        self.all_begin()
+        self.gateway._changes.take()
+        self.gateway._written = set()
+        Served(f"{self.folder}/members/2").takes("another")
+        self.assertEqual([self.gateway._sooner() for _ in range(2)], [DOUBT_SECONDS, DOUBT_SECONDS])
+        self.look()
+        self.gateway._written = set()
+        self.assertEqual(self.gateway._sooner(), math.inf)
 
     def test_a_refused_tag(self) -> None:
         """A reset is asked for if its sender was shown the same, and only then."""
