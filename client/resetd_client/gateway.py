@@ -39,10 +39,8 @@ class Desk:
 
     def due(self, view: View, row: Node) -> Due:
         """What a view with the node's row asks for."""
-        begun = self._begun()
-        if begun is None or begun != self.telling:
-            self.starts.work = begun
-        elif self.starts.begun != begun:
+        self.starts.work = begun = self._begun()
+        if begun is not None and self.starts.begun != begun:
             self.starts.note_begun(begun)
         return Due.WAIT if self._is_told(row) else self.starts.due(view, row)
 
@@ -78,12 +76,12 @@ class Desk:
             seat.set_run(None)
 
     def is_parted(self) -> bool:
-        """Whether a member, which talks, has refused a tag that will not come to be its own."""
+        """Whether a member, which talks now, has refused a tag that will not come to be its own."""
         refused = [tag for seat in self.seats if (tag := seat.take_refused())]
         return any(are_parted(self.tag, tag) for tag in refused)
 
     def _is_told(self, row: Node) -> bool:
-        return self.telling == row.epoch and row.epoch > row.confirmed and not any(seat.has_lost(self.told) for seat in self.seats)
+        return self.telling == row.epoch and not any(seat.has_lost(self.told) for seat in self.seats)
 
     def _begun(self) -> int | None:
         told = self.told
@@ -177,7 +175,7 @@ class Gateway(Following):
             each.desk.note_confirmed()
         unfit = {each.desk.node: each.desk.starts.why(each.row) for each in judged if each.due is Due.RESET}
         unfit.update({each.desk.node: "a member refuses another's tag, and the same is shown to both"
-                      for each in judged if each.due is Due.TALK and each.desk.is_parted()})
+                      for each in judged if each.desk.is_parted()})
         for node in list(unfit)[:1]:
             self._ask_reset(node, unfit[node])
         return bool(begun or unfit)

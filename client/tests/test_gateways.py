@@ -3,6 +3,7 @@
 from __future__ import annotations
 
 import json
+import math
 import os
 import shutil
 import tempfile
@@ -14,6 +15,7 @@ from unittest import mock
 
 from case import Case, in_memory, over_both
 from resetd_client import Away, Clock, Gateway, Served, Wake, keep, patiently, read
+from resetd_client.following import DOUBT_SECONDS
 from resetd_client.seats import Seat
 
 
@@ -272,8 +274,20 @@ class Gateways(Case):
             self.look()
         self.assertEqual(self.rows(), [(1, 1)] * 3)
 
+    def test_what_somebody_else_confirms(self) -> None:
+        """Is a run, if its members have begun it; and what was told before is not told for the same epoch again."""
+        self.look()
+        for node in (1, 2, 3):
+            self.begin(node)
+            self.server.by_somebody("confirm", node=node, epoch=1)
+        self.assertEqual((self.all_begin(), self.all_begin(), len(self.tags()), None in self.tags()), ([None] * 3, [None] * 3, 1, False))
+        for op, members in (("drop", {"a": 1, "b": 2}), ("drop", {"a": 2, "b": 3}), ("remove", {"node": 2}),
+                            ("add", {"node": 2, "group": 1}), ("reset", {"node": 2})):
+            self.server.by_somebody(op, **members)
+        self.assertEqual((self.all_begin(), self.rows()), ([None, 1, None], [(1, 1)] * 3))
+
     def test_the_greatest_number_is_told(self) -> None:
-        """Also where its own file is gone."""
+        """Also where its own file is gone, or those of its members are."""
         self.all_begin()
         numbers = [read(f"{self.folder}/members/{node}/wanted") for node in (1, 2, 3)]
         self.book.close()
@@ -282,6 +296,10 @@ class Gateways(Case):
         self.gateway = self.gateway_of("next")
         self.assertEqual((self.all_begin(), self.rows()), ([2, 2, 2], [(2, 2)] * 3))
         self.assertEqual([(numbers[0], read(f"{self.folder}/members/1/wanted"))], [("1 1\n", "2 2\n")])
+        for node in (1, 2, 3):
+            shutil.rmtree(f"{self.folder}/members/{node}")
+        self.assertEqual(self.all_begin(), [3, 3, 3])
+        self.assertEqual(read(f"{self.folder}/members/1/wanted"), "3 3\n")
 
     def test_a_file_of_an_earlier_version(self) -> None:
         """All begin anew, after one reset, and what members had begun is not taken for it."""
@@ -320,6 +338,30 @@ class Gateways(Case):
             self.server.reset(node)
         self.assertEqual((self.all_begin(), self.tags()), ([2, 2, 2], {None}))
         self.assertTrue((read(f"{self.folder}/members/1/run") or "").startswith("2 - "))
+
+    def test_a_run_ends_where_somebody_comes(self) -> None:
+        """Before any member is told to begin anew."""
+        self.all_begin()
+        self.server.by_somebody("add", node=9, group=1)
+        self.server.by_somebody("join", a=3, b=9)
+        with mock.patch.object(self.gateway, "_order_what_is_due", return_value=False):
+            self.gateway.look()
+        self.assertEqual(self.tags(), {None})
+
+    def test_what_a_member_writes_brings_a_look(self) -> None:
+        """At once what it has begun, and soon what it has refused; what the gateway writes brings none."""
+        self.look()
+        self.assertEqual(self.gateway._sooner(), math.inf)
+        self.begin(1)
+        self.assertEqual([self.gateway._sooner() for _ in range(2)], [0.0, 0.0])
+        self.all_begin()
+        self.gateway._changes.take()
+        self.gateway._written = set()
+        Served(f"{self.folder}/members/2").takes("another")
+        self.assertEqual([self.gateway._sooner() for _ in range(2)], [DOUBT_SECONDS, DOUBT_SECONDS])
+        self.look()
+        self.gateway._written = set()
+        self.assertEqual(self.gateway._sooner(), math.inf)
 
     def test_a_refused_tag(self) -> None:
         """A reset is asked for if its sender was shown the same, and only then."""

@@ -166,7 +166,7 @@ class Cuts(Case):
         """It is passed over, and the next one takes its place; a whole one that does not read is told."""
         path = f"{self.folder}/a.history"
         lines = [digest_of(frozenset({str(place)})) for place in range(3)]
-        for torn in ("", lines[1][:20], lines[1], "\0" * 65):
+        for torn in ("", lines[1][:20], lines[1], "\0" * 200):
             with open(path, "w", encoding="utf-8") as file:
                 file.write(f"{lines[0]}\n{torn}")
             history = History(path)
