@@ -16,7 +16,7 @@ import resetd_client
 from resetd_client import BadWords, Member, Orders, Port, ResetdError, Unreadable
 
 PACKAGE = os.path.join(ROOT, "client", "resetd_client")
-INNER = {"Stopped", "NotSpelled"}  # which the library catches itself
+INNER = {"Stopped", "NotSpelled", "NotCompared"}  # which the library catches itself
 SAYING = ("address", "answers", "errors", "limits", "orders", "port", "topology", "watching")  # each says what it raises
 
 
