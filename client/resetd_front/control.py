@@ -14,6 +14,7 @@ import signal
 import socket
 import sys
 from dataclasses import dataclass
+from typing import Any
 
 from resetd_client import CLIENTS, Held
 from resetd_client import __version__
@@ -29,39 +30,44 @@ from .peers import group_number, server_context
 from .signals import Signals
 from .upstream import address_of
 
-SOCKET = "/run/resetd-front/socket"
+SOCKET, STATE = "/run/resetd-front/socket", "/var/lib/resetd-front"
 OK, FAULT, WRONG_WORDS = 0, 1, 2
 
 
 def parser() -> argparse.ArgumentParser:
-    top = argparse.ArgumentParser(prog="resetd-front", description=__doc__, formatter_class=argparse.RawDescriptionHelpFormatter)
+    top = argparse.ArgumentParser(prog="resetd-front", description=__doc__,
+                                  formatter_class=argparse.RawDescriptionHelpFormatter)
     top.add_argument("--version", action="version", version=f"resetd-front {__version__}")
     commands = top.add_subparsers(dest="command", required=True, metavar="COMMAND")
     check = commands.add_parser("check", help="says what each may do by a policy, or why it is not taken")
     check.add_argument("policy", metavar="POLICY")
-    serve = commands.add_parser("serve", help="serves until SIGTERM; SIGHUP reads policy and certificates again, and opens the audit anew")
+    serve = commands.add_parser("serve", help="serves until SIGTERM; SIGHUP reads policy and certificates again, and opens "
+                                              "the audit anew")
     add_serve_words(serve)
     return top
 
 
 def add_serve_words(serve: argparse.ArgumentParser) -> None:
-    serve.add_argument("--server", default="127.0.0.1:4170", metavar="HOST:PORT", help="the server's port, or several with commas (127.0.0.1:4170)")
-    serve.add_argument("--socket", default=SOCKET, metavar="PATH", help=f"the Unix socket ({SOCKET})")
-    serve.add_argument("--mode", type=lambda text: int(text, 8), default=0o660, metavar="OCTAL", help="its mode (660)")
-    serve.add_argument("--group", type=group_named, metavar="NAME", help="its group")
-    serve.add_argument("--tls", type=listened, metavar="HOST:PORT", help="also TLS 1.3 with client certificates")
-    serve.add_argument("--certificate", metavar="PEM", help="the front's certificate for TLS, with its chain")
-    serve.add_argument("--key", metavar="PEM", help="its key")
-    serve.add_argument("--authority", metavar="PEM", help="the authority that signed the clients' certificates")
-    serve.add_argument("--tcp", type=listened, metavar="HOST:PORT", help="also TCP on the loopback, where whoever comes counts as the user nobody")
-    serve.add_argument("--policy", metavar="FILE", help="who may do what (root and this user everything, the socket's group looks)")
-    serve.add_argument("--audit", default="-", metavar="FILE", help="where each order is written down (standard output)")
-    serve.add_argument("--signals", metavar="FILE", help="the server's file of signals, so that watchers are told at once")
-    serve.add_argument("--state", default=os.environ.get("STATE_DIRECTORY") or "/var/lib/resetd-front", metavar="FOLDER", help="where the front's own number is kept (/var/lib/resetd-front)")
-    serve.add_argument("--client", type=int, choices=CLIENTS, default=15, metavar="C", help="the client as which the front orders for others, and nobody else (15)")
-    serve.add_argument("--patience", type=float, default=30.0, metavar="SECONDS", help="how long a line waits for its answer (30)")
-    serve.add_argument("--stuck", type=float, default=10.0, metavar="SECONDS", help="how long a client may take nothing of its answers (10)")
-    serve.add_argument("--page", metavar="ADDRESS", help="unix:PATH or a loopback HOST:PORT, for a page and metrics (read only)")
+    def word(flag: str, metavar: str, about: str, **how: Any) -> None:
+        serve.add_argument(flag, metavar=metavar, help=about, **how)
+
+    word("--server", "HOST:PORT", "the server's port, or several with commas (127.0.0.1:4170)", default="127.0.0.1:4170")
+    word("--socket", "PATH", f"the Unix socket ({SOCKET})", default=SOCKET)
+    word("--mode", "OCTAL", "its mode (660)", type=lambda text: int(text, 8), default=0o660)
+    word("--group", "NAME", "its group", type=group_named)
+    word("--tls", "HOST:PORT", "also TLS 1.3 with client certificates", type=listened)
+    word("--certificate", "PEM", "the front's certificate for TLS, with its chain")
+    word("--key", "PEM", "its key")
+    word("--authority", "PEM", "the authority that signed the clients' certificates")
+    word("--tcp", "HOST:PORT", "also TCP on the loopback, where whoever comes counts as the user nobody", type=listened)
+    word("--policy", "FILE", "who may do what (root and this user everything, the socket's group looks)")
+    word("--audit", "FILE", "where each order is written down (standard output)", default="-")
+    word("--signals", "FILE", "the server's file of signals, so that watchers are told at once")
+    word("--state", "FOLDER", f"where the front's own number is kept ({STATE})", default=os.environ.get("STATE_DIRECTORY") or STATE)
+    word("--client", "C", "the client as which the front orders for others, and nobody else (15)", type=int, choices=CLIENTS, default=15)
+    word("--patience", "SECONDS", "how long a line waits for its answer (30)", type=float, default=30.0)
+    word("--stuck", "SECONDS", "how long a client may take nothing of its answers (10)", type=float, default=10.0)
+    word("--page", "ADDRESS", "unix:PATH or a loopback HOST:PORT, for a page and metrics (read only)")
 
 
 def group_named(name: str) -> int:
@@ -111,7 +117,8 @@ class Process:
     front: Front
 
     def __post_init__(self) -> None:
-        self.context = server_context(self.words.certificate, self.words.key, self.words.authority) if self.words.tls else None
+        words = self.words
+        self.context = server_context(words.certificate, words.key, words.authority) if words.tls else None
 
     def listen(self) -> Listeners:
         """Raises OSError, and ValueError."""

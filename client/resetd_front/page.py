@@ -93,5 +93,6 @@ class Page:
         for node in view.nodes if view else ():
             if self._since.get(node.node, (None, ""))[0] != node:
                 self._since[node.node] = (node, now)
-        return {"since": {number: when for number, (_, when) in self._since.items()}, "up": bool(front.upstream.is_up), "stopped": front.upstream.is_stopped, "view": view.members() if view else None,
+        return {"since": {number: when for number, (_, when) in self._since.items()}, "up": bool(front.upstream.is_up),
+                "stopped": front.upstream.is_stopped, "view": view.members() if view else None,
                 "recent": list(front.recent)[::-1], "connections": len(front.connections), "watchers": len(front.watchers)}

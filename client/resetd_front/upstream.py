@@ -86,7 +86,8 @@ class Upstream:
         self._input = b""
         self._since = 0.0  # when the link was made
         self._pause = FIRST_PAUSE
-        self._is_due = self._wants_look = self._wants_count = self._is_fresh = self._is_sent = False
+        self._is_due = self._wants_look = self._wants_count = self._is_sent = False
+        self._is_fresh = self._is_held = False  # whether the last flight ended with a look, and whether lines waited for one
         self._count_again = 0.0  # when a count that was not found is looked for again
         self.flights = self.resends = 0
         self.is_up: bool | None = None  # None until it is known
@@ -125,7 +126,7 @@ class Upstream:
             self._begin(self._find_count())
         elif self._link is None:
             self._begin(self._connect())
-        elif self._loop.time() - self._since > USE_SECONDS:
+        elif self._loop.time() - self._since > USE_SECONDS and not (self._is_held and self._is_fresh):
             self._let_go()
             self.wake()
         else:
@@ -139,6 +140,7 @@ class Upstream:
         lines, answered = self._pairing.take(judging)
         if answered:
             self._events.answered(answered, None)
+        self._is_held = judging.wants_look
         if not is_again:
             self._wants_look |= judging.wants_look
             has_orders = any(line.request.is_order for line in lines)

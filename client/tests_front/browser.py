@@ -48,7 +48,7 @@ def main() -> None:
         options.add_argument(word)
     driver = webdriver.Chrome(service=Service("/usr/bin/chromedriver"), options=options)
     try:
-        driver.set_window_size(1200, 1300)
+        driver.set_window_size(1200, 900)
         driver.get(address + "/")
         until("64 nodes", lambda: len(driver.execute_script(STATES)) == 64)
         lines = driver.execute_script("return document.querySelectorAll('#graph line').length")

@@ -6,6 +6,7 @@ import os
 import socket
 import sys
 import tempfile
+import time
 import unittest
 from typing import IO, Any
 
@@ -20,8 +21,13 @@ class Losing(Fake):
     answer."""
 
     def __init__(self) -> None:
-        self.loses = 0
+        self.loses, self.look_seconds = 0, 0.0
         super().__init__()
+
+    def respond(self, line: bytes) -> str:
+        if b'"show"' in line:
+            time.sleep(self.look_seconds)
+        return super().respond(line)
 
     def _serve_lines(self, connection: socket.socket, lines: IO[bytes]) -> None:
         for line in lines:
@@ -82,6 +88,12 @@ class Lost(unittest.TestCase):
         self.assertEqual(self.server.nodes[1][1], 3)
         client.ask(op="reset", node=1)
         self.assertEqual((self.server.nodes[1][1], self.server.last(15)), (4, 4))
+
+    def test_looks_that_take_longer_than_a_connection_is_kept(self) -> None:
+        """A reset that names an epoch goes right behind its look all the same."""
+        client = self.connect()
+        self.server.look_seconds = 1.1
+        self.assertEqual(client.ask(op="reset", node=1, epoch=0)["kind"], "started")
 
     def test_a_close_is_sent_once(self) -> None:
         client = self.connect()
