@@ -4,15 +4,19 @@ import contextlib
 import os
 import re
 import signal
+import socket
 import subprocess
 import sys
+import threading
 
 from support import preloaded
 from support.case import Case, tool
 from support.program import PROGRAM, ROOT, SHORT
+from support.serving import Serving
 
 sys.path.insert(0, f"{ROOT}/tools")
 from served import faults  # noqa: E402
+from served.server import Server  # noqa: E402
 
 
 class Run(Case):
@@ -106,6 +110,27 @@ class Tools(Run):
 
 class ShortLives(Run):
     programs = ("RESETD_SHORT",)
+
+    def test_what_a_life_leaves_unanswered_is_asked_again(self):
+        """A life that ends may end a connection without an answer: the tools and the tests then ask again."""
+        process = subprocess.Popen(["sleep", "600"])
+        self.addCleanup(process.wait)
+        self.addCleanup(process.kill)
+        with socket.create_server(("127.0.0.1", 0)) as listener:
+            threading.Thread(target=self.answer_every_other, args=[listener], daemon=True).start()
+            address = f"127.0.0.1:{listener.getsockname()[1]}"
+            of_tools, of_tests = Server("", self.path("store")), Serving.__new__(Serving)
+            for server in (of_tools, of_tests):
+                server.address, server.process, server.has_short_lives = address, process, True
+                self.assertEqual(server.ask({"op": "show"}), {"settled": 1})
+
+    @staticmethod
+    def answer_every_other(listener):
+        for number in range(4):
+            with listener.accept()[0] as connection, connection.makefile("rb") as lines:
+                lines.readline()
+                if number % 2:
+                    connection.sendall(b'{"settled":1}\n')
 
     def test_kills_between_lives(self):
         self.expect(tool("soak"), "--lives", "32", "--program", SHORT, "--rounds", "10", ends_with="nothing was lost")
