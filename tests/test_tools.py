@@ -9,7 +9,6 @@ import subprocess
 import sys
 import threading
 
-from support import preloaded
 from support.case import Case, tool
 from support.program import PROGRAM, ROOT, SHORT
 from support.serving import Serving
@@ -51,11 +50,6 @@ class Tools(Run):
         printed = self.expect(tool("soak"), "--program", PROGRAM, "--rounds", "0", "--faults", "3", "--migrations", "0",
                               ends_with="nothing was lost")
         self.assertIn("failed at 3 places", printed)
-
-    def test_the_table_for_a_person_on_call(self):
-        """Each row of it, but for what waits for minutes."""
-        self.needs("a C compiler", preloaded.has_compiler())
-        self.expect(tool("test_on_call"), "--quick")
 
     def test_killed_migrations(self):
         self.expect(tool("soak"), "--program", PROGRAM, "--rounds", "0", "--faults", "0", "--migrations", "5",

@@ -111,6 +111,12 @@ class Units(unittest.TestCase):
             self.assertEqual(file.read(), "signal 1 1\n")
 
 
+class Table(unittest.TestCase):
+    def test_each_row_for_a_person_on_call_has_a_trial(self) -> None:
+        done = subprocess.run([os.path.join(ROOT, "tools/test_on_call"), "--table"], capture_output=True, encoding="utf-8", check=False)
+        self.assertEqual((done.returncode, done.stderr), (0, ""), done.stdout)
+
+
 class Alerts(unittest.TestCase):
     def test_each_metric_of_a_rule_is_written(self) -> None:
         view = View.of({"accepted": 9, "settled": 8, "nodes": [[1, 1, "ready", 0, 0, 0]], "links": []})
