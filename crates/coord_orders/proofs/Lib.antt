@@ -1,0 +1,4 @@
+mod Lists
+mod Orders
+mod Holding
+mod FoundCount

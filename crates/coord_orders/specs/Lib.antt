@@ -1,0 +1,5 @@
+pub mod Meanings
+pub mod Book
+pub mod Exchange
+pub mod ExactlyOnce
+pub mod FoundCount
