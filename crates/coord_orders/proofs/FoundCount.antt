@@ -1,5 +1,5 @@
 -- What a probe is answered.
-use Rattle.std.proofs.Common.{◌≡◌, ◌≢◌, ℕ, ◌+◌, ◌<◌, ◌≤◌, ◌==◌, ◌&&◌, ◌||◌, not, nat_le, nat_lt, Bool, true, false, List, [], ◌∷◌, ◌++◌, Option, Some, None, Result, Ok, Err, refl, sym, ap, ◌∙◌, arith, if◌then◌else◌}
+use Rattle.std.proofs.Common.{◌≡◌, ℕ, ◌+◌, ◌==◌, ◌&&◌, not, nat_le, nat_lt, Bool, true, false, [], ◌∷◌, ◌++◌, Option, Some, None, Result, Ok, Err, refl, ◌∙◌, arith, if◌then◌else◌}
 use Rattle.std.proofs.lemmas.Bool.Decides.{nat_tests}
 use Rattle.coord_types.specs.Table.{get}
 use Rattle.coord_types.specs.Facade.{same_command}
@@ -8,13 +8,13 @@ use Rattle.coord_types.specs.declared.refusals.Refusal.TheVariants.{Exhausted, O
 use Rattle.coord_types.specs.declared.steps.Session.{Session}
 use Rattle.coord_types.specs.declared.steps.Step.TheVariants.{Order}
 use Rattle.coord_types.proofs.Commands.{same_is}
-use Rattle.coord_link.specs.LaneMachine.{Tests, refused_or}
+use Rattle.coord_link.specs.LaneMachine.{refused_or}
 use Rattle.coord_node.specs.Facade.{kind}
 use Rattle.coord_world.specs.declared.verdicts.Verdict.{Verdict}
 use Rattle.coord_world.specs.declared.verdicts.Verdict.TheVariants.{Fresh, Repeat}
 use Rattle.coord_world.specs.protocol.Acceptance.{against_number}
-use Rattle.coord_world.specs.Facade.{World, accepts, is_exhausted, is_unknown, judged, last_number, or_repeat, state}
-use Rattle.coord_orders.specs.FoundCount.{CountIsFound, IsNoProbe, answer_to_probe, probe}
+use Rattle.coord_world.specs.Facade.{is_exhausted, is_unknown, judged, last_number, or_repeat, state}
+use Rattle.coord_orders.specs.FoundCount.{CountIsFound, IsNoProbe, probe}
 
 -- by its tests alone
 by_tests : (v : Verdict) (exhausted unknown good : Bool) (last n : ℕ) → exhausted ≡ false → good ≡ false →

@@ -1,5 +1,5 @@
 -- What every event keeps true of a client and the server.
-use Rattle.std.proofs.Common.{◌≡◌, ◌≢◌, ℕ, zero, suc, ◌+◌, ◌<◌, ◌≤◌, ◌==◌, nat_le, max, min, Bool, true, false, List, [], ◌∷◌, ◌++◌, Option, Some, None, Result, Ok, Err, take, drop, length, refl, sym, ap, subst, ◌∙◌, arith, ◌⊎◌, inl, inr, if◌then◌else◌, slice_get, append_assoc, append-nil}
+use Rattle.std.proofs.Common.{◌≡◌, ◌≢◌, ℕ, zero, ◌+◌, ◌<◌, ◌≤◌, nat_le, max, min, true, false, List, [], ◌∷◌, ◌++◌, Option, Some, None, Result, Ok, Err, take, drop, length, refl, sym, ap, subst, ◌∙◌, arith, inl, inr, if◌then◌else◌, slice_get, append_assoc, append-nil}
 use Rattle.std.specs.List.{AllByRecursion}
 use Rattle.std.proofs.lemmas.Bool.Decides.{nat_tests}
 use Rattle.std.proofs.Math.Nat.{le-max_left, le-max_right}
@@ -26,7 +26,7 @@ use Rattle.coord_orders.specs.Book.{is_at, kept_after, line_of, line_with, opene
 use Rattle.coord_orders.specs.Exchange.{Event, Exchange, Given, Owed, Sent, Write, Send, Lose, Arrive, TurnAway, Other, Settle, Release, Hear, Crash, Fall, answered, arrived, begun, happens, is_by, noted, noted_as, noted_if, order_by, order_of, orders_of, released, run, turned_away, with_answer, with_book, with_line, without}
 use Rattle.coord_orders.specs.ExactlyOnce.{Counts, ExactlyOnce, IsInHand, IsOnce}
 use Rattle.coord_orders.proofs.Lists.{IsRising, all_more, all_weaker, all_without, newest_alone, none_without, of_each, rising_le, rising_lower, rising_more, rising_without, squeezed, take_of_take}
-use Rattle.coord_orders.proofs.Orders.{IsSaid, all_within, last_session, last-append, next_order, order_apart, order_own, orders-append, orders_cut, repeated, session_kept}
+use Rattle.coord_orders.proofs.Orders.{all_within, last_session, last-append, next_order, order_apart, order_own, orders-append, orders_cut, repeated, session_kept}
 
 -- ---- what holds
 

@@ -2,3 +2,4 @@ mod Lists
 mod Orders
 mod Holding
 mod FoundCount
+mod Worked

@@ -1,5 +1,5 @@
 -- The client's orders among the steps of a trail, and what the server says to a line.
-use Rattle.std.proofs.Common.{◌≡◌, ◌≢◌, ℕ, zero, suc, ◌+◌, ◌<◌, ◌≤◌, ◌==◌, ◌&&◌, Bool, true, false, List, [], ◌∷◌, ◌++◌, Option, Some, None, Result, Ok, Err, take, drop, length, refl, sym, ap, subst, ◌∙◌, arith, ◌⊎◌, inl, inr, if◌then◌else◌, slice_get, append_assoc, append-nil, cond}
+use Rattle.std.proofs.Common.{◌≡◌, ℕ, ◌+◌, ◌<◌, ◌≤◌, ◌==◌, ◌&&◌, Bool, true, false, List, [], ◌∷◌, ◌++◌, Option, Some, None, Result, Ok, Err, take, drop, length, refl, sym, ap, subst, ◌∙◌, arith, ◌⊎◌, inl, inr, if◌then◌else◌, slice_get, append_assoc, append-nil}
 use Rattle.std.specs.List.{AllByRecursion}
 use Rattle.std.proofs.lemmas.Bool.Decides.{nat_tests}
 use Rattle.std.proofs.lemmas.List.{take-append-drop, length-take-le}
@@ -23,7 +23,7 @@ use Rattle.coord_world.specs.declared.verdicts.Verdict.{Verdict}
 use Rattle.coord_world.specs.declared.verdicts.Verdict.TheVariants.{Fresh, Repeat}
 use Rattle.coord_world.specs.protocol.Acceptance.{against_number}
 use Rattle.coord_world.specs.Facade.{StepOutcome, World, accepts, against_command, fold, is_exhausted, judged, last_number, next, or_repeat, outs, reply, state}
-use Rattle.coord_world.specs.laws.KeptReplies.{IsLastOrder, IsNotBy}
+use Rattle.coord_world.specs.laws.KeptReplies.{IsNotBy}
 use Rattle.coord_world.proofs.Facade.{fold_counts, kept_reply_law}
 use Rattle.coord_orders.specs.declared.meaning.Meaning.TheVariants.{NotDone}
 use Rattle.coord_orders.specs.Meanings.{meaning_of_refusal}

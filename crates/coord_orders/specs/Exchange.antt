@@ -16,8 +16,8 @@ use Rattle.coord_orders.specs.declared.meaning.Answer.{Answer}
 use Rattle.coord_orders.specs.declared.meaning.Answer.TheVariants.{Replied, Refused}
 use Rattle.coord_orders.specs.declared.meaning.Meaning.{Meaning}
 use Rattle.coord_orders.specs.declared.meaning.Meaning.TheVariants.{Done, NotDone, SendAgain, CountLost}
-use Rattle.coord_orders.specs.Meanings.{meaning_of, meaning_of_refusal}
-use Rattle.coord_orders.specs.Book.{heard, is_awaited, line_of, opened, sending, written}
+use Rattle.coord_orders.specs.Meanings.{meaning_of_refusal}
+use Rattle.coord_orders.specs.Book.{heard, line_of, opened, sending, written}
 
 -- a line with its serial number
 pub record Sent : Type 0 where

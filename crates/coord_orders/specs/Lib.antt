@@ -3,3 +3,4 @@ pub mod Book
 pub mod Exchange
 pub mod ExactlyOnce
 pub mod FoundCount
+pub mod WorkedExchange

@@ -2,6 +2,7 @@
 
 ghost use Rattle.coord_orders.specs.ExactlyOnce.{ExactlyOnce};
 ghost use Rattle.coord_orders.specs.FoundCount.{CountIsFound};
+ghost use Rattle.coord_orders.specs.WorkedExchange.{WorkedExchange};
 
 /// Over any world, and whatever is lost, late, heard again or cut off by a crash, of the client to
 /// what it keeps, of the server to some of its steps with all that are settled: the client's orders
@@ -15,4 +16,11 @@ pub fn exactly_once()
 #[tactic(auto, using(crate::proofs::FoundCount::count_is_found))]
 pub fn count_is_found()
     ensures { CountIsFound }
+{}
+
+/// Exchanges whose outcomes are known: a line that is lost and one that comes again, a late answer, a
+/// refusal, and a crash of the server before the order is settled.
+#[tactic(auto, using(crate::proofs::Worked::worked_exchange))]
+pub fn worked_exchange()
+    ensures { WorkedExchange }
 {}
