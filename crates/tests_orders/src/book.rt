@@ -1,6 +1,6 @@
 //! Orders that are written down, sent and answered.
 
-use coord_orders::{Answer, Kept, Line, Meaning, OrderBook};
+use coord_orders::{Answer, Heard, Kept, Line, Meaning, OrderBook};
 use coord_types::{Command, Kind, NodeId, Refusal, Reply};
 use std::fmt::Debug;
 use std::process::Abort;
@@ -15,25 +15,43 @@ fn reset() -> Command {
     Command::Reset(NodeId::new(1).unwrap())
 }
 
+/// What a client keeps that has nothing in hand.
+fn idle(last: u64) -> Kept {
+    Kept {
+        last,
+        in_hand: None,
+    }
+}
+
 /// The book of a client whose last order had number 6, with that order in hand.
 fn with_reset(rt: &impl Abort) -> OrderBook {
-    let kept = Kept {
-        last: 6,
-        in_hand: None,
-    };
-    OrderBook::open(kept)
+    OrderBook::open(idle(6))
         .write_down(reset())
         .expect(rt, "another order is in hand")
+}
+
+/// The line that it sends.
+fn line(rt: &impl Abort, book: &OrderBook) -> Option<Line> {
+    let last = book.kept.last;
+    assert!(rt; last < u64::MAX);
+    book.line()
+}
+
+/// What it hears of a line.
+fn hear(rt: &impl Abort, book: OrderBook, serial: u64, answer: Answer) -> Heard {
+    let last = book.kept.last;
+    assert!(rt; last < u64::MAX);
+    book.hear(serial, answer)
 }
 
 // It is sent with the next number, and no other order is taken meanwhile.
 #[test]
 fn an_order_in_hand_has_the_next_number(rt: HostRuntime) {
-    let line = Line {
+    let wanted = Line {
         number: 7,
         command: reset(),
     };
-    same(&rt, &with_reset(&rt).line(), &Some(line));
+    same(&rt, &line(&rt, &with_reset(&rt)), &Some(wanted));
     same(&rt, &with_reset(&rt).write_down(reset()), &None);
 }
 
@@ -44,38 +62,25 @@ fn an_order_is_sent_until_its_own_line_is_answered(rt: HostRuntime) {
         step: 9,
         kind: Kind::Started,
     };
-    let turned_away = with_reset(&rt)
-        .send(1)
-        .hear(1, Answer::Refused(Refusal::Stopped));
+    let stopped = Answer::Refused(Refusal::Stopped);
+    let turned_away = hear(&rt, with_reset(&rt).send(1), 1, stopped);
     same(&rt, &turned_away.meaning, &Some(Meaning::SendAgain));
-    let late = turned_away
-        .book
-        .send(2)
-        .hear(1, Answer::Refused(Refusal::UnknownNode));
+    let unknown = Answer::Refused(Refusal::UnknownNode);
+    let late = hear(&rt, turned_away.book.send(2), 1, unknown);
     same(&rt, &late.meaning, &None);
-    let done = late.book.hear(2, Answer::Replied(reply));
+    let done = hear(&rt, late.book, 2, Answer::Replied(reply));
     same(&rt, &done.meaning, &Some(Meaning::Done(reply)));
-    let kept = Kept {
-        last: 7,
-        in_hand: None,
-    };
-    same(&rt, &done.book, &OrderBook::open(kept));
+    same(&rt, &done.book, &OrderBook::open(idle(7)));
 }
 
 // A refused order leaves its number free, and a lost count leaves the order in hand.
 #[test]
 fn a_refusal_leaves_the_number_free(rt: HostRuntime) {
-    let refused = with_reset(&rt)
-        .send(1)
-        .hear(1, Answer::Refused(Refusal::UnknownNode));
-    let kept = Kept {
-        last: 6,
-        in_hand: None,
-    };
-    same(&rt, &refused.book, &OrderBook::open(kept));
-    let lost = with_reset(&rt)
-        .send(1)
-        .hear(1, Answer::Refused(Refusal::OutOfTurn));
+    let unknown = Answer::Refused(Refusal::UnknownNode);
+    let refused = hear(&rt, with_reset(&rt).send(1), 1, unknown);
+    same(&rt, &refused.book, &OrderBook::open(idle(6)));
+    let out_of_turn = Answer::Refused(Refusal::OutOfTurn);
+    let lost = hear(&rt, with_reset(&rt).send(1), 1, out_of_turn);
     same(&rt, &lost.meaning, &Some(Meaning::CountLost));
     same(&rt, &lost.book, &with_reset(&rt));
 }
