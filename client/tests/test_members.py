@@ -324,7 +324,7 @@ class Lives(MemberCase):
     def followed(self, begin: Callable[[int], None] | None = None) -> Member:
         path = f"{self.folder}/signals"
         return Member(self.port, self.orders(1, "m", True), 1, None, begin or self.begun.append, told=self.told.append,
-                      wakes=Follower(path), on_run=self.runs.append)
+                      wakes=Follower(path), every=600.0, on_run=self.runs.append)
 
     def setUp(self) -> None:
         super().setUp()
@@ -433,6 +433,9 @@ class Runs(MemberCase):
         self.assertLess(waits[0], 0.2)
         self.assertEqual(waits, sorted(waits))
         self.assertTrue(1.0 < waits[-1] < 3.0, waits[-1])
+        self.server.reset(2)
+        self.look(member)
+        self.assertLess(member.wait_seconds(30.0), 0.2)
         self.confirm_other()
         self.look(member)
         self.assertEqual(member.wait_seconds(30.0), 30.0)
