@@ -8,6 +8,7 @@ from __future__ import annotations
 import fcntl
 import json
 import os
+import pwd
 import signal
 import socket
 import struct
@@ -26,6 +27,7 @@ CLIENT = os.path.dirname(HERE)
 sys.path.insert(0, CLIENT)
 
 PROGRAM = os.path.abspath(os.environ["RESETD"]) if os.environ.get("RESETD") else ""
+USER = pwd.getpwuid(os.getuid()).pw_name
 DEADLINE = 120.0  # seconds, which only a hang takes
 T = TypeVar("T")
 

@@ -9,7 +9,7 @@ import socket
 import tempfile
 import unittest
 
-from case import Case, until
+from case import USER, Case, until
 from resetd_front.audit import Audit
 
 MOMENT = re.compile(r"\d{4}-\d\d-\d\dT\d\d:\d\d:\d\d\.\d{3}Z")
@@ -39,7 +39,7 @@ class Written(Case):
         self.assertTrue(all(MOMENT.fullmatch(line["time"]) for line in lines))
         self.assertEqual({line["connection"] for line in lines[1:]}, {1})
         self.assertEqual({json.dumps(line["who"]) for line in lines[1:]},
-                         {json.dumps({"user": "root", "uid": os.getuid(), "pid": os.getpid()})})
+                         {json.dumps({"user": USER, "uid": os.getuid(), "pid": os.getpid()})})
         order, refused, fault = lines[2:5]
         self.assertEqual((order["line"], order["answer"], order["passed"]), ({"op": "reset", "node": 1}, began, {"client": 15, "number": 1}))
         self.assertEqual((refused["answer"], refused["passed"]), ({"name": "BadEpoch", "refused": 15}, {"client": 15, "number": 2}))

@@ -15,7 +15,7 @@ import urllib.request
 from collections.abc import Callable, Iterator
 from typing import Any
 
-from case import DEADLINE, Case, until
+from case import DEADLINE, USER, Case, until
 
 MODULES = ("aiohttp", "prometheus_client")
 
@@ -78,7 +78,7 @@ class Served(Case):
         self.front.ask(op="reset", node=1)
         state = self.state_where(states, lambda rows: any(row[2] != "ready" for row in rows))
         self.state_where(states, lambda rows: all(row[4] == 1 for row in rows))
-        self.assertEqual((state["recent"][0]["who"], state["recent"][0]["line"]), ("root", {"op": "reset", "node": 1}))
+        self.assertEqual((state["recent"][0]["who"], state["recent"][0]["line"]), (USER, {"op": "reset", "node": 1}))
         self.server.kill()
         while next(states)["up"]:
             pass

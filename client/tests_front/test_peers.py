@@ -14,7 +14,7 @@ import tempfile
 import unittest
 from typing import Any
 
-from case import DEADLINE, Case, Client, until
+from case import DEADLINE, USER, Case, Client, until
 
 POLICY = """
 [[allow]]
@@ -105,17 +105,21 @@ class Users(Ruled):
 
 
 class Reloads(Ruled):
+    def setUp(self) -> None:
+        super().setUp()
+        self.write(POLICY.replace('"root"', f'"{USER}"'))
+
     def test_a_broken_policy_is_not_taken(self) -> None:
         self.front = self.started("--policy", self.policy)
         client = self.client()
         self.assertEqual(client.ask(op="reset", node=1), {"fault": "NotAllowed"})
-        self.write("[[allow]]\nuser = 'root'\nops = ['reset', 'fly']\n")
+        self.write(f"[[allow]]\nuser = '{USER}'\nops = ['reset', 'fly']\n")
         self.front.reload()
         self.front.await_audited("a line of it", lambda line: line["event"] == "policy" and "fly" in line["why"])
         self.assertIn("the old policy stays", self.front.said())
         self.assertEqual(client.ask(op="reset", node=1), {"fault": "NotAllowed"})
         self.assertIn("nodes", client.ask(op="show"))
-        self.write("[[allow]]\nuser = 'root'\nops = ['reset']\n")
+        self.write(f"[[allow]]\nuser = '{USER}'\nops = ['reset']\n")
         self.front.reload()
         self.front.await_audited("a line of it", lambda line: line["event"] == "policy" and line["why"] == "it was read")
         self.assertEqual(client.ask(op="reset", node=1)["kind"], "started")

@@ -7,7 +7,7 @@ import socket
 import unittest
 from typing import Any
 
-from case import Case, Client, until
+from case import USER, Case, Client, until
 from resetd_front.watchers import Watchers
 
 
@@ -124,11 +124,11 @@ class Watching(Case):
         self.front.kill()
         path = f"{self.folder}/policy"
         with open(path, "w", encoding="ascii") as file:
-            file.write("[[allow]]\nuser = 'root'\nops = ['watch']\n")
+            file.write(f"[[allow]]\nuser = '{USER}'\nops = ['watch']\n")
         self.front = self.started("--policy", path)
         client, _ = self.watcher()
         with open(path, "w", encoding="ascii") as file:
-            file.write("[[allow]]\nuser = 'root'\nops = ['show']\n")
+            file.write(f"[[allow]]\nuser = '{USER}'\nops = ['show']\n")
         self.front.reload()
         while client.line():
             pass
