@@ -1,11 +1,9 @@
 -- Members that refuse each other ask for a reset.
-use Rattle.std.proofs.Common.{◌≡◌, true, false, not, ◌&&◌, Bool, List, [], ◌∷◌, refl, ap, sym, ◌∙◌, arith, ◌==◌}
-use Rattle.std.proofs.lemmas.Bool.Decides.{nat_tests}
+use Rattle.std.proofs.Common.{◌≡◌, true, false, Bool, List, refl, ap, ◌∙◌}
 use Rattle.coord_member.specs.declared.view.Entry.{Entry}
-use Rattle.coord_member.specs.declared.view.Entry.TheVariants.{Node, Link}
 use Rattle.coord_member.specs.declared.rule.Due.{Due}
 use Rattle.coord_member.specs.declared.rule.Due.TheVariants.{Talk, Reset}
-use Rattle.coord_member.specs.Rule.{due, due_when_refused, same_entry, same_party}
+use Rattle.coord_member.specs.Rule.{due, due_when_refused, same_party}
 use Rattle.coord_member.specs.Refusals.{RefusersAsk}
 use Rattle.coord_member.proofs.Holding.{same_party_itself, same_parties}
 

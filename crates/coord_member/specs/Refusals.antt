@@ -1,5 +1,5 @@
 -- Two members that refuse each other: each talks in another run, and both are shown the same.
-use Rattle.std.specs.Prelude.{◌≡◌, false, true, List, Some}
+use Rattle.std.specs.Prelude.{◌≡◌, false, List, Some}
 use Rattle.coord_member.specs.declared.view.Entry.{Entry}
 use Rattle.coord_member.specs.declared.view.Row.{Row}
 use Rattle.coord_member.specs.declared.rule.Due.{Due}
