@@ -273,5 +273,6 @@ class Refused(Served):
             self.write("store", content)
             found.append(self.rests(store, refusing, first))
         refused = [rested for rested in found if rested is not None]
-        self.assertGreater(min(map(len, refused), default=0), 250, refused)
+        counts = [len(rested) for rested in refused]
+        self.assertGreater(min(counts, default=0), 250, counts)
         self.assertEqual({rest for rested in refused for rest in rested}, {1_000})
