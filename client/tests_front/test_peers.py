@@ -5,6 +5,7 @@ from __future__ import annotations
 import contextlib
 import functools
 import os
+import random
 import shutil
 import socket
 import ssl
@@ -12,6 +13,7 @@ import subprocess
 import sys
 import tempfile
 import threading
+import time
 import unittest
 from typing import Any
 
@@ -235,6 +237,7 @@ class Certificates(Ruled):
                 for _ in range(6):
                     client = self.connected("service2")
                     for op in ("show", "close", "show"):
+                        time.sleep(random.random() / 50)  # at any moment
                         client.ask(op=op)
             except OSError as fault:
                 faults.append(str(fault))
