@@ -235,9 +235,10 @@ class Certificates(Ruled):
         def ask() -> None:
             try:
                 for _ in range(6):
-                    client = self.connected("service2")
-                    for op in ("show", "close", "show"):
-                        time.sleep(random.random() / 50)  # at any moment
+                    client = self.connected("root")
+                    for op in ("show", "watch", "close"):
+                        if random.random() < 0.5:
+                            time.sleep(random.random() / 50)  # at any moment
                         client.ask(op=op)
             except OSError as fault:
                 faults.append(str(fault))
