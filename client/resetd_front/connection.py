@@ -54,7 +54,7 @@ class Connection(asyncio.Protocol):
     def connection_made(self, transport: asyncio.BaseTransport) -> None:
         assert isinstance(transport, asyncio.Transport)
         self._transport = transport
-        transport.set_write_buffer_limits(high=0)
+        transport.set_write_buffer_limits(high=1, low=0)  # TLS takes a bound of 0 as reached by nothing
         try:
             self.peer = self._peer_of(transport)
         except (OSError, KeyError) as fault:

@@ -5,12 +5,15 @@ from __future__ import annotations
 import contextlib
 import functools
 import os
+import random
 import shutil
 import socket
 import ssl
 import subprocess
 import sys
 import tempfile
+import threading
+import time
 import unittest
 from typing import Any
 
@@ -225,6 +228,27 @@ class Certificates(Ruled):
         for op in ("show", "watch", "close"):
             self.assertEqual(client.ask(op=op), {"fault": "NotAllowed"})
 
+    def test_many_at_once(self) -> None:
+        """Whatever comes together with the end of a handshake is read too."""
+        faults: list[str] = []
+
+        def ask() -> None:
+            try:
+                for _ in range(6):
+                    client = self.connected("root")
+                    for op in ("show", "watch", "close"):
+                        if random.random() < 0.5:
+                            time.sleep(random.random() / 50)  # at any moment
+                        client.ask(op=op)
+            except OSError as fault:
+                faults.append(str(fault))
+        asking = [threading.Thread(target=ask) for _ in range(12)]
+        for each in asking:
+            each.start()
+        for each in asking:
+            each.join()
+        self.assertEqual(faults, [])
+
     def test_who_is_not_let_in(self) -> None:
         self.refused("stranger", "unable to get local issuer certificate")
         self.refused("old", "expired")
@@ -313,7 +337,7 @@ class Hosts(Certificates):
                                   f"import socket; socket.create_connection(('{host}', {port}), 120)"], capture_output=True, text=True, check=False)
             self.assertIn("ConnectionRefusedError", ran.stderr)
 
-    test_a_certificate_without_a_rule_may_nothing = test_a_name_that_is_taken_out_of_the_policy = None  # type: ignore[assignment]
+    test_many_at_once = test_a_certificate_without_a_rule_may_nothing = test_a_name_that_is_taken_out_of_the_policy = None  # type: ignore[assignment]
 
 
 if __name__ == "__main__":
