@@ -92,28 +92,36 @@ load:
 	@tools/test_under_load --times $(or $(TIMES),10)
 
 SHARE = $(DESTDIR)$(PREFIX)/share/resetd
+BASH_COMPLETIONS = $(DESTDIR)$(PREFIX)/share/bash-completion/completions
+ZSH_COMPLETIONS = $(DESTDIR)$(PREFIX)/share/zsh/vendor-completions
 
 # What stands below share/resetd has the places of the repository, so that each part finds the others.
 install: $(PROGRAM)
 	install -D -m 755 $(PROGRAM) $(DESTDIR)$(PREFIX)/bin/resetd
-	install -d $(SHARE)/client/resetd_client/control $(SHARE)/tools/picture $(SHARE)/examples $(SHARE)/docs
-	install -m 755 client/resetctl $(SHARE)/client/
+	install -d $(SHARE)/client/resetd_client/control $(SHARE)/client/resetd_front $(SHARE)/tools/picture $(SHARE)/examples $(SHARE)/docs
+	install -m 755 client/resetctl client/resetd-front $(SHARE)/client/
 	install -m 644 client/pyproject.toml client/build_wheel.py $(SHARE)/client/
 	install -m 644 client/resetd_client/*.py client/resetd_client/py.typed $(SHARE)/client/resetd_client/
 	install -m 644 client/resetd_client/control/*.py $(SHARE)/client/resetd_client/control/
+	install -m 644 client/resetd_front/*.py client/resetd_front/py.typed client/resetd_front/page.html $(SHARE)/client/resetd_front/
 	install -m 755 tools/wave tools/container $(SHARE)/tools/
 	install -m 644 tools/picture/*.py $(SHARE)/tools/picture/
 	install -m 755 examples/ask examples/gateway examples/local_check examples/member examples/plain_member examples/run examples/service examples/talk examples/worker $(SHARE)/examples/
 	install -m 644 examples/coordinator.py examples/ring.toml examples/resetd.logrotate examples/resetd.rules.yml $(SHARE)/examples/
 	for unit in examples/*.service examples/*.timer; do sed 's|/usr/local/bin/|$(PREFIX)/bin/|' $$unit > $(SHARE)/$$unit; chmod 644 $(SHARE)/$$unit; done
-	install -m 644 docs/OPERATING.md docs/TAKEOVER.md docs/FORMATS.md docs/SERVICES.md docs/PROTOCOL.md docs/*.svg $(SHARE)/docs/
+	install -m 644 docs/OPERATING.md docs/TAKEOVER.md docs/FORMATS.md docs/SERVICES.md docs/PROTOCOL.md docs/FRONT.md docs/*.svg $(SHARE)/docs/
 	install -m 644 CHANGELOG.md $(SHARE)/
 	install -m 755 examples/account examples/hello examples/hello.sh examples/one_for_all $(SHARE)/examples/
 	install -m 644 examples/pair.toml $(SHARE)/examples/
 	sed 's|/usr/local/|$(PREFIX)/|' examples/resetd-member@.service > $(SHARE)/examples/resetd-member@.service
 	ln -sfn ../share/resetd/client/resetctl $(DESTDIR)$(PREFIX)/bin/resetctl
+	ln -sfn ../share/resetd/client/resetd-front $(DESTDIR)$(PREFIX)/bin/resetd-front
+	install -d $(BASH_COMPLETIONS) $(ZSH_COMPLETIONS)
+	client/resetctl completion bash > $(BASH_COMPLETIONS)/resetctl
+	client/resetctl completion zsh > $(ZSH_COMPLETIONS)/_resetctl
 	install -D -m 644 docs/resetd.8 $(DESTDIR)$(PREFIX)/share/man/man8/resetd.8
 	install -D -m 644 docs/resetctl.8 $(DESTDIR)$(PREFIX)/share/man/man8/resetctl.8
+	install -D -m 644 docs/resetd-front.8 $(DESTDIR)$(PREFIX)/share/man/man8/resetd-front.8
 
 deb: $(PROGRAM)
 	@PROGRAM=$(PROGRAM) tools/deb
@@ -130,6 +138,7 @@ bin/resetd-trial:
 	@tools/program --trial > /dev/null
 
 uninstall:
-	rm -f $(DESTDIR)$(PREFIX)/bin/resetd $(DESTDIR)$(PREFIX)/bin/resetctl
-	rm -f $(DESTDIR)$(PREFIX)/share/man/man8/resetd.8 $(DESTDIR)$(PREFIX)/share/man/man8/resetctl.8
+	rm -f $(DESTDIR)$(PREFIX)/bin/resetd $(DESTDIR)$(PREFIX)/bin/resetctl $(DESTDIR)$(PREFIX)/bin/resetd-front
+	rm -f $(foreach page,resetd resetctl resetd-front,$(DESTDIR)$(PREFIX)/share/man/man8/$(page).8)
+	rm -f $(BASH_COMPLETIONS)/resetctl $(ZSH_COMPLETIONS)/_resetctl
 	rm -rf $(SHARE)
