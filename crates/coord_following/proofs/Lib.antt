@@ -1,0 +1,5 @@
+pub mod Steps
+pub mod Lives
+pub mod Views
+pub mod OverStores
+pub mod OverLedgers

@@ -1,0 +1,20 @@
+-- Members that are shown the worlds of one store.
+use Rattle.std.specs.Prelude.{ℕ, ◌==◌, ◌≤◌, List, [], ◌∷◌, if◌then◌else◌}
+use Rattle.coord_world.specs.Facade.{World}
+use Rattle.coord_world.specs.laws.Trails.{IsSound}
+use Rattle.coord_member.specs.Members.{Event, Look, new_world, run}
+use Rattle.coord_member.specs.NoMix.{IsUnmixed}
+use Rattle.coord_look.specs.Shown.{IsShownTo}
+use Rattle.coord_following.specs.Histories.{IsHistory, Turn, world_at}
+
+-- each look is shown the world after some first turns, no fewer than the same member was shown last. Members need not be shown the
+-- same worlds, nor the newest. All else happens as it likes: files are lost, messages come late, again or never
+abbrev pub AreShown : World → List Turn → (ℕ → ℕ) → List Event → Type 0
+AreShown w turns last [] = Unit {0}
+AreShown w turns last (Look i row now ∷ events) = (k : ℕ) × ((last i ≤ k) × (IsShownTo (world_at w k turns) i row now × AreShown w turns (λ j. if j == i then k else last j) events))
+AreShown w turns last (_ ∷ events) = AreShown w turns last events
+
+-- whatever a store goes through from a sound world on, its migration too, members that begin with nothing and follow the rule mix
+-- no runs, wherever they lose their files
+abbrev pub NoMixOverAStore : Type 0
+NoMixOverAStore = (w : World) (turns : List Turn) (events : List Event) → IsSound w → IsHistory w turns → AreShown w turns (λ i. 0) events → IsUnmixed (run new_world events)

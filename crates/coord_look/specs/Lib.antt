@@ -1,0 +1,3 @@
+pub mod Shown
+pub mod Reading
+pub mod Worlds

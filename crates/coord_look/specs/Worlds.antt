@@ -1,0 +1,18 @@
+-- What is read in the view of a world is what a member is shown of that world.
+use Rattle.std.specs.Prelude.{◌≡◌, ℕ, false, List, Option, Some, None, find}
+use Rattle.coord_types.specs.Table.{has}
+use Rattle.coord_view.specs.Shown.{shown}
+use Rattle.coord_view.specs.declared.view.NodeView.{NodeView}
+use Rattle.coord_world.specs.Facade.{InRange, World}
+use Rattle.coord_member.specs.declared.view.Entry.{Entry}
+use Rattle.coord_member.specs.declared.view.Row.{Row}
+use Rattle.coord_look.specs.Reading.{IsReadOf, is_of}
+use Rattle.coord_look.specs.Shown.{IsShownTo}
+
+-- of a world in its ranges, whose view also says how many steps are accepted
+abbrev pub LookIsShown : Type 0
+LookIsShown = (w : World) (accepted i : ℕ) (own : NodeView) (row : Row) (party : List Entry) → InRange w → find (is_of i) (shown accepted w).nodes ≡ Some own → IsReadOf (shown accepted w) i own row party → IsShownTo w i row party
+
+-- and where no row is read, the node is not there
+abbrev pub NoLookIsAbsent : Type 0
+NoLookIsAbsent = (w : World) (accepted i : ℕ) → find (is_of i) (shown accepted w).nodes ≡ None → has w.nodes i ≡ false
