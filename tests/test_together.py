@@ -5,7 +5,6 @@ import json
 import socket
 import subprocess
 import sys
-import time
 
 from support import preloaded
 from support.case import until
@@ -237,18 +236,19 @@ class Refused(Served):
             self.assertEqual(self.close(server).status, 0)
             return answers, before, behind
 
-    def seconds(self, store, refusing, first):
-        """Three orders, where 300 allocations are refused from this one on: in how many seconds all of them were carried out,
-        or 0 if they were not, or before so many were asked for."""
-        rests = preloaded.environment(self.folder, CALLS=self.path("calls"), WAITS=1)
-        environment = preloaded.both(rests, refusing.environment(first, 300))
+    def rests(self, store, refusing, first):
+        """Three orders, where 300 allocations are refused from this one on: for how many microseconds each rest was to last
+        until all of them were carried out. None if they were not, or before so many allocations were asked for."""
+        calls = self.write("calls", "")
+        environment = preloaded.both(preloaded.environment(self.folder, CALLS=calls, WAITS=1), refusing.environment(first, 300))
         with Serving(store, env=environment) as server, server.connect() as connection:
-            began = time.monotonic()
             with contextlib.suppress(OSError):
                 connection.send(*({"op": "reset", "client": 1, "number": number, "node": 1} for number in range(1, 4)))
                 connection.socket.shutdown(socket.SHUT_WR)
-            replies, took, behind = self.replies(connection), time.monotonic() - began, refusing.count()
-            return took if [reply.get("step") for reply in replies] == [2, 3, 4] and behind >= first + 300 else 0
+            replies, behind = self.replies(connection), refusing.count()
+            is_done = [reply.get("step") for reply in replies] == [2, 3, 4] and behind >= first + 300
+            rested = [int(line.split()[2]) for line in self.read("calls").splitlines() if line.startswith(b"rest ")]
+            return rested if is_done else None
 
     def test_a_flusher_that_finds_no_memory_rests(self):
         """From one allocation on it is the flusher that is refused, before a flight or as one comes back. Each time it tries
@@ -258,10 +258,10 @@ class Refused(Served):
         refusing, store = Refusing(PROGRAM, self.folder), self.made(topology([(1, 1)]))
         content = self.read("store")
         _, before, behind = self.orders(store, refusing, ALL_THREADS)
-        times = []
+        found = []
         for first in range(before + 1, behind + 1):
             self.write("store", content)
-            times.append(self.seconds(store, refusing, first))
-        self.assertGreater(min(filter(None, times), default=0), 0.25, times)
-        rests = {int(line.split()[2]) for line in self.read("calls").splitlines() if line.startswith(b"rest ")}
-        self.assertEqual(rests, {1_000})  # microseconds
+            found.append(self.rests(store, refusing, first))
+        refused = [rested for rested in found if rested is not None]
+        self.assertGreater(min(map(len, refused), default=0), 250, refused)
+        self.assertEqual({rest for rested in refused for rest in rested}, {1_000})
