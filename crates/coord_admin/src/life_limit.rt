@@ -1,6 +1,6 @@
 //! How long a life of a desk serves, by the steps that it keeps.
 
-ghost use Rattle.std.specs.Prelude.{◌≡◌, ◌≢◌, ◌*◌, ◌<◌, ◌≤◌, [], Err, length, take, IfNone, IfOk, IfSome, OnErr};
+ghost use Rattle.std.specs.Prelude.{◌≡◌, ◌≢◌, ◌*◌, ◌<◌, ◌≤◌, [], Err, length, take, true, IfNone, IfOk, IfSome, OnErr};
 ghost use Rattle.coord_admin.specs.LifeLimit.{HasKept, HasKeptFewer, IsAge};
 ghost use Rattle.coord_admin.specs.declared.life_limit.Unread.TheVariants as UnreadAs;
 
@@ -31,6 +31,13 @@ fn age_of(most: usize, kept: usize) -> Age
     } else {
         Age::Over
     }
+}
+
+/// Whether a life is over.
+pub fn is_over<D: Desk>(most: usize, desk: &D) -> bool
+    ensures { result ≡ true → HasKept D.keeps desk.now (2 * most) }
+{
+    matches!(age_of(most, desk.kept()), Age::Over)
 }
 
 /// Waits for the next one who calls, as long as the desk's life is young. None once it is old.
@@ -78,6 +85,7 @@ pub fn receive_in_life<C: Duplex, D: Desk>(
     ensures end { IfOk result (λ n. n ≡ 0 → 0 < length buffer.old →
         C.has_ended connection.new) }
     ensures failed { OnErr result (C.exchanged connection.old [] [] connection.new) }
+    ensures broken { result ≡ Err UnreadAs.Failed → C.has_failed connection.new }
     ensures asked { result ≢ Err UnreadAs.Over → HasKeptFewer D.keeps desk.now (2 * most) ×
         C.asked connection.old is_within_line connection.new }
     ensures over { result ≡ Err UnreadAs.Over → HasKept D.keeps desk.now (2 * most) }

@@ -20,24 +20,25 @@ both b s (Err why) (Ok reply) before after put told = absurd told
 both {D} b s (Err why) (Err refusal) before after put told = inl (subst (λ r. AtSomeMoment b (Submits {D = D} s (Err r) before after)) (sym told) put)
 
 -- an order that was posted and replied was answered
-pub desk_answered : {D : Type 0} (b : Basis D) (d e f : DeskState) (r : Request) (posted : Result Claim Refusal) (reply : Result Reply Refusal) → DeskPosts b d r posted e → DeskReplies b e posted reply f → DeskAnswers b d r (order_answer reply) f
+pub desk_answered : {D P : Type 0} (b : Basis D) (d e f : DeskState P) (r : Request) (posted : Result Claim Refusal) (reply : Result Reply Refusal) → DeskPosts b d r posted e → DeskReplies b e posted reply f → DeskAnswers b d r (order_answer reply) f
 desk_answered {D} b d e f (request.Order client number command) posted reply put told =
     let s = step.Order client number command in (
       reply,
       refl,
       both b s posted reply d.notes f.notes (subst (λ notes. AtSomeMoment b (Submits {D = D} s posted d.notes notes)) (sym told.1) put.0) told.0,
-      told.2 ∙ ap (seen_after reply) put.1,
+      told.2.0 ∙ ap (seen_after reply) put.1.0,
+      told.2.1 ∙ put.1.1,
     )
 desk_answered b d e f request.Show posted reply put told = absurd put
 desk_answered b d e f request.Resend posted reply put told = absurd put
 desk_answered b d e f request.Close posted reply put told = absurd put
 
 -- a reply is the same before an order is posted and behind that
-pub desk_apart : {D : Type 0} (b : Basis D) (d e f : DeskState) (r : Request) (p q : Result Claim Refusal) (reply : Result Reply Refusal) → DeskPosts b d r q e → DeskReplies b e p reply f → (m : DeskState) × DeskReplies b d p reply m × DeskPosts b m r q f
+pub desk_apart : {D P : Type 0} (b : Basis D) (d e f : DeskState P) (r : Request) (p q : Result Claim Refusal) (reply : Result Reply Refusal) → DeskPosts b d r q e → DeskReplies b e p reply f → (m : DeskState) × DeskReplies b d p reply m × DeskPosts b m r q f
 desk_apart {D} b d e f (request.Order client number command) p q reply put told = (
-  record { notes = d.notes; seen = f.seen },
-  (told.0, refl, told.2 ∙ ap (seen_after reply) put.1),
-  (subst (λ notes. AtSomeMoment b (Submits {D = D} (step.Order client number command) q d.notes notes)) (sym told.1) put.0, refl),
+  record { notes = d.notes; seen = f.seen; port = d.port },
+  (told.0, refl, told.2.0 ∙ ap (seen_after reply) put.1.0, refl),
+  (subst (λ notes. AtSomeMoment b (Submits {D = D} (step.Order client number command) q d.notes notes)) (sym told.1) put.0, refl, told.2.1 ∙ put.1.1),
 )
 desk_apart b d e f request.Show p q reply put told = absurd put
 desk_apart b d e f request.Resend p q reply put told = absurd put

@@ -1,11 +1,12 @@
 //! A port within one process.
 
-ghost use Rattle.std.specs.Prelude.{◌≡◌};
+ghost use Rattle.std.specs.Prelude.{◌≡◌, Unit};
 ghost use Rattle.coord_server.specs.Workers.{worker_of};
 
 use coord_engine::Port;
 use coord_types::{NodeId, Packet};
 use crossbeam_channel::Sender;
+use std::marker::Model;
 use std::sync::{Mutex, Wait};
 
 /// How many workers there are. A node belongs to the worker with the node's number modulo this.
@@ -19,12 +20,19 @@ pub struct Signal {
 }
 
 /// Carries packets to the workers' channels, and signals to the channel of what prints them. It
-/// waits for neither: what a channel has no memory for is lost.
+/// waits for neither: what a channel has no memory for is lost. No clause can say what lies behind its
+/// locks, so contracts see nothing of it.
 #[derive(Drop)]
 pub struct LocalPort<R: Wait> {
     rt: R,
     channels: Mutex<Vec<Sender<Packet>>>,
     signals: Mutex<Option<Sender<Signal>>>,
+}
+
+impl<R: Wait> Model for LocalPort<R> {
+    ghost Value = { Unit {0} };
+
+    ghost view = { λ _. tt };
 }
 
 impl<R: Wait> LocalPort<R> {
