@@ -1,6 +1,6 @@
 //! How long a life of a desk serves, by the steps that it keeps.
 
-ghost use Rattle.std.specs.Prelude.{◌≡◌, ◌≢◌, ◌*◌, ◌<◌, ◌≤◌, [], Err, length, take, true, IfNone, IfOk, IfSome, OnErr};
+ghost use Rattle.std.specs.Prelude.{◌≡◌, ◌≢◌, ◌*◌, ◌<◌, ◌≤◌, [], Err, length, take, IfNone, IfOk, IfSome, OnErr};
 ghost use Rattle.coord_admin.specs.LifeLimit.{HasKept, HasKeptFewer, IsAge};
 ghost use Rattle.coord_admin.specs.declared.life_limit.Unread.TheVariants as UnreadAs;
 
@@ -31,13 +31,6 @@ fn age_of(most: usize, kept: usize) -> Age
     } else {
         Age::Over
     }
-}
-
-/// Whether a life is over.
-pub fn is_over<D: Desk>(most: usize, desk: &D) -> bool
-    ensures { result ≡ true → HasKept D.keeps desk.now (2 * most) }
-{
-    matches!(age_of(most, desk.kept()), Age::Over)
 }
 
 /// Waits for the next one who calls, as long as the desk's life is young. None once it is old.

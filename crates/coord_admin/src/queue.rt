@@ -142,6 +142,7 @@ impl<D: Desk> Queue<D> {
             × ((left : List Line) → BreaksOff D.answers d (lines ++ left) part desk.new)) }
         ensures failed { OnErr result (C.has_failed connection.new) }
         ensures empty { self.new.posted.items ≡ [] }
+        ensures kept { (kept : ℕ) → D.keeps desk.old kept → D.keeps desk.new kept }
         ensures still { C.has_failed connection.old → C.has_failed connection.new }
         ensures end { C.has_ended connection.old → C.has_ended connection.new }
     {

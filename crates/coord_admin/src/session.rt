@@ -17,7 +17,7 @@ use crate::asking::answer_to;
 use crate::desk::Desk;
 use crate::duplex::{Duplex, NotWritten};
 use crate::fault::{LineFault, ServeFault};
-use crate::life_limit::{Unread, is_over, receive_in_life};
+use crate::life_limit::{Unread, receive_in_life};
 use crate::queue::Queue;
 use crate::reading::read_line;
 use crate::request::Request;
@@ -133,9 +133,7 @@ fn serve_lines<C: Duplex, D: Desk>(
             }
             Err(Unread::Over) => {
                 queue.answer_all(alloc, connection, desk)?;
-                if is_over(most, desk) {
-                    return Ok(Ended::Cut);
-                }
+                return Ok(Ended::Cut);
             }
         }
     }

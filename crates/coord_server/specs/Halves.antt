@@ -1,5 +1,5 @@
 -- What holds of the two halves of an order.
-use Rattle.std.proofs.Common.{List, Result, Ok, Err, inl, inr, refl, sym, ap, ◌∙◌, subst}
+use Rattle.std.proofs.Common.{◌≡◌, ℕ, List, length, max, Result, Ok, Err, inl, inr, refl, sym, ap, ◌∙◌, subst}
 use Rattle.coord_types.specs.declared.refusals.Refusal.{Refusal}
 use Rattle.coord_types.specs.declared.steps.Reply.{Reply}
 use Rattle.coord_types.specs.declared.steps.Step.{Step}
@@ -11,7 +11,7 @@ use Rattle.coord_admin.specs.declared.request.Request.{Request}
 use Rattle.coord_admin.specs.declared.request.Request.TheVariants as request
 use Rattle.coord_engine.specs.Facade.{Basis}
 use Rattle.coord_engine.specs.Threads.{AtSomeMoment, Submits}
-use Rattle.coord_server.specs.EngineDesk.{DeskAnswers, DeskPosts, DeskReplies, DeskState, Orders, Replies, seen_after}
+use Rattle.coord_server.specs.EngineDesk.{DeskAnswers, DeskKeeps, DeskPosts, DeskReplies, DeskState, Orders, Replies, seen_after}
 
 both : {D : Type 0} (b : Basis D) (s : Step) (posted : Result Claim Refusal) (reply : Result Reply Refusal) (before after : List Note) → AtSomeMoment b (Submits {D = D} s posted before after) → Replies b posted reply → Orders b s reply before after
 both b s (Ok claim) (Ok reply) before after put told = (claim, put, told)
@@ -43,3 +43,7 @@ desk_apart {D} b d e f (request.Order client number command) p q reply put told 
 desk_apart b d e f request.Show p q reply put told = absurd put
 desk_apart b d e f request.Resend p q reply put told = absurd put
 desk_apart b d e f request.Close p q reply put told = absurd put
+
+-- where a reply is waited for nothing is noted, and no step is lost
+pub desk_loses_none : {D P : Type 0} (b : Basis D) (d e : DeskState P) (posted : Result Claim Refusal) (reply : Result Reply Refusal) (kept : ℕ) → DeskReplies b d posted reply e → DeskKeeps b d kept → DeskKeeps b e kept
+desk_loses_none b d e posted reply kept told is = (is.0, is.1, subst (λ notes. kept ≡ max is.0 (length notes)) (sym told.1) is.2)

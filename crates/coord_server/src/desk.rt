@@ -103,7 +103,7 @@ impl<'a, D: Disk, L: Origin, P: Port, R: Wait> Desk for EngineDesk<'a, D, L, P, 
     ghost use Rattle.coord_admin.specs.Replies.{resend_answer};
     ghost use Rattle.coord_admin.specs.declared.request.Request.TheVariants as request;
     ghost use Rattle.coord_server.specs.EngineDesk.{DeskAnswers, DeskKeeps, DeskPosts, DeskReplies, HandsAgain};
-    ghost use Rattle.coord_server.specs.Halves.{desk_answered, desk_apart};
+    ghost use Rattle.coord_server.specs.Halves.{desk_answered, desk_apart, desk_loses_none};
 
     /// A ticket for the reply, or why the order was refused.
     type Posted = Result<Ticket, Refusal>;
@@ -152,4 +152,6 @@ impl<'a, D: Disk, L: Origin, P: Port, R: Wait> Desk for EngineDesk<'a, D, L, P, 
     ghost is_answered = { desk_answered (based_on D.model.keeps_model D.model.present L.base L.before) };
 
     ghost stays_apart = { desk_apart (based_on D.model.keeps_model D.model.present L.base L.before) };
+
+    ghost loses_none = { desk_loses_none (based_on D.model.keeps_model D.model.present L.base L.before) };
 }
