@@ -47,7 +47,13 @@ pub fn serve_store<
         ImagesGive D.model ended.closed.store) }
     ensures nothing { IfErr result (LeavesNothing D.model.keeps_model D.model.present) }
 {
-    serve_accepted(rt, alloc, store, Accepted::new(rt, listener, Patience::usual()), output)
+    serve_accepted(
+        rt,
+        alloc,
+        store,
+        Accepted::new(rt, listener, Patience::usual()),
+        output,
+    )
 }
 
 /// Serves a store to the connections of a listener whose clients are waited for as usual.
