@@ -1,27 +1,31 @@
 # What a person would ask for. The toolchain's command `rt` has to be on the PATH.
-.PHONY: help demo drill example services soak lives takeover build prove test program refusals bench sweep nightly install uninstall deb
+.PHONY: help demo drill trial example services soak lives takeover build prove test program load refusals bench sweep nightly install uninstall deb release
 
 PREFIX ?= /usr/local
+PROGRAM ?= bin/resetd
 # So many checks run at a time, each on one processor and with up to 3 GB of memory.
 JOBS ?= $(shell nproc)
 
 help:
-	@echo 'make demo      eight services and a coordinator that is killed in the middle of a reset and started again (without bin/resetd by a trial build)'
+	@echo 'make demo      eight services and a coordinator that is killed in the middle of a reset and started again '
 	@echo 'make drill     one reset of two nodes, each line that the drill reads beside what it prints'
+	@echo 'make trial     builds the program without any proof at bin/resetd-trial, in some 80 seconds; demo, example, services and soak take it where there is no bin/resetd'
 	@echo 'make example   the example services of examples/ around a coordinator, in a few seconds'
 	@echo 'make services  tries what services rest on: restores, members that come again, a work queue, torn and lost lines, 64 members, messages'
 	@echo 'make build     proves every crate, and leaves the program at bin/resetd; nothing is proved again while that is newer than every source'
 	@echo 'make test      the gate: every changed crate from nothing, the must-fail edits, every test and both programs, then make program; it leaves the program at bin/resetd too'
 	@echo 'make program   tries the program as people run it (tests/), over a trial build of it, in some minutes'
+	@echo 'make load      the same ten times on a busy machine, where none may fail (TIMES=N for N)'
 	@echo 'make refusals  tries the other wrong bodies, which the prover has to refuse (CRATE=NAME for one crate)'
 	@echo 'make bench     measures the drill, its parts, the store, the ledger, the engine and the server, and writes the tables of docs/MEASURES.md'
 	@echo 'make soak      kills a coordinator 200 times and 50 migrations, and looks for what was lost (ROUNDS=N for N kills)'
 	@echo 'make lives     a trial build whose lives are short, which change in the midst of resets: kills it there 100 times (ROUNDS=N)'
 	@echo 'make takeover  a coordinator on a replicated volume of three hosts, each in namespaces; hosts and bricks are lost'
 	@echo 'make sweep     refuses each allocation of every test and of the programs in turn, for 12 seconds each (EACH=N for N, 0 for all)'
-	@echo 'make nightly   what is too long for the gate (soak, lives, services, takeover, sweep, refusals), with a line for each in docs/nightly.tsv'
-	@echo 'make install   copies the program, resetctl, the client library, examples, documents and manual pages below PREFIX (/usr/local); make uninstall takes them away'
+	@echo 'make nightly   what is too long for the gate (soak, lives, services, load, takeover, sweep, refusals), with a line for each in docs/nightly.tsv'
+	@echo 'make install   copies the program, resetctl, the client library, examples, documents and manual pages below PREFIX (/usr/local); make uninstall takes them away (with PROGRAM=bin/resetd-trial the trial build)'
 	@echo 'make deb       builds a Debian package of all that with dpkg-deb'
+	@echo 'make release   makes what a release has in dist/, of the file GATE into which make test has printed (without one of the trial build)'
 	@echo 'make help      prints this'
 
 demo:
@@ -30,15 +34,18 @@ demo:
 drill:
 	@tools/drill
 
-example: bin/resetd
-	@examples/run
+trial:
+	@tools/program --trial > /dev/null
 
-services: bin/resetd
-	@RESETD=bin/resetd python3 -m unittest discover -s client/tests
-	@tools/test_services
+example:
+	@program=$$(tools/program) && RESETD=$$program examples/run
 
-soak: bin/resetd
-	@tools/soak --rounds $(or $(ROUNDS),200)
+services:
+	@program=$$(tools/program) && export RESETD=$$program && \
+	  python3 -m unittest discover -s client/tests && tools/test_services
+
+soak:
+	@program=$$(tools/program) && tools/soak --program $$program --rounds $(or $(ROUNDS),200)
 
 lives:
 	@tools/soak --lives 32 --rounds $(or $(ROUNDS),100)
@@ -81,35 +88,57 @@ test:
 program:
 	@tests/run
 
+load:
+	@tools/test_under_load --times $(or $(TIMES),10)
+
 SHARE = $(DESTDIR)$(PREFIX)/share/resetd
+BASH_COMPLETIONS = $(DESTDIR)$(PREFIX)/share/bash-completion/completions
+ZSH_COMPLETIONS = $(DESTDIR)$(PREFIX)/share/zsh/vendor-completions
 
 # What stands below share/resetd has the places of the repository, so that each part finds the others.
-install: bin/resetd
-	install -D -m 755 bin/resetd $(DESTDIR)$(PREFIX)/bin/resetd
-	install -d $(SHARE)/client/resetd_client/control $(SHARE)/tools/picture $(SHARE)/examples $(SHARE)/docs
-	install -m 755 client/resetctl $(SHARE)/client/
+install: $(PROGRAM)
+	install -D -m 755 $(PROGRAM) $(DESTDIR)$(PREFIX)/bin/resetd
+	install -d $(SHARE)/client/resetd_client/control $(SHARE)/client/resetd_front $(SHARE)/tools/picture $(SHARE)/examples $(SHARE)/docs
+	install -m 755 client/resetctl client/resetd-front $(SHARE)/client/
 	install -m 644 client/pyproject.toml client/build_wheel.py $(SHARE)/client/
 	install -m 644 client/resetd_client/*.py client/resetd_client/py.typed $(SHARE)/client/resetd_client/
 	install -m 644 client/resetd_client/control/*.py $(SHARE)/client/resetd_client/control/
-	install -m 755 tools/wave $(SHARE)/tools/
+	install -m 644 client/resetd_front/*.py client/resetd_front/py.typed client/resetd_front/page.html $(SHARE)/client/resetd_front/
+	install -m 755 tools/wave tools/container $(SHARE)/tools/
 	install -m 644 tools/picture/*.py $(SHARE)/tools/picture/
-	install -m 755 examples/ask examples/gateway examples/local_check examples/member examples/plain_member examples/run examples/service examples/talk $(SHARE)/examples/
-	install -m 644 examples/coordinator.py examples/ring.toml $(SHARE)/examples/
+	install -m 755 examples/ask examples/gateway examples/local_check examples/member examples/plain_member examples/run examples/service examples/talk examples/worker $(SHARE)/examples/
+	install -m 644 examples/coordinator.py examples/ring.toml examples/resetd.logrotate examples/resetd.rules.yml $(SHARE)/examples/
 	for unit in examples/*.service examples/*.timer; do sed 's|/usr/local/bin/|$(PREFIX)/bin/|' $$unit > $(SHARE)/$$unit; chmod 644 $(SHARE)/$$unit; done
-	install -m 644 docs/OPERATING.md docs/TAKEOVER.md docs/FORMATS.md docs/SERVICES.md docs/PROTOCOL.md docs/*.svg $(SHARE)/docs/
+	install -m 644 docs/OPERATING.md docs/TAKEOVER.md docs/FORMATS.md docs/SERVICES.md docs/PROTOCOL.md docs/FRONT.md docs/*.svg $(SHARE)/docs/
 	install -m 644 CHANGELOG.md $(SHARE)/
+	install -m 755 examples/account examples/hello examples/hello.sh examples/one_for_all $(SHARE)/examples/
+	install -m 644 examples/pair.toml $(SHARE)/examples/
+	sed 's|/usr/local/|$(PREFIX)/|' examples/resetd-member@.service > $(SHARE)/examples/resetd-member@.service
 	ln -sfn ../share/resetd/client/resetctl $(DESTDIR)$(PREFIX)/bin/resetctl
+	ln -sfn ../share/resetd/client/resetd-front $(DESTDIR)$(PREFIX)/bin/resetd-front
+	install -d $(BASH_COMPLETIONS) $(ZSH_COMPLETIONS)
+	client/resetctl completion bash > $(BASH_COMPLETIONS)/resetctl
+	client/resetctl completion zsh > $(ZSH_COMPLETIONS)/_resetctl
 	install -D -m 644 docs/resetd.8 $(DESTDIR)$(PREFIX)/share/man/man8/resetd.8
 	install -D -m 644 docs/resetctl.8 $(DESTDIR)$(PREFIX)/share/man/man8/resetctl.8
+	install -D -m 644 docs/resetd-front.8 $(DESTDIR)$(PREFIX)/share/man/man8/resetd-front.8
 
-deb: bin/resetd
-	@tools/deb
+deb: $(PROGRAM)
+	@PROGRAM=$(PROGRAM) tools/deb
+
+release:
+	@tools/release $(or $(GATE),--trial)
 
 bin/resetd:
-	@echo 'there is no proved program yet: make build makes it' >&2
+	@echo 'there is no proved program yet: make build makes it in some 30 minutes.' >&2
+	@echo 'To go on with a trial build, of which nothing is proved: make trial, and then PROGRAM=bin/resetd-trial behind this' >&2
 	@exit 1
 
+bin/resetd-trial:
+	@tools/program --trial > /dev/null
+
 uninstall:
-	rm -f $(DESTDIR)$(PREFIX)/bin/resetd $(DESTDIR)$(PREFIX)/bin/resetctl
-	rm -f $(DESTDIR)$(PREFIX)/share/man/man8/resetd.8 $(DESTDIR)$(PREFIX)/share/man/man8/resetctl.8
+	rm -f $(DESTDIR)$(PREFIX)/bin/resetd $(DESTDIR)$(PREFIX)/bin/resetctl $(DESTDIR)$(PREFIX)/bin/resetd-front
+	rm -f $(foreach page,resetd resetctl resetd-front,$(DESTDIR)$(PREFIX)/share/man/man8/$(page).8)
+	rm -f $(BASH_COMPLETIONS)/resetctl $(ZSH_COMPLETIONS)/_resetctl
 	rm -rf $(SHARE)

@@ -1,9 +1,9 @@
 #!/usr/bin/env bash
 # What a client of `resetd serve` waits for on a real file system: the time to the answer of one command
 # over one connection (p50 and p99 of resets of a node without links, each one step that is settled by two
-# syncs, and of `show`), beside raw pairs of a pwrite of as many bytes as the log grows by and an fdatasync
-# in the same folder and the same seconds; and the commands a second, one after the other and with several
-# sent before the answers are read. Then how long a start takes until it listens, where the log is of 1, 4
+# syncs, and of `show`, also of the greatest network), beside raw pairs of a pwrite of as many bytes as the
+# log grows by and an fdatasync in the same folder and the same seconds; and the commands a second, one after
+# the other and with several sent before the answers are read. Then how long a start takes until it listens, where the log is of 1, 4
 # and 16 MiB, beside `resetd check` and a plain read of the same file, which the system still has in memory.
 # The logs are made by the program itself, by resets of a ring of 64 nodes with chords, on a file system in
 # memory where there is one, since their syncs are not what is measured. The last one stays a little below

@@ -1,5 +1,6 @@
 """What stands behind a close: it is discarded, so that the client can read the answer, and holds up no end."""
 
+import contextlib
 import socket
 import threading
 import time
@@ -10,15 +11,20 @@ from support.serving import Serving
 from support.stores import topology
 
 DISCARD = 1  # for how many seconds it is discarded
-LATE = 10  # seconds by which a busy machine may be late
+LATE = 60  # seconds by which a busy machine may be late
 
 
 class BehindAClose(Case):
     takes = 6
 
+    def serving(self, name="store"):
+        """By a clock that stands still: what has come is discarded to its end, however long the server takes for it."""
+        self.needs("a C compiler", preloaded.has_compiler())
+        return Serving(self.made(topology([(1, 1)]), name), env=preloaded.environment(self.folder, STILL=1))
+
     def test_further_lines_are_discarded(self):
         for behind in (b'{"op":"show"}\n', b'{"op":"show"}\n' * 2_000, b" " * 40_000):
-            with self.subTest(behind=len(behind)), Serving(self.made(topology([(1, 1)]), f"store{len(behind)}")) as server, \
+            with self.subTest(behind=len(behind)), self.serving(f"store{len(behind)}") as server, \
                     server.connect() as connection:
                 connection.send(b'{"op":"close"}\n' + behind)
                 # a connection that is torn off raises here
@@ -27,13 +33,26 @@ class BehindAClose(Case):
                 self.assertEqual((server.ended().status, server.ended().told), (0, ""))
 
     def test_lines_that_come_later_are_discarded(self):
-        with Serving(self.made(topology([(1, 1)]))) as server, server.connect() as connection:
-            connection.send({"op": "close"})
-            time.sleep(0.2)
-            connection.send(b'{"op":"show"}\n' * 100)
-            self.assertEqual(connection.rest(), [b'{"kind":"closed"}\n'])
-            connection.socket.close()
-            self.assertEqual(server.ended().status, 0)
+        for number in range(20):
+            with self.serving(f"store{number}") as server, server.connect() as connection:
+                begun = time.monotonic()
+                connection.send({"op": "close"})
+                self.assertEqual(connection.line(), b'{"kind":"closed"}\n')
+                with contextlib.suppress(ConnectionError):
+                    connection.send(b'{"op":"show"}\n' * 100)
+                    if time.monotonic() - begun < DISCARD / 2:
+                        self.expect_discarded(server, connection)
+                        return
+        self.fail("the machine was too busy to send a line behind a close in time")
+
+    def expect_discarded(self, server, connection):
+        """Nothing more is said, and the connection is not torn off."""
+        try:
+            self.assertEqual(connection.rest(), [])
+        except ConnectionError as torn:
+            self.fail(f"the connection was torn off: {torn}")
+        connection.socket.close()
+        self.assertEqual(server.ended().status, 0)
 
     def test_a_client_is_told_that_no_more_comes(self):
         """Behind the answer, and before what it still sends is discarded: so it need not wait for the end of that."""
@@ -54,30 +73,24 @@ class BehindAClose(Case):
         with Serving(self.made(topology([(1, 1)]))) as server, server.connect() as connection:
             connection.send({"op": "close"})
             self.assertEqual(connection.line(), b'{"kind":"closed"}\n')
-            begun = time.monotonic()
-            self.assertEqual(server.ended().status, 0)
-            self.assertLess(time.monotonic() - begun, DISCARD + LATE)
+            self.assertEqual(server.ended(DISCARD + LATE).status, 0)
 
     def test_a_client_that_sends_on_holds_up_no_end(self):
         with Serving(self.made(topology([(1, 1)]))) as server, server.connect() as connection:
             connection.send({"op": "close"})
             self.assertEqual(connection.line(), b'{"kind":"closed"}\n')
             sender = threading.Thread(target=self.send_on, args=[connection], daemon=True)
-            begun = time.monotonic()
             sender.start()
-            self.assertEqual(server.ended().status, 0)
-            self.assertLess(time.monotonic() - begun, DISCARD + LATE)
-            sender.join(30)
+            self.assertEqual(server.ended(DISCARD + LATE).status, 0)
+            sender.join()
 
     @staticmethod
     def send_on(connection):
-        """A few bytes at a time, without an end."""
-        try:
-            for _ in range(3_000):
+        """A few bytes at a time, until nobody takes them."""
+        with contextlib.suppress(OSError):
+            while True:
                 connection.socket.send(b"x")
                 time.sleep(0.005)
-        except OSError:
-            pass
 
     def test_a_client_that_has_left(self):
         with Serving(self.made(topology([(1, 1)]))) as server:

@@ -69,7 +69,6 @@ def calls_of(path):
 
 class Moments(Case):
     takes = 60
-    most = 900
 
     def setUp(self):
         super().setUp()

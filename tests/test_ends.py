@@ -42,7 +42,7 @@ class Ends(Case):
             for number in (1, 2):
                 for name in (store, *others):
                     for words in (["serve", name, "127.0.0.1:0"], ["migrate", name], ["init", name, f"{store}.toml"]):
-                        self.assertEqual(ran(*words, seconds=60), SERVED_ALREADY)
+                        self.assertEqual(ran(*words), SERVED_ALREADY)
                 self.assertEqual(server.order(number, "reset", node=1), {"kind": "finished", "step": 1 + number})
                 # these take no lock
                 self.assertEqual(ran("check", store), Ended(0, f"legal {1 + number}\n", ""))

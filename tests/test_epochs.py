@@ -102,7 +102,7 @@ class ManySignals(Served):
 
 class ManySteps(Served):
     takes = 100
-    most = 900
+    most = 3_600
 
     def test_a_hundred_thousand_steps_in_one_life(self):
         """Waves over as many links as there may be, asked for by all clients at once."""

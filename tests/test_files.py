@@ -10,7 +10,7 @@ import time
 
 from support import preloaded, stores
 from support.case import Case, until
-from support.program import PROGRAM, Ended, faulted, ran
+from support.program import PATIENCE, PROGRAM, Ended, faulted, ran
 from support.serving import Serving
 from support.stores import topology
 
@@ -53,7 +53,7 @@ class ReadOnly(Case):
     words = ["setpriv", "--bounding-set=-dac_override,-dac_read_search"] if os.geteuid() == 0 else []
 
     def user(self, *words):
-        done = subprocess.run([*self.words, PROGRAM, *words], stdin=subprocess.DEVNULL, capture_output=True, timeout=60)
+        done = subprocess.run([*self.words, PROGRAM, *words], stdin=subprocess.DEVNULL, capture_output=True, timeout=PATIENCE)
         return Ended(done.returncode, done.stdout.decode(), done.stderr.decode())
 
     def test_a_store(self):
@@ -214,14 +214,14 @@ class Called(Case):
         for command in commands:
             for error in errors:
                 path, where = self.write("store", content), (call, command, errno.errorcode[error])
-                ended = ran(command, path, *more.get(command, []), env=self.environment(ERROR=error, **call), seconds=30)
+                ended = ran(command, path, *more.get(command, []), env=self.environment(ERROR=error, **call))
                 self.assertEqual((where, ended, self.read("store")), (where, FAILED, content))
 
     def test_a_write_that_fails_where_a_store_is_made(self):
         words = ["init", self.path("store"), self.write("topology", ONE)]
         for number in (1, 2, 3):
             for error in ERRORS:
-                ended = ran(*words, env=self.environment(WRITE_FAILS=number, ERROR=error), seconds=60)
+                ended = ran(*words, env=self.environment(WRITE_FAILS=number, ERROR=error))
                 self.assertEqual((number, error, ended), (number, error, FAILED))
                 os.remove(self.path("store"))
         self.assertEqual(ran(*words, env=self.environment(WRITE_FAILS=4)), Ended(0, "created 1\n", ""))
@@ -233,7 +233,7 @@ class Called(Case):
                 path = self.write("store", content)
                 with self.subTest(write=number, error=errno.errorcode[error]):
                     environment = self.environment(WRITE_FAILS=number, ERROR=error)
-                    self.assertEqual(ran("migrate", path, env=environment, seconds=60), FAILED)
+                    self.assertEqual(ran("migrate", path, env=environment), FAILED)
                     self.assertEqual((ran("check", path), stores.version_of(path)), (Ended(0, "legal 1\n", ""), 1))
 
     def test_a_write_that_fails_while_orders_are_served(self):

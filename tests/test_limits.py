@@ -7,7 +7,7 @@ import subprocess
 
 from support import preloaded
 from support.case import Case, tool
-from support.program import PROGRAM, SHORT, SHORT_STEPS, Ended, faulted, ran
+from support.program import PATIENCE, PROGRAM, SHORT, SHORT_STEPS, Ended, faulted, ran
 from support.serving import Serving
 from support.stores import topology
 
@@ -24,7 +24,7 @@ class Descriptors(Case):
                 resource.prlimit(server.process.pid, resource.RLIMIT_NOFILE, (used, usual[1]))
                 with self.unanswered(server) as connection:
                     resource.prlimit(server.process.pid, resource.RLIMIT_NOFILE, usual)
-                    connection.socket.settimeout(30)
+                    connection.socket.settimeout(PATIENCE)
                     self.assertEqual(connection.reply(), {"count": 0, "kind": "resent"})
             self.assertEqual(server.close().status, 0)
 
@@ -66,7 +66,7 @@ class Descriptors(Case):
         store = self.made(topology([(1, 1)]))
         for error in (errno.EACCES, errno.EADDRINUSE, errno.ENOBUFS, errno.ENOMEM, errno.EINVAL):
             environment = {**os.environ, **preloaded.environment(self.folder, LISTEN_FAILS=1, ERROR=error)}
-            ended = ran("serve", store, "127.0.0.1:0", env=environment, seconds=60)
+            ended = ran("serve", store, "127.0.0.1:0", env=environment)
             self.assertEqual((error, ended), (error, faulted(3, "Socket")))
 
     def test_an_address_that_is_not_told(self):
@@ -74,7 +74,7 @@ class Descriptors(Case):
         self.needs("a C compiler", preloaded.has_compiler())
         environment = {**os.environ, **preloaded.environment(self.folder, NAME_FAILS=1)}
         store = self.made(topology([(1, 1)]))
-        self.assertEqual(ran("serve", store, "127.0.0.1:0", env=environment, seconds=60), faulted(3, "Socket"))
+        self.assertEqual(ran("serve", store, "127.0.0.1:0", env=environment), faulted(3, "Socket"))
 
 
 class Threads(Case):
@@ -96,7 +96,7 @@ class Threads(Case):
         for number in range(1, THREADS + 1):
             environment = {**os.environ, **preloaded.environment(self.folder, THREAD_FAILS=number)}
             with self.subTest(thread=number):
-                self.assertEqual(ran("serve", store, "127.0.0.1:0", env=environment, seconds=60), faulted(4, "OutOfMemory"))
+                self.assertEqual(ran("serve", store, "127.0.0.1:0", env=environment), faulted(4, "OutOfMemory"))
                 self.assertEqual(self.read("store"), before)
         with Serving(store, env=preloaded.environment(self.folder, THREAD_FAILS=THREADS + 1)) as server:
             self.assertEqual(server.order(1, "reset", node=1), {"kind": "finished", "step": 2})
@@ -120,7 +120,7 @@ class Threads(Case):
                     count = (life - 1) * SHORT_STEPS
                     signals = "".join(f"signal 1 {epoch}\n" for epoch in range(1, count + 1))
                     wanted = Ended(4, f"listening {server.address}\n{signals}", "resetd: OutOfMemory\n")
-                    self.assertEqual((fails, server.ended(60)), (fails, wanted))
+                    self.assertEqual((fails, server.ended()), (fails, wanted))
                 self.assertEqual(ran("check", store).printed, f"legal {1 + count}\n")
 
 

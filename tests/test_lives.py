@@ -4,7 +4,7 @@ import os
 import threading
 
 from support.piped import Piped
-from support.program import SHORT, SHORT_STEPS, Ended
+from support.program import PATIENCE, SHORT, SHORT_STEPS, Ended
 from support.served import Served
 from support.serving import Serving
 from support.stores import ring, topology
@@ -105,7 +105,7 @@ class Lives(Served):
             for first in range(1, count, SHORT_STEPS):
                 numbers = range(first, first + SHORT_STEPS)
                 with server.connect() as connection:
-                    connection.socket.settimeout(60)
+                    connection.socket.settimeout(PATIENCE)
                     connection.send(*({"op": "reset", "client": 1, "number": number, "node": 1} for number in numbers))
                     self.assertEqual([connection.reply()["step"] for _ in numbers], [1 + number for number in numbers])
             self.assertEqual(server.ask({"op": "close"}), {"kind": "closed"})

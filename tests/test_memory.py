@@ -161,7 +161,7 @@ class Wave(Case):
     def allocations_of_a_wave(self, store, environment, refusing):
         with Serving(store, env=environment) as server:
             self.assertEqual(server.order(1, "reset", node=1), answered(STARTED, 4))
-            until("the end of the wave", lambda: server.show() == AFTER_A_WAVE, 60)
+            until("the end of the wave", lambda: server.show() == AFTER_A_WAVE)
             count = refusing.count()
             self.assertEqual(server.close().status, 0)
         self.assertEqual(ran("check", store), Ended(0, "legal 10\n", ""))
@@ -185,7 +185,7 @@ class Waves(Case):
                 # one refusal takes room for packets that wait, and then several are refused in turn
                 refusing.refuse(refusing.count() + 1 + epoch % 3, 1 if epoch % 6 == 1 else 6)
                 self.assertEqual(server.order(epoch, "reset", node=1)["kind"], STARTED)
-                until(f"the end of wave {epoch}", lambda: self.has_ended(server.show(), epoch), 60)
+                until(f"the end of wave {epoch}", lambda: self.has_ended(server.show(), epoch))
                 self.assertEqual(server.ask({"op": "resend"}), {"count": 0, "kind": "resent"})
             self.assertEqual(server.close().status, 0)
 
@@ -220,12 +220,13 @@ class Kept(Case):
 
     @staticmethod
     def kept(server, count):
-        """What is kept once a server waits for the next client."""
+        """What is kept once a server waits for the next client: once it has stayed the same for half a second."""
         server.ask({"op": "resend"})
-        before = None
-        while (now := count()) != before:
-            before = now
-            time.sleep(0.1)
+        now, same = count(), 0
+        while same < 10:
+            time.sleep(0.05)
+            before, now = now, count()
+            same = same + 1 if now == before else 0
         return now
 
     def test_of_a_command(self):

@@ -15,10 +15,10 @@ PAIR = topology([(1, 1), (2, 1)], [(1, 2)])
 LOST = (3, "resetd: Write\n")
 
 
-def by_shell(redirected, *words, seconds=PATIENCE):
+def by_shell(redirected, *words):
     """Runs the program by a shell's redirections: its status, and its fault."""
     done = subprocess.run(["sh", "-c", f'exec "$0" "$@" {redirected}', PROGRAM, *words], stdin=subprocess.DEVNULL,
-                          capture_output=True, timeout=seconds)
+                          capture_output=True, timeout=PATIENCE)
     return done.returncode, done.stderr.decode()
 
 
@@ -109,7 +109,7 @@ class Unprinted(Case):
                 waiting = subprocess.Popen([PROGRAM, command, self.path("store"), *more], stdout=full)
             self.addCleanup(waiting.wait)
             self.addCleanup(waiting.kill)
-            until(f"a free store after {command}", lambda: self.is_free("store"), 30)
+            until(f"a free store after {command}", lambda: self.is_free("store"))
             self.assertIsNone(waiting.poll())
             os.read(reader, 1 << 20)
             self.assertEqual((waiting.wait(PATIENCE), os.read(reader, 100)[-2:]), (0, b"3\n"))
@@ -138,7 +138,7 @@ class Unprinted(Case):
             for command, more in (("init", [topology_path]), ("check", []), ("show", []), ("serve", ["127.0.0.1:0"])):
                 with self.subTest(closed=closed, command=command):
                     path = self.write("store", content)
-                    self.assertEqual(by_shell(closed, command, path, *more, seconds=30)[0], 1 if command == "init" else 3)
+                    self.assertEqual(by_shell(closed, command, path, *more)[0], 1 if command == "init" else 3)
                     self.assertEqual(self.read("store"), content)
 
     def test_a_fault_line_that_can_not_be_written(self):

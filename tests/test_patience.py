@@ -8,11 +8,12 @@ import time
 
 from support import preloaded
 from support.case import Case, until
+from support.program import PATIENCE
 from support.serving import Serving
 from support.stores import ring, topology
 
 LINE, REPLY, SILENCE, CONNECTION, DISCARD = 10, 10, 15, 600, 1
-LATE = 10  # seconds by which a busy machine may be late
+LATE = 30  # seconds by which a busy machine may be late
 SHOW = {"op": "show"}
 HALVES = (b'{"op":"re', b'send"}\n')
 RESENT = b'{"count":0,"kind":"resent"}\n'
@@ -121,23 +122,25 @@ class Patience(Case):
             self.expect_within(LINE, begun, server)
 
     def test_the_times_that_the_system_is_told(self):
-        """For each read and each write: of a line that has begun what is left of its time, and not of a silence."""
+        """For each read and each write: of a line that has begun what is left of its time, and not of a silence. The clock
+        stands still, and is put forward by a second between two parts of what is sent."""
         self.needs("a C compiler", preloaded.has_compiler())
-        log = self.path("calls")
-        with self.serving(env=preloaded.environment(self.folder, CALLS=log, WAITS=1)) as server, server.connect() as connection:
+        log, environment = self.path("calls"), {"WAITS": 1, "STILL": 1, "CLOCK": self.clock(0)}
+        with self.serving(env=preloaded.environment(self.folder, CALLS=log, **environment)) as server, \
+                server.connect() as connection:
             self.expect_times(log, [SILENCE])
-            for part, times in ((b'{"op":', [LINE]), (b'"resend"', [LINE]), (b'}\n', [-REPLY, SILENCE]),
-                                (b'{"op":"resend"}\n', [-REPLY, SILENCE]), (b"x" * 600, [LINE, LINE]),
-                                (b"\n", [-REPLY, SILENCE]), (b'{"op":"close"', [LINE]),
-                                (b"}\n", [-REPLY, DISCARD])):
+            for ahead, (part, times) in enumerate((
+                    (b'{"op":', [LINE]), (b'"resend"', [LINE - 1]), (b'}\n', [-REPLY, SILENCE]),
+                    (b'{"op":"resend"}\n', [-REPLY, SILENCE]), (b"x" * 600, [LINE, LINE]),
+                    (b"\n", [-REPLY, SILENCE]), (b'{"op":"close"', [LINE]), (b"}\n", [-REPLY, DISCARD])), 1):
+                self.clock(ahead)
                 connection.send(part)
                 self.expect_times(log, times)
             connection.socket.close()
             self.assertEqual(server.ended().status, 0)
 
     def expect_times(self, log, wanted):
-        """These are told next, in seconds, a write's as a negative number. Of a line's some may be over, but less than 5 s; of
-        the others, which begin just then, nearly nothing."""
+        """Just these are told next, in seconds, a write's as a negative number."""
         def told():
             with open(log, encoding="ascii") as calls:
                 rows = [line.split(" ") for line in calls.readlines()[self.told:]]
@@ -145,11 +148,7 @@ class Patience(Case):
             return (times, len(rows)) if len(times) >= len(wanted) else None
         times, rows = until(f"times to wait {wanted}", told)
         self.told += rows
-        self.assertEqual(len(times), len(wanted), times)
-        for (name, seconds), most in zip(times, wanted):
-            self.assertEqual(name, "read-within" if most > 0 else "write-within", times)
-            over = 5 if most == LINE else min(2, abs(most) / 3)
-            self.assertTrue(abs(most) - over < seconds <= abs(most), times)
+        self.assertEqual(times, [("read-within" if each > 0 else "write-within", abs(each)) for each in wanted])
 
     def test_lines_that_are_slow_but_in_time(self):
         """Each takes some seconds, and all more than any one time."""
@@ -157,7 +156,7 @@ class Patience(Case):
             for _ in range(4):
                 for part in (b'{"op"', b':"resend', b'"}\n'):
                     connection.send(part)
-                    time.sleep(2)
+                    time.sleep(1.5)
                 self.assertEqual(connection.line(), b'{"count":0,"kind":"resent"}\n')
 
     def test_a_client_that_talks(self):
@@ -178,20 +177,21 @@ class Patience(Case):
             second.socket.settimeout(0.05)
             sender = threading.Thread(target=self.send_all, args=[connection, b'{"op":"show"}\n' * 5_000], daemon=True)
             sender.start()
-            began = moved = time.monotonic()
+            began = looked = moved = time.monotonic()
             size = 0
             while time.monotonic() < began + 120:
+                before, looked = looked, time.monotonic()
                 if (now := untaken(*ends)) not in (None, size):
-                    size, moved = now, time.monotonic()
+                    size, moved = now, before
                 try:
                     self.assertEqual(second.reply(), {"count": 0, "kind": "resent"})
                     break
                 except TimeoutError:
                     continue
             self.assertGreater(size, 0)
-            # that a reply has not moved since is seen late
+            # what the system has taken since of a reply that waits makes its time no longer
             self.expect_within(REPLY, moved, server, early=4)
-            sender.join(30)
+            sender.join()
 
     @staticmethod
     def send_all(connection, text):
@@ -209,7 +209,7 @@ class Patience(Case):
                 self.clock(begun)
                 with server.connect() as connection:
                     self.expect_served(connection, lines=2)
-                    self.clock(begun + CONNECTION - 5 * LATE)
+                    self.clock(begun + CONNECTION - 10 * LATE)
                     self.expect_served(connection, lines=3)
                     self.clock(begun + CONNECTION)
                     self.assertLessEqual(self.served_to_the_end(connection), 1)
@@ -220,7 +220,7 @@ class Patience(Case):
         environment = preloaded.environment(self.folder, CLOCK=self.clock(0))
         with self.serving(env=environment) as server, server.connect() as connection:
             connection.send(HALVES[0])
-            for ahead in (0, CONNECTION - 5 * LATE):
+            for ahead in (0, CONNECTION - 10 * LATE):
                 self.clock(ahead)
                 for _ in range(3):
                     connection.send(HALVES[1] + HALVES[0])
@@ -231,28 +231,28 @@ class Patience(Case):
     def test_a_line_that_begins_behind_a_slow_one(self):
         """It has its own time, which begins with its own first byte, though that came with the end of the other."""
         self.needs("a C compiler", preloaded.has_compiler())
-        environment = preloaded.environment(self.folder, CLOCK=self.clock(0))
+        environment = preloaded.environment(self.folder, CLOCK=self.clock(0), STILL=1)
         with self.serving(env=environment) as server, server.connect() as connection:
             connection.send(HALVES[0])
             for lines in range(1, 6):
                 self.expect_nothing(connection)
                 self.clock(lines * (LINE - 3))
                 connection.send(HALVES[1] + HALVES[0])
-                connection.socket.settimeout(30)
+                connection.socket.settimeout(PATIENCE)
                 self.assertEqual(connection.line(), RESENT)
 
     def test_waits_that_are_interrupted(self):
-        """Again and again, as by stops of the process. Each goes on, and by a clock that is put forward as long as it may. A
+        """Again and again, as by stops of the process. Each goes on, and by a clock that is only put forward as long as it may. A
         connection that is given up keeps no descriptor."""
         self.needs("a C compiler", preloaded.has_compiler())
-        with self.serving(env=preloaded.environment(self.folder, CLOCK=self.clock(0), STOPS=1)) as server:
+        with self.serving(env=preloaded.environment(self.folder, CLOCK=self.clock(0), STILL=1, STOPS=1)) as server:
             descriptors = os.listdir(f"/proc/{server.process.pid}/fd")
             for begun, part, most in ((0, b"", SILENCE), (1_000, b'{"op":', LINE), (2_000, b"{", LINE), (3_000, b"", SILENCE)):
                 self.clock(begun)
                 with server.connect() as connection:
                     self.expect_served(connection, lines=2)
                     connection.send(part)
-                    for ahead in (0, most - 5):
+                    for ahead in (0, most - 1):
                         self.clock(begun + ahead)
                         self.expect_nothing(connection)
                     self.clock(begun + most)

@@ -53,7 +53,7 @@ class Promises(Case):
     def test_a_clause_that_is_gone_is_told_by_its_name(self):
         copy = self.copy()
         self.changed(copy, "crates/coord_admin/src/connections.rt",
-                     "    ensures failed { OnErr result ((last : C) × ", "    ensures broken { OnErr result ((last : C) × ")
+                     "    ensures failed { OnErr result ((last", "    ensures broken { OnErr result ((last")
         status, said = self.compared(copy)
         self.assertEqual(status, 1, said)
         self.assertIn("connections::serve_connections ensures failed is gone", said)
@@ -67,9 +67,17 @@ class Promises(Case):
         self.assertEqual(status, 1, said)
         self.assertIn("a row names `serve_everybody`, which is not in coord_admin or below", said)
 
+    def test_a_row_that_names_a_clause_of_another_function(self):
+        copy = self.copy()
+        table = copy / "docs/PROMISES.md"
+        table.write_text(table.read_text() + "\n| Nothing | nothing | coord_admin `serve_connections` (`whole`) |\n")
+        status, said = self.compared(copy)
+        self.assertEqual(status, 1, said)
+        self.assertIn("a row names `whole`, which is no clause of connections::serve_connections", said)
+
     def test_comments_and_layout_are_no_change(self):
         copy = self.copy()
-        self.changed(copy, CONNECTIONS, "  AllServed d [] e = e ≡ d", "  -- none\n  AllServed d [] e =   e ≡ d  -- the same")
+        self.changed(copy, CONNECTIONS, "  AllServed d [] e = e ≡ d", "  -- none\n  AllServed d [] e =   e ≡ d  -- so")
         status, said = self.compared(copy)
         self.assertEqual(status, 0, said)
 

@@ -9,7 +9,7 @@ from support.serving import Serving, processor_seconds
 from support.stores import ring, topology
 
 SECONDS = 0.4  # of each sync, of which a flight has two
-LONGER = (3.0, 10.0)  # where the machine is busy
+LONGER = (3.0, 10.0)  # on a busy machine
 WAITED = 2  # seconds for callers, at most
 
 
@@ -44,18 +44,18 @@ class SlowDevice(Case):
 
     def test_a_client_waits_for_a_slow_sync_at_rest(self):
         """The processor is nearly idle meanwhile."""
-        with self.serving(topology([(1, 1)]), 2 * SECONDS) as server:
+        with self.serving(topology([(1, 1)]), LONGER[0]) as server:
             before = processor_seconds(server.process.pid)
             self.assertEqual(server.order(1, "reset", node=1), {"kind": "finished", "step": 2})
-            self.assertLess(processor_seconds(server.process.pid) - before, SECONDS)
+            # an order takes some milliseconds of it, and who spins meanwhile takes 2 * LONGER[0]
+            self.assertLess(processor_seconds(server.process.pid) - before, LONGER[0])
             self.assertEqual(server.close().status, 0)
 
     def test_what_is_shown_and_sent_again_while_a_step_waits(self):
         """The packet of a reset is taken at once, and that step waits: the settled world still has the packet on its way."""
         tries = (self.in_a_flight(seconds) for seconds in (SECONDS, *LONGER))
         shown, resent = next(filter(None, tries), (None, None))
-        self.assertIsNotNone(shown, "the machine was too busy to see a step that waits")
-        self.assertEqual((shown["accepted"], shown["settled"]), (5, 4))
+        self.assertIsNotNone(shown, "no step was seen that waits")
         self.assertEqual(shown["nodes"], [[1, 1, "abort", 0, 0, 0], [2, 1, "ready", 0, 0, 0]])
         self.assertEqual(resent, {"count": 1, "kind": "resent"})
 
@@ -64,11 +64,17 @@ class SlowDevice(Case):
         with self.serving(topology([(1, 1), (2, 1)], [(1, 2)]), seconds) as server:
             self.assertEqual(server.order(1, "reset", node=1), {"kind": "started", "step": 4})
             with server.connect() as connection:
+                until("the second step", lambda: self.accepted(connection) > 4)
                 connection.send({"op": "show"}, {"op": "resend"}, {"op": "show"})
                 shown, resent, again = connection.reply(), connection.reply(), connection.reply()
             server.await_quiet(1)
             self.assertEqual(sorted(server.await_signals(2)), [(1, 1), (2, 1)])
-        return (shown, resent) if shown == again and shown["accepted"] > 4 else None
+        return (shown, resent) if shown == again and (shown["accepted"], shown["settled"]) == (5, 4) else None
+
+    @staticmethod
+    def accepted(connection):
+        connection.send({"op": "show"})
+        return connection.reply()["accepted"]
 
     def test_no_signal_before_it_is_settled(self):
         """Each node of which one is printed is shown in its new epoch."""
@@ -97,15 +103,20 @@ class SlowDevice(Case):
 
     def test_a_close_settles_what_was_accepted(self):
         """The close of one client does not wait for a wave, and no step of it that was accepted is lost."""
-        with self.serving(ring(4), 1.0) as server:
-            self.assertEqual(server.order(1, "reset", node=1)["kind"], "started")
-            accepted = server.show()["accepted"]
-            self.assertEqual(server.close().status, 0)
-            signals = server.signals()
-        # a wave takes more flights than the one or two that a close settles
-        self.assertLess(len(signals), 4)
-        with Serving(server.store) as server:
+        tries = (self.closed_in_a_wave(seconds) for seconds in (1.0, *LONGER))
+        store, accepted, signals = next((tried for tried in tries if len(tried[2]) < 4), (None, 0, []))
+        self.assertIsNotNone(store, "a close has waited for a wave")
+        with Serving(store) as server:
             self.assertGreaterEqual(server.show()["accepted"], accepted)
             server.await_quiet(1)
             rest = server.await_signals(4 - len(signals))
             self.assertEqual(sorted(signals + rest), [(node, 1) for node in range(1, 5)])
+
+    def closed_in_a_wave(self, seconds):
+        """A close behind the order that begins a wave: the store, what was shown as accepted before it, and the signals. A wave
+        takes more flights than the one or two that a close settles; a machine that is too busy may be through with it before."""
+        with self.serving(ring(4), seconds) as server:
+            self.assertEqual(server.order(1, "reset", node=1)["kind"], "started")
+            accepted = server.show()["accepted"]
+            self.assertEqual(server.close().status, 0)
+            return server.store, accepted, server.signals()

@@ -145,7 +145,7 @@ class Refused(Case):
         for command, more in {**COMMANDS, "init": [ring]}.items():
             for path in (pipe, self.path("name"), self.path("socket"), self.folder, "/dev/null", "/dev/zero"):
                 with self.subTest(command=command, path=path):
-                    self.assertEqual(ran(command, path, *more, seconds=10), faulted(3, "Device"))
+                    self.assertEqual(ran(command, path, *more), faulted(3, "Device"))
         self.assertTrue(stat.S_ISFIFO(os.stat(pipe).st_mode))
 
     def test_a_link_to_a_store_is_that_store(self):

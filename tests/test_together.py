@@ -8,7 +8,7 @@ import sys
 
 from support import preloaded
 from support.case import until
-from support.program import PROGRAM, ROOT, ran
+from support.program import PATIENCE, PROGRAM, ROOT, ran
 from support.refusing import ALL_THREADS, FIRST_THREAD, Refusing
 from support.served import DONE, FINISHED, Served, answered, refused
 from support.serving import Serving
@@ -21,6 +21,7 @@ from resetd_client import Served as Seat  # noqa: E402
 HALF = 1 << 20  # so large that nothing is moved to the other half meanwhile
 NODES = range(1, 65)
 AT_A_START, AT_A_FLIGHT = 2, 2  # how many syncs there are
+AT_ONCE = 12  # seconds for which threads may have waited in vain, or rested, where each reply comes with its flight
 NOT_CARRIED_OUT = [{"fault": "OutOfMemory"}, refused(4, "OutOfTurn"), refused(1, "Stopped")]
 ALONE = topology([(node, 1) for node in range(1, 17)], half=HALF)
 
@@ -32,7 +33,13 @@ class Together(Served):
         self.calls = self.path("calls")
 
     def serving(self, topology):
-        return Serving(self.made(topology), env=preloaded.environment(self.folder, CALLS=self.calls))
+        return Serving(self.made(topology), env=preloaded.environment(self.folder, CALLS=self.calls, WAITS=1))
+
+    def expect_at_once(self):
+        """Nothing has waited for a time to pass, whatever time the machine has taken for all: by the times that threads
+        asked for. (A flusher waits for callers that it answered before, for a part of what their flight took.)"""
+        waits = [line.split() for line in self.read("calls").splitlines() if line.startswith((b"rest ", b"waited "))]
+        self.assertLess(sum(int(micros) for _, _, micros, *_ in waits) / 1e6, AT_ONCE, waits[:20])
 
     def flights(self, server, work):
         """Does something with a server that is quiet: how many flights that took."""
@@ -68,7 +75,6 @@ class Together(Served):
     def test_fewer_than_the_last_flight_had(self):
         """Orders that come together wake the flusher, be they more or fewer than it answered before."""
         with self.serving(ALONE) as server, server.connect() as connection:
-            connection.socket.settimeout(60)
             numbers = iter(range(1, 1_000))
             for count in (20, 10, 30, 2, 1, 32, 3, 40, 33, 9):
                 each = [next(numbers) for _ in range(count)]
@@ -76,6 +82,7 @@ class Together(Served):
                 self.assertEqual([connection.reply() for _ in each], [answered(FINISHED, 16 + number) for number in each])
             connection.socket.close()
             self.expect_closed(server, 180)
+        self.expect_at_once()
 
     def test_refusals_of_a_whole_flight(self):
         """The text of all replies to orders that came together is written whole, however long it is."""
@@ -85,6 +92,7 @@ class Together(Served):
                 self.assertEqual([connection.reply() for _ in range(512)], [refused(6, "UnknownNode")] * 512)
             connection.socket.close()
             self.expect_closed(server, 0)
+        self.expect_at_once()
 
     def test_a_close_behind_nine_orders(self):
         with self.serving(ALONE) as server, server.connect() as connection:
@@ -93,10 +101,11 @@ class Together(Served):
             self.assertEqual([connection.reply() for _ in range(10)],
                              [*(answered(FINISHED, 16 + number) for number in range(1, 10)), {"kind": "closed"}])
             self.assertEqual(server.ended().status, 0)
+        self.expect_at_once()
 
     def test_a_stop_between_orders_that_came_together(self):
         """The sync behind their first flight fails: those that were settled have their replies, and each other one is Stopped."""
-        settings = preloaded.environment(self.folder, SYNC_FAILS=AT_A_START + AT_A_FLIGHT + 1)
+        settings = preloaded.environment(self.folder, SYNC_FAILS=AT_A_START + AT_A_FLIGHT + 1, STILL=1)
         with Serving(self.made(ALONE), env=settings) as server, server.connect() as connection:
             numbers = range(1, 301)
             connection.send(*({"op": "reset", "client": 1, "number": number, "node": 1} for number in numbers))
@@ -120,7 +129,7 @@ class Together(Served):
         with self.serving(ring(64, HALF)) as server:
             self.assertEqual(server.order(1, "reset", node=1)["kind"], "started")
             server.await_quiet(1)
-            with Orders(Port(server.address), 2, self.path("book")) as orders:
+            with Orders(Port(server.address, PATIENCE), 2, self.path("book")) as orders:
                 gateway = Gateway(orders.port, orders, {node: [str(node)] for node in NODES}, self.path("members"))
                 gateway.look()
                 for node in NODES:
@@ -140,7 +149,8 @@ class Together(Served):
 
             def apply():
                 done = subprocess.run([f"{ROOT}/client/resetctl", "--address", server.address, "--state", self.path("state"),
-                                       "apply", wanted], capture_output=True, text=True, timeout=120)
+                                       "--seconds", str(PATIENCE), "apply", wanted],
+                                      capture_output=True, text=True, timeout=PATIENCE)
                 self.assertEqual(done.returncode, 0, done.stderr)
             self.assertLessEqual(self.flights(server, apply), 10)
             self.assertEqual(server.show()["accepted"], 128)
@@ -158,7 +168,7 @@ class Refused(Served):
         before them and with them."""
         with Serving(store, env=refusing.environment(first, threads=threads)) as server, server.connect() as connection:
             before = refusing.count()
-            connection.socket.settimeout(60)
+            connection.socket.settimeout(PATIENCE)
             # a connection without memory may be over already
             with contextlib.suppress(OSError):
                 connection.send(*({"op": "reset", "client": 1, "number": number, "node": 1} for number in range(1, 4)))
@@ -263,5 +273,6 @@ class Refused(Served):
             self.write("store", content)
             found.append(self.rests(store, refusing, first))
         refused = [rested for rested in found if rested is not None]
-        self.assertGreater(min(map(len, refused), default=0), 250, refused)
+        counts = [len(rested) for rested in refused]
+        self.assertGreater(min(counts, default=0), 250, counts)
         self.assertEqual({rest for rested in refused for rest in rested}, {1_000})

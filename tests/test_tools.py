@@ -4,19 +4,23 @@ import contextlib
 import os
 import re
 import signal
+import socket
 import subprocess
 import sys
+import threading
 
 from support.case import Case, tool
 from support.program import PROGRAM, ROOT, SHORT
+from support.serving import Serving
 
 sys.path.insert(0, f"{ROOT}/tools")
 from served import faults  # noqa: E402
+from served.server import Server  # noqa: E402
 
 
 class Run(Case):
     takes = 60
-    most = 900
+    most = 3_600
 
     def expect(self, *words, ends_with=""):
         """The command ends well, and its last line begins so."""
@@ -54,16 +58,41 @@ class Tools(Run):
     def test_a_closed_output(self):
         self.expect(tool("closed_output"), PROGRAM)
 
+    def test_what_members_hear_through_others(self):
+        self.expect(tool("test_services"), "--program", PROGRAM, "--seconds", "300", "second-hand", ends_with="services lose no reset")
+
+    def test_the_search_of_the_members_rule(self):
+        """It ends with nothing left to try; and it finds the mix where a part of the rule is left out."""
+        search = [tool("member_search"), "--seconds", "800", "--about"]
+        self.expect(*search, "links", ends_with="links, 3 members: nothing is mixed after 20 events, 12580 states")
+        weaker = subprocess.run([*search, "readd", "--without", "dropped"], stdin=subprocess.DEVNULL, capture_output=True, text=True,
+                                check=False)
+        self.assertEqual(weaker.returncode, 1, weaker.stderr)
+        self.assertIn("mixed after 10 events", weaker.stdout)
+
+    def test_a_member_in_bash_keeps_the_rule(self):
+        self.expect(tool("try_member"), "--program", PROGRAM, "--seconds", "300", f"{ROOT}/examples/plain_member", "{node}", "{host}",
+                    "{port}", "{folder}", ends_with="the member keeps the rule")
+
     def test_the_demo(self):
-        printed = self.expect(tool("demo"))
-        self.assertIn("ends with status 0", printed)
-        self.assertIn("legal ", printed.splitlines()[-1])
+        printed = self.expect(tool("demo"), ends_with="nodes: 8, signals: ")
+        self.assertIn("ends with status 0\n  resetd check store                      legal ", printed)
+        self.assertRegex(printed, r"\n  mixed: [1-9]\d* messages, ")
+        self.assertEqual(printed.count("mixed: 0 messages\n"), 2)
 
     def test_the_example(self):
         self.expect("examples/run", ends_with="each of the 8 members was signalled once and started anew")
 
+    def test_one_for_all(self):
+        printed = self.expect("examples/one_for_all", ends_with="after it: ")
+        self.assertEqual(printed.count(", 300 in all\n"), 2)
+
     def test_links_of_the_documents(self):
         self.expect(tool("links"))
+
+    def test_wrong_bodies_fit_the_sources(self):
+        """Each text that a wrong body exchanges stands in the sources, and each witness is a test."""
+        self.expect(os.path.join(ROOT, "refusals", "gather"), "--check")
 
     def test_what_the_documents_show(self):
         self.expect(tool("test_documents"), "--quick", "--program", PROGRAM,
@@ -75,6 +104,27 @@ class Tools(Run):
 
 class ShortLives(Run):
     programs = ("RESETD_SHORT",)
+
+    def test_what_a_life_leaves_unanswered_is_asked_again(self):
+        """A life that ends may end a connection without an answer: the tools and the tests then ask again."""
+        process = subprocess.Popen(["sleep", "600"])
+        self.addCleanup(process.wait)
+        self.addCleanup(process.kill)
+        with socket.create_server(("127.0.0.1", 0)) as listener:
+            threading.Thread(target=self.answer_every_other, args=[listener], daemon=True).start()
+            address = f"127.0.0.1:{listener.getsockname()[1]}"
+            of_tools, of_tests = Server("", self.path("store")), Serving.__new__(Serving)
+            for server in (of_tools, of_tests):
+                server.address, server.process, server.has_short_lives = address, process, True
+                self.assertEqual(server.ask({"op": "show"}), {"settled": 1})
+
+    @staticmethod
+    def answer_every_other(listener):
+        for number in range(4):
+            with listener.accept()[0] as connection, connection.makefile("rb") as lines:
+                lines.readline()
+                if number % 2:
+                    connection.sendall(b'{"settled":1}\n')
 
     def test_kills_between_lives(self):
         self.expect(tool("soak"), "--lives", "32", "--program", SHORT, "--rounds", "10", ends_with="nothing was lost")

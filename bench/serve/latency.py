@@ -4,6 +4,7 @@ import os
 import time
 
 from connection import Connection, Resets
+from served.ring import HALF, topology
 
 ROUNDS, IN_A_ROUND, AT_ONCE = 50, 100, 16
 LONE_NODE = "half = 16777216\n[[node]]\nid = 1\ngroup = 1\n"
@@ -18,6 +19,17 @@ def measure(server):
     tell_times(growth, *times(connection, resets, f"{server.store}.raw", growth))
     for at_once in (1, AT_ONCE):
         tell_rate(connection, resets, at_once)
+    connection.close()
+    server.must_close()
+
+
+def measure_view(server):
+    """`show` of as many nodes and links as there may be."""
+    server.found(topology(HALF, 2))
+    server.must_start()
+    connection = Connection(server.address)
+    half, most = quantiles([spent for _ in range(ROUNDS) for spent in a_round(lambda _: connection.ask(SHOW))])
+    print(f"{'show, 64 nodes, 128 links':30}{half * 1e3:9.3f} ms{most * 1e3:9.3f} ms", flush=True)
     connection.close()
     server.must_close()
 

@@ -13,10 +13,11 @@ from served.server import Server  # noqa: E402
 
 def main():
     program, scratch, swift, shorter = sys.argv[1:]
-    servers = [Server(program, f"{scratch}/lone"), Server(program, f"{swift}/ring")]
+    servers = [Server(program, f"{scratch}/lone"), Server(program, f"{scratch}/wide"), Server(program, f"{swift}/ring")]
     try:
         latency.measure(servers[0])
-        opening.measure(servers[1], scratch, int(shorter))
+        latency.measure_view(servers[1])
+        opening.measure(servers[2], scratch, int(shorter))
     except Lost as lost:
         sys.exit(f"LOST: {lost}")
     finally:

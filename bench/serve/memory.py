@@ -1,10 +1,13 @@
-"""How much memory a server has over many steps: one client whose connection stays, and one that connects for each order.
+"""How much memory a server has over many steps, by one client: in bursts of orders or one at a time, over a connection
+that stays or over one for each burst.
 
-The words are the program, a folder, and how many steps each of the two makes. A line is printed for each twentieth of
-them: what is resident, what was resident at most since the start, and how many connections there were.
+The words are the program, a folder, how many steps each way makes where its connection stays, and how many where the
+client leaves behind each burst. A line is printed for each twentieth of them: what is resident, what was resident at
+most since the start, and how many connections there were.
 """
 
 import os
+import random
 import sys
 import time
 
@@ -14,7 +17,9 @@ from latency import LONE_NODE  # noqa: E402
 from served.clients import Lost  # noqa: E402
 from served.server import Server  # noqa: E402
 
-AT_ONCE, LINES = 64, 20
+LINES = 20
+# Each way's name, whether its connection stays, and the most orders that are sent together: from 1 to so many, at random.
+WAYS = [("steady", True, 64, 64), ("bursts", True, 1, 300), ("single", True, 1, 1), ("leaving", False, 1, 300), ("connects", False, 1, 1)]
 EVERY = 0.05  # seconds between two looks at the memory
 
 
@@ -72,16 +77,17 @@ class Caller:
             return
 
 
-def measure(server, steps, stays, at_once):
-    print(f"one client {'whose connection stays' if stays else 'that connects for each order'}, "
-          f"{at_once} orders sent at once", flush=True)
+def measure(server, steps, stays, least, most):
+    orders = f"{most} orders" if least == most else f"{least} to {most} orders"
+    print(f"one client {'whose connection stays' if stays else 'that connects anew each time'}, {orders} sent at once", flush=True)
+    choose = random.Random(most)
     print(f"{'steps':>12}{'seconds':>9}{'resident':>12}{'at most':>12}{'connections':>13}", flush=True)
     server.found(LONE_NODE)
     server.must_start()
     memory, caller, begun = Memory(server.process.pid), Caller(server), time.monotonic()
     for line in range(1, LINES + 1):
         while caller.number < steps * line // LINES:
-            caller.order(at_once, stays)
+            caller.order(choose.randint(least, most), stays)
             memory.look_again()
         now, peak = memory.look()
         print(f"{caller.number:12,}{time.monotonic() - begun:9.0f}{now:9.1f} MB{peak:9.1f} MB{caller.connections:13,}",
@@ -96,12 +102,14 @@ def measure(server, steps, stays, at_once):
 
 
 def main():
-    program, folder, staying, connecting = sys.argv[1], sys.argv[2], int(sys.argv[3]), int(sys.argv[4])
-    for name, steps, stays, at_once in ("stays", staying, True, AT_ONCE), ("connects", connecting, False, 1):
+    program, folder, staying, leaving = sys.argv[1], sys.argv[2], int(sys.argv[3]), int(sys.argv[4])
+    chosen = sys.argv[5:] or [way[0] for way in WAYS]
+    for name, stays, least, most in (way for way in WAYS if way[0] in chosen):
+        steps = staying if stays else leaving
         server = Server(program, f"{folder}/{name}")
         try:
             if steps:
-                measure(server, steps, stays, at_once)
+                measure(server, steps, stays, least, most)
         except Lost as lost:
             sys.exit(f"LOST: {lost}")
         finally:

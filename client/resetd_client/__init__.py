@@ -1,29 +1,63 @@
 """A client of the reset coordinator `resetd`, without dependencies beyond Python's standard library.
 
-    port = Port("127.0.0.1:4170")                       # or several addresses, with commas between
-    orders = Orders(port, 3, "/var/lib/service3")       # client 3, whose last order is kept in this folder
-    orders.order("reset", node=3)                       # Reply(kind='started', step=17)
-    port.show().node(3)                                 # Node(node=3, group=1, mode='ready', parent=0, ..)
+What to use for what
+    a service that is one node                       Member: begins, confirms, and says when to talk
+    many services of a host behind one process       Gateway there, and Served (or three files) in each
+    to look, once                                    Port.show, which answers a View
+    to give orders, each carried out once            Orders, with a client of its own (1 to 16) and a folder
+    to be woken                                      wakes_of(port, signals): Follower of the file of signals where it is on this
+                                                     host, Watched where the address is a front's, else Clock
+    to see each change                               views(port), where the address is a front's
+    to go on while the coordinator is away           patiently(call), for what Member and Gateway do not do themselves
+    asyncio                                          resetd_client.aio, a module of its own
+    by hand                                          resetctl, the command
 
-A service is a `Member`, or sits behind a `Gateway`; docs/SERVICES.md says what a signal tells it. After
-`Away` make the same call again (`patiently` does); every other exception needs a person.
+    port = Port("127.0.0.1:4170")                    # or unix:PATH, tls:HOST:PORT, or several with commas between
+    orders = Orders(port, 3, "/var/lib/service3")    # client 3, whose last order is kept in this folder
+    orders.order("reset", node=3)                    # Reply(kind='started', step=17)
+    port.show().node(3)                              # Node(node=3, group=1, mode='ready', parent=0, ..)
+
+Which object is for which thread
+    Port, Orders                                     any threads at once; an Orders takes them one after the other
+    Member, Gateway                                  one thread in `follow`; `stop` from any thread and from a signal's handler
+    Member.in_run, Member.run                        any threads; in_run keeps others out, so keep its body short
+    Follower, Watched, Stream, Clock                 the one thread that waits with it
+    View, Node, Link, Run, Reply                     any: they do not change
+
+What is raised
+    Each exception is a ResetdError, beside the OSError of a file. After Away make the same call again; OutOfRun says that
+    a message is of another run; all others need a person (`needs_person`). Each function says which it raises.
+
+What it has to tell a person goes to the logger `resetd_client`, or to what a caller gives as `told`.
+
+docs/SERVICES.md says what a service has to do, and why.
 """
 
+from .address import Credentials
 from .answers import (Away, Fault, Faulted, Garbled, NotNow, NotTaken, Refusal, Refused, Reply)
+from .errors import BadWords, InLoop, ResetdError, Unreadable, Untrusted
 from .files import Held, hold, keep, read
-from .gateway import Gateway, Served
-from .member import LOOK_SECONDS, Member, OutOfRun, Run
-from .orders import CLIENTS, CountLost, CountNotFound, Orders, find_count
-from .port import Port, patiently
+from .following import LOOK_SECONDS
+from .gateway import Gateway
+from .limits import CLIENTS, GROUPS, NODES
+from .member import Member, OutOfRun, Run
+from .orders import CountLost, CountNotFound, Orders, find_count
+from .port import Port, TooLong, patiently
+from .rule import Due
+from .seats import Served
 from .signals import Clock, Follower, Stream, Wake, Wakes
-from .starts import Due, Shelf, Starts
+from .starts import Shelf, Starts
+from .store_file import NoStore, Restless
+from .topology import BadTopology
 from .view import Link, Node, View
+from .watching import Watched, views, wakes_of
 
-__version__ = "0.15.0"  # that of the first heading of CHANGELOG.md
+__version__ = "0.16.0"  # that of the first heading of CHANGELOG.md
 
 __all__ = [
-    "Away", "CLIENTS", "Clock", "CountLost", "CountNotFound", "Due", "Fault", "Faulted", "Follower", "Garbled",
-    "Gateway", "Held", "LOOK_SECONDS", "Link", "Member", "Node", "NotNow", "NotTaken", "Orders", "OutOfRun", "Port",
-    "Refusal", "Refused", "Reply", "Run", "Served", "Shelf", "Starts", "Stream", "View", "Wake", "Wakes", "find_count", "hold",
-    "keep", "patiently", "read",
+    "Away", "BadTopology", "BadWords", "CLIENTS", "Clock", "CountLost", "CountNotFound", "Credentials", "Due", "Fault", "Faulted",
+    "Follower", "GROUPS", "Garbled", "Gateway", "Held", "InLoop", "LOOK_SECONDS", "Link", "Member", "NODES", "NoStore", "Node",
+    "NotNow", "NotTaken", "Orders", "OutOfRun", "Port", "Refusal", "Refused", "Reply", "ResetdError", "Restless", "Run", "Served",
+    "Shelf", "Starts", "Stream", "TooLong", "Unreadable", "Untrusted", "View", "Wake", "Wakes", "Watched", "find_count", "hold",
+    "keep", "patiently", "read", "views", "wakes_of",
 ]

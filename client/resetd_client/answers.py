@@ -7,6 +7,8 @@ import json
 from dataclasses import dataclass
 from typing import Any
 
+from .errors import ResetdError
+
 
 class Refusal(enum.IntEnum):
     """The refusals of orders, by number. A refusal changes nothing, and the order's number stays free."""
@@ -36,7 +38,7 @@ class Refusal(enum.IntEnum):
 
 
 class Fault(enum.Enum):
-    """The faults of lines that are no request, and want of memory."""
+    """The faults of lines that are no request, or not allowed, and want of memory."""
 
     UNFINISHED = "Unfinished"
     TOO_LONG = "TooLong"
@@ -45,33 +47,38 @@ class Fault(enum.Enum):
     BAD_REQUEST = "BadRequest"
     UNKNOWN_OP = "UnknownOp"
     OUT_OF_MEMORY = "OutOfMemory"
+    NOT_ALLOWED = "NotAllowed"  # by a front, whose policy does not let this client do it
 
 
 MOST_SHOWN = 60  # characters of a line that no coordinator said
 PASSING_REFUSALS = frozenset({Refusal.STOPPED, Refusal.OUT_OF_MEMORY, Refusal.PENDING_FULL})
 
 
-class Away(Exception):
+class Away(ResetdError):
     """No answer came, or one that says "not now": send the same line again. The order may have been carried out or
-    not; sent again with the same number it is carried out once."""
+    not; sent again with the same number it is carried out once. Needs no person, unless it lasts."""
+
+    needs_person = False
 
 
 class NotNow(Away):
-    """The coordinator answered Stopped, PendingFull or OutOfMemory; `name` says which."""
+    """The coordinator answered Stopped, PendingFull or OutOfMemory; `name` says which. Needs no person, unless it
+    lasts: docs/PROTOCOL.md says what ends it."""
 
     def __init__(self, name: str) -> None:
         super().__init__(name)
         self.name = name
 
 
-class NotTaken(Exception):
-    """The coordinator refused an order, or does not know the line. The same line would get the same answer."""
+class NotTaken(ResetdError):
+    """The coordinator refused an order, or does not know the line. The same line would get the same answer: needs a
+    person, unless the program looks at `show` and orders something else."""
 
     name: str
 
 
 class Refused(NotTaken):
-    """A refusal. `refusal` is None if this library does not know the number."""
+    """A refusal. `refusal` is None if this library does not know the number. Needs a person, as NotTaken does."""
 
     def __init__(self, number: int, name: str) -> None:
         super().__init__(f"{number} {name}")
@@ -81,8 +88,8 @@ class Refused(NotTaken):
 
 
 class Faulted(NotTaken):
-    """The line was no request, and nothing was carried out. `fault` is None if this library does not know the name;
-    then something may have been carried out."""
+    """The line was no request, or is not allowed, and nothing was carried out. `fault` is None if this library does not
+    know the name; then something may have been carried out. Needs a person."""
 
     def __init__(self, name: str) -> None:
         super().__init__(name)
@@ -91,7 +98,7 @@ class Faulted(NotTaken):
 
 
 class Garbled(NotTaken):
-    """What came is no answer of a coordinator: something else listens at the address."""
+    """What came is no answer of a coordinator: something else listens at the address. Needs a person."""
 
     name = "Garbled"
 
@@ -138,7 +145,7 @@ def members_of(line: str, where: str = "what answers") -> dict[str, Any]:
 
 
 def reply_of(answer: dict[str, Any]) -> Reply:
-    """The reply to an order."""
+    """The reply to an order. Raises Garbled."""
     try:
         return Reply(str(answer["kind"]), int(answer["step"]))
     except (KeyError, ValueError, TypeError) as missing:

@@ -7,9 +7,11 @@ import os
 import time
 from typing import IO
 
+from .errors import ResetdError, Unreadable
 
-class Held(Exception):
-    """Another process holds the folder."""
+
+class Held(ResetdError):
+    """Another process holds the folder. Needs a person, unless that process ends by itself."""
 
 
 def keep(path: str, text: str) -> None:
@@ -50,10 +52,46 @@ def sync_folder(path: str) -> None:
         os.close(folder)
 
 
+def put(path: str, text: str) -> None:
+    """Replaces a file's content by a text, as a whole for whoever reads it, and syncs nothing: after a power cut the file
+    has an earlier text, or this one, or a part of it, or none."""
+    with open(alone(path + ".new"), "w", encoding="utf-8") as file:
+        file.write(text)
+        file.flush()
+        os.replace(path + ".new", path)
+
+
+def append(path: str, size: int, text: bytes) -> None:
+    """Writes a text behind the first `size` bytes of a file, in the place of all that stands there, and makes the file if
+    it is not there. When it returns, the text is on the disk."""
+    is_new = not os.path.exists(path)
+    descriptor = os.open(path, os.O_WRONLY | os.O_CREAT | os.O_CLOEXEC | os.O_NOFOLLOW, 0o666)
+    with open(descriptor, "wb", buffering=0) as file:
+        file.truncate(size)
+        file.seek(size)
+        rest = memoryview(text)
+        while rest:
+            rest = rest[file.write(rest) or 0:]
+        os.fsync(descriptor)
+    if is_new:
+        sync_folder(path)
+
+
 def read(path: str) -> str | None:
-    """The text of a file, None where there is none."""
+    """The text of a file, None where there is none. Raises Unreadable at bytes that are no text."""
     try:
         with open(path, encoding="utf-8") as file:
+            return file.read()
+    except FileNotFoundError:
+        return None
+    except UnicodeDecodeError as fault:
+        raise Unreadable(path, ": it holds no text; if a program of the library wrote it, remove it") from fault
+
+
+def read_bytes(path: str) -> bytes | None:
+    """The bytes of a file, None where there is none."""
+    try:
+        with open(path, "rb") as file:
             return file.read()
     except FileNotFoundError:
         return None

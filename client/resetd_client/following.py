@@ -7,12 +7,19 @@ import time
 from collections.abc import Callable, Mapping
 
 from .answers import Away, NotTaken, Outcome, Refusal, Refused
+from .bell import Bell
+from .changes import Changes, wait_for
+from .errors import BadWords
 from .orders import Order, Orders, warn
 from .port import patiently
 from .signals import Clock, Wake, Wakes
 from .view import View
 
-STOP_SECONDS = 0.1  # of a wait that is looked into for a `stop`
+LOOK_SECONDS = 30.0  # between two looks, where nothing wakes it
+STOP_SECONDS = 0.1  # of a wait for wake-ups without a descriptor, which is looked into for a `stop`
+FIRST_WAIT = 0.01  # seconds between looks while others are not through: nothing wakes it when another one confirms
+MOST_WAITS = 20  # after which that wait, longer by 1.3 each time, stays as it is: some 2 seconds
+DOUBT_SECONDS = 0.1  # until it looks after a message of another run: more of them bring no more looks
 
 
 class Stopped(Exception):
@@ -20,9 +27,9 @@ class Stopped(Exception):
 
 
 def check_every(seconds: float) -> None:
-    """Raises ValueError at a time between two looks that would let no time pass, or is no number."""
+    """Raises BadWords at a time between two looks that would let no time pass, or is no number."""
     if not seconds > 0:
-        raise ValueError(f"{seconds} seconds between two looks: it takes more than 0")
+        raise BadWords(f"{seconds} seconds between two looks: it takes more than 0")
 
 
 class Following:
@@ -30,7 +37,9 @@ class Following:
 
     def __init__(self, orders: Orders, told: Callable[[str], None] = warn) -> None:
         self.orders, self._told = orders, told
+        self._bell = Bell()
         self._is_stopping = False  # no lock, since a signal's handler may set it
+        self._waits = 0  # looks in a row that did not find the group through
         self._asked: set[int] = set()  # nodes for which resets were asked, and none of which has talked since
 
     def look(self) -> View:
@@ -38,9 +47,9 @@ class Following:
         raise NotImplementedError
 
     def stop(self) -> None:
-        """Ends `follow`, from any thread or a signal's handler, within a moment or after the answer that it waits
-        for."""
+        """Ends `follow`, from any thread or a signal's handler, at once or after the answer that it waits for."""
         self._is_stopping = True
+        self._bell.ring()
 
     def _look_patiently(self) -> View | None:
         """A look, made again and again while the coordinator is away. None once `stop` was called."""
@@ -58,15 +67,28 @@ class Following:
             wait = min(wait * 1.5, 2.0)
         return None
 
-    def _wait(self, wakes: Wakes, seconds: float, is_due: Callable[[], bool] = lambda: False) -> Wake:
-        """Waits for a wake-up, or until something is due or `stop` is called."""
-        until = time.monotonic() + seconds
-        while not self._is_stopping:
-            left = until - time.monotonic()
-            wake = wakes.wait(max(0.0, min(left, STOP_SECONDS)))
-            if wake is not Wake.QUIET or left <= 0 or is_due():
+    def _wait(self, wakes: Wakes, seconds: float, sooner: Callable[[], float] = lambda: LOOK_SECONDS,
+              changes: Changes | None = None) -> Wake:
+        """Waits for a wake-up, at most so many seconds, or until `stop` is called. `sooner` may shorten that when the bell
+        rings, or when files change."""
+        began = time.monotonic()
+        while True:
+            self._bell.hush()
+            if self._is_stopping:
+                return Wake.END
+            left = began + min(seconds, sooner()) - time.monotonic()
+            descriptors = getattr(wakes, "descriptors", None)
+            wake = wakes.wait(0.0 if descriptors else max(0.0, min(left, STOP_SECONDS)))
+            if wake is not Wake.QUIET or left <= 0:
                 return wake
-        return Wake.END
+            if descriptors:
+                wait_for([[self._bell.fileno()], descriptors(), changes.descriptors() if changes else []], left)
+
+    def _next_wait(self, is_through: bool, every: float) -> float:
+        """How long to wait for a wake-up: less while the group is not through, since nothing wakes a member when another
+        one confirms; longer each time, since a member that is down holds the others."""
+        self._waits = 0 if is_through else min(self._waits + 1, MOST_WAITS)
+        return every if is_through else min(every, FIRST_WAIT * 1.3 ** self._waits)
 
     def _confirm(self, epochs: Mapping[int, int]) -> None:
         """Confirms epochs of nodes, however long the coordinator is away. It is no fault if an epoch was confirmed

@@ -3,14 +3,18 @@
 from __future__ import annotations
 
 import enum
-import json
 from dataclasses import dataclass
 
-from . import files
 from .answers import Away, NotNow
 from .port import Port, patiently
+from .same_store import NotCompared, Reading, difference, reading
 from .signal_lag import Signals
+from .since import Since
 from .view import View
+
+# Over each of 128 links, both ways, go two messages with their receipts: more steps than a wave makes while none of its
+# nodes' rows changes.
+MOST_WAVE_STEPS = 1_024
 
 
 class Level(enum.IntEnum):
@@ -41,63 +45,94 @@ class Health:
     is_stopped: bool = False
 
 
-class Since:
-    """Since when each thing that was seen has lasted, kept in a file from one check to the next."""
-
-    def __init__(self, path: str, now: float) -> None:
-        self._path, self._now = path, now
-        self._old = self._read()
-        self._new: dict[str, float] = {}
-
-    def seconds(self, thing: str) -> float:
-        """For how long this has been seen; 0 where it is new."""
-        self._new[thing] = min(self._old.get(thing, self._now), self._now)
-        return self._now - self._new[thing]
-
-    def keep(self) -> None:
-        """Writes down what was seen this time, and forgets all else."""
-        if self._new != self._old:
-            files.keep(self._path, json.dumps(self._new))
-
-    def _read(self) -> dict[str, float]:
-        try:
-            return {str(thing): float(when) for thing, when in json.loads(files.read(self._path) or "{}").items()}
-        except (ValueError, AttributeError):
-            return {}
-
-
-def check(port: Port, since: Since, bounds: Bounds, patience: float = 0.0, signals: Signals | None = None) -> Health:
-    """Looks, and says what is wrong. If there is no view for so many seconds, what has lasted so far is kept. Raises
-    NotTaken."""
+def check(port: Port, since: Since, bounds: Bounds, patience: float = 0.0, signals: Signals | None = None,
+          store: str | None = None) -> Health:
+    """Looks, and says what is wrong. If there is no view for so many seconds, what has lasted so far is kept. `store` is the
+    file that the coordinator is to have. Raises NotTaken."""
+    comparison = Comparison(store)
     try:
         view = patiently(port.show, patience)
     except NotNow as not_now:
         return Health(Level.CRITICAL, (f"the server answers {not_now.name}",), not_now.name == "Stopped")
     except Away as away:
         return Health(Level.CRITICAL, (f"no answer: {away}",))
-    found = findings(view, since, bounds)
+    level, found = comparison.judged(view)
+    found += findings(view, since, bounds)
     if signals:
         found += missing_signals(view, signals, since, bounds)
     since.keep()
-    return Health(Level.WARNING if found else Level.OK, tuple(found))
+    return Health(level if level is not Level.OK or not found else Level.WARNING, tuple(found))
+
+
+class Comparison:
+    """The coordinator's store beside the one on a file, if there is one to compare with: read before and behind a view."""
+
+    def __init__(self, path: str | None) -> None:
+        self._path = path
+        self._before = Reading(None)
+        try:
+            self._before = reading(path) if path else self._before
+        except NotCompared:
+            pass  # the reading behind the view says so
+
+    def differs(self, view: View) -> bool | None:
+        """Whether the store is another one; None where that is not known."""
+        level = self.judged(view)[0] if self._path else Level.UNKNOWN
+        return None if level is Level.UNKNOWN else level is Level.CRITICAL
+
+    def judged(self, view: View) -> tuple[Level, list[str]]:
+        if not self._path:
+            return Level.OK, []
+        try:
+            differs = difference(self._before, view, reading(self._path))
+        except NotCompared as fault:
+            return Level.UNKNOWN, [f"the store can't be compared: {fault}"]
+        if not differs:
+            return Level.OK, []
+        return Level.CRITICAL, [f"that is not the store on this file: {self._path} {differs}; what is answered now is lost with the "
+                                "server's end: leave it running (OPERATING, Backup and restore)"]
 
 
 def findings(view: View, since: Since, bounds: Bounds) -> list[str]:
     """What has lasted for longer than its bound."""
     found: list[str] = []
-    if view.accepted > view.settled:
-        lasted = since.seconds(f"settled {view.settled}")
-        if lasted >= bounds.steps:
-            found.append(f"{view.accepted - view.settled} steps have waited for the disk for {lasted:.0f} s")
+    if view.accepted > view.settled and (lasted := oldest_wait(view, since)) >= bounds.steps:
+        found.append(f"{view.accepted - view.settled} steps have waited for the disk for {lasted:.0f} s")
+    found += still_waves(view, since, bounds)
     for node in view.nodes:
-        if node.mode != "ready":
-            lasted = since.seconds(f"wave {node.node} {node.mode} {node.parent} {node.epoch}")
-            if lasted >= bounds.wave:
-                found.append(f"a wave has stood still at node {node.node} ({node.mode}) for {lasted:.0f} s: resend")
         if node.epoch > node.confirmed:
             lasted = since.seconds(f"unconfirmed {node.node} {node.epoch}")
             if lasted >= bounds.unconfirmed:
                 found.append(f"epoch {node.epoch} of node {node.node} is unconfirmed for {lasted:.0f} s")
+    return found
+
+
+def oldest_wait(view: View, since: Since) -> float:
+    """For how long the oldest step that waits for the disk has waited at least. Each look notes the step that was accepted
+    last; the oldest of these notes that is not settled yet tells."""
+    noted = {int(thing.split()[1]) for thing in since.things("accepted")} | {view.accepted}
+    return max(since.seconds(f"accepted {step}") for step in noted if view.settled < step <= view.accepted)
+
+
+def still_waves(view: View, since: Since, bounds: Bounds) -> list[str]:
+    """The waves that wait for nothing that is on its way. A wave moves if a row of one of its nodes changes. While steps
+    wait for the disk it may wait with them. So it stands still if for long no look found such steps, or if so many were
+    settled meanwhile that its own are among them."""
+    found: list[str] = []
+    seen: set[int] = set()
+    for node in view.nodes:
+        if node.mode == "ready" or node.node in seen:
+            continue
+        party = view.connected(node.node)
+        seen |= {each.node for each in party}
+        rows = " ".join(f"{each.node}:{each.mode}:{each.parent}:{each.epoch}" for each in party)
+        settled = since.grown(f"wave {rows}", view.settled)
+        lasted = since.seconds(f"wave {rows}")
+        alone = since.seconds(f"alone {rows}") if view.accepted == view.settled else 0.0
+        if max(alone, lasted if settled > MOST_WAVE_STEPS else 0.0) >= bounds.wave:
+            more = sum(each.mode != "ready" for each in party) - 1
+            found.append(f"a wave has stood still at node {node.node} ({node.mode}){f' and {more} more' if more else ''} for "
+                         f"{lasted:.0f} s: resend")
     return found
 
 
@@ -116,10 +151,13 @@ def missing_signals(view: View, signals: Signals, since: Since, bounds: Bounds) 
             "looking alone; make room and start it again".format(*late[0], more, lasted[late[0]])]
 
 
-def metrics(view: View | None, is_stopped: bool) -> str:
-    """A text for the collector of text files of node_exporter."""
+def metrics(view: View | None, is_stopped: bool, differs: bool | None = None) -> str:
+    """A text for the collector of text files of node_exporter. `differs`: the store is not the one on its file, None where
+    that is not known."""
     rows = [("resetd_up", "gauge", "1 where the server answers", [("", int(view is not None or is_stopped))]),
             ("resetd_stopped", "gauge", "1 where the server answers Stopped", [("", int(is_stopped))])]
+    if differs is not None:
+        rows.append(("resetd_store_differs", "gauge", "1 where the server's store is not on its file", [("", int(differs))]))
     if view:
         names = [(f'{{node="{node.node}",group="{node.group}"}}', node) for node in view.nodes]
         rows += [

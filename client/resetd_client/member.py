@@ -2,6 +2,7 @@
 
 from __future__ import annotations
 
+import math
 import os
 import threading
 from collections.abc import Callable, Iterator
@@ -9,29 +10,37 @@ from contextlib import contextmanager
 from dataclasses import dataclass
 
 from .answers import Away
-from .following import Following, check_every
+from .errors import ResetdError, refuse_in_loop
+from .following import DOUBT_SECONDS, LOOK_SECONDS, Following, check_every
 from .orders import Orders, warn
+from .party import are_parted, is_same_run
 from .port import Port
-from .signals import Wake, Wakes
-from .starts import Due, Shelf, Starts
+from .rule import Due
+from .signals import Clock, Wake, Wakes
+from .starts import Shelf, Starts
 from .view import Node, View
 
-LOOK_SECONDS = 30.0
-FIRST_WAIT = 0.1  # seconds between looks while others are not through; some 2 seconds in the end
-SOON = -7  # looks after its own reset, which is over in some milliseconds, before that first wait
 MOST_TURNS = 100  # of one look: each begins or confirms an epoch that is new, or asks for a reset
+MOST_REFUSED = 64  # tags that are remembered until the next look: a group has no more members
 
 
 @dataclass(frozen=True)
 class Run:
-    """In a run a member may exchange messages. Each message or connection has the tag; refuse another tag."""
+    """In a run a member may exchange messages. Each message or connection has the tag, one string; refuse another run's.
+    The tag is empty if the member was connected with nobody when its start first talked: then it sends no message."""
 
     epoch: int
     tag: str
 
+    def takes(self, tag: str) -> bool:
+        """Whether a message with this tag is of this run. Two tags of one run need not be equal."""
+        return is_same_run(self.tag, tag)
 
-class OutOfRun(Exception):
-    """No run is on, or the message is of another one: don't take it, and close its connection."""
+
+class OutOfRun(ResetdError):
+    """No run is on, or the message is of another one: don't take it, and close its connection. Needs no person."""
+
+    needs_person = False
 
 
 class Member(Following):
@@ -39,24 +48,32 @@ class Member(Following):
 
     It calls `begin` with an epoch: that drops all work in hand and whatever is open to other members, loads the
     common start, keeps it with the epoch, and returns only once that is on the disk. `begun` is the epoch that
-    stands with the work, None for no work. The member keeps a file of its own, `start-NODE.json` in the folder of
-    its orders: keep it as long as the work, and move it with the work.
+    stands with the work, None for no work (and for work that is in memory alone). The member keeps two files of its own,
+    `start-NODE.json` and `start-NODE.history` in the folder of its orders: keep them as long as the work, and move them
+    with the work.
 
-    One thread calls `follow`; any others work `in_run`.
+    Either one thread calls `follow`, or the member is used by `with`, which runs `follow` in a thread of its own, woken
+    by `wakes` and at the latest after `every` seconds. Any other threads work `in_run`. `on_run` is called with each run
+    that begins, and with None when it ends, by the thread that looks; it must not wait for that thread.
     """
 
     def __init__(self, port: Port, orders: Orders, node: int, begun: int | None, begin: Callable[[int], None], *,
-                 word: str = "", told: Callable[[str], None] = warn) -> None:
+                 word: str = "", told: Callable[[str], None] = warn, wakes: Wakes | None = None,
+                 every: float = LOOK_SECONDS, on_run: Callable[[Run | None], None] = lambda run: None) -> None:
+        """Raises ValueError if a file of its own does not read."""
         super().__init__(orders, told)
         self.port, self.node = port, node
         self._shelf = Shelf(os.path.join(orders.folder, f"start-{node}.json"))
         self._starts = Starts(self._shelf, node, begun)
-        self._begin, self._word = begin, word
+        self._begin, self._word, self._on_run = begin, word, on_run
+        self._wakes, self._every = wakes or Clock(), every
+        self._thread: threading.Thread | None = None
+        self._fault: BaseException | None = None
         self._run: Run | None = None
         self._changes = threading.Condition(threading.RLock())  # over the run, and the work that belongs to it
         self._is_there = True
-        self._is_doubted = False  # a message of another run came
-        self._waits = 0  # looks in a row that did not find the group through
+        self._refused: set[str] = set()  # the tags of messages of other runs, since the last look
+        self._why: str | None = None  # why somebody wants a reset
 
     @property
     def begun(self) -> int | None:
@@ -72,21 +89,34 @@ class Member(Following):
     @contextmanager
     def in_run(self, tag: str | None = None, wait: float = 0.0) -> Iterator[Run]:
         """While the body works, no begin and no other `in_run` comes in between. `tag` is that of a message: the body
-        works only if it is this run's. Raises OutOfRun at another tag, and if no run is on after `wait` seconds; at
-        another tag `follow` looks, since this run may be over. Keep the body short, and don't wait for others in it."""
+        works only if it is of this run. Raises OutOfRun at the tag of another run, and if no run is on after `wait`
+        seconds; at another tag the member looks, since this run may be over. Raises what has ended the member's own
+        thread, if something has. Keep the body short, and don't wait for others in it. Where an event loop runs it raises
+        InLoop: use `resetd_client.aio`."""
+        refuse_in_loop("in_run")
         with self._changes:
-            if not self._changes.wait_for(lambda: self._run is not None, wait):
-                raise OutOfRun("no run is on")
+            self._changes.wait_for(lambda: self._run is not None, wait)
             run = self._run
-            if run is None or tag not in (None, run.tag):
-                self._is_doubted = True
-                raise OutOfRun(f"{tag} is another run")
+            if self._fault:
+                raise self._fault
+            if run is None:
+                raise OutOfRun("no run is on")
+            if tag is not None and not run.takes(tag):
+                self._refuse(tag)
+                raise OutOfRun(f"{tag} is of another run")
             yield run
+
+    def reset(self, why: str) -> None:
+        """Has the thread that looks ask for a reset of the member's node, at once or with its next look. From any thread
+        or a signal's handler; several calls before that are one."""
+        self._why = why
+        self._bell.ring()
 
     def look(self) -> View:
         """Asks `show`, begins anew, confirms and asks for resets until there is nothing more to do, and answers the
         last view. `run` is then the run that the group is in, or None while somebody is not through. After Away call
         it again; Refused and Faulted need a person."""
+        self._ask_wanted_reset()
         for _ in range(MOST_TURNS):
             view = self.port.show()
             row = view.node(self.node)
@@ -102,47 +132,91 @@ class Member(Following):
         while (view := self._look_patiently()) is not None:
             if after:
                 after(view)
-            if self._wait(wakes, self.wait_seconds(every), lambda: self._is_doubted) is Wake.END:
+            if self._wait(wakes, self.wait_seconds(every), self._sooner) is Wake.END:
                 return
-            self._is_doubted = False
 
     def wait_seconds(self, every: float) -> float:
-        """How long to wait for a wake-up: less while the group is not through, since nothing wakes a member when
-        another one confirms; longer each time, since a member that is down holds the others."""
-        if self._run is not None or not self._is_there:
-            self._waits = 0
-            return every
-        self._waits += 1
-        return min(every, FIRST_WAIT * 1.3 ** min(self._waits, 12))
+        """How long to wait for a wake-up: less while the group is not through."""
+        return self._next_wait(self._run is not None or not self._is_there, every)
+
+    def __enter__(self) -> Member:
+        """Begins to follow, in a thread. Raises ValueError at an `every` that lets no time pass."""
+        check_every(self._every)
+        self._thread = threading.Thread(target=self._follow_alone, name=f"member {self.node}", daemon=True)
+        self._thread.start()
+        return self
+
+    def __exit__(self, kind: object, *_: object) -> None:
+        """Stops. Raises what has ended the thread before, if something has, and if the body raised nothing itself."""
+        self.stop()
+        if self._thread:
+            self._thread.join()
+        self._set_run(None)
+        if self._fault and kind is None:
+            raise self._fault
+
+    def _follow_alone(self) -> None:
+        try:
+            self.follow(self._wakes, self._every)
+        except BaseException as fault:  # told to whoever leaves the `with`
+            self._fault = fault
+            self._told(f"node {self.node}: it follows no more: {fault!r}")
+            self._set_run(None)
+
+    def _sooner(self) -> float:
+        if self._why is not None:
+            return 0.0
+        return DOUBT_SECONDS if self._refused else math.inf
+
+    def _refuse(self, tag: str) -> None:
+        if len(self._refused) < MOST_REFUSED:
+            self._refused.add(tag)
+        self._bell.ring()
+
+    def _ask_wanted_reset(self) -> None:
+        why, self._why = self._why, None
+        if why is not None:
+            self._ask_reset(self.node, why)
 
     def _advance(self, view: View, row: Node) -> bool:
         """Does what the view asks for. Answers whether to look again."""
         due = self._starts.due(view, row)
         self._shelf.keep()
-        self._set_run(Run(row.epoch, view.tag(row.node, self._word)) if due is Due.TALK else None)
-        if due is Due.TALK:
-            self._asked.clear()
+        run = Run(row.epoch, self._starts.tag(view, self._word)) if due is Due.TALK else None
+        refused = self._set_run(run)
+        is_parted = run is not None and any(are_parted(run.tag, tag) for tag in refused)
         if due is Due.BEGIN:
             self._begin_anew(row)
+        elif is_parted:
+            self._ask_reset(self.node, "a member that is connected talks in another run, and the same is shown to it")
         elif due is Due.RESET:
             self._ask_reset(self.node, self._starts.why(row))
         else:
+            self._asked -= {self.node} if run else set()
             return False
-        self._waits = SOON if due is Due.RESET else 0
+        self._waits = 0
         return True
 
     def _begin_anew(self, row: Node) -> None:
-        with self._changes:
-            self._starts.note_begin(row.epoch)
-            self._shelf.keep()
-            self._begin(row.epoch)
-            self._starts.note_begun(row.epoch)
+        """No run is on: no work `in_run` is under way, and none begins."""
+        self._starts.note_begin()
+        self._shelf.keep()
+        self._begin(row.epoch)
+        self._starts.note_begun(row.epoch)
+        self._shelf.keep()
         self._confirm({self.node: row.epoch})
 
-    def _set_run(self, run: Run | None) -> None:
+    def _set_run(self, run: Run | None) -> set[str]:
+        """Says which run is on. Answers the tags that were refused before."""
         with self._changes:
-            self._run = run
+            before, self._run = self._run, run
+            refused, self._refused = self._refused, set()
             self._changes.notify_all()
+        if run is None and before is not None:
+            self._on_run(None)
+        elif run is not None and (before is None or not is_one_run(before, run)):
+            self._on_run(run)
+        return refused
 
     def _note_presence(self, is_there: bool) -> None:
         if is_there != self._is_there:
@@ -150,3 +224,8 @@ class Member(Following):
         if not is_there:
             self._set_run(None)
         self._is_there = is_there
+
+
+def is_one_run(before: Run, after: Run) -> bool:
+    """Whether a member is in the same run as before, though others may have gone."""
+    return before.epoch == after.epoch and (before.takes(after.tag) or before.tag == after.tag == "")

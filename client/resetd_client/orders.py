@@ -4,37 +4,48 @@ from __future__ import annotations
 
 import itertools
 import json
+import logging
 import os
-import sys
+import threading
 from collections.abc import Callable, Iterator, Sequence
 from dataclasses import dataclass, field
-from typing import Any
+from typing import Any, NamedTuple
 
 from . import files
 from .answers import CARRIED_OUT, Faulted, Garbled, NotTaken, Outcome, Refusal, Refused, Reply, reply_of
+from .errors import BadWords, ResetdError, Unreadable
+from .limits import CLIENTS, WORDS, check_order
 from .port import AT_ONCE, Port, line_of
 
 Order = dict[str, Any]
 
-CLIENTS = range(1, 17)
+LOGGER = logging.getLogger("resetd_client")
 MOST_TRIED = 200_000  # numbers, where a lost count is looked for: some seconds
 FIRST_PROBES, PROBES = 4, 1_024  # of them over one connection, at first, and at most
 MOST_RECOVERIES = 3  # of the count for one series: others may order as the same client meanwhile
-MOST_NUMBER = (1 << 64) - 1
 NEXT_IS = frozenset({Refusal.BAD_EPOCH, Refusal.UNKNOWN_NODE})
 
 
 class CountLost(Refused):
     """The order's number is neither the client's last nor the next, or it is the last one with another order: this
-    client's numbers are not those of the coordinator. `Orders.recover` finds them."""
+    client's numbers are not those of the coordinator. `Orders.recover` finds them. Needs a person, who knows whether the
+    order may be carried out twice."""
 
 
-class CountNotFound(Exception):
-    """The number of a client's last order was not found among those that were tried."""
+class CountNotFound(ResetdError):
+    """The number of a client's last order was not found among those that were tried. Needs a person."""
 
 
 def warn(text: str) -> None:
-    print(f"resetd_client: {text}", file=sys.stderr, flush=True)
+    """What `told` is where a caller gives none: a warning of the logger `resetd_client`."""
+    LOGGER.warning("%s", text, stacklevel=2)
+
+
+class Kept(NamedTuple):
+    """The number of the last order that was taken, and the orders after it that were sent and have no answer yet."""
+
+    number: int
+    pending: list[Order]
 
 
 @dataclass
@@ -60,37 +71,50 @@ class Orders:
     It writes orders down, with their numbers, before it sends them. So after any failure it sends them again with the
     same numbers, and each is carried out once. One process at a time holds a folder, and a client may have only one
     folder. If the folder has no order yet, it looks for the client's count before the first one.
+
+    Any threads may share it: each call waits for its turn, and gets the answers to its own orders. After Away a thread
+    calls again with the same orders, and goes on, whatever other threads have ordered meanwhile.
     """
 
     def __init__(self, port: Port, client: int, folder: str, *, recovers: bool = False, held_seconds: float = 0.0,
                  told: Callable[[str], None] = warn) -> None:
-        """With `recovers`, if the count was lost, it finds it and sends the order once more: for orders that do no harm
-        when they are carried out twice. Raises Held, and ValueError."""
+        """`client` is 1 to 16. With `recovers`, if the count was lost, it finds it and sends the order once more: for
+        orders that do no harm when they are carried out twice. Another process may hold the folder for so many seconds
+        more. `told` hears what a person may want to know, by default the logger `resetd_client`. Raises BadWords, Held,
+        and Unreadable if the folder's file does not read."""
         if client not in CLIENTS:
-            raise ValueError(f"{client} is no client: clients are 1 to {CLIENTS[-1]}")
+            raise BadWords(f"{client} is no client: clients are 1 to {CLIENTS[-1]}")
         self.port, self.client, self.recovers, self.told = port, client, recovers, told
         self.folder = folder
         self._lock = files.hold(folder, held_seconds)
         self._path = os.path.join(folder, "order.json")
-        text = files.read(self._path)
-        self._is_known = text is not None  # whether there is a count
+        self._turn = threading.RLock()  # over all below: one thread at a time orders
         self._is_proved = False  # whether an answer to this process was of the count
-        self._number, self._pending = self._read(text) if text else (0, [])
-        self._series: Series | None = None
+        self._owner: Series | None = None  # the series that the orders without an answer are of
+        self._of_thread = threading.local()  # `series`: the one that Away left unfinished in a thread
+        try:
+            text = files.read(self._path)
+            self._is_known = text is not None  # whether there is a count
+            self._kept = self._read(text) if text else Kept(0, [])
+        except BaseException:
+            self._lock.close()
+            raise
 
     @property
     def number(self) -> int:
         """The number of the last order that was sent and not refused."""
-        return self._number + len(self._pending)
+        kept = self._kept
+        return kept.number + len(kept.pending)
 
     @property
     def unanswered(self) -> list[Order]:
         """The orders that were sent and have no answer yet."""
-        return list(self._pending)
+        return list(self._kept.pending)
 
     def close(self) -> None:
-        """Lets the folder go."""
-        self._lock.close()
+        """Lets the folder go, after the call that another thread is in."""
+        with self._turn:
+            self._lock.close()
 
     def __enter__(self) -> Orders:
         return self
@@ -103,8 +127,8 @@ class Orders:
         this one. If the reply to a new order has a step not above `above`, that order was carried out before: then
         the count is not the coordinator's.
 
-        After Away call it again with the same order. Raises CountLost, and Refused or Faulted, after which the
-        number is free for the next order.
+        After Away call it again with the same order. Raises BadWords at a number out of its range, TooLong, CountLost,
+        CountNotFound, Garbled, Untrusted, and Refused or Faulted, after which the number is free for the next order.
         """
         [outcome] = self.order_all([{"op": op, **members}], above=above)
         if isinstance(outcome, NotTaken):
@@ -116,60 +140,68 @@ class Orders:
         came of each, up to and with the first that was refused (or is a fault): nothing after that was carried out.
         CARRIED_OUT stands for a reply that was lost.
 
-        After Away call it again with the same orders: it then goes on. Raises CountLost.
+        After Away call it again with the same orders: it then goes on. Raises BadWords at a number out of its range,
+        TooLong (both before it has sent or written anything), CountLost, CountNotFound, Garbled and Untrusted.
         """
-        if self._series is None or self._series.wanted != [dict(order) for order in orders]:
-            self._series = Series([dict(order) for order in orders])
-        for order in self._series.wanted:
-            line_of(self._request(MOST_NUMBER, order))  # one that is too long is not written down
-        series = self._series
-        try:
-            while not series.is_over:
-                self._go_on(series, above)
-        except CountLost:
-            self._series = None
-            raise
-        self._series = None
-        return series.outcomes
+        wanted = [dict(order) for order in orders]
+        for order in wanted:
+            check_order(order)
+            line_of(self._request(WORDS[-1], order))  # one that is too long is not written down
+        with self._turn:
+            left: Series | None = getattr(self._of_thread, "series", None)
+            series = self._of_thread.series = left if left is not None and left.wanted == wanted else Series(wanted)
+            try:
+                while not series.is_over:
+                    self._go_on(series, above)
+            except CountLost:
+                self._of_thread.series = None
+                raise
+            self._of_thread.series = None
+            return series.outcomes
 
     def settle(self) -> list[Outcome]:
-        """Sends the orders again that have no answer, and answers what came of each, as `order_all` does."""
-        series = Series(self.unanswered)
-        while self._pending:
-            self._send(series, 0)
-        return series.outcomes
+        """Sends the orders again that have no answer, and answers what came of each, as `order_all` does. Raises Away,
+        CountLost, Garbled and Untrusted."""
+        with self._turn:
+            series = self._owner or Series(self.unanswered)
+            before = len(series.outcomes)
+            while self._kept.pending:
+                self._send(series, 0)
+            return series.outcomes[before:]
 
     def recover(self, most: int = MOST_TRIED) -> int:
         """Finds the number of this client's last order, writes it down, and answers it. It gives up an order without
-        an answer: `show` tells whether that was carried out. Raises CountNotFound, and Away."""
-        number = find_count(self.port, self.client, self.number, most)
-        if self._is_known and number != self.number:
-            self.told(f"client {self.client}: the last order had number {number}, and not {self.number}")
-        self._note(number, [])
-        return number
+        an answer: `show` tells whether that was carried out. Raises CountNotFound, Away, Garbled and Untrusted."""
+        with self._turn:
+            number = find_count(self.port, self.client, self.number, most)
+            if self._is_known and number != self.number:
+                self.told(f"client {self.client}: the last order had number {number}, and not {self.number}")
+            self._note(number, [])
+            return number
 
     def _go_on(self, series: Series, above: int) -> None:
         """Sends the next orders of a series, once a count is known and no other orders are without an answer."""
         if not self._is_known:
             self.recover()
         rest = series.rest[:AT_ONCE if self._is_proved else 1]
-        if self._pending and self._pending != series.rest[:len(self._pending)]:
+        if self._kept.pending and self._kept.pending != series.rest[:len(self._kept.pending)]:
             self._settle_others()
-        had_no_answer = " had no answer, and now" if self._pending else ""
-        if not self._pending:
-            self._note(self._number, rest)
+        had_no_answer = " had no answer, and now" if self._kept.pending else ""
+        if not self._kept.pending:
+            self._note(self._kept.number, rest)
+        self._owner = series
         try:
             self._send(series, above)
         except CountLost as lost:
             if not self.recovers or series.recoveries >= MOST_RECOVERIES:
                 raise
             series.recoveries += 1
-            self.told(f"client {self.client}: number {self._number + 1}{had_no_answer} is {lost}: its count is looked for")
+            self.told(f"client {self.client}: number {self._kept.number + 1}{had_no_answer} is {lost}: its count is looked for")
             self.recover()
 
     def _settle_others(self) -> None:
         """Sends earlier orders again. If one is refused it says so, and gives it up."""
-        others, number = self.unanswered, self._number + 1
+        others, number = self.unanswered, self._kept.number + 1
         try:
             for outcome in self.settle():
                 if isinstance(outcome, NotTaken):
@@ -184,7 +216,7 @@ class Orders:
         """Sends what is written down, and notes what comes of each. If an order, or one after it, gets another answer
         than OutOfTurn, its number was taken: so an OutOfTurn before that answer is of an order that was carried out
         before. An order that was not taken leaves its number, and those after it, free."""
-        number, pending, done = self._number, self._pending, list[Outcome]()
+        (number, pending), done = self._kept, list[Outcome]()
         requests = [self._request(number + 1 + place, order) for place, order in enumerate(pending)]
         try:
             for place, answer in enumerate(self.port.ask_many(requests)):
@@ -210,22 +242,24 @@ class Orders:
 
     def _note(self, number: int, pending: list[Order]) -> None:
         """Writes down the number of the last order that was taken, and the orders after it that are sent."""
-        is_new = not self._is_known or (number, pending) != (self._number, self._pending)
-        self._number, self._pending, self._is_known = number, pending, True
+        is_new = not self._is_known or (number, pending) != self._kept
+        self._kept, self._is_known = Kept(number, pending), True
+        if not pending:
+            self._owner = None
         if is_new:
             first = pending[0] if pending else {}
             behind = {"behind": pending[1:]} if len(pending) > 1 else {}
             files.keep(self._path, json.dumps(
                 {"number": number + bool(pending), "answered": not pending, "order": first, **behind}))
 
-    def _read(self, text: str) -> tuple[int, list[Order]]:
+    def _read(self, text: str) -> Kept:
         try:
             kept = json.loads(text)
             if bool(kept["answered"]):
-                return int(kept["number"]), []
-            return int(kept["number"]) - 1, [dict(order) for order in [kept["order"], *kept.get("behind", [])]]
-        except (ValueError, KeyError, TypeError) as fault:
-            raise ValueError(f"{self._path} does not read as an order: remove it, and the count is found") from fault
+                return Kept(int(kept["number"]), [])
+            return Kept(int(kept["number"]) - 1, [dict(order) for order in [kept["order"], *kept.get("behind", [])]])
+        except (ValueError, KeyError, TypeError, AttributeError) as fault:
+            raise Unreadable(self._path, " as an order: remove it, and the count is found") from fault
 
 
 def outcome_of(answer: dict[str, Any] | NotTaken, above: int) -> Outcome:
@@ -249,7 +283,7 @@ def find_count(port: Port, client: int, near: int = 0, most: int = MOST_TRIED) -
     """The number of a client's last order, 0 for none, found without harm: the order to confirm epoch 0 is refused
     whatever its number is, as NumberReused where it is the last one's, as BadEpoch (or UnknownNode) where it is the
     next one, else as OutOfTurn. Numbers are tried from `near` outwards, at most so many, and none above the count of
-    steps. Raises CountNotFound, and Away."""
+    steps. Raises CountNotFound, Away, Garbled and Untrusted."""
     view = port.show()
     node = view.nodes[0].node if view.nodes else 1
     greatest = view.accepted + 1

@@ -1,7 +1,8 @@
-"""The administration port of a coordinator, at one address or at the first of several that answers."""
+"""The administration port of a coordinator, or the front before it, at one address or the first of several that answers."""
 
 from __future__ import annotations
 
+import contextlib
 import json
 import random
 import socket
@@ -9,7 +10,9 @@ import time
 from collections.abc import Callable, Iterator, Mapping, Sequence
 from typing import Any, TypeVar
 
+from .address import Address, Credentials, addresses_of
 from .answers import Away, Garbled, NotNow, NotTaken, members_of
+from .errors import BadWords
 from .view import View
 
 T = TypeVar("T")
@@ -20,33 +23,43 @@ AT_ONCE = 64  # lines that are sent before their answers are read: neither side 
 REPLY_SECONDS = 20.0  # a server serves one connection at a time, and ends one that is silent
 
 
-class TooLong(ValueError):
-    """A request that no line can hold: it was not sent."""
+class TooLong(BadWords):
+    """A request that no line can hold: it was not sent. Needs a person: who wrote the words."""
 
 
 class Port:
     """Asks a coordinator, one connection after the other, each closed at once: the port serves one at a time.
 
-    `addresses` are `HOST:PORT`, one or several with commas between, all of one coordinator, of which one serves at a
-    time. It tries them in turn, beginning with the one that answered last, and goes on to the next if one gives no
-    answer, or answers Stopped, PendingFull or OutOfMemory.
+    `addresses` are `HOST:PORT`, `unix:PATH` or `tls:HOST:PORT`, one or several with commas between, all of one
+    coordinator, of which one serves at a time. It tries them in turn, beginning with the one that answered last, and
+    goes on to the next if one gives no answer, or answers Stopped, PendingFull or OutOfMemory.
+
+    Any threads may share it: it keeps nothing between two calls but which address answered last.
     """
 
-    def __init__(self, addresses: str, seconds: float = REPLY_SECONDS) -> None:
-        self.addresses = [address_of(text) for text in addresses.split(",")]
+    def __init__(self, addresses: str, seconds: float = REPLY_SECONDS, credentials: Credentials | None = None) -> None:
+        """`seconds` is how long one answer may take. `credentials` are for `tls:`, by default those of the environment.
+        Raises BadWords at no address, and Unreadable of a file of credentials."""
+        self.addresses = addresses_of(addresses, credentials)
         self.seconds = seconds
         self._last = 0
 
+    @property
+    def is_front(self) -> bool:
+        """Whether one of the addresses is a front's, which also tells of changes (`Watched`)."""
+        return any(address.is_front for address in self.addresses)
+
     def ask(self, request: Request) -> dict[str, Any]:
-        """The members of the answer to one request. Raises Away (NotNow is one), or NotTaken."""
-        return self._at_one(lambda address: members_of(self._answer(address, request), name_of(address)))
+        """The members of the answer to one request. Raises Away (NotNow is one), NotTaken (Refused, Faulted or Garbled),
+        TooLong and Untrusted, as all below do that ask."""
+        return self._at_one(lambda address: members_of(self._answer(address, request), str(address)))
 
     def raw(self, request: Request) -> str:
-        """The line that answers one request, whatever it says. Raises Away if none came."""
+        """The line that answers one request, whatever it says. Raises Away if none came, TooLong and Untrusted."""
         return self._at_one(lambda address: self._answer(address, request))
 
     def show(self) -> View:
-        """The nodes and links, as far as they are on the disk."""
+        """The nodes and links, as far as they are on the disk. Raises Garbled too."""
         answer = self.ask({"op": "show"})
         try:
             return View.of(answer)
@@ -54,7 +67,7 @@ class Port:
             raise Garbled(json.dumps(answer)) from fault
 
     def resend(self) -> int:
-        """Has what is on its way sent again, and answers how many packets that are."""
+        """Has what is on its way sent again, and answers how many packets that are. Raises Garbled too."""
         answer = self.ask({"op": "resend"})
         try:
             return int(answer["count"])
@@ -62,7 +75,7 @@ class Port:
             raise Garbled(json.dumps(answer)) from fault
 
     def close(self) -> None:
-        """Ends the server in order: what was accepted is settled first."""
+        """Ends the server in order: what was accepted is settled first. Raises Garbled too."""
         if self.ask({"op": "close"}).get("kind") != "closed":
             raise Garbled("close")
 
@@ -77,13 +90,13 @@ class Port:
                 done += 1
                 yield answer
 
-    def _answers(self, address: tuple[str, int], requests: Sequence[Request]) -> list[dict[str, Any] | NotTaken]:
+    def _answers(self, address: Address, requests: Sequence[Request]) -> list[dict[str, Any] | NotTaken]:
         """The answers over one connection, at least one, as far as they come and are not "not now"."""
         answers: list[dict[str, Any] | NotTaken] = []
         try:
             for line in self._lines(address, requests):
                 try:
-                    answers.append(members_of(line, name_of(address)))
+                    answers.append(members_of(line, str(address)))
                 except NotTaken as not_taken:
                     answers.append(not_taken)
         except Away:
@@ -91,26 +104,29 @@ class Port:
                 raise
         return answers
 
-    def _answer(self, address: tuple[str, int], request: Request) -> str:
+    def _answer(self, address: Address, request: Request) -> str:
         """The line that answers one request, over a connection of its own."""
         return next(self._lines(address, [request]))
 
-    def _lines(self, address: tuple[str, int], requests: Sequence[Request]) -> Iterator[str]:
-        """The lines that answer requests over one connection. If not all come, raises Away after the last."""
-        with connected(address, self.seconds) as connection:
+    def _lines(self, address: Address, requests: Sequence[Request]) -> Iterator[str]:
+        """The lines that answer requests over one connection. If not all come, raises Away or Untrusted after the last."""
+        with address.connect(self.seconds) as connection:
             for place in range(0, len(requests), AT_ONCE):
                 part = requests[place:place + AT_ONCE]
                 began, came = time.monotonic(), 0
-                for line in spoken(connection, part):
-                    came += 1
-                    yield line
+                with contextlib.suppress(OSError):
+                    for line in spoken(connection, part):
+                        came += 1
+                        yield line
                 if came < len(part):
                     is_silent = time.monotonic() - began >= self.seconds
-                    raise Away(f"{name_of(address)}: " + (
+                    if not came and not is_silent and (refusal := address.refusal()):
+                        raise refusal
+                    raise Away(f"{address}: " + (
                         f"connected, and no answer for {self.seconds:g} s: another client may keep the one connection"
                         if is_silent else "it ended the connection without an answer"))
 
-    def _at_one(self, call: Callable[[tuple[str, int]], T]) -> T:
+    def _at_one(self, call: Callable[[Address], T]) -> T:
         """What a call gives at the first address that answers. If none does, raises "not now" if one of them said so,
         else what the last one raised."""
         fault: Away = Away("no address")
@@ -129,43 +145,14 @@ class Port:
         raise fault
 
 
-def address_of(text: str) -> tuple[str, int]:
-    """The host and the port of `HOST:PORT`. Raises ValueError."""
-    host, colon, port = text.strip().rpartition(":")
-    if not colon or not host or not port.isdigit() or not 0 < int(port) < 65536:
-        raise ValueError(f"{text!r} is no address: HOST:PORT is meant")
-    return host, int(port)
-
-
-def name_of(address: tuple[str, int]) -> str:
-    return f"{address[0]}:{address[1]}"
-
-
-def connected(address: tuple[str, int], seconds: float) -> socket.socket:
-    """A connection. Raises Away."""
-    try:
-        connection = socket.create_connection(address, timeout=min(seconds, 5.0))
-        connection.settimeout(seconds)
-        connection.setsockopt(socket.IPPROTO_TCP, socket.TCP_NODELAY, 1)
-    except OSError as fault:
-        raise Away(f"{name_of(address)}: {fault.strerror or fault}") from fault
-    return connection
-
-
 def spoken(connection: socket.socket, requests: Sequence[Request]) -> Iterator[str]:
-    """Sends requests at once and gives the lines that come in answer, as many as come whole."""
-    text = b"".join(line_of(request) for request in requests)
-    try:
-        connection.sendall(text)
-    except OSError:
-        return
+    """Sends requests at once and gives the lines that come in answer, as many as come whole. Raises TooLong, and the
+    connection's OSError."""
+    connection.sendall(b"".join(line_of(request) for request in requests))
     rest, came = b"", 0
     until = time.monotonic() + (connection.gettimeout() or REPLY_SECONDS) * (1 + len(requests) / AT_ONCE)
     while came < len(requests):
-        try:
-            read = connection.recv(65536)
-        except OSError:
-            return
+        read = connection.recv(65536)
         if not read or time.monotonic() > until:
             return
         *lines, rest = (rest + read).split(b"\n")

@@ -2,14 +2,19 @@
 
 from __future__ import annotations
 
+import enum
+import hashlib
 import os
 import select
 import socket
 import stat
+import time
 from collections.abc import Iterator
 from dataclasses import dataclass
 
 LISTENS = "0A"  # the state in /proc/net/tcp
+MOST_WORDS = 400  # characters of a command
+LOOK_SECONDS = 0.5  # for so long a thread has to be in one call, or in none
 
 
 def lock_holders(found: os.stat_result) -> list[int]:
@@ -41,13 +46,13 @@ def has_open(process: int, found: os.stat_result) -> bool:
 
 
 def commanded(process: int) -> str:
-    """The words with which a process was started, where they can be known."""
+    """The words with which a process was started, on one line, where they can be known; of very many the first."""
     try:
         with open(f"/proc/{process}/cmdline", "rb") as file:
-            words = file.read().replace(b"\0", b" ").decode("utf-8", "replace").strip()
+            words = " ".join(file.read().replace(b"\0", b" ").decode("utf-8", "replace").split())
     except OSError:
         return ""
-    return f" ({words})" if words else ""
+    return f" ({words[:MOST_WORDS]}{' ..' if len(words) > MOST_WORDS else ''})" if words else ""
 
 
 def file_limit(process: int) -> int | None:
@@ -135,3 +140,64 @@ def flags_of(process: int, number: str) -> int:
     """With which flags a process has opened a descriptor."""
     with open(f"/proc/{process}/fdinfo/{number}", encoding="utf-8") as lines:
         return next(int(line.split()[1], 8) for line in lines if line.startswith("flags:"))
+
+
+class Condition(enum.Enum):
+    """What keeps a process from its work."""
+
+    STOPPED = "stopped"
+    IN_A_CALL = "in a call"
+    SPINNING = "spinning"
+
+
+def condition_of(process: int, seconds: float = LOOK_SECONDS) -> Condition | None:
+    """Whether a process is stopped by a signal; or for so many seconds one of its threads is in one call that can't be
+    interrupted, as a sync, or never rests. None if it is none of these, or can't be seen."""
+    first = threads_of(process)
+    if any(state in "Tt" for state, _ in first.values()):
+        return Condition.STOPPED
+    time.sleep(seconds)
+    second = threads_of(process)
+    same = {first[thread][0] for thread in first if second.get(thread) == first[thread]}
+    return Condition.IN_A_CALL if "D" in same else Condition.SPINNING if "R" in same else None
+
+
+def threads_of(process: int) -> dict[str, tuple[str, int]]:
+    """The threads of a process, each with its state, a letter, and how often it has gone to rest."""
+    found = {}
+    try:
+        for thread in os.listdir(f"/proc/{process}/task"):
+            with open(f"/proc/{process}/task/{thread}/status", encoding="utf-8") as lines:
+                rows = dict(line.split(":", 1) for line in lines if ":" in line)
+            found[thread] = (rows["State"].split()[0], int(rows["voluntary_ctxt_switches"]))
+    except (OSError, KeyError, ValueError):
+        pass
+    return found
+
+
+@dataclass(frozen=True)
+class Program:
+    """The file that a process runs, with its SHA-256; and whether that is what stands at its path now."""
+
+    path: str
+    checksum: str
+    is_there: bool
+
+
+def program_of(process: int) -> Program | None:
+    """None if this user may not see it."""
+    link = f"/proc/{process}/exe"
+    try:
+        path = os.readlink(link).removesuffix(" (deleted)")
+        running = checksum_of(link)
+    except OSError:
+        return None
+    try:
+        return Program(path, running, checksum_of(path) == running)
+    except OSError:
+        return Program(path, running, False)
+
+
+def checksum_of(path: str) -> str:
+    with open(path, "rb") as file:
+        return hashlib.file_digest(file, "sha256").hexdigest()

@@ -4,12 +4,10 @@ from __future__ import annotations
 
 import enum
 import os
-import select
 import time
 from typing import Protocol
 
-POLL_SECONDS = 0.1
-NEVER: tuple[int, int] = (0, -1)
+from .changes import Changes, wait_for
 
 
 class Wake(enum.Enum):
@@ -21,7 +19,8 @@ class Wake(enum.Enum):
 
 
 class Wakes(Protocol):
-    """Where wake-ups come from."""
+    """Where wake-ups come from. What also has `descriptors` (as those below) is waited for together with others: a list of
+    what can be read once something may be new after the last wait, or None if it has to be asked again and again."""
 
     def wait(self, seconds: float) -> Wake:
         """Waits until something may be new, at most so long. All that came meanwhile is one wake-up."""
@@ -42,8 +41,11 @@ class Stream:
                 return Wake.END
         return Wake.CAME
 
+    def descriptors(self) -> list[int] | None:
+        return [self._descriptor]
+
     def _is_ready(self, seconds: float) -> bool:
-        return bool(select.select([self._descriptor], [], [], seconds)[0])
+        return wait_for([self.descriptors()], seconds)
 
 
 class Follower:
@@ -51,24 +53,13 @@ class Follower:
     and it may go."""
 
     def __init__(self, path: str) -> None:
-        self._path = path
-        self._seen = NEVER
+        self._changes = Changes([path])
 
     def wait(self, seconds: float) -> Wake:
-        until = time.monotonic() + seconds
-        while True:
-            try:
-                now = os.stat(self._path)
-                state = (now.st_ino, now.st_size)
-            except OSError:
-                state = NEVER
-            if state != self._seen:
-                self._seen = state
-                return Wake.CAME
-            left = until - time.monotonic()
-            if left <= 0:
-                return Wake.QUIET
-            time.sleep(min(POLL_SECONDS, left))
+        return Wake.CAME if self._changes.wait(seconds) else Wake.QUIET
+
+    def descriptors(self) -> list[int] | None:
+        return self._changes.descriptors()
 
 
 class Clock:
@@ -77,3 +68,6 @@ class Clock:
     def wait(self, seconds: float) -> Wake:
         time.sleep(max(seconds, 0.0))
         return Wake.QUIET
+
+    def descriptors(self) -> list[int] | None:
+        return []

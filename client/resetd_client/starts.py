@@ -1,113 +1,149 @@
-"""The starts of a member: which epoch it may begin, when it has to ask for a reset, and with whom a start may talk.
-
-By two rules a node and an epoch name one start, and a start belongs to one run:
-
-- a member begins only an epoch above all that it began before, or the same one again if that start never talked;
-- a start talks only with those that were connected when it first talked, at the epochs that they had then.
-
-If one of them would be broken, the member asks for a reset, which gives new epochs to all that links connect.
-"""
+"""The starts of a member: what is kept of them on the disk, and what a view asks for by the rule (rule.py)."""
 
 from __future__ import annotations
 
-import enum
 import json
+import os
 
 from . import files
+from .errors import Unreadable
+from .history import History
+from .party import digest_of, is_alone, tag_of
+from .rule import Due, Judged, Kept, judge, shown_to
 from .view import Node, View
 
 
-class Due(enum.Enum):
-    """What a member has to do."""
-
-    TALK = enum.auto()  # all that are connected are through, and its start may talk with them
-    WAIT = enum.auto()  # for others, or for a reset that is under way
-    BEGIN = enum.auto()  # it begins the shown epoch, and confirms it
-    RESET = enum.auto()  # it asks for a reset: its start and what is shown do not belong together
-
-
 class Shelf:
-    """What is kept of the starts of one or more nodes, in one file: for each the greatest epoch that was begun, and
-    with whom that start first talked (None: with nobody yet). Nothing is known of a node that is not in it."""
+    """What is kept of the starts of one or more nodes: in one file, for each node, which epoch is begun and with whom its
+    start first talked; and beside it, in a file `.history` that only grows, with whom any of them ever first talked.
+    Nothing is known of a node that is not in it.
+
+    `told` is what a gateway told the members of a node last; `floor` is for nodes whose file was written by an earlier
+    version (Starts)."""
 
     def __init__(self, path: str) -> None:
+        """Raises Unreadable if a file does not read."""
         self._path, self._is_kept = path, True
-        self._starts = self._read()
+        self.history = History(os.path.splitext(path)[0] + ".history")
+        self._starts: dict[int, Kept] = {}
+        self.told: dict[int, str] = {}
+        self.floor: dict[int, int] = {}
+        try:
+            for node, start in json.loads(files.read(path) or "{}").items():
+                self._take(int(node), start)
+        except (ValueError, KeyError, TypeError, AttributeError) as fault:
+            raise Unreadable(path, ": remove it, and a reset is asked for") from fault
+        self.history.keep()
 
-    def get(self, node: int) -> tuple[int, frozenset[str] | None]:
-        return self._starts.get(node, (-1, frozenset()))
+    def get(self, node: int) -> Kept:
+        return self._starts.get(node, Kept())
 
-    def put(self, node: int, epoch: int, party: frozenset[str] | None) -> None:
-        """Replaces what is known of a node. It is on the disk after the next `keep`."""
-        self._starts[node] = epoch, party
-        self._is_kept = False
+    def put(self, node: int, kept: Kept, digest: str | None = None, told: str | None = None) -> None:
+        """Replaces what is known of a node, and adds to the history. Both are on the disk after the next `keep`."""
+        if digest is not None:
+            self.history.add(digest)
+        if told is not None:
+            self.told[node] = told
+        self._is_kept = self._is_kept and told is None and self._starts.get(node) == kept
+        self._starts[node] = kept
 
     def keep(self) -> None:
-        """Writes all that was put to the disk."""
+        """Writes all that was put to the disk, the history first: without the party in it, a start could talk with a
+        party that an earlier one had."""
+        self.history.keep()
         if not self._is_kept:
-            files.keep(self._path, json.dumps({
-                str(node): {"epoch": epoch, "party": None if party is None else sorted(party)}
-                for node, (epoch, party) in self._starts.items()}) + "\n")
+            files.keep(self._path, json.dumps({str(node): self._line(node, kept) for node, kept in self._starts.items()}) + "\n")
             self._is_kept = True
 
-    def _read(self) -> dict[int, tuple[int, frozenset[str] | None]]:
-        text = files.read(self._path)
-        try:
-            return {int(node): (int(start["epoch"]), None if start["party"] is None else frozenset(map(str, start["party"])))
-                    for node, start in json.loads(text or "{}").items()}
-        except (ValueError, KeyError, TypeError, AttributeError) as fault:
-            raise ValueError(f"{self._path} does not read: remove it, and a reset is asked for") from fault
+    def _line(self, node: int, kept: Kept) -> dict[str, object]:
+        told = {"told": self.told[node]} if node in self.told else {}
+        return {"begun": kept.begun, "party": None if kept.party is None else sorted(kept.party), **told}
+
+    def _take(self, node: int, start: dict[str, object]) -> None:
+        """Takes what the file has of a node. An earlier version kept the greatest epoch that was ever begun, and its
+        party: that start does not go on."""
+        party = None if start["party"] is None else frozenset(str(line) for line in _list(start["party"]))
+        if "epoch" in start:
+            self.floor[node] = _number(start["epoch"])
+            if party and not is_alone(party):
+                self.history.add(digest_of(party))
+            return
+        self._starts[node] = Kept(None if start["begun"] is None else _number(start["begun"]), party)
+        if "told" in start:
+            self.told[node] = str(start["told"])
 
 
 class Starts:
-    """The starts of one node's member, beside its work. The caller calls `shelf.keep` after `due` and after
-    `note_begin`, before it acts on them."""
+    """The starts of one node's member, beside its work. The caller calls `shelf.keep` after `due`, after `note_begin`
+    and after `note_begun`, before it acts on them."""
 
     def __init__(self, shelf: Shelf, node: int, begun: int | None) -> None:
-        """`begun` is the epoch of the work in hand, None for no work."""
-        self._shelf, self._node, self.begun = shelf, node, begun
-        self._greatest, self._party = shelf.get(node)
-        if begun is not None and begun > self._greatest:
-            self._greatest, self._party = begun, frozenset()
+        """`begun` is the epoch that stands with the work in hand, None for no work."""
+        self._shelf, self._node = shelf, node
+        self.work = begun
+        self._floor = shelf.floor.get(node)
+
+    @property
+    def begun(self) -> int | None:
+        """The epoch of the work in hand; None for no work, and for work that is not that of the start that is kept."""
+        return self.work if self.work == self._kept.begun else None
 
     def due(self, view: View, row: Node) -> Due:
-        """What a view with the row of the member's node asks for. It notes with whom a start first talks."""
-        if row.epoch > row.confirmed:
-            is_new = row.epoch > self._greatest or (row.epoch == self._greatest and self._party is None)
-            if is_new:
-                return Due.BEGIN
-        elif row.epoch == self.begun == self._greatest:
-            if view.awaited(row.node):
-                return Due.WAIT
-            if self._admits(view.party(row.node)):
-                return Due.TALK
-        is_quiet = all(node.mode == "ready" for node in view.connected(row.node))
-        return Due.RESET if is_quiet else Due.WAIT
+        """What a view with the row of the member's node asks for. It puts what has to be kept into the shelf."""
+        if self._floor is not None and row.epoch <= self._floor:
+            return self._takeover(view, row)
+        self._floor = None
+        judged = self._judged(view, row)
+        if judged.due is Due.TALK:
+            self._shelf.put(self._node, judged.kept, judged.digest)
+        return judged.due
+
+    def tag(self, view: View, word: str = "") -> str:
+        """The tag of a start that is due to talk; empty for one that was alone when it first talked."""
+        party = self._kept.party
+        return tag_of(party, view.party(self._node), word) if party is not None else ""
 
     def why(self, row: Node) -> str:
         """Why a reset is due, in words."""
-        if row.epoch == row.confirmed == self.begun == self._greatest:
+        if row.epoch > row.confirmed:
+            return f"at epoch {row.epoch} all that are connected are as they were for an earlier start"
+        if row.epoch == self.begun:
             return f"others are connected than at the beginning of epoch {row.epoch}"
-        work = "no work was begun" if self.begun is None else f"epoch {self._greatest} was begun"
-        return f"epoch {row.epoch} is shown, {row.confirmed} is confirmed, and {work} here"
+        work = "no work was begun" if self.begun is None else f"epoch {self.begun} was begun"
+        return f"epoch {row.epoch} is shown and confirmed, and {work} here"
 
-    def note_begin(self, epoch: int) -> None:
-        """An epoch is begun: to be called before any work of the one before is dropped."""
-        self._put(epoch, None)
-        self.begun = None
+    def note_begin(self, told: str | None = None) -> None:
+        """A start begins: to be called, and kept, before any work of the one before is dropped. That one talks no more
+        by what is kept, whatever becomes of its work."""
+        self._shelf.put(self._node, Kept(), told=told)
 
     def note_begun(self, epoch: int) -> None:
         """The start of an epoch is complete, and on the disk."""
-        self.begun = epoch
+        self.work = epoch
+        self._shelf.put(self._node, Kept(epoch))
 
-    def _admits(self, party: frozenset[str]) -> bool:
-        """Whether the start may talk with those that are connected now: some of the first ones may have gone, but no
-        others may have come."""
-        if self._party is None:
-            self._put(self._greatest, party)
-            return True
-        return party <= self._party
+    @property
+    def _kept(self) -> Kept:
+        return self._shelf.get(self._node)
 
-    def _put(self, epoch: int, party: frozenset[str] | None) -> None:
-        self._greatest, self._party = epoch, party
-        self._shelf.put(self._node, epoch, party)
+    def _judged(self, view: View, row: Node) -> Judged:
+        return judge(Kept(self.begun, self._kept.party), self._shelf.history, shown_to(view, row))
+
+    def _takeover(self, view: View, row: Node) -> Due:
+        """A file of an earlier version knows a greater epoch, or this one: a reset is asked for, once."""
+        if any(node.mode != "ready" for node in view.connected(row.node)):
+            return Due.WAIT
+        self._floor = None
+        return Due.RESET
+
+
+def _number(value: object) -> int:
+    if not isinstance(value, int) or isinstance(value, bool):
+        raise TypeError(value)
+    return value
+
+
+def _list(value: object) -> list[object]:
+    if not isinstance(value, list):
+        raise TypeError(value)
+    return value

@@ -8,6 +8,7 @@ import stat
 from collections.abc import Callable
 from dataclasses import dataclass
 
+from .errors import ResetdError
 from .store_grammar import VERSIONS, Batch, NotSpelled, World, batch_of, world_of
 
 MAGIC = b"ACRRESET"
@@ -20,16 +21,18 @@ MOST_PASSES = 1_000
 Read = Callable[[int, int], bytes]
 
 
-class NoStore(Exception):
-    """The file does not read as a store: the name of the fault as `resetd` tells it, and where it stops."""
+class NoStore(ResetdError):
+    """The file does not read as a store: the name of the fault as `resetd` tells it, and where it stops. Needs a person."""
 
     def __init__(self, name: str, place: int, what: str) -> None:
         super().__init__(f"{name}: at byte {place}, {what}")
         self.name, self.place = name, place
 
 
-class Restless(Exception):
-    """Each pass over a served store met a checkpoint."""
+class Restless(ResetdError):
+    """Each pass over a served store met a checkpoint: the same call may end otherwise. Needs no person, unless it lasts."""
+
+    needs_person = False
 
 
 @dataclass(frozen=True)

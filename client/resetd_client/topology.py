@@ -7,18 +7,23 @@ from collections.abc import Iterable, Iterator
 from dataclasses import dataclass, field
 from typing import Any
 
+from .errors import ResetdError
+from .limits import GROUPS, MOST_LINKS, MOST_LINKS_AT_NODE, NODES
 from .view import View
 
 MOST_BYTES = 65_536
-MOST_NODES, MOST_GROUPS = 64, 16
-MOST_LINKS_AT_NODE, MOST_LINKS = 16, 128
 HALVES = range(32_768, 16_777_217)
 
 Pair = tuple[int, int]
 
 
-class BadTopology(Exception):
-    """The file is no topology, or one that no network can have."""
+class BadTopology(ResetdError):
+    """The file is no topology, or one that no network can have. `name` is what `resetd init` calls that. Needs a person:
+    who wrote it."""
+
+    def __init__(self, name: str, text: str) -> None:
+        super().__init__(f"{name}: {text}")
+        self.name = name
 
 
 @dataclass
@@ -60,24 +65,29 @@ class Order:
 
 
 def read_topology(text: bytes) -> Network:
-    """The network of a topology file. Raises BadTopology."""
+    """The network of a topology file. It judges keys before values, and values before what is made of them, as `resetd
+    init` does. Raises BadTopology."""
     if len(text) > MOST_BYTES:
-        raise BadTopology(f"over {MOST_BYTES} bytes")
+        raise BadTopology("NotToml", f"over {MOST_BYTES} bytes")
     try:
         top = tomllib.loads(text.decode("utf-8"))
-    except ValueError as fault:
-        raise BadTopology(f"no TOML: {fault}") from None
+    except (ValueError, RecursionError) as fault:
+        raise BadTopology("NotToml", f"no TOML: {fault}") from None
     check_keys(top, required=set(), optional={"half", "node", "link"}, where="the top")
-    if "half" in top:
-        number(top["half"], HALVES, "half")
+    for key, members in (("node", {"id", "group"}), ("link", {"a", "b"})):
+        for row in tables(top, key):
+            check_keys(row, required=members, optional=set(), where=f"a [[{key}]]")
+    number(top.get("half", HALVES[0]), HALVES, "half")
+    nodes = [(number(row["id"], NODES, "id"), number(row["group"], GROUPS, f"group of node {row['id']}"))
+             for row in tables_alone(top, "node")]
+    links = [(number(row["a"], NODES, "a"), number(row["b"], NODES, "b")) for row in tables_alone(top, "link")]
     network = Network()
-    for row in tables(top, "node", {"id", "group"}):
-        node = number(row["id"], range(1, MOST_NODES + 1), "id")
+    for node, group in nodes:
         if node in network.groups:
-            raise BadTopology(f"node {node} stands twice")
-        network.groups[node] = number(row["group"], range(1, MOST_GROUPS + 1), f"group of node {node}")
-    for row in tables(top, "link", {"a", "b"}):
-        add_link(network, *(number(row[end], range(1, MOST_NODES + 1), end) for end in ("a", "b")))
+            raise BadTopology("7 NodeExists", f"node {node} stands twice")
+        network.groups[node] = group
+    for a, b in links:
+        add_link(network, a, b)
     return network
 
 
@@ -85,39 +95,46 @@ def add_link(network: Network, a: int, b: int) -> None:
     """Adds a link that a network can have. Raises BadTopology."""
     for end in (a, b):
         if end not in network.groups:
-            raise BadTopology(f"link {a} {b}: there is no node {end}")
+            raise BadTopology("6 UnknownNode", f"link {a} {b}: there is no node {end}")
     if a == b:
-        raise BadTopology(f"link {a} {b}: one node")
+        raise BadTopology("9 SameNode", f"link {a} {b}: one node")
     if network.groups[a] != network.groups[b]:
-        raise BadTopology(f"link {a} {b}: two groups")
+        raise BadTopology("10 OtherGroup", f"link {a} {b}: two groups")
     if pair(a, b) in network.links:
-        raise BadTopology(f"link {a} {b} stands twice")
+        raise BadTopology("11 LinkExists", f"link {a} {b} stands twice")
     network.links.add(pair(a, b))
     if max(network.degree(a), network.degree(b)) > MOST_LINKS_AT_NODE:
-        raise BadTopology(f"link {a} {b}: a node has at most {MOST_LINKS_AT_NODE} links")
+        raise BadTopology("13 DegreeFull", f"link {a} {b}: a node has at most {MOST_LINKS_AT_NODE} links")
     if len(network.links) > MOST_LINKS:
-        raise BadTopology(f"more than {MOST_LINKS} links")
+        raise BadTopology("14 LinksFull", f"more than {MOST_LINKS} links")
 
 
-def tables(top: dict[str, Any], key: str, members: set[str]) -> Iterator[dict[str, Any]]:
+def tables(top: dict[str, Any], key: str) -> Iterator[dict[str, Any]]:
+    """The tables directly in an array; what is none is left out."""
+    rows = top.get(key, [])
+    return (row for row in (rows if isinstance(rows, list) else []) if isinstance(row, dict))
+
+
+def tables_alone(top: dict[str, Any], key: str) -> Iterator[dict[str, Any]]:
+    """The tables of an array. Raises BadTopology if it is no array, or has anything else."""
     rows = top.get(key, [])
     if not isinstance(rows, list) or not all(isinstance(row, dict) for row in rows):
-        raise BadTopology(f"{key} is to be written as [[{key}]]")
-    for row in rows:
-        check_keys(row, required=members, optional=set(), where=f"a [[{key}]]")
-        yield row
+        raise BadTopology("BadValue", f"{key} is to be written as [[{key}]]")
+    return tables(top, key)
 
 
 def check_keys(table: dict[str, Any], required: set[str], optional: set[str], where: str) -> None:
+    """Raises BadTopology if a table lacks a key, or has one that means nothing."""
     if missing := required - set(table):
-        raise BadTopology(f"{where} lacks {' and '.join(sorted(missing))}")
+        raise BadTopology("BadKey", f"{where} lacks {' and '.join(sorted(missing))}")
     if extra := set(table) - required - optional:
-        raise BadTopology(f"{where} has {' and '.join(sorted(extra))}, which mean nothing")
+        raise BadTopology("BadKey", f"{where} has {' and '.join(sorted(extra))}, which mean nothing")
 
 
 def number(value: Any, limits: range, what: str) -> int:
+    """A whole number of a range. Raises BadTopology."""
     if not isinstance(value, int) or isinstance(value, bool) or value not in limits:
-        raise BadTopology(f"{what} is to be a whole number from {limits[0]} to {limits[-1]}")
+        raise BadTopology("BadValue", f"{what} is to be a whole number from {limits[0]} to {limits[-1]}")
     return value
 
 

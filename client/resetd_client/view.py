@@ -2,10 +2,11 @@
 
 from __future__ import annotations
 
-import hashlib
 from collections.abc import Mapping
 from dataclasses import dataclass
 from typing import Any, NamedTuple
+
+from .party import Party, tag_of
 
 
 class Node(NamedTuple):
@@ -81,15 +82,15 @@ class View:
         """Of the connected nodes, those that are not through: in a reset, or begun and not confirmed."""
         return tuple(node for node in self.connected(number) if not node.is_begun)
 
-    def party(self, number: int) -> frozenset[str]:
-        """Who is connected with a node, each with its epoch, and by which links: what a run is made of."""
+    def party(self, number: int) -> Party:
+        """Who is connected with a node, each with its epoch, and by which links: what names a run (party.py)."""
         nodes = self.connected(number)
         ids = {node.node for node in nodes}
         return frozenset(f"{node.node} {node.epoch}" for node in nodes) | frozenset(
             f"{link.a} {link.b} {link.incarnation}" for link in self.links if link.a in ids)
 
     def tag(self, number: int, word: str = "") -> str:
-        """A digest of the party's lines, in the order of their bytes: the name of the run that it is in. `word` is one
-        that the whole group shares; if it is not empty, it is the first line."""
-        told = [word] * bool(word) + sorted(self.party(number))
-        return hashlib.sha256("".join(f"{line}\n" for line in told).encode()).hexdigest()[:32]
+        """The tag of a start of this node that first talks where this view is shown (party.py); empty if it is alone.
+        `word` is one that the whole group shares."""
+        party = self.party(number)
+        return tag_of(party, party, word)

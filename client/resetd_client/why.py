@@ -1,41 +1,29 @@
-"""What is behind a fault of `resetd`, as Device, NoMagic or Socket: it looks at a store's file and an address from
-outside, and locks, writes and keeps open nothing."""
+"""What is behind a fault of `resetd`, as Device or NoMagic, at a store's file: it looks from outside, and locks, writes and
+keeps open nothing."""
 
 from __future__ import annotations
 
 import errno
 import grp
 import os
-import pwd
 import resource
-import socket
 import stat
 from collections.abc import Iterator
-from dataclasses import dataclass
 
-from .answers import Away, NotNow, NotTaken
-from .port import Port, address_of
-from .processes import commanded, file_limit, listening, lock_holders, output_pipe
+from .access import SYNC_SECONDS, Account, may_try_as, owner_of, tried_as
+from .finding import Finding, user_name
+from .processes import commanded, file_limit, lock_holders, output_pipe, program_of
 from .store_file import HALVES, HEADER, NoStore, Restless, Store, read_store
 
 KINDS = {stat.S_IFREG: "file", stat.S_IFDIR: "folder", stat.S_IFIFO: "FIFO", stat.S_IFSOCK: "socket",
          stat.S_IFBLK: "block device", stat.S_IFCHR: "character device"}
 
 
-@dataclass(frozen=True)
-class Finding:
-    """A line for a person. `fault` names the fault with which a start of the server would end because of it, `later` what
-    a running server will meet; either may be empty."""
-
-    about: str
-    text: str
-    fault: str = ""
-    later: str = ""
-
-
-def of_file(path: str) -> Iterator[Finding]:
-    """What there is to know of a store's file, from its folder to its bytes."""
-    yield from of_folder(os.path.dirname(os.path.abspath(os.path.realpath(path))))
+def of_file(path: str, account: Account | None = None) -> Iterator[Finding]:
+    """What there is to know of a store's file, from its folder to its bytes. It judges for a user, by default the one who
+    owns the folder."""
+    folder = os.path.dirname(os.path.abspath(os.path.realpath(path)))
+    yield from of_folder(folder)
     try:
         found = os.stat(path)
     except OSError as fault:
@@ -47,7 +35,7 @@ def of_file(path: str) -> Iterator[Finding]:
                   "" if is_file else "Device")
     if not is_file:
         return
-    yield of_access(path)
+    yield from of_access(path, account or owner_of(folder))
     yield from of_lock(found)
     try:
         store = read_store(path)
@@ -85,19 +73,24 @@ def owned(found: os.stat_result) -> str:
     return f"{stat.filemode(found.st_mode)} {user_name(found.st_uid)}:{group}"
 
 
-def user_name(number: int) -> str:
-    try:
-        return pwd.getpwuid(number).pw_name
-    except KeyError:
-        return str(number)
-
-
-def of_access(path: str) -> Finding:
-    """Whether this user may use the file; the server's user may be another one."""
-    user = user_name(os.geteuid())
-    if os.access(path, os.R_OK | os.W_OK, effective_ids=os.access in os.supports_effective_ids):
-        return Finding("access", f"{user} may read and write it; whether its server's user may, the modes above say")
-    return Finding("access", f"{user} may not both read and write it", "Device")
+def of_access(path: str, account: Account) -> Iterator[Finding]:
+    """Whether the server's user may use the file and its folder, and whether the disk takes a sync."""
+    if not may_try_as(account):
+        yield Finding("access", f"whether {account.name} may open it, root alone can try (sudo)",
+                      left_out=f"whether {account.name} may open it")
+        return
+    if not account.is_known:
+        yield Finding("access", f"no user of this machine has the number {account.uid}, which owns the folder: it may be that of the "
+                                "machine that it came from; --user names the server's")
+    trial = tried_as(account, os.path.realpath(path))
+    if trial.failed:
+        yield Finding("access", f"the user {account.name} {trial.failed}; if the server runs as {account.name}: chown {account.name} "
+                                f"{path}, and look at the modes above", "Device")
+    elif trial.synced is None:
+        yield Finding("access", f"to open it and its folder and to sync both takes longer than {SYNC_SECONDS:g} s",
+                      later="a disk that is slow or hangs")
+    else:
+        yield Finding("access", f"the user {account.name} may open it and its folder, and a sync of both took {trial.synced:.3f} s")
 
 
 def of_lock(found: os.stat_result) -> Iterator[Finding]:
@@ -105,9 +98,17 @@ def of_lock(found: os.stat_result) -> Iterator[Finding]:
     holders = lock_holders(found)
     for process in holders:
         yield Finding("lock", f"held by process {process}{commanded(process)}: a second start is refused", "Device")
+        yield from of_program(process)
         yield from of_output(process)
     if not holders:
         yield Finding("lock", "nobody on this machine holds it")
+
+
+def of_program(process: int) -> Iterator[Finding]:
+    """Which program a process runs: what tells one build of the server from another."""
+    if program := program_of(process):
+        yield Finding("program", f"process {process} runs {program.path}, SHA-256 {program.checksum}" + (
+            "" if program.is_there else "; that is not what stands there now: it runs on with the old one until it is started again"))
 
 
 def of_output(process: int) -> Iterator[Finding]:
@@ -159,59 +160,3 @@ def half_size(path: str) -> int:
     except OSError:
         size = 0
     return size if size in HALVES else HALVES[0]
-
-
-def of_address(text: str, seconds: float, path: str) -> Iterator[Finding]:
-    """What listens at an address, whether a server could, and whether a coordinator there has the store on this file."""
-    try:
-        host, port = address_of(text)
-        socket.inet_aton(host)
-    except (ValueError, OSError):
-        yield Finding("address", f"{text} is not of the form A.B.C.D:P", "Usage")
-        return
-    try:
-        with socket.socket() as trial:
-            trial.bind((host, 0))
-    except OSError as fault:
-        yield Finding("address", f"{host}: {fault.strerror}", "Socket")
-    if port < lowest_port() and os.geteuid() != 0:
-        yield Finding("address", f"port {port} is root's: others have those from {lowest_port()}", "Socket")
-    listeners = sorted(listening(host, port))
-    for process in listeners:
-        yield Finding("address", f"process {process}{commanded(process)} listens there: a second one can't", "Socket")
-    yield from of_answer(text, seconds, path, "" if listeners else "Socket")
-
-
-def of_answer(text: str, seconds: float, path: str, fault: str) -> Iterator[Finding]:
-    """What answers at an address."""
-    before = count_of(path)
-    try:
-        view = Port(text, seconds).show()
-    except NotNow as not_now:
-        yield Finding("answer", f"a coordinator says {not_now.name}: its device has failed, or it is ending; resetctl close ends it",
-                      fault)
-    except NotTaken as other:
-        yield Finding("answer", str(other), fault)
-    except Away as away:
-        yield Finding("answer", str(away), "" if "refused" in str(away) else fault)
-    else:
-        yield Finding("answer", f"a coordinator with {len(view.nodes)} nodes and {view.settled:,} steps on the disk", fault)
-        if not (before or 0) <= view.settled <= (count_of(path) or 0):
-            yield Finding("answer", "that is not the store on this file: the coordinator has another one, or this one was written "
-                                    "over, cut or replaced under it, and what it answers is lost with its end", later="a loss")
-
-
-def count_of(path: str) -> int | None:
-    """How many steps a store has; None if it does not read."""
-    try:
-        return read_store(path).count
-    except (NoStore, Restless, OSError):
-        return None
-
-
-def lowest_port() -> int:
-    try:
-        with open("/proc/sys/net/ipv4/ip_unprivileged_port_start", encoding="utf-8") as file:
-            return int(file.read())
-    except OSError:
-        return 1024

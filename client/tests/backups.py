@@ -22,6 +22,7 @@ from resetd_client.store_grammar import orders_of
 NODES, CLIENTS = 8, 4
 Answered = tuple[dict[str, Any], dict[str, Any]]  # an order and its reply
 ONE_IN_SERVED = 20  # copies of which one is served too
+WRITTEN_SECONDS = 60  # within which a store under load is written to
 
 
 class Lost(Exception):
@@ -33,7 +34,7 @@ class Load(threading.Thread):
 
     def __init__(self, address: str, client: int) -> None:
         super().__init__(daemon=True)
-        self.port, self.client, self.choice = Port(address, 20), client, random.Random(client)
+        self.port, self.client, self.choice = Port(address, 300), client, random.Random(client)
         self.answered: Answered | None = None
         self.is_over, self.failed = False, ""
         self.start()
@@ -74,7 +75,7 @@ class Trial:
         for each in self.load:
             each.is_over = True
         for each in self.load:
-            each.join(30)
+            each.join()
         self.server.close()
 
     def copies(self, count: int) -> str:
@@ -122,7 +123,7 @@ class Trial:
         """What was answered before is answered the same over the copy, or a later order of the client is there."""
         with subprocess.Popen([PROGRAM, "serve", path, "127.0.0.1:0"], stdout=subprocess.PIPE, encoding="utf-8") as server:
             assert server.stdout
-            port = Port(server.stdout.readline().split()[1], 20)
+            port = Port(server.stdout.readline().split()[1], 300)
             for order, reply in answered:
                 [again] = port.ask_many([order])
                 if again != reply and not (isinstance(again, Refused) and again.name == "OutOfTurn"):
@@ -135,9 +136,11 @@ def read_gates_last(store: str, path: str) -> None:
     with open(store, "rb") as file:
         earlier = file.read()
         half = read_half(lambda place, length: earlier[place:place + length])
-        time.sleep(0.1)
-        file.seek(0)
-        later = file.read()
+        later, until = earlier, time.monotonic() + WRITTEN_SECONDS
+        while later == earlier and time.monotonic() < until:
+            time.sleep(0.1)
+            file.seek(0)
+            later = file.read()
     cut = half.start + half.used
     with open(path, "wb") as file:
         file.write(later[:cut] + earlier[cut:])

@@ -32,7 +32,7 @@ class Case(unittest.TestCase):
         temporary = tempfile.TemporaryDirectory()
         self.addCleanup(temporary.cleanup)
         self.folder = temporary.name
-        self.port = Port(self.server.address, 10)
+        self.port = Port(self.server.address, 120)
         self.told: list[str] = []
 
     def started(self) -> Any:

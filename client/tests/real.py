@@ -15,7 +15,7 @@ from typing import Any
 from wire import Wire
 
 STOPPED = '{"name":"Stopped","refused":1}'
-SECONDS = 20.0
+SECONDS = 300.0  # within which a server answers or a reset ends, on a busy machine too
 
 
 class Real(Wire):
@@ -92,12 +92,13 @@ class Real(Wire):
         return answer
 
     def settled(self) -> dict[str, Any]:
-        """What is shown once no reset is at any node."""
+        """What is shown once no reset is at any node, nothing is on its way and all is on the disk."""
         until = time.monotonic() + SECONDS
         while time.monotonic() < until:
             view = self.ask(op="show")
-            if view["accepted"] == view["settled"] and all(row[2] == "ready" for row in view["nodes"]):
-                return view
+            if all(row[2] == "ready" for row in view["nodes"]) and self.ask(op="resend")["count"] == 0 and \
+                    (quiet := self.ask(op="show"))["accepted"] == quiet["settled"]:
+                return quiet
             time.sleep(0.002)
         raise RuntimeError("a reset does not end")
 

@@ -49,7 +49,7 @@ class Answers(Case):
         other = self.started()
         other.ring(2)
         self.server.is_stopped = True
-        both = Port(f"127.0.0.1:1,{self.server.address},{other.address}", 10)
+        both = Port(f"127.0.0.1:1,{self.server.address},{other.address}", 120)
         self.assertEqual(len(both.show().nodes), 2)
         other.is_stopped = True
         self.assertRaises(NotNow, both.show)
@@ -72,7 +72,7 @@ class Answers(Case):
 
     def test_not_now_in_the_midst_gives_way_to_the_next_address(self) -> None:
         other = self.started()
-        both = Port(f"{self.server.address},{other.address}", 10)
+        both = Port(f"{self.server.address},{other.address}", 120)
         self.server.faults = ["", "", *[STOPPED] * 4]
         self.assertEqual(len(list(both.ask_many([{"op": "resend"}] * 4))), 4)
         self.assertEqual((len(self.server.seen), len(other.seen)), (6, 2))

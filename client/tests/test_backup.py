@@ -27,6 +27,8 @@ class Backups(unittest.TestCase):
     def test_copies_under_load(self) -> None:
         trial = self.trial(False)
         trial.copies(50)
+        while len(trial.halves) == 1 and trial.made < 2_000:
+            trial.copies(50)
         self.assertGreater(len(trial.halves), 1)
 
     def test_a_wrong_copy_is_found(self) -> None:

@@ -7,15 +7,42 @@ import subprocess
 import tempfile
 import unittest
 
-from case import ROOT
+from case import ROOT, Case
+from pushing import of_unix
 
 EXAMPLES = os.path.join(ROOT, "examples")
-NAMES = ("ask", "gateway", "local_check", "member", "plain_member", "service", "talk")
+NAMES = ("ask", "gateway", "local_check", "member", "plain_member", "service", "talk", "worker")
 
 
 def ran(*words: str) -> tuple[int, str, str]:
-    done = subprocess.run(words, stdin=subprocess.DEVNULL, capture_output=True, encoding="utf-8", timeout=60, check=False)
+    done = subprocess.run(words, stdin=subprocess.DEVNULL, capture_output=True, encoding="utf-8", timeout=300, check=False)
     return done.returncode, done.stdout, done.stderr
+
+
+class Lines(Case):
+    def test_ask(self) -> None:
+        """Its statuses, and an address of a front."""
+        front = of_unix(self.server, f"{self.folder}/front")
+        self.addCleanup(front.close)
+        show, fly = '{"op":"show"}', '{"op":"fly"}'
+        for address in (self.server.address, f"unix:{self.folder}/front"):
+            status, out, told = ran(f"{EXAMPLES}/ask", address, show)
+            self.assertEqual((status, out.count('"settled"'), told), (0, 1, ""))
+            self.assertEqual(ran(f"{EXAMPLES}/ask", address, fly)[:2], (1, '{"fault":"UnknownOp"}\n'))
+        for words, status in ((("here", show), 2), ((self.server.address, "[]"), 2), ((self.server.address, "no"), 2),
+                              (("127.0.0.1:1", show), 3), (("tls:127.0.0.1:1", show), 1),
+                              (("tls:127.0.0.1:1", show, "--key", "a", "--certificate", "a", "--authority", "a"), 1)):
+            self.assertEqual(ran(f"{EXAMPLES}/ask", *words)[0], status, words)
+
+    def test_a_service_that_does_not_find_its_count_says_so_in_one_line(self) -> None:
+        """The number of its last order is one that no coordinator can have."""
+        self.server.ring(1)
+        self.server.sessions[1] = (500_000, {"op": "reset", "node": 1}, {"kind": "finished", "step": 1})
+        self.server.steps = 100  # and numbers above the count of steps are not tried
+        status, out, told = ran(f"{EXAMPLES}/service", "1", self.server.address, f"{self.folder}/service", "--no-signals")
+        self.assertEqual((status, out), (1, ""), told[-1_000:])
+        self.assertIn("numbers were tried", told.splitlines()[-1])
+        self.assertNotIn("Traceback", told)
 
 
 class Examples(unittest.TestCase):
@@ -31,6 +58,7 @@ class Examples(unittest.TestCase):
         with tempfile.TemporaryDirectory() as folder:
             for words in (("service", "3", "127.0.0.1:1", "/dev/null/folder", "--no-signals"),
                           ("service", "3", "127.0.0.1:1", folder, "--no-signals", "--look", "0"),
+                          ("worker", "3", "127.0.0.1:1", "/dev/null/folder", "/dev/null/signals"),
                           ("gateway", "1-8", "3", "127.0.0.1:1", "/dev/null/folder"),
                           ("gateway", "1-8", "3", "127.0.0.1:1", folder, "--look", "nan"),
                           ("local_check", "3", "4", "127.0.0.1:1", "/dev/null/folder")):

@@ -2,16 +2,21 @@
 
 from __future__ import annotations
 
+import json
+import math
 import os
 import shutil
 import tempfile
 import threading
+import time
 import unittest
+from typing import Any
 from unittest import mock
 
 from case import Case, in_memory, over_both
-from resetd_client import Away, Clock, Gateway, Served, Wake, patiently
-from resetd_client.gateway import Seat
+from resetd_client import Away, Clock, Gateway, Served, Wake, keep, patiently, read
+from resetd_client.following import DOUBT_SECONDS
+from resetd_client.seats import Seat
 
 
 class UntilEnded:
@@ -25,15 +30,26 @@ class UntilEnded:
 
 
 class Seats(unittest.TestCase):
+    """A member's folder, from either side."""
+
     def setUp(self) -> None:
         temporary = tempfile.TemporaryDirectory()
         self.addCleanup(temporary.cleanup)
         self.folder = temporary.name
+        self.seat, self.served = Seat(self.folder), Served(self.folder)
+
+    def write(self, name: str, text: str) -> None:
+        with open(f"{self.folder}/{name}", "w", encoding="utf-8") as file:
+            file.write(text)
+
+    def begin(self, told: str) -> None:
+        self.seat.tell(told)
+        self.served.wanted()
+        self.served.has_begun()
 
     def test_a_member_that_has_to_begin_may_talk_no_more(self) -> None:
         """That is so before it can know what it is to begin."""
-        seat = Seat(self.folder)
-        seat.set_run("1 tag\n")
+        self.seat.set_run("1 tag 1 boot\n")
         self.assertTrue(os.path.exists(f"{self.folder}/run"))
         there: list[bool] = []
         replace = os.replace
@@ -43,13 +59,101 @@ class Seats(unittest.TestCase):
             replace(old, new)
 
         with mock.patch("os.replace", replaced):
-            seat.want(2)
+            self.seat.tell("2 2\n")
         self.assertEqual(there, [False])
 
     def test_a_run_that_an_earlier_gateway_left(self) -> None:
-        Seat(self.folder).set_run("1 tag\n")
+        self.seat.set_run("1 tag 1 boot\n")
         Seat(self.folder).set_run(None)
         self.assertFalse(os.path.exists(f"{self.folder}/run"))
+
+    def test_a_member_that_is_told_again_while_it_begins(self) -> None:
+        self.seat.tell("1 1\n")
+        self.assertEqual(self.served.wanted(), 1)
+        self.seat.tell("2 2\n")
+        self.served.has_begun()
+        self.assertEqual((self.seat.has_begun("2 2\n"), self.served.wanted()), (False, 2))
+
+    def test_what_was_lost_before_it_was_begun(self) -> None:
+        """The member has still to begin."""
+        self.seat.tell("1 1\n")
+        self.served.has_lost()
+        self.assertEqual((self.seat.has_lost("1 1\n"), self.served.wanted()), (False, 1))
+        self.begin("1 2\n")
+        self.seat.tell("1 3\n")
+        self.served.has_lost()
+        self.assertEqual((self.seat.has_lost("1 3\n"), self.served.wanted()), (False, 1))
+
+    def test_the_same_epoch_may_be_told_again(self) -> None:
+        """The number is greater, and nothing else tells."""
+        for number in range(1, 12):
+            self.begin(f"1 {number}\n")
+            self.assertEqual((self.served.wanted(), self.seat.has_begun(f"1 {number}\n"), self.seat.number), (None, True, number))
+
+    def test_a_tag_is_that_of_the_start(self) -> None:
+        """Of what the member has begun, and not of what it has to begin or has lost."""
+        self.begin("1 1\n")
+        self.seat.let_talk(1, "a-b", "1 1\n")
+        self.assertEqual(self.served.tag(), "a-b")
+        for run in ("1 a-b 2 {}\n", "1 a-b 1 {}", "1 - 1 {}\n", "a-b 1 {}\n", ""):
+            self.write("run", run.format("" if "{}" not in run else self.boot()))
+            self.assertIsNone(self.served.tag(), run)
+        self.seat.let_talk(1, "a-c", "1 1\n")
+        self.assertEqual(self.served.tag(), "a-c")
+        self.write("wanted", "1 2\n")
+        self.assertIsNone(self.served.tag())
+        self.write("wanted", "1 1\n")
+        self.served.has_lost()
+        self.assertIsNone(self.served.tag())
+
+    def boot(self) -> str:
+        with open("/proc/sys/kernel/random/boot_id", encoding="ascii") as file:
+            return file.read().strip()
+
+    def test_a_power_cut_between_the_work_and_begun(self) -> None:
+        """The work is on the disk, `begun` is not yet, and what was not synced is as it was: `wanted` and `run`. The new
+        work may not talk in the run of the old one."""
+        self.begin("1 1\n")
+        self.seat.let_talk(1, "a-b", "1 1\n")
+        before = {name: read(f"{self.folder}/{name}") or "" for name in ("wanted", "run")}
+        self.seat.tell("1 2\n")
+        self.assertEqual(self.served.wanted(), 1)
+        for name, text in before.items():
+            self.write(name, text)
+        with mock.patch("resetd_client.seats.boot", return_value="the next boot"):
+            again = Served(self.folder)
+            self.assertEqual((again.wanted(), again.tag()), (None, None))
+
+    def test_a_power_cut_behind_begun(self) -> None:
+        """An old `wanted`, a torn one or none asks for nothing, and an old or torn `run` is no run of the new start."""
+        self.begin("1 1\n")
+        self.seat.let_talk(1, "a-b", "1 1\n")
+        run = read(f"{self.folder}/run") or ""
+        self.begin("1 2\n")
+        for wanted in ("1 1\n", "1 ", ""):
+            for old in (run, run[:10], ""):
+                self.write("wanted", wanted)
+                self.write("run", old)
+                self.assertEqual((self.served.wanted(), self.served.tag()), (None, None))
+
+    def test_what_is_refused_is_told(self) -> None:
+        self.begin("1 1\n")
+        self.assertEqual((self.served.takes("a-c"), self.seat.take_refused()), (False, None))
+        self.seat.let_talk(1, "a-b", "1 1\n")
+        self.assertEqual((self.served.takes("a-c"), self.seat.take_refused()), (True, None))
+        self.assertEqual((self.served.takes("x-c"), self.seat.take_refused(), self.seat.take_refused()), (False, "x-c", None))
+
+    def test_a_wait_ends_with_a_change(self) -> None:
+        """Also with one that came before it."""
+        self.seat.tell("1 1\n")
+        began = time.monotonic()
+        self.served.wait(120)
+        timer = threading.Timer(0.2, self.seat.tell, ["1 2\n"])
+        timer.start()
+        self.served.wait(120)
+        timer.join()
+        self.assertLess(time.monotonic() - began, 60)
+        self.assertEqual(self.served.wanted(), 1)
 
 
 class Gateways(Case):
@@ -113,7 +217,7 @@ class Gateways(Case):
         for op, members in (("drop", {"a": 1, "b": 2}), ("drop", {"a": 2, "b": 3}), ("remove", {"node": 2}),
                             ("add", {"node": 2, "group": 1}), ("join", {"a": 1, "b": 2}), ("join", {"a": 2, "b": 3})):
             self.server.by_somebody(op, **members)
-        self.assertEqual((self.all_begin(), self.rows()), ([3, 2, 3], [(3, 3), (2, 2), (3, 3)]))
+        self.assertEqual((self.all_begin(), self.rows()), ([2, 1, 2], [(2, 2), (1, 1), (2, 2)]))
 
     def test_a_gateway_that_starts_again(self) -> None:
         self.look()
@@ -122,6 +226,151 @@ class Gateways(Case):
         self.assertEqual(self.all_begin(), [1, 1, 1])
         self.gateway = self.restarted()
         self.assertEqual(self.all_begin(), [None, None, None])
+
+    def test_a_gateway_that_starts_again_goes_on(self) -> None:
+        """In the run of before: what it kept is what its members have begun."""
+        self.all_begin()
+        tags = self.tags()
+        self.gateway = self.restarted()
+        self.assertEqual((self.all_begin(), self.tags(), None in tags), ([None] * 3, tags, False))
+
+    def test_what_it_tells_goes_down_once_for_all(self) -> None:
+        """A begin, what was begun, and a first talk: as many syncs for three members as for one."""
+        counts: list[int] = []
+        sync = os.fsync
+
+        def synced(descriptor: int) -> None:
+            name = os.readlink(f"/proc/self/fd/{descriptor}")
+            counts[-1] += name.startswith(f"{self.folder}/members") and not name.startswith(f"{self.folder}/members/book")
+            sync(descriptor)
+
+        self.all_begin()
+        self.server.reset(1)
+        with mock.patch("os.fsync", synced):
+            for _ in range(3):
+                counts.append(0)
+                self.gateway.look()
+                self.server.settled()
+                with mock.patch("os.fsync", sync):
+                    for node in (1, 2, 3):
+                        self.begin(node)
+        self.assertEqual((counts, len(self.tags()), None in self.tags()), ([2, 5, 0], 1, False))
+
+    def test_what_is_begun_while_it_looks(self) -> None:
+        """It is kept before it is confirmed."""
+        tell, confirm = self.gateway._tell_members, self.gateway._confirm
+
+        def told(*words: Any) -> None:
+            tell(*words)
+            for node in (1, 2, 3):
+                self.begin(node)
+
+        def confirmed(epochs: dict[int, int]) -> None:
+            kept = json.loads(read(f"{self.folder}/members/starts.json") or "{}")
+            self.assertEqual({node: kept[str(node)]["begun"] for node in epochs}, epochs)
+            confirm(epochs)
+
+        with mock.patch.object(self.gateway, "_tell_members", told), mock.patch.object(self.gateway, "_confirm", confirmed):
+            self.look()
+        self.assertEqual(self.rows(), [(1, 1)] * 3)
+
+    def test_what_somebody_else_confirms(self) -> None:
+        """Is a run, if its members have begun it; and what was told before is not told for the same epoch again."""
+        self.look()
+        for node in (1, 2, 3):
+            self.begin(node)
+            self.server.by_somebody("confirm", node=node, epoch=1)
+        self.assertEqual((self.all_begin(), self.all_begin(), len(self.tags()), None in self.tags()), ([None] * 3, [None] * 3, 1, False))
+        for op, members in (("drop", {"a": 1, "b": 2}), ("drop", {"a": 2, "b": 3}), ("remove", {"node": 2}),
+                            ("add", {"node": 2, "group": 1}), ("reset", {"node": 2})):
+            self.server.by_somebody(op, **members)
+        self.assertEqual((self.all_begin(), self.rows()), ([None, 1, None], [(1, 1)] * 3))
+
+    def test_the_greatest_number_is_told(self) -> None:
+        """Also where its own file is gone, or those of its members are."""
+        self.all_begin()
+        numbers = [read(f"{self.folder}/members/{node}/wanted") for node in (1, 2, 3)]
+        self.book.close()
+        for name in ("starts.json", "starts.history"):
+            os.remove(f"{self.folder}/members/{name}")
+        self.gateway = self.gateway_of("next")
+        self.assertEqual((self.all_begin(), self.rows()), ([2, 2, 2], [(2, 2)] * 3))
+        self.assertEqual([(numbers[0], read(f"{self.folder}/members/1/wanted"))], [("1 1\n", "2 2\n")])
+        for node in (1, 2, 3):
+            shutil.rmtree(f"{self.folder}/members/{node}")
+        self.assertEqual(self.all_begin(), [3, 3, 3])
+        self.assertEqual(read(f"{self.folder}/members/1/wanted"), "3 3\n")
+
+    def test_a_file_of_an_earlier_version(self) -> None:
+        """All begin anew, after one reset, and what members had begun is not taken for it."""
+        self.all_begin()
+        self.book.close()
+        party = sorted(self.port.show().party(1))
+        keep(f"{self.folder}/members/starts.json", json.dumps({str(node): {"epoch": 1, "party": party} for node in (1, 2, 3)}))
+        for node in (1, 2, 3):
+            for name in ("wanted", "begun"):
+                keep(f"{self.folder}/members/{node}/{name}", "1 0123456789abcdef\n")
+        self.gateway = self.gateway_of("next")
+        self.assertEqual((self.all_begin(), self.rows()), ([2, 2, 2], [(2, 2)] * 3))
+
+    def test_the_tag_is_that_of_the_first_party(self) -> None:
+        self.all_begin()
+        [first] = self.tags()
+        self.server.by_somebody("drop", a=2, b=3)
+        self.look()
+        tags = [Served(f"{self.folder}/members/{node}").tag() or "" for node in (1, 2, 3)]
+        self.assertEqual({tag[:33] for tag in tags}, {(first or "")[:33]})
+        self.assertEqual((tags[0] == tags[1], tags[0] == first, tags[2] == first), (True, False, False))
+        self.assertTrue(Served(f"{self.folder}/members/1").takes(first or ""))
+
+    def test_the_word_of_a_group_is_in_its_tag(self) -> None:
+        self.book.close()
+        self.gateway = Gateway(self.port, self.orders(5, "book"), {1: ["1"], 2: ["2"], 3: ["3"]}, f"{self.folder}/members",
+                               word="word", told=self.told.append)
+        self.all_begin()
+        self.assertEqual(self.tags(), {self.port.show().tag(1, "word")})
+
+    def test_a_node_that_is_alone_has_no_tag(self) -> None:
+        self.all_begin()
+        for a, b in ((1, 2), (2, 3)):
+            self.server.by_somebody("drop", a=a, b=b)
+        for node in (1, 2, 3):
+            self.server.reset(node)
+        self.assertEqual((self.all_begin(), self.tags()), ([2, 2, 2], {None}))
+        self.assertTrue((read(f"{self.folder}/members/1/run") or "").startswith("2 - "))
+
+    def test_a_run_ends_where_somebody_comes(self) -> None:
+        """Before any member is told to begin anew."""
+        self.all_begin()
+        self.server.by_somebody("add", node=9, group=1)
+        self.server.by_somebody("join", a=3, b=9)
+        with mock.patch.object(self.gateway, "_order_what_is_due", return_value=False):
+            self.gateway.look()
+        self.assertEqual(self.tags(), {None})
+
+    def test_what_a_member_writes_brings_a_look(self) -> None:
+        """At once what it has begun, and soon what it has refused; what the gateway writes brings none."""
+        self.look()
+        self.assertEqual(self.gateway._sooner(), math.inf)
+        self.begin(1)
+        self.assertEqual([self.gateway._sooner() for _ in range(2)], [0.0, 0.0])
+        self.all_begin()
+        self.gateway._changes.take()
+        self.gateway._written = set()
+        Served(f"{self.folder}/members/2").takes("another")
+        self.assertEqual([self.gateway._sooner() for _ in range(2)], [DOUBT_SECONDS, DOUBT_SECONDS])
+        self.look()
+        self.gateway._written = set()
+        self.assertEqual(self.gateway._sooner(), math.inf)
+
+    def test_a_refused_tag(self) -> None:
+        """A reset is asked for if its sender was shown the same, and only then."""
+        self.all_begin()
+        served = Served(f"{self.folder}/members/2")
+        own = served.tag() or ""
+        for shown, begun in ((32 * "e", None), (own[33:], 2)):
+            self.assertFalse(served.takes(f"{32 * 'f'}-{shown}"))
+            self.assertEqual(self.all_begin(), [begun] * 3)
 
     @in_memory
     def test_a_confirmed_epoch_that_it_never_told(self) -> None:
@@ -159,7 +408,7 @@ class Gateways(Case):
         wakes = UntilEnded()
         thread = threading.Thread(target=self.gateway.follow, args=(wakes, 0.2), daemon=True)
         thread.start()
-        patiently(self._confirmed, 20)
+        patiently(self._confirmed, 300)
         wakes.ended.set()
         thread.join(20)
         self.assertFalse(thread.is_alive())

@@ -5,8 +5,10 @@ from __future__ import annotations
 import os
 import re
 import resource
+import shutil
 import signal
 import subprocess
+import threading
 import time
 import unittest
 from unittest import mock
@@ -14,8 +16,10 @@ from unittest import mock
 from case import PROGRAM, Case, over_both
 from real import Real
 from resetd_client import Port, View
-from resetd_client.health import Bounds, Level, Since, check, findings, metrics
+from resetd_client.health import Bounds, Level, check, findings, metrics
+from resetd_client.same_store import Reading, difference
 from resetd_client.signal_lag import Signals
+from resetd_client.since import Since, boot_clock
 
 
 class Watching(Case):
@@ -50,13 +54,14 @@ class Watching(Case):
         """Of steps that wait, of a wave that stands still, and of an epoch that nobody has confirmed."""
         bounds = Bounds(steps=5, wave=5, unconfirmed=60)
         rows = [[1, 1, "abort", 0, 4, 4], [2, 1, "ready", 0, 4, 3], [3, 1, "ready", 0, 4, 4]]
-        view = View.of({"accepted": 9, "settled": 8, "nodes": rows, "links": [[1, 2, 5]]})
-        told = []
-        for now in (0, 4, 5, 59, 60):
-            since = Since(f"{self.folder}/since", now)
-            told.append(len(findings(view, since, bounds)))
-            since.keep()
-        self.assertEqual(told, [0, 0, 2, 2, 3])
+        for settled, expected in ((8, [0, 0, 1, 1, 2]), (9, [0, 0, 1, 1, 2])):
+            view = View.of({"accepted": 9, "settled": settled, "nodes": rows, "links": [[1, 2, 5]]})
+            told = []
+            for now in (0, 4, 5, 59, 60):
+                since = Since(f"{self.folder}/since{settled}", now)
+                told.append(len(findings(view, since, bounds)))
+                since.keep()
+            self.assertEqual(told, expected)
         text = metrics(view, False)
         self.assertEqual([f'resetd_node_in_reset{{node="{node}",group="1"}} {there}\n' in text for node, there in
                           ((1, 1), (2, 0), (3, 0))], [True] * 3)
@@ -70,12 +75,54 @@ class Watching(Case):
             self.assertEqual((health.level, health.is_stopped), (Level.CRITICAL, is_stopped))
         self.assertEqual([int(level) for level in (Level.OK, Level.WARNING, Level.CRITICAL, Level.UNKNOWN)], [0, 1, 2, 3])
 
-    def test_a_wave_that_stands_still_and_steps_that_wait(self) -> None:
-        line = '{"accepted":9,"links":[],"nodes":[[1,1,"abort",2,0,0]],"settled":7}'
-        self.server.faults = [line, line]
-        self.assertEqual(self.look(0), (Level.OK, ()))
-        self.assertEqual(self.look(6)[1], ("2 steps have waited for the disk for 6 s",
-                                           "a wave has stood still at node 1 (abort) for 6 s: resend"))
+    def expect(self, folder: str, looks: list[tuple[float, int, int, int, list[str]]]) -> None:
+        """Looks at a row of two nodes, the first in a reset: each with its time, the steps accepted and settled, the second
+        node's epoch, and what is told."""
+        for now, accepted, settled, epoch, told in looks:
+            rows = [[1, 1, "abort", 2, 0, 0], [2, 1, "ready", 0, epoch, epoch]]
+            since = Since(f"{self.folder}/{folder}", now)
+            view = View.of({"accepted": accepted, "settled": settled, "nodes": rows, "links": [[1, 2, 5]]})
+            self.assertEqual(findings(view, since, Bounds()), told, (now, accepted, settled))
+            since.keep()
+
+    def test_the_oldest_step_that_waits(self) -> None:
+        """It counts, and not the last flight that came back. A count that went back is another store's."""
+        self.expect("since", [(0, 9, 7, 0, []), (4, 11, 8, 0, []), (6, 12, 8, 0, ["4 steps have waited for the disk for 6 s"]),
+                              (8, 12, 9, 0, []), (9, 13, 10, 0, ["3 steps have waited for the disk for 5 s"]), (20, 9, 8, 0, []),
+                              (30, 10, 9, 0, [])])
+
+    def test_a_wave_that_moves_with_its_flights_is_not_still(self) -> None:
+        """While steps wait, the disk is told and no wave; nor is one told whose look fell between two flights."""
+        self.expect("since", [(0, 9, 7, 0, []), (6, 9, 7, 0, ["2 steps have waited for the disk for 6 s"]), (7, 11, 9, 0, []),
+                              (13, 12, 11, 0, []), (20, 12, 12, 0, []), (21, 13, 12, 0, []), (25.5, 13, 13, 0, []),
+                              (30, 13, 13, 1, []), (34, 13, 13, 1, [])])
+
+    def test_a_wave_that_stands_still(self) -> None:
+        """Where nothing waits; or where very many steps were settled meanwhile, those of the wave among them."""
+        told = "a wave has stood still at node 1 (abort) for {} s: resend"
+        self.expect("idle", [(0, 9, 9, 0, []), (6, 9, 9, 0, [told.format(6)]), (7, 30, 30, 0, [told.format(7)])])
+        self.expect("busy", [(0, 9, 8, 0, []), (1, 1_000, 999, 0, []), (2, 1_040, 1_039, 0, []), (5, 1_050, 1_040, 0, [told.format(5)])])
+
+    def test_what_was_seen_in_another_boot_is_forgotten(self) -> None:
+        """The clock of ages begins anew with the machine."""
+        for boot, now, lasted in (("one", 10, 0), ("one", 30, 20), ("two", 50, 0), ("two", 60, 10)):
+            since = Since(f"{self.folder}/since", now, boot)
+            self.assertEqual(since.seconds("thing"), lasted)
+            since.keep()
+        for text in ('{"thing": 5.0}', '{"seen": {"thing": 5.0}, "boot": "two"}', "[]", "no json"):
+            with open(f"{self.folder}/since", "w", encoding="utf-8") as file:
+                file.write(text)
+            self.assertEqual(Since(f"{self.folder}/since", 70, "two").seconds("thing"), 0)
+
+    def test_a_clock_that_is_set_makes_nothing_older(self) -> None:
+        """Nobody sets the clock of ages."""
+        self.server.reset(1)
+        with mock.patch("time.time", lambda: 1_000.0):
+            self.assertEqual(self.run_words("health")[:2], (0, "resetd OK: well\n"))
+        with mock.patch("time.time", lambda: 5_000.0):
+            self.assertNotIn("unconfirmed", self.run_words("health")[1])
+        with mock.patch("resetd_client.control.checks.boot_clock", lambda: boot_clock() + 61):
+            self.assertIn("epoch 1 of node 1 is unconfirmed for 6", self.run_words("health")[1])
 
     def test_stopped_and_away(self) -> None:
         self.server.is_stopped = True
@@ -106,7 +153,7 @@ class Lagging(Case):
             file.write(text)
 
     def look(self, now: float) -> tuple[str, ...]:
-        bounds = Bounds(unconfirmed=1_000_000)
+        bounds = Bounds(steps=1_000_000, wave=1_000_000, unconfirmed=1_000_000)
         return check(self.port, Since(f"{self.folder}/since", now), bounds, 0.0, Signals(self.path, f"{self.folder}/kept")).findings
 
     def lag(self, node: int, epoch: int, more: str, seconds: int) -> tuple[str, ...]:
@@ -180,6 +227,96 @@ class Lagging(Case):
         self.assertEqual(self.look(0), (f"the file of signals {self.path}: No such file or directory",))
 
 
+class SameStore(unittest.TestCase):
+    """A view between two readings of the file."""
+
+    def test_counts(self) -> None:
+        view = View.of({"accepted": 12, "settled": 10, "nodes": [], "links": []})
+        for before, after, differs in ((10, 10, ""), (10, 12, ""), (8, 10, ""), (12, 12, ""), (10, 500, ""),
+                                       (10, 9, "has 9 steps, and the coordinator has 10 on the disk"),
+                                       (13, 20, "had 13 steps, and the coordinator had accepted 12")):
+            self.assertEqual(difference(Reading(before), view, Reading(after)), differs)
+        gone = Reading(None, "can't be read (No such file or directory)")
+        self.assertEqual(difference(Reading(10), view, gone), gone.why_not)
+        self.assertEqual(difference(gone, view, Reading(10)), "")
+
+
+@unittest.skipUnless(PROGRAM, "RESETD names no program that serves")
+class OtherStore(Case):
+    """What somebody does to the file of a server that runs."""
+
+    is_real = True
+    LOST = "resetd CRITICAL: that is not the store on this file: "
+
+    def look(self) -> tuple[int, str]:
+        return self.run_words("health", "--unconfirmed", "1000000", "--store", self.server.store)[:2]
+
+    def spoil(self, how: str, copy: str) -> None:
+        store = self.server.store
+        if how == "removed":
+            os.remove(store)
+        elif how == "cut":
+            os.truncate(store, 0)
+        elif how == "cut in its midst":
+            os.truncate(store, 100)
+        elif how == "overwritten":
+            with open(store, "r+b") as file:
+                file.write(bytes(os.path.getsize(store)))
+        elif how == "overwritten by a copy":
+            with open(copy, "rb") as old, open(store, "r+b") as file:
+                file.write(old.read())
+        else:
+            shutil.copy(copy, f"{store}.new")
+            os.replace(f"{store}.new", store)
+
+    def test_each_way_is_critical_while_orders_are_answered(self) -> None:
+        for how in ("removed", "cut", "cut in its midst", "overwritten", "overwritten by a copy", "replaced by a copy"):
+            with self.subTest(how):
+                self.server.ring(2)
+                copy = f"{self.folder}/copy"
+                shutil.copy(self.server.store, copy)
+                self.assertEqual(self.look(), (0, "resetd OK: well\n"))
+                self.server.reset(1)
+                self.server.settled()
+                self.assertEqual(self.look(), (0, "resetd OK: well\n"))
+                self.assertIn("resetd_store_differs 0\n", self.run_words("metrics", "--store", self.server.store)[1])
+                self.assertNotIn("resetd_store_differs", self.run_words("metrics")[1])
+                self.spoil(how, copy)
+                self.server.reset(1)
+                status, told = self.look()
+                self.assertEqual((status, told[:len(self.LOST)]), (2, self.LOST), how)
+                self.assertIn("resetd_store_differs 1\n", self.run_words("metrics", "--store", self.server.store)[1])
+                self.assertEqual(self.run_words("health", "--unconfirmed", "1000000")[0], 0)
+
+    def test_a_file_that_may_not_be_read_is_unknown(self) -> None:
+        self.server.ring(2)
+        with mock.patch("resetd_client.store_file.os.open", side_effect=PermissionError(13, "Permission denied")):
+            health = check(self.port, Since(f"{self.folder}/since", 0), Bounds(), store=self.server.store)
+        self.assertEqual(health.level, Level.UNKNOWN)
+        self.assertIn(f"the store can't be compared: {self.server.store}: Permission denied", health.findings)
+
+    def test_a_store_that_is_at_work_is_the_one_on_its_file(self) -> None:
+        """With orders, waves and checkpoints meanwhile."""
+        self.server.ring(2)
+        ended = threading.Event()
+
+        def work() -> None:
+            number = 0
+            while not ended.is_set():
+                number += 1
+                self.server.ask(op="reset", client=9, number=number, node=1)
+
+        worker = threading.Thread(target=work)
+        worker.start()
+        try:
+            for _ in range(100):
+                health = check(self.port, Since(f"{self.folder}/since", 0), Bounds(), 30.0, store=self.server.store)
+                self.assertNotIn("that is not the store", " ".join(health.findings))
+        finally:
+            ended.set()
+            worker.join()
+
+
 @unittest.skipUnless(PROGRAM, "RESETD names no program that serves")
 class FullDisk(Case):
     """The program, whose file of signals may not grow."""
@@ -208,13 +345,12 @@ class FullDisk(Case):
             self.assertEqual(self.run_words("health", "--signals", path)[:2], (0, "resetd OK: well\n"))
             self.server.reset(1)
             self.server.reset(1)
-            with mock.patch("time.time", lambda: 1_000.0):
-                self.run_words("health", "--signals", path)
-            with mock.patch("time.time", lambda: 1_010.0):
+            self.run_words("health", "--signals", path)
+            with mock.patch("resetd_client.control.checks.boot_clock", lambda: boot_clock() + 10):
                 status, told, _ = self.run_words("health", "--signals", path)
             process.kill()
         self.assertEqual(status, 1)
-        self.assertIn("the file of signals lacks `signal 1 2` and 1 more for 10 s", told)
+        self.assertIn("the file of signals lacks `signal 1 2` and 1 more for ", told)
 
     def read(self, path: str) -> str:
         with open(path, encoding="utf-8") as file:

@@ -6,94 +6,12 @@ import json
 import os
 import threading
 import time
+from collections.abc import Callable, Mapping
+from contextlib import suppress
+from unittest import mock
 
 from case import Case, in_memory, over_both
-from resetd_client import Clock, Due, Member, Node, OutOfRun, Port, Shelf, Starts, Stream, View, keep, read
-
-
-def view_of(*rows: tuple[int, int, int]) -> View:
-    """A view of nodes, each with its epoch and what is confirmed, in a ring of links of steps 1 and so on."""
-    nodes = tuple(Node(node, 1, "ready", 0, epoch, confirmed) for node, epoch, confirmed in rows)
-    return View.of({"accepted": 9, "settled": 9, "nodes": nodes,
-                    "links": [[a.node, b.node, step] for step, (a, b) in enumerate(zip(nodes, nodes[1:]), 1)]})
-
-
-class Rules(Case):
-    """The rule, by its table: what was begun, and with whom it talked, against what is shown."""
-
-    def due(self, view: View, begun: int | None, greatest: int | None = None, party: View | None = None) -> Due:
-        """What is due for node 1. `greatest` is the greatest epoch that was begun, and `party` the view in which that
-        start first talked."""
-        path = f"{self.folder}/start.json"
-        if greatest is not None:
-            keep(path, json.dumps({"1": {"epoch": greatest, "party": sorted(party.party(1)) if party else None}}))
-        row = view.node(1)
-        assert row
-        return Starts(Shelf(path), 1, begun).due(view, row)
-
-    def test_nothing_happened(self) -> None:
-        view = view_of((1, 4, 4), (2, 7, 7))
-        self.assertIs(self.due(view, 4, 4, view), Due.TALK)
-
-    def test_a_reset(self) -> None:
-        self.assertIs(self.due(view_of((1, 5, 4), (2, 8, 7)), 4, 4, view_of((1, 4, 4), (2, 7, 7))), Due.BEGIN)
-
-    def test_a_death_between_begin_and_confirm(self) -> None:
-        self.assertIs(self.due(view_of((1, 5, 4)), 5, 5), Due.BEGIN)
-        self.assertIs(self.due(view_of((1, 5, 4)), 4, 5), Due.BEGIN)
-
-    def test_others_are_not_through(self) -> None:
-        self.assertIs(self.due(view_of((1, 5, 5), (2, 8, 7)), 5, 5), Due.WAIT)
-
-    def test_no_work(self) -> None:
-        for rows in (((1, 0, 0),), ((1, 4, 4), (2, 7, 7))):
-            self.assertIs(self.due(view_of(*rows), None), Due.RESET)
-        self.assertIs(self.due(view_of((1, 5, 4)), None), Due.BEGIN)
-
-    def test_work_that_was_lost(self) -> None:
-        view = view_of((1, 4, 4))
-        self.assertIs(self.due(view, None, 4, view), Due.RESET)
-
-    def test_an_epoch_that_went_back(self) -> None:
-        for shown, confirmed in ((3, 3), (3, 2), (5, 4)):
-            self.assertIs(self.due(view_of((1, shown, confirmed)), 5, 5, view_of((1, 5, 5))), Due.RESET)
-        self.assertIs(self.due(view_of((1, 6, 3)), 5, 5, view_of((1, 5, 5))), Due.BEGIN)
-
-    def test_an_epoch_that_another_confirmed(self) -> None:
-        self.assertIs(self.due(view_of((1, 6, 6)), 5, 5, view_of((1, 5, 5))), Due.RESET)
-
-    def test_it_waits_for_a_reset_that_is_under_way(self) -> None:
-        view = view_of((1, 3, 3), (2, 3, 3))
-        for node in view.nodes:
-            rows = tuple(each._replace(mode="abort") if each is node else each for each in view.nodes)
-            self.assertIs(self.due(View(9, 9, rows, view.links), 5, 5), Due.WAIT)
-
-    def test_others_come_and_go(self) -> None:
-        first = view_of((1, 4, 4), (2, 7, 7), (3, 1, 1))
-        self.assertIs(self.due(view_of((1, 4, 4), (2, 7, 7)), 4, 4, first), Due.TALK)
-        for rows in (((1, 4, 4), (2, 8, 8)), ((1, 4, 4), (3, 1, 1)), ((1, 4, 4), (2, 7, 7), (3, 1, 1), (9, 0, 0))):
-            self.assertIs(self.due(view_of(*rows), 4, 4, first), Due.RESET)
-
-    def test_work_of_which_nothing_else_is_known(self) -> None:
-        self.assertIs(self.due(view_of((1, 4, 4)), 4), Due.RESET)
-        self.assertIs(self.due(view_of((1, 4, 4)), 4, 3, view_of((1, 3, 3))), Due.RESET)
-        self.assertIs(self.due(view_of((1, 4, 4)), 4, 5), Due.RESET)
-
-    def test_who_first_talked_is_written_down(self) -> None:
-        shelf = Shelf(f"{self.folder}/start.json")
-        starts = Starts(shelf, 1, None)
-        starts.note_begin(4)
-        starts.note_begun(4)
-        view, more = view_of((1, 4, 4)), view_of((1, 4, 4), (2, 0, 0))
-        self.assertEqual([starts.due(each, each.nodes[0]) for each in (view, more)], [Due.TALK, Due.RESET])
-        shelf.keep()
-        again = Starts(Shelf(f"{self.folder}/start.json"), 1, 4)
-        self.assertEqual([again.due(each, each.nodes[0]) for each in (more, view)], [Due.RESET, Due.TALK])
-
-    def test_a_file_that_does_not_read_is_told(self) -> None:
-        for text in ("[]", "{", '{"1": {}}'):
-            keep(f"{self.folder}/start.json", text)
-            self.assertRaises(ValueError, Shelf, f"{self.folder}/start.json")
+from resetd_client import Clock, Follower, Member, OutOfRun, Port, Run, Stream, View, read
 
 
 class MemberCase(Case):
@@ -152,17 +70,28 @@ class Members(MemberCase):
         self.look(again)
         self.assertEqual((self.begun, again.run), ([1], first.run))
 
-    def test_a_restored_store_is_reset_until_its_epoch_is_new(self) -> None:
+    def test_a_restored_store_is_reset_until_its_party_is_new(self) -> None:
+        member = self.in_a_run()
+        copy = self.server.copy()
+        for _ in range(3):
+            self.server.reset(1)
+            self.look(member)
+            self.confirm_other()
+            self.look(member)
+        self.server.restore(copy)
+        self.look(member)
+        self.assertEqual((self.begun, self.rows()), ([1, 2, 3, 4, 5], [(5, 5), (5, 1)]))
+
+    def test_one_reset_where_no_run_is_forgotten(self) -> None:
+        """However far the epoch went back."""
         member = self.in_a_run()
         copy = self.server.copy()
         for _ in range(3):
             self.server.reset(1)
         self.look(member)
-        self.confirm_other()
-        self.look(member)
         self.server.restore(copy)
         self.look(member)
-        self.assertEqual((self.begun, self.rows()), ([1, 4, 5], [(5, 5), (5, 1)]))
+        self.assertEqual((self.begun, self.rows()), ([1, 4, 2], [(2, 2), (2, 1)]))
 
     @in_memory
     def test_a_copy_from_between_two_confirms(self) -> None:
@@ -179,7 +108,10 @@ class Members(MemberCase):
         self.assertEqual((self.told[-1], member.run), ("node 1 is not there", None))
         self.server.by_somebody("add", node=1, group=1)
         self.look(member)
-        self.assertEqual((self.begun, self.rows()[0]), ([1, 2], (2, 2)))
+        self.assertEqual((self.begun, self.rows()[0], member.run), ([1, 1], (1, 1), Run(1, "")))
+        self.server.by_somebody("join", a=1, b=2)
+        self.look(member)
+        self.assertEqual((self.begun, self.rows()), ([1, 1, 2], [(2, 2), (2, 1)]))
 
     def test_another_link_is_another_run(self) -> None:
         member = self.in_a_run()
@@ -258,8 +190,181 @@ class Members(MemberCase):
             thread.start()
             time.sleep(0.3)
             member.stop()
-            thread.join(5)
+            thread.join(25)  # less than the time between two looks
             self.assertFalse(thread.is_alive())
+
+
+class Kept(MemberCase):
+    """What a member has on the disk before it acts."""
+
+    def test_with_whom_a_start_first_talked_outlives_the_process(self) -> None:
+        """Also if the next process finds that somebody has come meanwhile."""
+        first = self.in_a_run()
+        first.orders.close()
+        for op, members in (("add", {"node": 3, "group": 1}), ("join", {"a": 2, "b": 3}), ("reset", {"node": 1}),
+                            ("confirm", {"node": 1, "epoch": 2}), ("confirm", {"node": 2, "epoch": 2}),
+                            ("confirm", {"node": 3, "epoch": 1})):
+            self.server.by_somebody(op, **members)
+        again = self.member(first.begun)
+        self.look(again)
+        self.assertEqual(self.begun, [1, 3])
+
+    def test_no_run_before_it_is_written_down(self) -> None:
+        member = self.member()
+        self.look(member)
+        self.confirm_other()
+        with mock.patch.object(member._shelf, "keep", side_effect=OSError("full")), suppress(OSError):
+            member.look()
+        self.assertIsNone(member.run)
+
+    def test_no_confirm_before_the_begin_is_written_down(self) -> None:
+        """Else it would ask for a reset after a death behind the confirm."""
+        kept: list[str | None] = []
+        orders = self.orders()
+        member = Member(self.port, orders, 1, None, self.begun.append, told=self.told.append)
+        confirm = member._confirm
+
+        def confirmed(epochs: Mapping[int, int]) -> None:
+            kept.append(read(f"{orders.folder}/start-1.json"))
+            confirm(epochs)
+
+        with mock.patch.object(member, "_confirm", confirmed):
+            self.look(member)
+        self.assertEqual(json.loads(kept[0] or "{}"), {"1": {"begun": 1, "party": None}})
+
+    def test_a_death_in_a_begin(self) -> None:
+        """The old work is still there, with an epoch that comes again and that somebody else confirms: it is no work."""
+        def dies(epoch: int) -> None:
+            raise ZeroDivisionError
+
+        first = self.in_a_run()
+        first.orders.close()
+        for op, members in (("drop", {"a": 1, "b": 2}), ("remove", {"node": 1}), ("add", {"node": 1, "group": 1}),
+                            ("join", {"a": 1, "b": 2}), ("reset", {"node": 1}), ("confirm", {"node": 2, "epoch": 2})):
+            self.server.by_somebody(op, **members)
+        dying = Member(self.port, self.orders(1, "member", True), 1, 1, dies, told=self.told.append)
+        self.assertRaises(ZeroDivisionError, dying.look)
+        dying.orders.close()
+        self.server.by_somebody("confirm", node=1, epoch=1)
+        again = self.member(1)
+        again.look()
+        self.assertEqual((again.run, self.rows()[1][0]), (None, 3))
+
+
+class Refusals(MemberCase):
+    """Tags of other runs."""
+
+    def other(self, member: Member, is_shown_the_same: bool) -> str:
+        """The tag of a start that first talked with others than the member's."""
+        assert member.run
+        shown = member.run.tag[33:] if is_shown_the_same else 32 * "e"
+        return f"{32 * 'f'}-{shown}"
+
+    def refuse(self, member: Member, tag: str) -> None:
+        with self.assertRaises(OutOfRun), member.in_run(tag):
+            self.fail("it was taken")
+
+    def test_the_tag_is_that_of_the_first_party(self) -> None:
+        """While others go: a message of one that was shown more, or less, is taken."""
+        self.server.by_somebody("add", node=3, group=1)
+        self.server.by_somebody("join", a=2, b=3)
+        member = self.member()
+        self.look(member)
+        self.confirm_other()
+        self.server.by_somebody("confirm", node=3, epoch=1)
+        self.look(member)
+        first = member.run
+        self.server.by_somebody("drop", a=2, b=3)
+        self.look(member)
+        assert first and member.run
+        self.assertEqual((first.tag[:33], len(member.run.tag)), (member.run.tag[:33], 65))
+        self.assertNotEqual(first.tag, member.run.tag)
+        with member.in_run(first.tag):
+            pass
+        self.assertEqual(self.begun, [1])
+
+    def test_who_is_alone_takes_no_message(self) -> None:
+        """Nor one of a member that is alone, too."""
+        self.server.by_somebody("drop", a=1, b=2)
+        member = self.member()
+        self.look(member)
+        self.assertEqual(member.run, Run(1, ""))
+        for tag in ("", "-", self.port.show().tag(2)):
+            self.refuse(member, tag)
+        with member.in_run() as run:
+            self.assertEqual(run.tag, "")
+
+    def test_two_that_refuse_each_other_ask_for_a_reset(self) -> None:
+        """If the same is shown to both: so neither is merely behind."""
+        member = self.in_a_run()
+        for same, begun in ((False, [1]), (True, [1, 2])):
+            self.refuse(member, self.other(member, same))
+            self.look(member)
+            self.assertEqual(self.begun, begun)
+
+    def test_what_was_refused_before_the_last_look_counts_no_more(self) -> None:
+        member = self.in_a_run()
+        self.refuse(member, self.other(member, True))
+        self.server.reset(2)
+        self.look(member)
+        self.confirm_other()
+        self.look(member)
+        self.assertEqual((self.begun, self.rows()[0]), ([1, 2], (2, 2)))
+
+
+class Lives(MemberCase):
+    """A member that follows in a thread of its own."""
+
+    def expect(self, holds: Callable[[], bool]) -> None:
+        until = time.monotonic() + 60
+        while not holds():
+            self.assertLess(time.monotonic(), until, self.told)
+            time.sleep(0.01)
+
+    def followed(self, begin: Callable[[int], None] | None = None) -> Member:
+        path = f"{self.folder}/signals"
+        return Member(self.port, self.orders(1, "m", True), 1, None, begin or self.begun.append, told=self.told.append,
+                      wakes=Follower(path), every=600.0, on_run=self.runs.append)
+
+    def setUp(self) -> None:
+        super().setUp()
+        self.runs: list[Run | None] = []
+
+    def test_it_begins_and_ends_with_its_block(self) -> None:
+        with self.followed() as member:
+            self.expect(lambda: self.begun == [1])
+            self.confirm_other()
+            self.expect(lambda: member.run is not None)
+            threads = [thread.name for thread in threading.enumerate()]
+        self.assertIn("member 1", threads)
+        self.assertNotIn("member 1", [thread.name for thread in threading.enumerate()])
+        self.assertEqual((len(self.runs), self.runs[1], member.run), (2, None, None))
+
+    def test_a_reset_from_another_thread(self) -> None:
+        """It is asked for at once, and once."""
+        with self.followed() as member:
+            self.expect(lambda: self.begun == [1])
+            self.confirm_other()
+            self.expect(lambda: member.run is not None)
+            asked = sum(order.get("op") == "reset" for order in self.server.seen)
+            member.reset("the count is wrong")
+            self.expect(lambda: self.begun == [1, 2])
+            self.assertEqual(sum(order.get("op") == "reset" for order in self.server.seen), asked + 1)
+        self.assertTrue(any("the count is wrong" in told for told in self.told), self.told)
+        self.assertEqual([run.epoch if run else None for run in self.runs], [1, None])
+
+    def test_what_ends_its_thread_is_raised_at_the_end(self) -> None:
+        """And ends the run; what the body raises itself comes first."""
+        def begin(epoch: int) -> None:
+            raise ZeroDivisionError
+
+        with self.assertRaises(ZeroDivisionError), self.followed(begin) as member:
+            self.expect(lambda: any("follows no more" in told for told in self.told))
+            with self.assertRaises(ZeroDivisionError), member.in_run():
+                self.fail("there is no run")
+        member.orders.close()
+        with self.assertRaises(KeyError), self.followed(begin):
+            raise KeyError
 
 
 class Runs(MemberCase):
@@ -280,10 +385,10 @@ class Runs(MemberCase):
         looks = threading.Semaphore(0)
         following = threading.Thread(target=member.follow, args=(Clock(), 30, lambda _: looks.release()))
         following.start()
-        self.assertTrue(looks.acquire(timeout=10))
+        self.assertTrue(looks.acquire(timeout=25))
         with self.assertRaises(OutOfRun), member.in_run("another"):
             self.fail("it was taken")
-        self.assertTrue(looks.acquire(timeout=10))
+        self.assertTrue(looks.acquire(timeout=25))
         self.assertFalse(looks.acquire(timeout=0.5))
         member.stop()
         following.join()
@@ -296,7 +401,7 @@ class Runs(MemberCase):
             looking.start()
             time.sleep(0.3)
             self.assertEqual(self.begun, [1])
-        looking.join(5)
+        looking.join()
         self.assertEqual(self.begun, [1, 2])
 
     def test_a_begin_is_written_down_before_work_is_dropped(self) -> None:
@@ -307,7 +412,7 @@ class Runs(MemberCase):
                         told=self.told.append)
         self.server.reset(1)
         self.look(member)
-        self.assertEqual(json.loads(kept[0] or "{}"), {"1": {"epoch": 1, "party": None}})
+        self.assertEqual(json.loads(kept[0] or "{}"), {"1": {"begun": None, "party": None}})
 
     def test_who_waits_for_a_run_is_woken_by_it(self) -> None:
         member = self.member()
@@ -328,6 +433,9 @@ class Runs(MemberCase):
         self.assertLess(waits[0], 0.2)
         self.assertEqual(waits, sorted(waits))
         self.assertTrue(1.0 < waits[-1] < 3.0, waits[-1])
+        self.server.reset(2)
+        self.look(member)
+        self.assertLess(member.wait_seconds(30.0), 0.2)
         self.confirm_other()
         self.look(member)
         self.assertEqual(member.wait_seconds(30.0), 30.0)
@@ -340,7 +448,7 @@ class Runs(MemberCase):
         self.confirm_other()
         looking = threading.Timer(0.2, member.look)
         looking.start()
-        with member.in_run(wait=5) as run:
+        with member.in_run(wait=60) as run:
             self.assertEqual(run, member.run)
         looking.join()
 

@@ -3,14 +3,16 @@
 from __future__ import annotations
 
 import json
+from typing import Any
 from unittest import mock
 
 from case import Case, in_memory, over_both
 from resetd_client import (
-    Away, CountLost, CountNotFound, Fault, Faulted, Held, NotNow, Orders, Port, Refused, Reply, find_count, patiently)
+    Away, BadWords, CountLost, CountNotFound, Fault, Faulted, Held, NotNow, Orders, Port, Refused, Reply, find_count, patiently)
 from resetd_client.answers import CARRIED_OUT, Outcome
 from resetd_client.orders import Order, outwards
 from resetd_client.port import TooLong
+from resetd_client.store_file import read_store
 
 STOPPED = '{"name":"Stopped","refused":1}'
 
@@ -60,7 +62,7 @@ class Numbers(Case):
         self.server.settled()
         wrong: tuple[dict[str, int], ...] = ({"node": 65}, {"node": 1, "group": 1}, {})
         for members in wrong:
-            with self.assertRaises(Faulted) as caught:
+            with mock.patch("resetd_client.orders.check_order"), self.assertRaises(Faulted) as caught:
                 orders.order("reset", **members)
             self.assertIs(caught.exception.fault, Fault.BAD_REQUEST)
         with self.assertRaises(Faulted) as caught:
@@ -85,9 +87,26 @@ class Numbers(Case):
     def test_a_line_that_is_too_long_is_not_written_down(self) -> None:
         orders = self.orders()
         orders.order("reset", node=1)
-        for op, node in (("reset", int("1" * 600)), ("reset" * 110, 1)):
-            self.assertRaises(TooLong, orders.order, op, node=node)
+        self.assertRaises(TooLong, orders.order, "reset" * 110, node=1)
         self.assertEqual((orders.unanswered, orders.number), ([], 1))
+
+    def test_numbers_out_of_their_range_are_told_before_anything_is_sent(self) -> None:
+        """Nothing is written down either, and of several orders that are sent together none is sent."""
+        orders = self.orders()
+        orders.order("reset", node=1)
+        wrong: list[Any] = [{"node": 0}, {"node": 65}, {"node": -1}, {"node": 10 ** 5_000}, {"node": True}, {"node": 1.0}, {"node": "1"},
+                            {"node": None}, {"node": 1, "epoch": 1 << 64}, {"node": 1, "epoch": -1}, {"node": 1, "group": 17},
+                            {"a": 1, "b": 65}, {"a": 0, "b": 1}]
+        seen = len(self.server.seen)
+        for place, members in enumerate(wrong):
+            with self.subTest(place=place):
+                self.assertRaises(BadWords, orders.order, "reset", **members)
+                self.assertRaises(BadWords, orders.order_all, [{"op": "reset", "node": 1}, {"op": "reset", **members}])
+        self.assertEqual((len(self.server.seen), orders.unanswered, orders.number), (seen, [], 1))
+        for limit in (0, (1 << 64) - 1):
+            self.assertRaises(Refused, orders.order, "confirm", node=1, epoch=limit)
+        for node in (1, 64):
+            self.assertRaises(Refused, orders.order, "remove", node=node)
 
     def test_a_line_that_the_coordinator_finds_too_long_leaves_the_number_free(self) -> None:
         orders = self.orders()
@@ -185,7 +204,7 @@ class Numbers(Case):
         self.assertIn("had no answer, and now 8 HasLinks", self.told[0])
 
     def test_a_count_is_found_without_nodes(self) -> None:
-        self.assertEqual(find_count(Port(self.started().address, 10), 3), 0)
+        self.assertEqual(find_count(Port(self.started().address, 120), 3), 0)
 
     def test_a_search_is_bounded_and_says_so(self) -> None:
         orders = self.orders()
@@ -227,7 +246,7 @@ class Together(Case):
         return sorted(self.server.nodes)
 
     def patient(self, orders: list[Order]) -> list[Outcome]:
-        return patiently(lambda: self.book.order_all(orders), 20)
+        return patiently(lambda: self.book.order_all(orders), 300)
 
     def test_they_are_answered_in_order(self) -> None:
         outcomes = self.patient(self.adds(*range(3, 33)))
@@ -245,11 +264,14 @@ class Together(Case):
     def test_in_one_packet_to_the_program(self) -> None:
         if not self.is_real:
             self.skipTest("the program alone")
-        book = Orders(Port(self.server.behind, 10), 2, f"{self.folder}/direct", told=self.told.append)
+        book = Orders(Port(self.server.behind, 120), 2, f"{self.folder}/direct", told=self.told.append)
         self.addCleanup(book.close)
+        accepted = self.port.show().accepted
         outcomes = book.order_all([*self.adds(*range(3, 60)), {"op": "reset", "node": 1}, *self.adds(1, 60)])
         self.assertEqual([type(outcome) for outcome in outcomes], [*[Reply] * 58, Refused])
         self.assertEqual((self.nodes(), self.server.last(2)), (list(range(1, 60)), 58))
+        flights = [batch for batch in read_store(self.server.store).batches if accepted < batch.first <= accepted + 58]
+        self.assertLess(len(flights), 12)  # the first order has one of its own, and the others come in together
 
     def test_more_than_one_part(self) -> None:
         pairs = [(3, 4), *[(a, b) for a in range(1, 13) for b in range(a + 1, 13)]]
@@ -269,7 +291,8 @@ class Together(Case):
         self.assertEqual((self.nodes(), self.server.last(1)), ([1, 2, 3, 4, 5, 6], 4))
 
     def test_nothing_behind_a_fault_is_carried_out(self) -> None:
-        outcomes = self.patient([*self.adds(3, 4, 65, 5, 6)])
+        with mock.patch("resetd_client.orders.check_order"):
+            outcomes = self.patient([*self.adds(3, 4, 65, 5, 6)])
         self.assertEqual([str(outcome) for outcome in outcomes[2:]], ["BadRequest"])
         self.assertEqual((self.nodes(), self.book.number, self.book.unanswered), ([1, 2, 3, 4], 2, []))
 

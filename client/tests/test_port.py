@@ -21,7 +21,7 @@ class Addresses(Case):
     def setUp(self) -> None:
         super().setUp()
         self.other = self.started()
-        self.both = Port(f"{self.server.address},{self.other.address}", 10)
+        self.both = Port(f"{self.server.address},{self.other.address}", 120)
 
     def test_it_begins_with_the_one_that_answered_last(self) -> None:
         """Be the answer a refusal or not, and until that one gives none."""
@@ -47,7 +47,7 @@ class Addresses(Case):
         """One that is there, and says why it takes nothing, is what a person has to look at."""
         self.server.is_stopped = True
         for addresses in (f"{self.server.address},127.0.0.1:1", f"127.0.0.1:1,{self.server.address}"):
-            self.assertRaises(NotNow, Port(addresses, 10).show)
+            self.assertRaises(NotNow, Port(addresses, 120).show)
 
     def test_a_close_that_is_answered_otherwise(self) -> None:
         self.server.faults = ['{"kind":"open"}']
@@ -113,8 +113,12 @@ class Strange(unittest.TestCase):
         """They are told apart, since another client may keep the one connection of a server."""
         ended = threading.Event()
         self.addCleanup(ended.set)
+
+        def silent(_: socket.socket) -> None:
+            ended.wait(20)
+
         with self.assertRaisesRegex(Away, r"connected, and no answer for 0\.3 s"):
-            self.port(lambda _: bool(ended.wait(20)) and None, 0.3).show()
+            self.port(silent, 0.3).show()
         with self.assertRaisesRegex(Away, "it ended the connection without an answer"):
             self.port(lambda _: None, 20).show()
 

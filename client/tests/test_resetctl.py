@@ -50,12 +50,9 @@ class Controls(Case):
     def test_a_mistyped_number_locks_nothing(self) -> None:
         self.assertEqual(self.run_words("reset", "1")[0], 0)
         self.server.settled()
-        status, _, told = self.run_words("reset", "65")
-        self.assertEqual((status, told), (1, "resetctl: BadRequest: nodes are 1 to 64, groups and clients 1 to 16, a number and "
-                                             "an epoch below 2^64; nothing was carried out\n"))
-        status, _, told = self.run_words("reset", "1" * 600)
-        self.assertEqual(status, 2)
-        self.assertIn("a line has at most 512 bytes", told)
+        for words in ("reset 65", "reset 0", "reset -1", f"reset {'1' * 600}", f"reset {'1' * 5_000}", "add 1 17", "join 1 x",
+                      f"confirm 1 {1 << 64}", "drop 1 65"):
+            self.expect_wrong(*words.split())
         self.assertEqual(self.run_words("reset", "2")[0], 0)
         self.server.settled()  # a reset that still runs would be joined
         self.assertEqual(self.run_words("reset", "2")[2], "")
@@ -150,7 +147,7 @@ class Controls(Case):
         self.assertEqual(status, 3)
         self.assertEqual(told, "resetctl: no answer: 127.0.0.1:1: Connection refused; tried again for 0.5 s\n"
                                "resetctl: no answer: 127.0.0.1:1: Connection refused\n")
-        self.assertLess(time.monotonic() - began, 3)
+        self.assertLess(time.monotonic() - began, 25)  # without the words: 30
 
     def test_what_looks_waits_two_seconds(self) -> None:
         with socket.create_server(("127.0.0.1", 0)) as silent:
@@ -160,7 +157,7 @@ class Controls(Case):
                 out, err = io.StringIO(), io.StringIO()
                 with redirect_stdout(out), redirect_stderr(err):
                     main(["--address", address, "--state", self.folder, *words])
-                self.assertTrue(1.5 < time.monotonic() - began < 4.5, words)
+                self.assertTrue(1.5 < time.monotonic() - began < 19, words)  # of an order: 20 and more
                 if words[0] == "show":
                     self.assertEqual(err.getvalue(), f"resetctl: waits for an answer of {address}\nresetctl: no answer: {address}: "
                                      "connected, and no answer for 2 s: another client may keep the one connection\n")
@@ -213,7 +210,8 @@ class Controls(Case):
         self.assertEqual((sorted(self.server.nodes), self.server.pairs()), ([1, 2, 3, 4], []))
 
     def test_health_and_metrics(self) -> None:
-        self.assertEqual(self.run_words("health")[:2], (0, "resetd OK: well\n"))
+        status, text, _ = self.run_words("health")
+        self.assertIn((status, text.split()[1][:-1]), ((0, "OK"), (1, "WARNING")))  # a slow disk warns
         self.server.is_stopped = True
         status, text, _ = self.run_words("health", "--close-stopped")
         self.assertEqual((status, self.server.seen[-1]), (2, {"op": "close"}))

@@ -21,7 +21,7 @@ class Restored(Case):
 
     def test_each_group_has_one_reset(self) -> None:
         for times in (1, 2):
-            told = renew(self.port, self.orders(name=str(times)), 20)
+            told = renew(self.port, self.orders(name=str(times)), 300)
             self.assertEqual((told, self.epochs()), (
                 "a reset in each of 3 groups: all 6 nodes have a new epoch", [times] * 6))
 
@@ -32,11 +32,11 @@ class Restored(Case):
             orders.order("reset", node=1)
             self.server.settled()
         self.server.restore(copy)
-        renew(self.port, orders, 20)
+        renew(self.port, orders, 300)
         self.assertEqual(self.epochs(), [1] * 6)
 
     def test_the_command(self) -> None:
-        status, out, _ = self.run_words("--patience", "20", "restored")
+        status, out, _ = self.run_words("--patience", "300", "restored")
         self.assertEqual((status, out, self.epochs()), (0, "a reset in each of 3 groups: all 6 nodes have a new epoch\n", [1] * 6))
 
     @in_memory

@@ -8,6 +8,7 @@ import tempfile
 import threading
 import time
 import unittest
+from collections.abc import Callable
 
 import case  # noqa: F401
 from resetd_client import Stream, Wake
@@ -59,8 +60,10 @@ class Followed(unittest.TestCase):
             os.replace(f"{self.path}.new", self.path)
 
         self.assertEqual(follower.wait(0), Wake.QUIET)
-        for change in (lambda: self.write("w", "signal 1 1\n"), lambda: self.write("a", "sig"), lambda: self.write("a", "nal"),
-                       lambda: self.write("w", "signal 1 1\n"), replaced, lambda: self.write("w", ""),
-                       lambda: os.remove(self.path), lambda: self.write("w", "")):
+        changes: tuple[Callable[[], None], ...] = (
+            lambda: self.write("w", "signal 1 1\n"), lambda: self.write("a", "sig"), lambda: self.write("a", "nal"),
+            lambda: self.write("w", "signal 1 1\n"), replaced, lambda: self.write("w", ""), lambda: os.remove(self.path),
+            lambda: self.write("w", ""))
+        for change in changes:
             change()
             self.assertEqual((follower.wait(60), follower.wait(0)), (Wake.CAME, Wake.QUIET))

@@ -3,9 +3,11 @@
 from __future__ import annotations
 
 import os
+import subprocess
+import tempfile
 import unittest
 
-from case import ROOT
+from case import PROGRAM, ROOT
 from resetd_client.topology import BadTopology, Network, plan, read_topology
 
 
@@ -61,10 +63,13 @@ class Topologies(unittest.TestCase):
         star = [(1, node) for node in range(2, 18)]
         circles = [(node, (node + far - 1) % 64 + 1) for far in (1, 2) for node in range(1, 65)]
         pair = {63: 16, 64: 16}
-        for groups, links in ((alike, star), (alike, circles), (pair, [(64, 63)])):
+        fit: list[tuple[dict[int, int], list[tuple[int, int]]]] = [(alike, star), (alike, circles), (pair, [(64, 63)])]
+        for groups, links in fit:
             self.assertEqual(len(read_topology(written(groups, links)).links), len(links))
-        for groups, links in ((alike, [*star, (1, 18)]), (alike, [*circles, (1, 33)]), (pair, [(63, 64), (64, 63)]),
-                              (pair, [(63, 64), (63, 64)]), ({**pair, 62: 17}, []), ({**pair, 65: 1}, []), ({**pair, 0: 1}, [])):
+        unfit: list[tuple[dict[int, int], list[tuple[int, int]]]] = [
+            (alike, [*star, (1, 18)]), (alike, [*circles, (1, 33)]), (pair, [(63, 64), (64, 63)]), (pair, [(63, 64), (63, 64)]),
+            ({**pair, 62: 17}, []), ({**pair, 65: 1}, []), ({**pair, 0: 1}, [])]
+        for groups, links in unfit:
             self.assertRaises(BadTopology, read_topology, written(groups, links))
         for half, is_read in ((32_767, False), (32_768, True), (16_777_216, True), (16_777_217, False)):
             text = f"half = {half}\n".encode()
@@ -85,3 +90,24 @@ class Topologies(unittest.TestCase):
                      "[[node]]\nid = 1\ngroup = 1\n[[link]]\na = 1\nb = 2",
                      "[[node]]\nid = 1\ngroup = 1\n[[node]]\nid = 2\ngroup = 2\n[[link]]\na = 1\nb = 2"):
             self.assertRaises(BadTopology, read_topology, text.encode())
+
+    @unittest.skipUnless(PROGRAM, "RESETD names no program")
+    def test_faults_have_the_names_that_init_has(self) -> None:
+        """Keys are judged before values, values before what is made of them, and each in the order of the file."""
+        one, two = "[[node]]\nid = 1\ngroup = 1\n", "[[node]]\nid = 2\ngroup = 2\n"
+        link = "[[link]]\na = {}\nb = {}\n".format
+        texts = (
+            "x", "ring = 1", "half = 1", "half = true", "node = 1", "node = [[]]", "[node]\nid = 1\ngroup = 1", "[[node]]\nid = 1",
+            "half = 1\n[[node]]\nid = 1", "half = 1\nring = 1", "[[node]]\nid = 65\ngroup = 1\n[[link]]\na = 1", one + one,
+            one + "[[node]]\nid = 0\ngroup = 1", one + link(1, 1), one + link(1, 2), one + link(2, 1), one + two + link(1, 2),
+            one + one + link(1, 65), one + link(1, 2) + "[[node]]\nid = 3\n", one + two.replace("= 2\ng", "= 3\ng") + link(3, 1),
+            one + two.replace("group = 2", "group = 1") + link(1, 2) + link(2, 1))
+        with tempfile.TemporaryDirectory() as folder:
+            for place, text in enumerate(texts):
+                path = f"{folder}/topology.toml"
+                with open(path, "w", encoding="utf-8") as file:
+                    file.write(text)
+                init = subprocess.run([PROGRAM, "init", f"{folder}/store{place}", path], capture_output=True, encoding="utf-8", check=False)
+                with self.subTest(text=text), self.assertRaises(BadTopology) as caught:
+                    read_topology(text.encode())
+                self.assertEqual(f"resetd: {caught.exception.name}\n", init.stderr)

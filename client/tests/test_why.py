@@ -4,15 +4,23 @@ from __future__ import annotations
 
 import fcntl
 import os
+import pwd
+import re
 import resource
+import shutil
+import signal
 import socket
 import subprocess
+import sys
+import time
 import unittest
 from unittest import mock
 
 from case import PROGRAM, Case
 from real import Real
-from resetd_client.processes import lock_holders
+from resetd_client.access import Trial, account_of, tried_as
+from resetd_client.connections import Row, peers, read_address, row_of, written
+from resetd_client.processes import Condition, checksum_of, condition_of, lock_holders
 from test_store_file import APPENDED, CHECKPOINTED, FRESH
 
 
@@ -78,15 +86,62 @@ class Files(Case):
         status, lines = self.why(store)
         self.assertEqual((status, lines[-1]), (1, "a server that runs meets the end by a signal: limit: this shell may let a file "
                                                   "grow to 65,552 bytes alone: beyond it ends by SIGXFSZ, without a word"))
-        with mock.patch("os.access", return_value=False):
-            self.assertIn("a start now would end with Device: access: ", self.why(store)[1][-2])
+
+    @unittest.skipUnless(os.geteuid() == 0, "needs root: it acts as another user")
+    def test_the_user_of_the_server(self) -> None:
+        """Root sees what that user meets: by default the one who owns the folder."""
+        store = self.put(FRESH)
+        os.chmod(store, 0o600)
+        os.chmod(self.folder, 0o755)
+        refused = "a start now would end with Device: access: the user nobody can't open it to read and write: Permission denied; "
+        self.assertEqual(self.why(store)[0], 0)
+        status, lines = self.why("--user", "nobody", store)
+        self.assertEqual((status, lines[-1][:len(refused)]), (1, refused))
+        nobody = pwd.getpwnam("nobody")
+        os.chown(self.folder, nobody.pw_uid, -1)
+        self.assertEqual(self.why(store)[1][-1][:len(refused)], refused)
+        os.chown(store, nobody.pw_uid, -1)
+        status, lines = self.why(store)
+        self.assertEqual((status, lines[-1]), (0, "nothing seen here stands in the way of a start"))
+        self.assertTrue(any("the user nobody may open it and its folder, and a sync of both took" in line for line in lines), lines)
+        os.chmod(self.folder, 0o300)
+        self.assertIn("access: the user nobody can't open its folder: Permission denied", self.why(store)[1][-1])
+
+    @unittest.skipUnless(os.geteuid() == 0, "needs root: it acts as another user")
+    def test_a_folder_of_a_lost_machine(self) -> None:
+        """Its owner has no name here, and is told so; who may open the file as that number, may."""
+        store = self.put(FRESH)
+        for path in (store, self.folder):
+            os.chown(path, 54_321, 54_321)
+        status, lines = self.why(store)
+        self.assertEqual(status, 0)
+        self.assertTrue(any("no user of this machine has the number 54321" in line for line in lines), lines)
+        self.assertEqual(self.why("--user", "nobody", store)[0], 1)
+
+    def test_who_can_not_try(self) -> None:
+        """Only root can act as another user. What was not tried is not told as if it were well."""
+        store = self.put(FRESH)
+        with mock.patch("resetd_client.access.os.geteuid", return_value=12_345):
+            status, lines = self.why("--user", "54321", store)
+        self.assertEqual((status, lines[-1]), (0, "nothing seen here stands in the way of a start; whether 54321 may open it is not known"))
+
+    def test_a_disk_that_hangs(self) -> None:
+        """A sync that does not come back holds nothing up here."""
+        with mock.patch("resetd_client.access.os.fdatasync", lambda _: time.sleep(3_600)):
+            trial = tried_as(account_of(os.geteuid()), self.put(FRESH), 1.0)
+        self.assertEqual(trial, Trial("", None))
+        with mock.patch("resetd_client.why.tried_as", return_value=trial):
+            self.assertIn("a server that runs meets a disk that is slow or hangs: access: ", self.why(f"{self.folder}/store")[1][-1])
+        with mock.patch("resetd_client.access.os.fdatasync", side_effect=OSError(5, "Input/output error")):
+            self.assertEqual(tried_as(account_of(os.geteuid()), self.put(FRESH)).failed, "can't sync it: Input/output error")
 
     def test_addresses(self) -> None:
         store = self.put(FRESH)
         with socket.create_server(("127.0.0.1", 0)) as other:
             status, lines = self.why(store, f"127.0.0.1:{other.getsockname()[1]}")
         self.assertEqual(status, 1)
-        self.assertRegex(lines[-1], rf"^a start now would end with Socket: address: process {os.getpid()} \(.*\) listens there")
+        told = rf"^a start now would end with Socket: address: process {os.getpid()} \(.*\) listens there"
+        self.assertTrue(any(re.search(told, line) for line in lines), lines)
         self.assertTrue(any("connected, and no answer for 2 s" in line for line in lines))
         for address, name in (("localhost:4170", "Usage"), ("127.0.0.1:0", "Usage"), ("192.0.2.7:4170", "Socket")):
             status, lines = self.why(store, address)
@@ -98,6 +153,65 @@ class Files(Case):
         self.assertEqual(status, 1)
         self.assertTrue(any(line.startswith("a server that runs meets a loss: answer: that is not the store on this file")
                             for line in lines))
+
+
+class Conditions(unittest.TestCase):
+    """What keeps a process from its work."""
+
+    def started(self, *words: str) -> int:
+        process = subprocess.Popen([sys.executable, "-c", *words], stdout=subprocess.PIPE)
+        self.addCleanup(process.wait)
+        self.addCleanup(process.kill)
+        assert process.stdout
+        self.addCleanup(process.stdout.close)
+        self.assertEqual(process.stdout.readline(), b"on\n")
+        return process.pid
+
+    def test_a_process_that_spins_or_is_stopped(self) -> None:
+        busy = self.started("print('on', flush=True)\nwhile True: pass")
+        self.assertEqual(condition_of(busy), Condition.SPINNING)
+        resting = self.started("import time\nprint('on', flush=True)\nwhile True: time.sleep(0.01)")
+        self.assertNotEqual(condition_of(resting), Condition.STOPPED)
+        os.kill(resting, signal.SIGSTOP)
+        until = time.monotonic() + 60
+        while condition_of(resting, 0.0) is not Condition.STOPPED and time.monotonic() < until:
+            time.sleep(0.01)
+        self.assertEqual(condition_of(resting, 0.0), Condition.STOPPED)
+        self.assertIsNone(condition_of(2 ** 22 + 1, 0.0))
+
+    def test_a_call_that_does_not_come_back(self) -> None:
+        for looks, condition in (
+                ([{"7": ("S", 1), "8": ("D", 4)}, {"7": ("S", 1), "8": ("D", 4)}], Condition.IN_A_CALL),
+                ([{"7": ("S", 1), "8": ("D", 4)}, {"7": ("S", 1), "8": ("D", 5)}], None),
+                ([{"7": ("R", 1), "8": ("D", 4)}, {"7": ("R", 1), "8": ("S", 5)}], Condition.SPINNING),
+                ([{"7": ("R", 1)}, {"7": ("R", 2)}], None), ([{"7": ("R", 1)}, {}], None)):
+            with mock.patch("resetd_client.processes.threads_of", side_effect=looks):
+                self.assertEqual(condition_of(1, 0.0), condition, looks)
+
+
+class Connections(unittest.TestCase):
+    """Who has the one connection of a server."""
+
+    def test_the_one_that_is_served_and_those_that_wait(self) -> None:
+        with socket.create_server(("127.0.0.1", 0)) as server:
+            host, port = server.getsockname()
+            self.assertEqual(peers(host, port), [])
+            with socket.create_connection((host, port)) as first, socket.create_connection((host, port)) as second:
+                self.assertEqual([peer.is_served for peer in peers(host, port)], [False, False])
+                with server.accept()[0] as served:
+                    found = peers(host, port)
+                    self.assertEqual([(peer.address, peer.user, peer.processes, peer.is_served) for peer in found],
+                                     [("{}:{}".format(*each.getsockname()), os.geteuid(), (os.getpid(),), is_served)
+                                      for each, is_served in ((first, True), (second, False))])
+                    first.close()
+                    left = next(peer for peer in peers(host, port) if peer.is_served)
+                    self.assertEqual((left.user, left.processes), (None, ()))
+                    self.assertTrue(served)
+
+    def test_a_client_with_an_address_of_version_6(self) -> None:
+        words = "0: 0000000000000000FFFF00000100007F:C350 0000000000000000FFFF00000100007F:104A 01 0:0 0:0 0 1000 0 77 1".split()
+        self.assertEqual(row_of(words), Row("0100007F:C350", "0100007F:104A", "01", 1000, 77))
+        self.assertEqual((written("127.0.0.1", 4170), read_address("0100007F:104A")), ("0100007F:104A", "127.0.0.1:4170"))
 
 
 @unittest.skipUnless(PROGRAM, "RESETD names no program to compare with")
@@ -145,6 +259,41 @@ class BesideTheProgram(Case):
         self.assertIn(f"held by process {self.server.process.pid} ({PROGRAM} serve {self.server.store} 127.0.0.1:0)", out)
         self.assertIn("a coordinator with 2 nodes and 3 steps on the disk", out)
         self.assertNotIn("that is not the store on this file", out)
+
+    def test_which_program_it_runs(self) -> None:
+        """One that was replaced under a server is told."""
+        assert isinstance(self.server, Real)
+        program = f"{self.folder}/resetd"
+        shutil.copy(PROGRAM, program)
+        self.server.program = program
+        self.server.found("")
+        told = f"runs {program}, SHA-256 {checksum_of(PROGRAM)}"
+        _, out, _ = self.run_words("why", self.server.store)
+        self.assertIn(f"{told}\n", out)
+        shutil.copy(sys.executable, f"{program}.new")
+        os.replace(f"{program}.new", program)
+        _, out, _ = self.run_words("why", self.server.store)
+        self.assertIn(f"{told}; that is not what stands there now", out)
+
+    def test_a_client_that_keeps_the_one_connection(self) -> None:
+        assert isinstance(self.server, Real) and self.server.process
+        host, port = self.server.behind.split(":")
+        with socket.create_connection((host, int(port))) as client:
+            client.sendall(b'{"op":"show"}\n')
+            self.assertTrue(client.recv(1))  # it is this one that is served
+            lines = self.run_words("why", self.server.store, self.server.behind)[1].splitlines()
+        keeps = "a server that runs meets a client that keeps the one connection: client: process "
+        self.assertTrue(any(line.startswith(f"{keeps}{os.getpid()} (") for line in lines), lines)
+
+    def test_a_server_that_is_stopped(self) -> None:
+        assert isinstance(self.server, Real) and self.server.process
+        process = self.server.process.pid
+        os.kill(process, signal.SIGSTOP)
+        lines = self.run_words("why", self.server.store, self.server.behind)[1].splitlines()
+        os.kill(process, signal.SIGCONT)
+        stopped = f"a server that runs meets a stop: server: process {process} is stopped by a signal"
+        self.assertTrue(any(line.startswith(stopped) and f"kill -CONT {process}" in line for line in lines), lines)
+        self.assertFalse(any("the one connection, and nobody" in line for line in lines), lines)
 
     def test_an_output_that_nobody_reads(self) -> None:
         self.expect_the_reader_told(*os.pipe())

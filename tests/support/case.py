@@ -11,7 +11,7 @@ from .program import PROGRAM, ROOT, ran
 OPTIONAL = "optional: "  # how the reason begins of what may be skipped in CI too
 
 
-def until(what, holds, seconds=120.0):
+def until(what, holds, seconds=300.0):
     """Waits until a call gives something true, and answers that. It looks often, so nothing waits on a clock."""
     end = time.monotonic() + seconds
     while not (found := holds()):
@@ -27,7 +27,7 @@ class Case(unittest.TestCase):
 
     maxDiff = 2_000
     takes = 1
-    most = 900
+    most = 1_800
     program = PROGRAM
     programs = ("RESETD",)
 

@@ -48,7 +48,8 @@ int accept4(int socket, struct sockaddr *address, socklen_t *length, int flags) 
     }
     return client;
 }
-// The clock is ahead by as many seconds as the file CLOCK has at this moment, a number of 8 bytes. With STILL it stands still.
+// The clock is ahead by as many seconds as the file CLOCK has at this moment, a number of 8 bytes. With STILL it stands still
+// but for that.
 int clock_gettime(clockid_t id, struct timespec *time) {
     static long *ahead;
     static struct timespec first;
@@ -59,10 +60,9 @@ int clock_gettime(clockid_t id, struct timespec *time) {
     }
     int status = syscall(SYS_clock_gettime, id, time);
     if (id != CLOCK_MONOTONIC || status) return status;
-    if (ahead) time->tv_sec += *ahead;
-    if (!setting("STILL")) return 0;
     if (!first.tv_sec) first = *time;
-    *time = first;
+    if (setting("STILL")) *time = first;
+    if (ahead) time->tv_sec += *ahead;
     return 0;
 }
 // Calls of a device and what goes out are written down in the file CALLS, a line each: what is to be written before it is,
@@ -177,6 +177,27 @@ int nanosleep(const struct timespec *time, struct timespec *left) {
     if (getenv("WAITS")) note("rest", 0, time->tv_sec * 1000000 + time->tv_nsec / 1000, "", 0);
     return syscall(SYS_nanosleep, time, left);
 }
+#ifdef __x86_64__
+// So is for how many microseconds a thread has waited for another one, where that time passed and nobody came. (The C library's
+// own `syscall` can't be looked up yet where the first call comes.)
+long syscall(long number, ...) {
+    long each[6], status;
+    va_list words;
+    va_start(words, number);
+    for (int at = 0; at < 6; at++) each[at] = va_arg(words, long);
+    va_end(words);
+    register long fourth __asm__("r10") = each[3], fifth __asm__("r8") = each[4], sixth __asm__("r9") = each[5];
+    __asm__ volatile("syscall" : "=a"(status) : "a"(number), "D"(each[0]), "S"(each[1]), "d"(each[2]), "r"(fourth), "r"(fifth),
+                     "r"(sixth) : "rcx", "r11", "memory");
+    if (status >= 0 || status < -4095) return status;
+    if (number == SYS_futex && status == -ETIMEDOUT && getenv("WAITS")) {
+        const struct timespec *time = (const struct timespec *)each[3];
+        note("waited", 0, time->tv_sec * 1000000 + time->tv_nsec / 1000, "", 0);
+    }
+    errno = -status;
+    return -1;
+}
+#endif
 int shutdown(int socket, int how) {
     if (getenv("WAITS")) note("no-more", socket, how, "", 0);
     return syscall(SYS_shutdown, socket, how);

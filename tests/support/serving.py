@@ -6,7 +6,7 @@ import socket
 import subprocess
 
 from .case import until
-from .program import PATIENCE, PROGRAM, Ended
+from .program import PATIENCE, PROGRAM, SHORT, Ended
 
 
 class Connection:
@@ -62,10 +62,13 @@ def processor_seconds(process):
 
 
 class Serving:
-    """`resetd serve` over a store, whose output goes to a file. It is killed at the end, unless it has ended."""
+    """`resetd serve` over a store, whose output goes to a file. It is killed at the end, unless it has ended. One whose
+    lives are short may end a connection before a line is answered, since workers make a life old too: what is asked over a
+    connection of its own is then asked again."""
 
     def __init__(self, store, program=None, address="127.0.0.1:0", env=None, before=(), output=None, **how):
         self.store, self.output, self.errors = store, f"{output or store}.signals", f"{output or store}.errors"
+        self.has_short_lives = bool(SHORT) and program == SHORT
         with open(self.output, "ab") as output, open(self.errors, "wb") as errors:
             self.begin = output.tell()
             self.process = subprocess.Popen(
@@ -107,9 +110,19 @@ class Serving:
 
     def ask(self, request):
         """The answer to one request, over a connection of its own."""
-        with self.connect() as connection:
-            connection.send(request)
-            return connection.reply()
+        return until("an answer", lambda: self.answer(request)) if self.has_short_lives else self.answer(request)
+
+    def answer(self, request):
+        """The same of one connection: None where a life that ended has ended it without an answer."""
+        try:
+            with self.connect() as connection:
+                connection.send(request)
+                line = connection.line()
+        except ConnectionError:
+            if not self.has_short_lives or self.process.poll() is not None:
+                raise
+            return None
+        return json.loads(line) if line or not self.has_short_lives else None
 
     def order(self, number, op, client=1, **members):
         return self.ask({"op": op, "client": client, "number": number, **members})

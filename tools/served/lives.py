@@ -11,7 +11,7 @@ import threading
 
 from . import kills
 from .clients import Lost
-from .server import Away, Server
+from .server import PATIENCE, Away, Server
 
 WORKERS = 8
 # What a server runs in the midst of a life: itself, what prints, the flusher and the workers. The last two end with it.
@@ -102,7 +102,7 @@ class Staying:
     def send(self, text):
         if self.socket is None:
             host, port = self.server.address.rsplit(":", 1)
-            self.socket = socket.create_connection((host, int(port)), timeout=30)
+            self.socket = socket.create_connection((host, int(port)), timeout=PATIENCE)
             self.replies = self.socket.makefile("rb")
             self.connections += 1
         self.socket.sendall(text)

@@ -8,11 +8,13 @@ own (MIXED), and when an item is left out (GAP).
 
 usage: queue_member NODE ADDR FOLDER OWN PEER SIGNALS [WITHOUT..]
     OWN and PEER are ports. WITHOUT is what a trial leaves out, to see that this is noticed:
-    greatest    a member begins an epoch that it began before, or a lower one
+    history     a start may talk by the party of an earlier one
     party       a start talks with whoever is connected
     reset       a member without a start of the shown epoch begins it, confirmed or not, and asks for no reset
+    coordinator a member begins once, as it starts, and talks with whoever is connected; ADDR and SIGNALS are not looked at
 """
 
+import contextlib
 import json
 import os
 import secrets
@@ -22,10 +24,12 @@ import socketserver
 import sys
 import threading
 import time
+import types
 
 sys.dont_write_bytecode = True
 sys.path.insert(0, os.path.join(os.path.dirname(os.path.abspath(__file__)), "..", "..", "client"))
 from resetd_client import Due, Follower, Member, Orders, OutOfRun, Port, Starts, keep  # noqa: E402
+from resetd_client.rule import Judged, Kept, judge, shown_to  # noqa: E402
 
 AHEAD = 5  # items that are on their way round
 PAUSE = 0.01
@@ -37,17 +41,37 @@ class Weaker(Starts):
 
     without = frozenset()
 
-    def due(self, view, row):
-        due = super().due(view, row)
-        if due is not Due.RESET:
-            return due
-        if row.epoch > row.confirmed and "greatest" in self.without:
-            return Due.BEGIN
-        if row.epoch == row.confirmed and row.epoch != self.begun and "reset" in self.without:
-            return Due.BEGIN
-        if row.epoch == row.confirmed == self.begun and "party" in self.without:
-            return Due.WAIT if view.awaited(row.node) else Due.TALK
-        return due
+    def _judged(self, view, row):
+        shown = shown_to(view, row)
+        history = () if "history" in self.without else self._shelf.history
+        judged = judge(Kept(self.begun, self._kept.party), history, shown)
+        if judged.due is not Due.RESET:
+            return judged
+        if row.epoch != self.begun and "reset" in self.without:
+            return Judged(Due.BEGIN, Kept())
+        if row.epoch == row.confirmed == self.begun and "party" in self.without and shown.is_through:
+            return Judged(Due.TALK, Kept(self.begun, shown.party))
+        return judged
+
+
+class Alone:
+    """A member without a coordinator: all its life is one run."""
+
+    def __init__(self, queue):
+        self.lock = threading.Lock()
+        if queue.work is None:
+            queue.begin(1)
+
+    @contextlib.contextmanager
+    def in_run(self, tag="alone", wait=0):
+        with self.lock:
+            yield types.SimpleNamespace(tag=tag)
+
+    def follow(self, *_):
+        signal.pause()
+
+    def stop(self):
+        sys.exit()
 
 
 class Queue:
@@ -148,10 +172,13 @@ def main():
     node, address, folder, own, peer, signals, *without = sys.argv[1:]
     os.makedirs(folder, exist_ok=True)
     queue = Queue(int(node), folder)
-    port = Port(address, 30)
-    orders = Orders(port, int(node), folder, recovers=True, held_seconds=5)
-    member = Member(port, orders, int(node), queue.work["epoch"] if queue.work else None, queue.begin)
-    if without:
+    if "coordinator" in without:
+        member = Alone(queue)
+    else:
+        port = Port(address, 30)
+        orders = Orders(port, int(node), folder, recovers=True, held_seconds=5)
+        member = Member(port, orders, int(node), queue.work["epoch"] if queue.work else None, queue.begin)
+    if {*without} - {"coordinator"}:
         Weaker.without = frozenset(without)
         member._starts.__class__ = Weaker
     for call, place in ((listen, own), (send, peer)):

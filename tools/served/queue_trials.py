@@ -16,7 +16,7 @@ import time
 from .services import ROOT, Away, Failed, Trial, free_ports, read
 
 MEMBER = f"{ROOT}/tools/served/queue_member.py"
-WEAKER = {"greatest", "party", "reset"}
+WEAKER = {"history", "party", "reset"}
 
 
 class Queue(Trial):
@@ -104,12 +104,12 @@ class Queue(Trial):
 
     def reset_epochs(self, *nodes):
         """A reset of some members that are up: each of them has begun and confirmed it."""
-        self.expect("no reset is under way", lambda: all(row.mode == "ready" for row in self.port.show().nodes))
-        before = {row.node: row.epoch for row in self.port.show().nodes}
+        self.expect("no reset is under way", lambda: all(row.mode == "ready" for row in self.shown().nodes))
+        before = {row.node: row.epoch for row in self.shown().nodes}
         self.reset(nodes[0])
 
         def holds():
-            rows = {row.node: row for row in self.port.show().nodes}
+            rows = {row.node: row for row in self.shown().nodes}
             return all(rows[node].epoch > before[node] and rows[node].is_begun for node in nodes)
         self.expect(f"members {nodes} have begun", holds)
 
@@ -132,7 +132,7 @@ class Queue(Trial):
         self.link(node)
 
     def epoch(self, node):
-        return self.port.show().node(node).epoch
+        return self.shown().node(node).epoch
 
 
 # The ways in which a node may show, confirmed, the epoch that its service has begun, though its start is another one
@@ -297,12 +297,10 @@ def between_confirms_without_files(trial):
     trial.renew()
 
 
-# those that take a reset for each epoch come first, while there are few
 WAYS = (new_store, added_again_down, added_again_up, moved_and_added_again, with_one_down, between_confirms, twice,
         while_served, moved, work_lost, own_copy, old_host, confirmed_for, parted, between_confirms_without_files)
 # after these every member has to have another start than before
 RENEWING = (plain_reset, by_the_page)
-EVENTS = 20
 
 
 def happen(trial, way, when):
@@ -329,6 +327,6 @@ def queue(trial):
     seed = trial.words.seed if trial.words.seed is not None else random.randrange(1 << 32)
     trial.choice = random.Random(seed)
     trial.begin()
-    for event in range(1, EVENTS + 1):
+    for event in range(1, trial.words.events + 1):
         happen(trial, trial.choice.choice((*WAYS, *RENEWING, *RENEWING)), f"({event} of seed {seed})")
-    return f"{EVENTS} events of seed {seed}"
+    return f"{trial.words.events} events of seed {seed}"

@@ -7,7 +7,7 @@ from .history import History
 from .server import Away
 
 NODES, CLIENTS, HALF = 64, 8, 32_768
-PATIENCE = 60  # seconds within which a reset has to end
+PATIENCE = 300  # seconds within which a reset has to end, on a busy machine too
 
 
 def topology(half, reach):

@@ -11,6 +11,8 @@ from coordinator import Away, ask  # noqa: E402
 
 from .clients import Lost  # noqa: E402
 
+PATIENCE = 300  # seconds within which a server answers and ends, on a busy machine too
+
 
 class Server:
     """`resetd serve` over a store. All its starts add their lines to one file, as those of a service manager do."""
@@ -57,9 +59,18 @@ class Server:
         return self.address is not None
 
     def ask(self, request):
+        """The answer to a request, which is sent again while the process runs: a life that ends may end a connection
+        without one, and whoever asks a server sends again what had no reply. Raises Away once the process has ended."""
         if self.address is None:
             raise Away("it does not listen")
-        return ask(self.address, request, 30)
+        until = time.monotonic() + PATIENCE
+        while True:
+            try:
+                return ask(self.address, request, PATIENCE)
+            except Away:
+                if self.process.poll() is not None or time.monotonic() > until:
+                    raise
+            time.sleep(0.005)
 
     def kill(self):
         """Signal 9, also to the server below a process that watches it."""
@@ -92,7 +103,7 @@ class Server:
 
     def ended(self):
         """Waits for the end of the process: its exit status, and its faults."""
-        status = self.process.wait(timeout=30)
+        status = self.process.wait(timeout=PATIENCE)
         with open(self.errors, encoding="utf-8") as errors:
             return status, errors.read()
 

@@ -8,11 +8,11 @@ import subprocess
 import sys
 import time
 
-from .server import Server
+from .server import PATIENCE, Server
 
 ROOT = os.path.dirname(os.path.dirname(os.path.dirname(os.path.abspath(__file__))))
 sys.path.insert(0, os.path.join(ROOT, "client"))
-from resetd_client import Away, Orders, Port, patiently  # noqa: E402, F401
+from resetd_client import Away, Member, Orders, OutOfRun, Port, patiently  # noqa: E402, F401
 
 OPERATOR = 16
 
@@ -84,7 +84,11 @@ class Trial:
             self.helpers.remove(helper)
 
     def order(self, op, **members):
-        return patiently(lambda: self.orders.order(op, **members), 20)
+        return patiently(lambda: self.orders.order(op, **members), PATIENCE)
+
+    def shown(self):
+        """The view, which a server that has just been started gives a little later."""
+        return patiently(self.port.show, PATIENCE)
 
     def reset(self, node=1, is_killed=False):
         """Asks for a reset. Where the server is killed, that is somewhere in it."""
@@ -92,6 +96,15 @@ class Trial:
         if is_killed:
             time.sleep(random.uniform(0, 0.004))
             self.kill()
+
+    def expect_quiet(self):
+        self.expect("no reset is at any node", lambda: all(row.mode == "ready" for row in patiently(self.port.show, 20).nodes))
+
+    def is_at_rest(self):
+        """Whether nobody has anything to do: each node is confirmed, and stays so for a while."""
+        rows = self.port.show().nodes
+        time.sleep(0.3)
+        return all(row.is_begun for row in rows) and self.port.show().nodes == rows
 
     def begun(self, node):
         """How often a service has begun anew, and the epoch of the last time."""
@@ -110,7 +123,7 @@ class Trial:
             time.sleep(0.05)
 
     def told(self):
-        rows = patiently(self.port.show, 5).nodes
+        rows = self.shown().nodes
         return "shown (node, epoch, confirmed) " + \
             " ".join(f"{row.node}:{row.epoch}/{row.confirmed}" for row in rows if row.node < 20) + \
             "; begun (node, last epoch, times) " + " ".join(
@@ -123,7 +136,7 @@ class Trial:
         before = before or {}
 
         def holds():
-            rows = {row.node: row for row in patiently(self.port.show, 5).nodes}
+            rows = {row.node: row for row in self.shown().nodes}
             return all(self.begun(node)[0] > before.get(node, 0) and rows[node].is_begun
                        and self.begun(node)[1] == rows[node].epoch for node in nodes or self.nodes)
         self.expect(what, holds)
@@ -177,3 +190,9 @@ def read(path):
         return ""
     with open(path, encoding="utf-8") as file:
         return file.read()
+
+
+def tag_in(path):
+    """The tag of a member's run, by its file; empty where there is none."""
+    fields = read(path).split()
+    return fields[1] if len(fields) > 1 else ""

@@ -6,9 +6,10 @@ import signal
 import subprocess
 import time
 
-from .services import Failed, free_ports, patiently, read
+from .services import Failed, free_ports, patiently, read, tag_in
 
 LIMIT = 400_000  # bytes of the file of signals, where a line is to be torn
+PATIENCE = 300  # seconds within which a server answers and ends, on a busy machine too
 
 
 def begin_first(trial):
@@ -74,7 +75,7 @@ def unread(trial):
         server.process = subprocess.Popen([server.program, "serve", server.store, server.wanted], stdin=subprocess.DEVNULL,
                                           stdout=reader.stdin, stderr=errors)
     server.address = server.wanted
-    patiently(trial.port.show, 20)
+    patiently(trial.port.show, PATIENCE)
     fill(reader.stdin.fileno())
     reader.stdin.close()
     trial.reset_all("a reset whose lines nobody reads")
@@ -83,7 +84,7 @@ def unread(trial):
     if server.process.poll() is not None:
         raise Failed(f"the process ended though its lines were not read: {server.ended()}")
     if (second := subprocess.run([server.program, "serve", server.store, "127.0.0.1:0"], capture_output=True, check=False,
-                                 timeout=20)).returncode != 3:
+                                 timeout=PATIENCE)).returncode != 3:
         raise Failed(f"the store was not locked: {second}")
     reader.kill()
     status, told = server.ended()
@@ -129,8 +130,8 @@ def members(trial):
     trial.expect_begun("64 members started")
     trial.reset_all("a reset of 64 members")
     trial.reset_all("a reset of 64 members with a kill in it", node=33, is_killed=True)
-    trial.expect("all members have one tag", lambda: len({read(f"{trial.folder}/gateway/{node}/run").split(" ")[-1]
-                 for node in trial.nodes}) == 1 and read(f"{trial.folder}/gateway/1/run") != "")
+    trial.expect("all members have one tag", lambda: len({tag_in(f"{trial.folder}/gateway/{node}/run")
+                 for node in trial.nodes}) == 1 and tag_in(f"{trial.folder}/gateway/1/run") != "")
 
 
 def messages(trial):

@@ -2,7 +2,7 @@
 
 import shutil
 
-from .services import read
+from .services import tag_in
 from .signal_trials import begin_first
 
 
@@ -68,7 +68,7 @@ def plain(trial):
     def goes_on(what, before=None):
         trial.expect_begun(what, before)
         trial.expect(f"one run {what}", lambda: len(tags := {
-            read(f"{trial.folder}/{name}/run").strip().split(" ")[-1] for name in ("gateway/1", "gateway/2", "3")}) == 1 and tags != {""})
+            tag_in(f"{trial.folder}/{name}/run") for name in ("gateway/1", "gateway/2", "3")}) == 1 and tags != {""})
     up()
     goes_on("at first")
     trial.reset_all("a reset")

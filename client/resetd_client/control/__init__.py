@@ -12,26 +12,32 @@ import os
 import sys
 
 from .. import __version__
+from ..address import CREDENTIALS, default_address
 from ..answers import Away, NotTaken
+from ..errors import BadWords, ResetdError, Unreadable
 from ..files import Held
-from ..orders import CLIENTS, CountLost, CountNotFound
-from ..port import TooLong
+from ..limits import CLIENTS
+from ..orders import CountLost, CountNotFound
 from ..store_file import NoStore, Restless
 from ..topology import BadTopology
-from . import changes, checks, looks, ranges, restored, stores
+from . import audit, bench, changes, checks, completion, looks, ranges, report, restored, stores
 from .base import AWAY, COUNT, REFUSED, WRONG_WORDS, Control, complain
 
 LEFT, INTERRUPTED = 141, 130  # as a shell has them of an end by SIGPIPE and SIGINT
 
-COMMANDS = (*looks.COMMANDS, *changes.COMMANDS, *restored.COMMANDS, *checks.COMMANDS, *stores.COMMANDS)
+COMMANDS = (*looks.COMMANDS, *changes.COMMANDS, *restored.COMMANDS, *checks.COMMANDS, *audit.COMMANDS, *bench.COMMANDS,
+            *stores.COMMANDS, *report.COMMANDS, *completion.COMMANDS)
 
 
 def parser() -> argparse.ArgumentParser:
     top = argparse.ArgumentParser(prog="resetctl", description=__doc__, formatter_class=argparse.RawDescriptionHelpFormatter)
     top.add_argument("--version", action="version", version=f"resetctl {__version__}")
-    top.add_argument("--address", default=os.environ.get("RESETD_ADDRESS") or "127.0.0.1:4170",
-                     help="HOST:PORT of the coordinator, or several with commas between (RESETD_ADDRESS, 127.0.0.1:4170)")
-    top.add_argument("--client", type=ranges.client, metavar="C",
+    top.add_argument("--address", default=os.environ.get("RESETD_ADDRESS") or default_address(),
+                     help="HOST:PORT of the coordinator, unix:PATH or tls:HOST:PORT of a front, or several with commas between "
+                     "(RESETD_ADDRESS; the front's socket if it is there, else 127.0.0.1:4170)")
+    for name, about in CREDENTIALS.items():
+        top.add_argument(f"--{name}", metavar="PEM", help=f"for tls: {about} (RESETD_{name.upper()})")
+    top.add_argument("--client", type=ranges.of("client"), metavar="C",
                      default=os.environ.get("RESETD_CLIENT") or str(CLIENTS[-1]), help="the client that orders (RESETD_CLIENT, 16)")
     top.add_argument("--state", default=os.environ.get("RESETCTL_STATE") or default_state(), metavar="FOLDER",
                      help="where this client's numbers are kept (RESETCTL_STATE, ~/.local/state/resetctl)")
@@ -67,20 +73,20 @@ def main(arguments: list[str] | None = None) -> int:
     words = top.parse_args(arguments)
     try:
         control = Control(words)
-    except ValueError as fault:
+    except (BadWords, Unreadable) as fault:
         top.error(str(fault))
     try:
         return int(words.call(control))
     except BadTopology as fault:
         complain(f"{words.topology}: {fault}")
         return WRONG_WORDS
-    except TooLong as fault:
+    except BadWords as fault:
         complain(str(fault))
         return WRONG_WORDS
     except (NoStore, Restless) as fault:
         complain(f"{words.file}: {fault}")
         return REFUSED
-    except (CountLost, CountNotFound, Held, ValueError) as fault:
+    except (CountLost, CountNotFound, Held, Unreadable) as fault:
         complain(f"{fault}{'; resetctl count finds the number' if isinstance(fault, CountLost) else ''}")
         return COUNT
     except NotTaken as refused:
@@ -89,6 +95,9 @@ def main(arguments: list[str] | None = None) -> int:
     except Away as away:
         complain(control.why(away))
         return AWAY
+    except ResetdError as fault:
+        complain(str(fault))
+        return REFUSED
     except BrokenPipeError:  # who read what is printed has left
         os.dup2(os.open(os.devnull, os.O_WRONLY), sys.stdout.fileno())
         return LEFT

@@ -3,6 +3,7 @@
 from __future__ import annotations
 
 import argparse
+import json
 import os
 import sys
 import threading
@@ -11,6 +12,7 @@ from contextlib import contextmanager
 from dataclasses import dataclass
 from typing import Any, TypeVar
 
+from ..address import Credentials
 from ..advice import explained
 from ..answers import Away, NotNow, NotTaken, Refused, Reply
 from ..orders import CountLost, Order, Orders
@@ -23,6 +25,15 @@ LOOK_SECONDS = 2.0  # how long a command that only looks waits, in all and for o
 SILENCE_SECONDS = 1.0  # after so long without an answer a person is told what is waited for
 Words = argparse.Namespace
 T = TypeVar("T")
+
+
+def add_json(parser: argparse.ArgumentParser) -> None:
+    parser.add_argument("--json", action="store_true", help="as one line of JSON")
+
+
+def print_json(value: object) -> None:
+    """One line, compact, as the port answers."""
+    print(json.dumps(value, separators=(",", ":")), flush=True)
 
 
 def no_words(_: argparse.ArgumentParser) -> None:
@@ -47,7 +58,8 @@ class Control:
         self.words = words
         self.patience: float = words.patience if words.patience is not None else LOOK_SECONDS if words.is_look else PATIENCE
         self.seconds: float = words.seconds if words.seconds is not None else LOOK_SECONDS if words.is_look else SECONDS
-        self.port = Port(words.address, self.seconds)
+        self.port = Port(words.address, self.seconds, Credentials.found().over(
+            certificate=words.certificate, key=words.key, authority=words.authority))
         self.folder = os.path.join(words.state, words.address.replace(":", "_").replace("/", "_"))
         self._asked: Mapping[str, Any] = {}
 

@@ -10,7 +10,7 @@ from ..orders import Order as Line
 from ..topology import BadTopology, Network, Order, plan, read_topology
 from ..view import View
 from . import ranges
-from .base import DONE, REFUSED, Command, Control, complain, told_order, told_reply
+from .base import DONE, REFUSED, Command, Control, add_json, complain, print_json, told_order, told_reply
 
 NUMBERS = {"node": "1 to 64", "group": "1 to 16", "a": "one end", "b": "the other end", "epoch": "the shown epoch"}
 
@@ -47,22 +47,37 @@ def count(control: Control) -> int:
     return DONE
 
 
-def wanted(control: Control, view: View) -> list[Order]:
-    """The orders that make the network what the topology file wants."""
+def topology_of(control: Control) -> Network:
+    """What the topology file says. Raises BadTopology."""
     try:
         with open(control.words.topology, "rb") as file:
-            want = read_topology(file.read())
+            return read_topology(file.read())
     except OSError as fault:
-        raise BadTopology(fault.strerror) from fault
-    return plan(Network.of(view), want)
+        raise BadTopology("Read", fault.strerror or str(fault)) from fault
+
+
+def wanted(control: Control, view: View) -> list[Order]:
+    """The orders that make the network what the topology file wants. Raises BadTopology."""
+    return plan(Network.of(view), topology_of(control))
 
 
 def diff(control: Control) -> int:
     """Prints the orders that `apply` would make."""
     orders = wanted(control, control.show())
+    if control.words.json:
+        print_json([{"op": each.op, "members": each.members, "note": each.note} for each in orders])
+        return REFUSED if orders else DONE
     for each in orders:
         print(each)
     return REFUSED if orders else DONE
+
+
+def check_topology(control: Control) -> int:
+    """Says what a topology file makes, without a store and without a server."""
+    network = topology_of(control)
+    groups = len(set(network.groups.values()))
+    print(f"legal: {len(network.groups)} nodes in {groups} groups, {len(network.links)} links")
+    return DONE
 
 
 def apply(control: Control) -> int:
@@ -81,12 +96,17 @@ def apply(control: Control) -> int:
 def numbers(*names: str) -> Callable[[argparse.ArgumentParser], None]:
     def add_words(parser: argparse.ArgumentParser) -> None:
         for name in names:
-            parser.add_argument(name, type=int, metavar=name.upper(), help=NUMBERS[name])
+            parser.add_argument(name, type=ranges.of(name), metavar=name.upper(), help=NUMBERS[name])
     return add_words
 
 
 def add_count_words(parser: argparse.ArgumentParser) -> None:
     parser.add_argument("--most", type=ranges.count, default=MOST_TRIED, help=f"how many numbers are tried ({MOST_TRIED})")
+
+
+def add_diff_words(parser: argparse.ArgumentParser) -> None:
+    add_json(parser)
+    add_topology_words(parser)
 
 
 def add_topology_words(parser: argparse.ArgumentParser) -> None:
@@ -104,6 +124,8 @@ COMMANDS = (
     Command("close", "ends the server in order", close),
     Command("count", "finds the number of this client's last order where it was lost", count, add_count_words),
     Command("diff", "prints the orders that would make the network what a topology file wants; status 1 where there are some",
-            diff, add_topology_words, is_look=True),
+            diff, add_diff_words, is_look=True),
+    Command("check-topology", "judges a topology file, as `resetd init` does, without a store; status 2 where it is none",
+            check_topology, add_topology_words, is_look=True),
     Command("apply", "makes these orders, each once", apply, add_topology_words),
 )

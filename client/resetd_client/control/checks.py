@@ -4,15 +4,16 @@ from __future__ import annotations
 
 import argparse
 import os
-import time
 
 from .. import files
 from ..answers import Away, NotNow, NotTaken
-from ..health import Bounds, Level, Since, check, metrics
+from ..errors import ResetdError
+from ..health import Bounds, Comparison, Level, check, metrics
 from ..port import patiently
 from ..signal_lag import Signals
+from ..since import Since, boot_clock, boot_name
 from . import ranges
-from .base import DONE, Command, Control
+from .base import DONE, Command, Control, add_json, print_json
 
 
 def health(control: Control) -> int:
@@ -20,29 +21,37 @@ def health(control: Control) -> int:
     words = control.words
     try:
         os.makedirs(control.folder, exist_ok=True)
-        since = Since(os.path.join(control.folder, "health.json"), time.time())
+        since = Since(os.path.join(control.folder, "health.json"), boot_clock(), boot_name())
         signals = Signals(words.signals, os.path.join(control.folder, "signals.json")) if words.signals else None
-        found = check(control.port, since, Bounds(words.steps, words.wave, words.unconfirmed), control.patience, signals)
+        found = check(control.port, since, Bounds(words.steps, words.wave, words.unconfirmed), control.patience, signals, words.store)
         if found.is_stopped and words.close_stopped:
             control.port.close()
             print("resetctl: the server answered Stopped, and was closed")
-    except (Away, NotTaken, OSError) as fault:
-        print(f"resetd UNKNOWN: {fault}")
+    except (ResetdError, OSError) as fault:
+        if words.json:
+            print_json({"findings": [str(fault)], "level": Level.UNKNOWN.name})
+        else:
+            print(f"resetd UNKNOWN: {fault}")
         return Level.UNKNOWN
+    if words.json:
+        print_json({"findings": list(found.findings), "level": found.level.name})
+        return found.level
     print(f"resetd {found.level.name}: {'; '.join(found.findings) or 'well'}")
     return found.level
 
 
 def write_metrics(control: Control) -> int:
     """Writes the metrics to a file, as a whole, or prints them."""
-    view, is_stopped = None, False
+    view, is_stopped, differs = None, False, None
+    comparison = Comparison(control.words.store)
     try:
         view = patiently(control.port.show, control.patience)
+        differs = comparison.differs(view)
     except NotNow as not_now:
         is_stopped = not_now.name == "Stopped"
     except Away:
         pass
-    text = metrics(view, is_stopped)
+    text = metrics(view, is_stopped, differs)
     if control.words.file == "-":
         print(text, end="")
     else:
@@ -52,16 +61,19 @@ def write_metrics(control: Control) -> int:
 
 
 def add_health_words(parser: argparse.ArgumentParser) -> None:
+    add_json(parser)
     parser.add_argument("--steps", type=ranges.span, default=5.0, metavar="SECONDS", help="how long steps may wait for the disk (5)")
     parser.add_argument("--wave", type=ranges.span, default=5.0, metavar="SECONDS", help="how long a wave may stand still (5)")
     parser.add_argument("--unconfirmed", type=ranges.span, default=60.0, metavar="SECONDS",
                         help="how long an epoch may be unconfirmed (60)")
     parser.add_argument("--signals", metavar="FILE", help="warns where the server's file of signals lacks lines")
+    parser.add_argument("--store", metavar="FILE", help="critical where that is not the store of the server")
     parser.add_argument("--close-stopped", action="store_true",
                         help="closes a server that answers Stopped, so that its service manager starts it again")
 
 
 def add_metrics_words(parser: argparse.ArgumentParser) -> None:
+    parser.add_argument("--store", metavar="STORE", help="tells also whether that is the store of the server")
     parser.add_argument("file", metavar="FILE", nargs="?", default="-",
                         help="a file, which is replaced as a whole (standard output)")
 

@@ -3,25 +3,31 @@
 from __future__ import annotations
 
 import argparse
-import json
+import math
 import shutil
 import sys
 import time
+from contextlib import closing, nullcontext
 from datetime import datetime
 
 from ..answers import Away, NotNow
 from ..view import View
+from ..watching import Watched, wakes_of
 from . import ranges
-from .base import DONE, Command, Control
+from .base import DONE, Command, Control, add_json, print_json
 
 MARKS = {"ready": "·", "abort": "A", "converge": "C"}
+FRONT_SECONDS = 30.0  # between two looks where a front tells of changes
 LEGEND = "· through  o to be confirmed  A abort  C converge; epoch/confirmed"
 
 
 def show(control: Control) -> int:
-    """Prints the nodes and links as tables, or as one line of JSON with --json."""
+    """Prints the nodes and links as tables, or as the line that the port answers, with --json."""
     view = control.show()
-    print(json.dumps(view.members(), separators=(",", ":")) if control.words.json else table(view), flush=True)
+    if control.words.json:
+        print_json(view.members())
+    else:
+        print(table(view), flush=True)
     return DONE
 
 
@@ -44,16 +50,19 @@ def table(view: View) -> str:
 
 def watch(control: Control) -> int:
     """Draws the mode of each node, in place, as it changes; if the output is no terminal, it writes a line with the time
-    for each change."""
-    until = time.monotonic() + control.words.for_seconds if control.words.for_seconds is not None else None
+    for each change. A front tells it of changes; a server's port it asks again and again."""
+    until = math.inf if control.words.for_seconds is None else time.monotonic() + control.words.for_seconds
     is_terminal = sys.stdout.isatty()
+    wakes = wakes_of(control.port)
+    every = FRONT_SECONDS if control.port.is_front else control.words.every
     seen: list[str] | None = None
-    while until is None or time.monotonic() < until:
-        picture = looked(control)
-        if picture != seen:
-            draw(picture, seen) if is_terminal else note(picture)
-            seen = picture
-        time.sleep(control.words.every)
+    with closing(wakes) if isinstance(wakes, Watched) else nullcontext():
+        while (left := until - time.monotonic()) > 0:
+            picture = looked(control)
+            if picture != seen:
+                draw(picture, seen) if is_terminal else note(picture)
+                seen = picture
+            wakes.wait(min(every, left))
     return DONE
 
 
@@ -82,17 +91,14 @@ def note(picture: list[str]) -> None:
     print(datetime.now().astimezone().isoformat(timespec="milliseconds"), *picture, sep="  ", flush=True)
 
 
-def add_show_words(parser: argparse.ArgumentParser) -> None:
-    parser.add_argument("--json", action="store_true", help="as one line, of the form that the port answers")
-
-
 def add_watch_words(parser: argparse.ArgumentParser) -> None:
-    parser.add_argument("--every", type=ranges.some_seconds, default=0.2, metavar="SECONDS", help="how often it looks (0.2)")
+    parser.add_argument("--every", type=ranges.some_seconds, default=0.2, metavar="SECONDS",
+                        help="how often it looks where no front tells it (0.2)")
     parser.add_argument("--for", dest="for_seconds", type=ranges.span, metavar="SECONDS", help="ends after so long (never)")
 
 
 COMMANDS = (
-    Command("show", "prints the nodes and links", show, add_show_words, is_look=True),
+    Command("show", "prints the nodes and links", show, add_json, is_look=True),
     Command("watch", "draws the modes of the nodes as they change; where the output is no terminal, a line a change", watch,
             add_watch_words, is_look=True),
 )

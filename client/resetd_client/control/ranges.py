@@ -3,8 +3,11 @@
 from __future__ import annotations
 
 import argparse
+from collections.abc import Callable
 
-from ..orders import CLIENTS
+from ..access import Account, account_named
+from ..errors import BadWords
+from ..limits import RANGES, check_number
 
 MOST_SECONDS = 1_000_000_000.0  # some thirty years
 
@@ -27,14 +30,47 @@ def some_seconds(text: str) -> float:
     return seconds
 
 
-def client(text: str) -> int:
-    if not text.isascii() or not text.isdigit() or int(text) not in CLIENTS:
-        raise argparse.ArgumentTypeError(f"{text!r} is no client: clients are {CLIENTS[0]} to {CLIENTS[-1]}")
-    return int(text)
+def of(name: str) -> Callable[[str], int]:
+    """A number as the member of this name takes it."""
+    def number(text: str) -> int:
+        value: int | str = int(text) if is_number(text, RANGES[name][-1]) else text
+        try:
+            check_number(name, value)
+        except BadWords as fault:
+            raise argparse.ArgumentTypeError(str(fault)) from None
+        return int(value)
+    return number
 
 
 def count(text: str) -> int:
     """How many, one at least."""
-    if not text.isascii() or not text.isdigit() or int(text) == 0:
+    if not is_number(text, 1 << 64) or int(text) == 0:
         raise argparse.ArgumentTypeError(f"{text!r} is no count")
     return int(text)
+
+
+def amount(text: str) -> int:
+    """How many, perhaps none."""
+    if not is_number(text, 1_000_000):
+        raise argparse.ArgumentTypeError(f"{text!r} is no count")
+    return int(text)
+
+
+def some_orders(text: str) -> int:
+    """How many orders, two at least."""
+    if (value := amount(text)) < 2:
+        raise argparse.ArgumentTypeError(f"{text!r} are too few")
+    return value
+
+
+def is_number(text: str, most: int) -> bool:
+    """Whether a text is digits, and no more of them than this number has."""
+    return text.isascii() and text.isdigit() and len(text) <= len(str(most))
+
+
+def account(text: str) -> Account:
+    """A user of this machine, by name or number."""
+    try:
+        return account_named(text)
+    except KeyError:
+        raise argparse.ArgumentTypeError(f"there is no user {text!r}") from None

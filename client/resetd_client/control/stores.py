@@ -6,25 +6,41 @@ import argparse
 import os
 import tempfile
 from collections.abc import Iterator
+from dataclasses import asdict
 
+from ..access import Account
 from ..files import sync_folder
+from ..finding import Finding
 from ..processes import lock_holders
 from ..store_file import HEADER, MAGIC, Store, open_store, read_half, read_store, reader_of, store_of
-from ..why import Finding, of_address, of_file
-from .base import DONE, REFUSED, WRONG_WORDS, Command, Control, complain
+from ..why import of_file
+from ..why_server import of_address
+from . import ranges
+from .base import DONE, REFUSED, WRONG_WORDS, Command, Control, add_json, complain, print_json
 
 
 def why(control: Control) -> int:
     """Prints what is behind a fault of a start, of a store's file and of an address."""
     words = control.words
-    findings = list(of_file(words.file))
-    if words.at:
-        findings += of_address(words.at, control.seconds, words.file)
-    for finding in findings:
-        print(f"{finding.about:8s} {finding.text}", flush=True)
+    findings = []
+    for finding in looked_at(words.file, words.user, words.at, control.seconds):
+        if not words.json:
+            print(f"{finding.about:8s} {finding.text}", flush=True)
+        findings.append(finding)
     told = told_start(findings)
-    print(told or "nothing seen here stands in the way of a start")
+    if words.json:
+        print_json({"findings": [asdict(finding) for finding in findings], "told": told.splitlines()})
+        return REFUSED if told else DONE
+    left_out = "".join(f"; {finding.left_out} is not known" for finding in findings if finding.left_out)
+    print(told or f"nothing seen here stands in the way of a start{left_out}")
     return REFUSED if told else DONE
+
+
+def looked_at(path: str, user: Account | None, address: str | None, seconds: float) -> Iterator[Finding]:
+    """What there is to say of a store's file, and of the server at an address, where one is given."""
+    yield from of_file(path, user)
+    if address:
+        yield from of_address(address, seconds, path)
 
 
 def told_start(findings: list[Finding]) -> str:
@@ -38,12 +54,24 @@ def told_start(findings: list[Finding]) -> str:
 def steps(control: Control) -> int:
     """Prints the steps of a store, each with its batch, the steps of which were settled together."""
     store = read_store(control.words.file, control.words.before)
+    if control.words.json:
+        print_json(store_members(store))
+        return DONE
     half, rows = store.half, list(store_rows(store))
     print(f"version {half.version}, half {half.index}: {store.world.count} steps in the snapshot, of which each client's last "
           f"order is known, and {store.count - store.world.count} in {len(store.batches)} batches")
     for row in rows:
         print(row)
     return DONE
+
+
+def store_members(store: Store) -> dict[str, object]:
+    """What `steps` prints, as the members of a JSON object."""
+    return {"batches": [{"first": batch.first, "steps": [str(step) for step in batch.steps]} for batch in store.batches],
+            "half": store.half.index, "snapshot": store.world.count,
+            "snapshot_orders": [{"order": str(session), "step": session.step}
+                                for session in sorted(store.world.sessions, key=lambda session: session.step)],
+            "version": store.half.version}
 
 
 def store_rows(store: Store) -> Iterator[str]:
@@ -110,8 +138,10 @@ def put(path: str, data: bytes, like: os.stat_result) -> None:
 
 
 def add_why_words(parser: argparse.ArgumentParser) -> None:
+    add_json(parser)
     add_file_words(parser)
     parser.add_argument("at", metavar="ADDRESS", nargs="?", help="the address of the server, A.B.C.D:P")
+    parser.add_argument("--user", type=ranges.account, metavar="NAME", help="the user as whom the server runs (who owns the folder)")
 
 
 def add_file_words(parser: argparse.ArgumentParser) -> None:
@@ -119,6 +149,7 @@ def add_file_words(parser: argparse.ArgumentParser) -> None:
 
 
 def add_steps_words(parser: argparse.ArgumentParser) -> None:
+    add_json(parser)
     add_file_words(parser)
     parser.add_argument("--before", action="store_true", help="the half of before the last checkpoint, which stands until the next one")
 

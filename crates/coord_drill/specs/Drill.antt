@@ -13,7 +13,7 @@ use Rattle.coord_ledger.specs.declared.events.Event.TheVariants as event
 use Rattle.coord_ledger.specs.laws.Rebasing.{rebased_machine}
 use Rattle.coord_ledger.specs.Facade.{Log, Machine, adopted, front_world, machine_over, run}
 use Rattle.coord_drill.specs.declared.asked.Asked.{Asked}
-use Rattle.coord_drill.specs.declared.asked.Asked.TheVariants.{Submit, Hold, Flush, Crash, Version2}
+use Rattle.coord_drill.specs.declared.asked.Asked.TheVariants.{Submit, Refuse, Nothing, Resend, Check, Show, Hold, Flush, Crash, Version2}
 
 pub record DrillState : Type 0 where
   pub log : Log
@@ -59,6 +59,15 @@ line_events holds Crash given = event.Crash ∷ []
 line_events holds asked given = []
 
 -- ---- what a line leaves
+
+-- what is only told of: no step, no flight, no crash
+abbrev pub changes_nothing : Asked → Bool
+changes_nothing (Refuse refusal) = true
+changes_nothing Nothing = true
+changes_nothing Resend = true
+changes_nothing Check = true
+changes_nothing Show = true
+changes_nothing asked = false
 
 -- the same machine, its log seen from the settled world
 abbrev pub from_settled : Machine → Machine

@@ -110,11 +110,9 @@ impl<D: CrashDisk> Drill<D> {
             Asked::Crash => self.crash(text),
             Asked::Version2 => self.begin_version_2(),
             Asked::Hold => Ok(self.hold()),
-            Asked::Refuse(refusal) => self.refuse(refusal, text),
-            Asked::Nothing => self.idle(text),
-            Asked::Resend => self.resend(text),
-            Asked::Check => self.check(text),
-            Asked::Show => self.show(text),
+            Asked::Refuse(_) | Asked::Nothing | Asked::Resend | Asked::Check | Asked::Show => {
+                self.tell(wanted, text)
+            }
         }
     }
 

@@ -22,6 +22,11 @@ use std::alloc::{AllocError, Global};
 use std::collections::VecDeque;
 use std::marker::Model;
 
+/// For so many steps a ledger takes room when it is made. A trail that stays within it never moves.
+/// The room is more than 32 MiB, so that the C library takes it from the system by itself and gives
+/// it back when the ledger ends: smaller blocks stay with the thread that took them.
+const TRAIL_ROOM: usize = 700_000;
+
 /// What was accepted since a base world, and how much of that is settled on the disk. Contracts see
 /// `LedgerState` (`specs/ledger/State.antt`): the log, with the steps in doubt once the ledger has
 /// stopped; how many steps are out; and the disk, while the store is at home.
@@ -109,16 +114,23 @@ impl<D: Disk> Ledger<D> {
         ensures adopted { IfOk result (λ ledger. ledger ≡ ledger_over store.world store.disk) }
         ensures back { IfErr result (λ refused. refused.1 ≡ store) }
     {
+        let trail = match Vec::with_capacity(alloc, TRAIL_ROOM) {
+            Ok(trail) => trail,
+            Err(fault) => return Err((fault, store)),
+        };
         let (base, front, settled) = match copies(store.world()) {
             Ok(copies) => copies,
-            Err(fault) => return Err((fault, store)),
+            Err(fault) => {
+                drop(trail);
+                return Err((fault, store));
+            }
         };
         base.lemma_in_range();
         store.lemma_images_give_world();
         Ok(Ledger {
             alloc,
             base,
-            trail: Vec::new(alloc),
+            trail,
             kinds: Vec::new(alloc),
             given: VecDeque::new(alloc),
             done: 0,

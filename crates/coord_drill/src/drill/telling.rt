@@ -1,17 +1,19 @@
 //! What changes nothing: refusals, what is sent again, the check, and what is shown.
 
-ghost use Rattle.std.specs.Prelude.{◌≡◌, ◌++◌, [], OnOk, IfErr, IfOk, string_bytes};
+ghost use Rattle.std.specs.Prelude.{◌≡◌, ◌++◌, [], false, true, OnOk, IfErr, IfOk, string_bytes};
 ghost use Rattle.coord_world.specs.protocol.Outputs.{again};
 ghost use Rattle.coord_ledger.specs.Facade.{settled_world};
-ghost use Rattle.coord_drill.specs.Answered.{shown_lines};
+ghost use Rattle.coord_drill.specs.Answered.{asked_lines, shown_lines};
+ghost use Rattle.coord_drill.specs.Drill.{changes_nothing};
 ghost use Rattle.coord_drill.specs.Faults.{IsOfMemory};
-ghost use Rattle.coord_drill.specs.Holding.{IsReady, Tells};
+ghost use Rattle.coord_drill.specs.Holding.{IsReady, Tells, drill_of};
 ghost use Rattle.coord_drill.specs.Moments.{CarriesIf, CutsIf};
 ghost use Rattle.coord_drill.specs.Printed.{output_lines};
 ghost use Rattle.coord_drill.specs.declared.asked.Asked.TheVariants as ask;
 
 use super::Drill;
 use super::flying::print_released;
+use crate::asked::Asked;
 use crate::fault::Fault;
 use crate::print::{print_fault, print_idle, print_refusal};
 use coord_check::check;
@@ -22,95 +24,19 @@ use coord_view::print_view;
 use std::alloc::AllocError;
 
 impl<D: CrashDisk> Drill<D> {
-    /// Prints that a lane is not there.
-    pub(super) fn refuse(self, refusal: Refusal, text: &mut String) -> Result<Self, (Fault, D)>
+    /// Prints the answer to what changes nothing.
+    pub(super) fn tell(self, wanted: Asked, text: &mut String) -> Result<Self, (Fault, D)>
         requires ready { IsReady self }
+        requires nothing { changes_nothing wanted ≡ true }
         ensures ready { IfOk result IsReady }
         ensures told { IfOk result (λ drill. Tells (string_bytes text.old) (string_bytes text.new)
-            (λ told. CarriesIf D.model D.crashes self (ask.Refuse refusal) told drill)) }
+            (λ told. CarriesIf D.model D.crashes self wanted told drill)) }
         ensures cut { IfErr result (λ refused.
-            CutsIf D.model D.crashes (ask.Refuse refusal) self refused.0
-            refused.1) }
+            CutsIf D.model D.crashes wanted self refused.0 refused.1) }
         ensures fault { IfErr result (λ refused. IsOfMemory refused.0) }
     {
         self.driver.lemma_survives();
-        let printed = print_refusal(text, refusal);
-        match printed {
-            Ok(()) => Ok(self),
-            Err(_) => Err(self.lost()),
-        }
-    }
-
-    /// Prints that nothing waits on a lane.
-    pub(super) fn idle(self, text: &mut String) -> Result<Self, (Fault, D)>
-        requires ready { IsReady self }
-        ensures ready { IfOk result IsReady }
-        ensures told { IfOk result (λ drill. Tells (string_bytes text.old) (string_bytes text.new)
-            (λ told. CarriesIf D.model D.crashes self ask.Nothing told drill)) }
-        ensures cut { IfErr result (λ refused.
-            CutsIf D.model D.crashes ask.Nothing self refused.0
-            refused.1) }
-        ensures fault { IfErr result (λ refused. IsOfMemory refused.0) }
-    {
-        self.driver.lemma_survives();
-        let printed = print_idle(text);
-        match printed {
-            Ok(()) => Ok(self),
-            Err(_) => Err(self.lost()),
-        }
-    }
-
-    /// Prints what is sent again of the settled world.
-    pub(super) fn resend(self, text: &mut String) -> Result<Self, (Fault, D)>
-        requires ready { IsReady self }
-        ensures ready { IfOk result IsReady }
-        ensures told { IfOk result (λ drill. Tells (string_bytes text.old) (string_bytes text.new)
-            (λ told. CarriesIf D.model D.crashes self ask.Resend told drill)) }
-        ensures cut { IfErr result (λ refused.
-            CutsIf D.model D.crashes ask.Resend self refused.0
-            refused.1) }
-        ensures fault { IfErr result (λ refused. IsOfMemory refused.0) }
-    {
-        self.driver.lemma_survives();
-        let printed = print_resent(self.driver.ledger(), text);
-        match printed {
-            Ok(()) => Ok(self),
-            Err(_) => Err(self.lost()),
-        }
-    }
-
-    /// Checks the front world.
-    pub(super) fn check(self, text: &mut String) -> Result<Self, (Fault, D)>
-        requires ready { IsReady self }
-        ensures ready { IfOk result IsReady }
-        ensures told { IfOk result (λ drill. Tells (string_bytes text.old) (string_bytes text.new)
-            (λ told. CarriesIf D.model D.crashes self ask.Check told drill)) }
-        ensures cut { IfErr result (λ refused.
-            CutsIf D.model D.crashes ask.Check self refused.0
-            refused.1) }
-        ensures fault { IfErr result (λ refused. IsOfMemory refused.0) }
-    {
-        self.driver.lemma_survives();
-        let printed = print_fault(text, check(self.driver.ledger().front()));
-        match printed {
-            Ok(()) => Ok(self),
-            Err(_) => Err(self.lost()),
-        }
-    }
-
-    /// Shows the settled world.
-    pub(super) fn show(self, text: &mut String) -> Result<Self, (Fault, D)>
-        requires ready { IsReady self }
-        ensures ready { IfOk result IsReady }
-        ensures told { IfOk result (λ drill. Tells (string_bytes text.old) (string_bytes text.new)
-            (λ told. CarriesIf D.model D.crashes self ask.Show told drill)) }
-        ensures cut { IfErr result (λ refused.
-            CutsIf D.model D.crashes ask.Show self refused.0
-            refused.1) }
-        ensures fault { IfErr result (λ refused. IsOfMemory refused.0) }
-    {
-        self.driver.lemma_survives();
-        let printed = print_shown(self.driver.ledger(), text);
+        let printed = print_answer(self.driver.ledger(), wanted, text);
         match printed {
             Ok(()) => Ok(self),
             Err(_) => Err(self.lost()),
@@ -127,6 +53,27 @@ impl<D: CrashDisk> Drill<D> {
         drill.driver.lemma_survives();
         drill.holds = true;
         drill
+    }
+}
+
+/// Prints the answer to what changes nothing.
+#[tactic(auto, unfolding(crate::specs::Answered::asked_lines))]
+fn print_answer<D: CrashDisk>(
+    ledger: &Ledger<D>,
+    wanted: Asked,
+    text: &mut String,
+) -> Result<(), AllocError>
+    requires { changes_nothing wanted ≡ true }
+    ensures { OnOk result (string_bytes text.new ≡
+        string_bytes text.old ++ asked_lines (drill_of ledger.now false false) wanted []) }
+{
+    match wanted {
+        Asked::Refuse(refusal) => print_refusal(text, refusal),
+        Asked::Nothing => print_idle(text),
+        Asked::Resend => print_resent(ledger, text),
+        Asked::Check => print_fault(text, check(ledger.front())),
+        Asked::Show => print_shown(ledger, text),
+        _ => unreachable!(),
     }
 }
 

@@ -1,0 +1,125 @@
+"""What a user may do with a store's file: tried by a process of that user, in the order in which a start does it."""
+
+from __future__ import annotations
+
+import json
+import os
+import pwd
+import select
+import signal
+import time
+from collections.abc import Callable
+from dataclasses import dataclass
+
+SYNC_SECONDS = 5.0  # a start waits for a sync without a bound
+
+
+@dataclass(frozen=True)
+class Account:
+    """A user of this machine, by number; the name is the number where it has none."""
+
+    name: str
+    uid: int
+    gid: int
+    groups: tuple[int, ...]
+
+    @property
+    def is_known(self) -> bool:
+        return self.name != str(self.uid)
+
+
+def account_of(uid: int) -> Account:
+    """The account with a number, with its groups; one of no name has its own group alone."""
+    try:
+        found = pwd.getpwuid(uid)
+    except KeyError:
+        return Account(str(uid), uid, uid, (uid,))
+    return Account(found.pw_name, uid, found.pw_gid, tuple(os.getgrouplist(found.pw_name, found.pw_gid)))
+
+
+def account_named(name: str) -> Account:
+    """The account of a name or a number. Raises KeyError."""
+    return account_of(int(name)) if name.isdigit() else account_of(pwd.getpwnam(name).pw_uid)
+
+
+def owner_of(folder: str) -> Account:
+    """Who owns a folder: the user of the unit, if it has it from the unit or the package. Raises OSError."""
+    return account_of(os.stat(folder).st_uid)
+
+
+@dataclass(frozen=True)
+class Trial:
+    """What came of it: which call failed and why, empty if none did; the seconds that the syncs took, None if not all calls
+    came back in time."""
+
+    failed: str = ""
+    synced: float | None = 0.0
+
+
+def may_try_as(account: Account) -> bool:
+    """Whether this process can act as the user: its own, or it is root."""
+    return os.geteuid() in (0, account.uid)
+
+
+def tried_as(account: Account, path: str, seconds: float = SYNC_SECONDS) -> Trial:
+    """Opens a file to read and write it, opens its folder, and syncs both, as this user. It takes no lock and writes nothing.
+    A process of its own does it, so that nothing here waits for a disk that hangs."""
+    reader, writer = os.pipe()
+    child = os.fork()
+    if child == 0:
+        try:
+            let_go(writer)
+            attempt(account, path, lambda told: os.write(writer, json.dumps(told).encode() + b"\n"))
+        finally:
+            os._exit(0)
+    os.close(writer)
+    try:
+        told = lines_of(reader, seconds)
+    finally:
+        os.close(reader)
+    os.kill(child, signal.SIGKILL)  # one that waits for a disk ends once the disk comes back
+    os.waitpid(child, 0 if told else os.WNOHANG)
+    last = told[-1] if told else ["begun"]
+    return Trial(last[1]) if last[0] == "failed" else Trial("", float(last[1]) if last[0] == "synced" else None)
+
+
+def let_go(writer: int) -> None:
+    """Closes all that was open here but one descriptor: while a process waits for a disk, it keeps nobody's pipe open."""
+    os.closerange(0, writer)
+    os.closerange(writer + 1, os.sysconf("SC_OPEN_MAX"))
+
+
+def become(account: Account) -> None:
+    """Gives up this process's rights for those of the user."""
+    if os.geteuid() == 0:
+        os.setgroups(account.groups)
+        os.setresgid(account.gid, account.gid, account.gid)
+        os.setresuid(account.uid, account.uid, account.uid)
+
+
+def attempt(account: Account, path: str, tell: Callable[[list[object]], object]) -> None:
+    """The calls, and what is told of them."""
+    call = "be acted as"
+    try:
+        become(account)
+        call = "open it to read and write"
+        file = os.open(path, os.O_RDWR | os.O_NONBLOCK | os.O_CLOEXEC)
+        call = "open its folder"
+        folder = os.open(os.path.dirname(path) or ".", os.O_RDONLY | os.O_CLOEXEC)
+        call, began = "sync it", time.monotonic()
+        os.fdatasync(file)
+        call = "sync its folder"
+        os.fsync(folder)
+        tell(["synced", time.monotonic() - began])
+    except OSError as fault:
+        tell(["failed", f"can't {call}: {fault.strerror}"])
+
+
+def lines_of(reader: int, seconds: float) -> list[list[str]]:
+    """What the process tells until it ends, for at most so many seconds."""
+    until, text = time.monotonic() + seconds, b""
+    while select.select([reader], [], [], max(until - time.monotonic(), 0))[0]:
+        if not (part := os.read(reader, 4096)):
+            break
+        text += part
+    return [json.loads(line) for line in text.split(b"\n")[:-1]]

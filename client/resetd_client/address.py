@@ -1,0 +1,250 @@
+"""Where a coordinator, or the front before it, is reached, and the connections to it.
+
+| Written | Is |
+|---|---|
+| `HOST:PORT` | the server's port |
+| `unix:PATH` | a front's socket on this host; PATH is absolute |
+| `tls:HOST:PORT` | a front on any host: TLS 1.3, with a certificate at each end |
+"""
+
+from __future__ import annotations
+
+import os
+import socket
+import ssl
+import stat
+import tomllib
+from collections.abc import Mapping
+from dataclasses import dataclass, replace
+from typing import Protocol
+
+from .answers import Away
+from .errors import BadWords, Unreadable, Untrusted
+
+CONNECT_SECONDS = 5.0  # at most, until a connection stands
+SERVER = "127.0.0.1:4170"
+FRONT_SOCKET = "/run/resetd-front/socket"
+CREDENTIALS: Mapping[str, str] = {
+    "certificate": "this client's certificate", "key": "its key", "authority": "who signs the certificates of fronts"}
+
+
+class Address(Protocol):
+    """One place that answers. Its text is as it was written."""
+
+    is_front: bool  # whether a front is there, which also tells of changes
+
+    def connect(self, seconds: float) -> socket.socket:
+        """A connection, each answer of which may take so many seconds. Raises Away and Untrusted."""
+
+    def refusal(self) -> Untrusted | None:
+        """Why a front ends each connection without an answer, if it is this client's certificate."""
+
+
+@dataclass(frozen=True)
+class Tcp:
+    """`HOST:PORT`."""
+
+    host: str
+    port: int
+    is_front = False
+
+    def __str__(self) -> str:
+        return f"{self.host}:{self.port}"
+
+    def connect(self, seconds: float) -> socket.socket:
+        try:
+            return connected_to(self.host, self.port, seconds)
+        except OSError as fault:
+            raise away(self, fault) from fault
+
+    def refusal(self) -> Untrusted | None:
+        return None
+
+
+@dataclass(frozen=True)
+class Unix:
+    """`unix:PATH`."""
+
+    path: str
+    is_front = True
+
+    def __str__(self) -> str:
+        return f"unix:{self.path}"
+
+    def connect(self, seconds: float) -> socket.socket:
+        connection = socket.socket(socket.AF_UNIX, socket.SOCK_STREAM)
+        try:
+            connection.settimeout(min(seconds, CONNECT_SECONDS))
+            connection.connect(self.path)
+            connection.settimeout(seconds)
+        except OSError as fault:
+            connection.close()
+            raise away(self, fault) from fault
+        return connection
+
+    def refusal(self) -> Untrusted | None:
+        return None
+
+
+@dataclass(frozen=True)
+class Tls:
+    """`tls:HOST:PORT`."""
+
+    host: str
+    port: int
+    credentials: Credentials
+    is_front = True
+
+    def __str__(self) -> str:
+        return f"tls:{self.host}:{self.port}"
+
+    def connect(self, seconds: float) -> ssl.SSLSocket:
+        context = self.credentials.context()
+        try:
+            plain = connected_to(self.host, self.port, seconds)
+        except OSError as fault:
+            raise away(self, fault) from fault
+        try:
+            return context.wrap_socket(plain, server_hostname=self.host)
+        except OSError as fault:
+            plain.close()
+            raise untrusted(self, fault) or away(self, fault) from fault
+
+    def refusal(self) -> Untrusted | None:
+        """In TLS 1.3 a front judges the client's certificate when the client takes the handshake for done, and what the
+        client then sends may hide the alert: so this connection sends nothing. A front that has taken a certificate sends
+        a ticket; one that ends a connection without a ticket and without an alert has not."""
+        try:
+            with self.connect(CONNECT_SECONDS) as connection:
+                try:
+                    connection.recv(1)
+                except ConnectionError:
+                    pass
+                is_taken = connection.session is not None and connection.session.has_ticket
+        except Untrusted as refused:
+            return refused
+        except OSError as fault:
+            return untrusted(self, fault)
+        except Away:
+            return None
+        return None if is_taken else Untrusted(f"{self}: it ends the handshake: it does not take this client's certificate")
+
+
+@dataclass(frozen=True)
+class Credentials:
+    """What a client of TLS shows and trusts, as paths of PEM files: its certificate, its key, and the certificate of the
+    authority that signs those of fronts."""
+
+    certificate: str = ""
+    key: str = ""
+    authority: str = ""
+
+    @staticmethod
+    def found(environment: Mapping[str, str] = os.environ) -> Credentials:
+        """Those that RESETD_CERTIFICATE, RESETD_KEY and RESETD_AUTHORITY name; what they leave out, the TOML file that
+        RESETD_TLS names says with the keys `certificate`, `key` and `authority`. Raises Unreadable."""
+        path = environment.get("RESETD_TLS", "")
+        in_file = read_credentials(path) if path else {}
+        return Credentials(**{
+            name: environment.get(f"RESETD_{name.upper()}", "") or in_file.get(name, "") for name in CREDENTIALS})
+
+    def over(self, **given: str | None) -> Credentials:
+        """These, but for what is given."""
+        return replace(self, **{name: path for name, path in given.items() if path})
+
+    def context(self) -> ssl.SSLContext:
+        """The TLS context. Raises Untrusted where a file is missing or is not what it should be."""
+        missing = [name for name in CREDENTIALS if not getattr(self, name)]
+        if missing:
+            raise Untrusted(f"no {' and no '.join(missing)} given: tls: takes the PEM files of all three "
+                            "(RESETD_CERTIFICATE, RESETD_KEY, RESETD_AUTHORITY)")
+        context = ssl.SSLContext(ssl.PROTOCOL_TLS_CLIENT)  # it checks the certificate, and the name in it
+        context.minimum_version = ssl.TLSVersion.TLSv1_3
+        paths = self.authority
+        try:
+            context.load_verify_locations(self.authority)
+            paths = f"{self.certificate}, {self.key}"
+            context.load_cert_chain(self.certificate, self.key, password=refuse_password)
+        except (OSError, ValueError) as fault:  # ssl.SSLError is an OSError
+            raise Untrusted(f"{paths}: {getattr(fault, 'strerror', None) or fault}") from fault
+        return context
+
+
+def refuse_password() -> str:
+    """A key that has a password would ask at the terminal. Raises ValueError."""
+    raise ValueError("the key has a password")
+
+
+def read_credentials(path: str) -> dict[str, str]:
+    """What a file says of credentials; relative paths begin at its folder. Raises Unreadable."""
+    try:
+        with open(path, "rb") as file:
+            found = tomllib.load(file)
+    except OSError as fault:
+        raise Unreadable(path, f": {fault.strerror}") from fault
+    except ValueError as fault:
+        raise Unreadable(path, f" as TOML: {fault}") from fault
+    for name, value in found.items():
+        if name not in CREDENTIALS or not isinstance(value, str):
+            raise Unreadable(path, f": it may have {', '.join(CREDENTIALS)}, each a text, and no {name} of another kind")
+    return {name: os.path.join(os.path.dirname(path), value) for name, value in found.items()}
+
+
+def addresses_of(text: str, credentials: Credentials | None = None) -> tuple[Address, ...]:
+    """The addresses of a text, with commas between; without credentials those of the environment count. Raises
+    BadWords, and Unreadable of a file of credentials."""
+    return tuple(address_of(each, credentials) for each in text.split(","))
+
+
+def address_of(text: str, credentials: Credentials | None = None) -> Address:
+    """One address. Raises BadWords, and Unreadable of a file of credentials."""
+    text = text.strip()
+    kind, colon, rest = text.partition(":")
+    if kind == "unix" and not rest.isdigit():
+        if not rest.startswith("/") or len(os.fsencode(rest)) > 107:
+            raise BadWords(f"{text!r} is no address: behind unix: stands an absolute path of at most 107 bytes")
+        return Unix(rest)
+    if kind == "tls" and ":" in rest:
+        host, port = host_and_port(rest)
+        return Tls(host, port, Credentials.found() if credentials is None else credentials)
+    return Tcp(*host_and_port(text))
+
+
+def host_and_port(text: str) -> tuple[str, int]:
+    """The host and the port of `HOST:PORT`. Raises BadWords."""
+    host, colon, port = text.rpartition(":")
+    if not host or not port.isascii() or not port.isdigit() or len(port) > 5 or not 0 < int(port) < 65536:
+        raise BadWords(f"{text!r} is no address: HOST:PORT, unix:PATH or tls:HOST:PORT is meant")
+    return host, int(port)
+
+
+def default_address() -> str:
+    """The front's socket if it is there, else the server's port."""
+    try:
+        is_there = stat.S_ISSOCK(os.stat(FRONT_SOCKET).st_mode)
+    except OSError:
+        is_there = False
+    return f"unix:{FRONT_SOCKET}" if is_there else SERVER
+
+
+def connected_to(host: str, port: int, seconds: float) -> socket.socket:
+    """A TCP connection."""
+    connection = socket.create_connection((host, port), timeout=min(seconds, CONNECT_SECONDS))
+    connection.settimeout(seconds)
+    connection.setsockopt(socket.IPPROTO_TCP, socket.TCP_NODELAY, 1)
+    return connection
+
+
+def away(address: Address, fault: OSError) -> Away:
+    return Away(f"{address}: {fault.strerror or fault}")
+
+
+def untrusted(address: Address, fault: OSError) -> Untrusted | None:
+    """What a fault of a TLS connection says of certificates, if it does."""
+    if isinstance(fault, ssl.SSLCertVerificationError):
+        return Untrusted(f"{address}: its certificate is not taken: {fault.verify_message}")
+    reason = getattr(fault, "reason", None) if isinstance(fault, ssl.SSLError) else None
+    words = set(reason.split("_")) if reason else set()
+    if reason and "ALERT" in words and words & {"CERTIFICATE", "CA", "DENIED", "DECRYPT"}:
+        return Untrusted(f"{address}: it does not take this client's certificate ({reason.lower().replace('_', ' ')})")
+    return None

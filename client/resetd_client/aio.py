@@ -1,0 +1,105 @@
+"""A member in a program that runs on asyncio.
+
+    async def begin(epoch):
+        ...                                              # as for a Member; it is awaited in the loop
+
+    member = aio.Member(port, orders, 3, begun, begin)
+    async with asyncio.TaskGroup() as tasks:
+        tasks.create_task(member.follow(wakes_of(port, signals)))
+        ...
+        async with member.in_run(wait=5) as run:         # there is a run, or OutOfRun after 5 s
+            writer.write(f"{run.tag}\\n".encode())
+        async with member.in_run(tag_of_the_message):    # of just this run, or OutOfRun
+            ...                                          # change the work: no begin and no other in_run comes between
+
+The member itself follows in a thread of its own, and each `in_run` holds its lock in a thread of its own until its body is
+left: so coroutines of one loop keep each other out too, and none of them blocks the loop.
+"""
+
+from __future__ import annotations
+
+import asyncio
+import threading
+from collections.abc import AsyncIterator, Awaitable, Callable
+from contextlib import asynccontextmanager, suppress
+
+from . import LOOK_SECONDS, Orders, Port, ResetdError, Run, Wakes
+from . import Member as Blocking
+from .orders import warn
+
+
+
+class Member:
+    """A `resetd_client.Member` for the coroutines of one event loop, which is the one that runs when it is made."""
+
+    def __init__(self, port: Port, orders: Orders, node: int, begun: int | None, begin: Callable[[int], Awaitable[None]], *,
+                 word: str = "", told: Callable[[str], None] = warn) -> None:
+        """As for a Member. `begin` is a coroutine: it must not use `in_run`, since none is let in meanwhile. Raises
+        Unreadable, and RuntimeError where no loop runs."""
+        self._loop = asyncio.get_running_loop()
+        self._begin = begin
+        self._member = Blocking(port, orders, node, begun, self._begin_in_loop, word=word, told=told)
+
+    @property
+    def begun(self) -> int | None:
+        """The epoch of the work in hand, None for no work."""
+        return self._member.begun
+
+    @property
+    def run(self) -> Run | None:
+        """The run that the group is in, None while somebody is not through. It may be over as soon as you have read it."""
+        return self._member.run
+
+    async def follow(self, wakes: Wakes, every: float = LOOK_SECONDS) -> None:
+        """Follows as a Member does, until nothing more will come, `stop` is called or its task is cancelled; then it ends
+        within a moment, or after the answer that it waits for. Raises as `Member.follow` does."""
+        following = asyncio.ensure_future(asyncio.to_thread(self._member.follow, wakes, every))
+        try:
+            await asyncio.shield(following)
+        except asyncio.CancelledError:
+            self.stop()
+            await asyncio.wait([following])
+            raise
+
+    def stop(self) -> None:
+        """Ends `follow`, from any thread or a signal's handler."""
+        self._member.stop()
+
+    @asynccontextmanager
+    async def in_run(self, tag: str | None = None, wait: float = 0.0) -> AsyncIterator[Run]:
+        """While the body works, no begin and no other `in_run` comes in between, be it of this loop or not. Raises OutOfRun
+        as `Member.in_run` does. Keep the body short."""
+        entered: asyncio.Future[Run] = self._loop.create_future()
+        leave = threading.Event()
+        threading.Thread(target=self._hold, args=(tag, wait, entered, leave), daemon=True).start()
+        try:
+            yield await entered
+        finally:
+            leave.set()
+
+    def _hold(self, tag: str | None, wait: float, entered: asyncio.Future[Run], leave: threading.Event) -> None:
+        """In a thread: waits for a run, says that it is there, and keeps all others out until the body is left. If its
+        coroutine was cancelled meanwhile, or its loop is closed, it comes in and leaves at once."""
+        with suppress(RuntimeError):  # the loop is closed
+            try:
+                with self._member.in_run(tag, wait) as run:
+                    self._loop.call_soon_threadsafe(set_run, entered, run)
+                    leave.wait()
+            except ResetdError as fault:
+                self._loop.call_soon_threadsafe(set_fault, entered, fault)
+
+    def _begin_in_loop(self, epoch: int) -> None:
+        """In the thread that follows: has the loop begin, and waits until it has."""
+        async def begin() -> None:
+            await self._begin(epoch)
+        asyncio.run_coroutine_threadsafe(begin(), self._loop).result()
+
+
+def set_run(entered: asyncio.Future[Run], run: Run) -> None:
+    if not entered.done():
+        entered.set_result(run)
+
+
+def set_fault(entered: asyncio.Future[Run], fault: ResetdError) -> None:
+    if not entered.done():
+        entered.set_exception(fault)

@@ -1,0 +1,29 @@
+"""A bell: wakes what waits with `select`, from another thread or from a signal's handler."""
+
+from __future__ import annotations
+
+import os
+import weakref
+from contextlib import suppress
+
+
+class Bell:
+    """Rings until it is hushed. Its descriptor can be read while it rings."""
+
+    def __init__(self) -> None:
+        self._reader, self._writer = os.pipe()
+        for descriptor in (self._reader, self._writer):
+            os.set_blocking(descriptor, False)
+            weakref.finalize(self, os.close, descriptor)
+
+    def fileno(self) -> int:
+        return self._reader
+
+    def ring(self) -> None:
+        with suppress(BlockingIOError):  # it rings loud enough
+            os.write(self._writer, b"x")
+
+    def hush(self) -> None:
+        with suppress(BlockingIOError):
+            while os.read(self._reader, 4096):
+                pass

@@ -1,0 +1,82 @@
+"""Files that others make, change, replace and remove: which of them have changed, and a wait for that."""
+
+from __future__ import annotations
+
+import math
+import os
+import select
+import time
+from collections.abc import Iterable
+
+from .inotify import Inotify
+
+POLL_SECONDS = 0.01  # between two looks at the files, where the system does not tell of changes
+
+State = tuple[int, int, int] | None  # inode, size and time of the last change; None where there is no file
+
+
+class Changes:
+    """Some files, which need not be there yet. On a local file system the system tells of a change (inotify); where it
+    can't be had, or a folder is missing, the files are looked at a hundred times a second."""
+
+    def __init__(self, paths: Iterable[str]) -> None:
+        self._states: dict[str, State] = {path: None for path in paths}
+        self._inotify: Inotify | None
+        try:
+            self._inotify = Inotify()
+        except OSError:
+            self._inotify = None
+        self._is_told = False  # whether the system tells of each change from now on
+
+    def descriptors(self) -> list[int] | None:
+        """What can be read once a file may have changed after the last `take`; None where `take` has to be called every
+        POLL_SECONDS."""
+        return [self._inotify.fileno()] if self._inotify and self._is_told else None
+
+    def take(self) -> list[str]:
+        """The files that have changed since the last call; at the first one those that are there."""
+        if self._inotify:
+            self._is_told = all([self._inotify.watch(folder) for folder in self._folders()])
+            self._inotify.drain()
+        changed = []
+        for path, before in self._states.items():
+            now = state_of(path)
+            if now != before:
+                self._states[path] = now
+                changed.append(path)
+        return changed
+
+    def wait(self, seconds: float) -> list[str]:
+        """The files that have changed since the last call, as soon as one has, or after so many seconds."""
+        until = time.monotonic() + seconds
+        while not (changed := self.take()):
+            left = until - time.monotonic()
+            if left <= 0:
+                break
+            wait_for([self.descriptors()], left)
+        return changed
+
+    def _folders(self) -> set[str]:
+        """Where the files stand, and where symbolic links lead."""
+        return {os.path.dirname(os.path.abspath(path)) for path in self._states} | {
+            os.path.dirname(os.path.realpath(path)) for path in self._states if os.path.islink(path)}
+
+
+def state_of(path: str) -> State:
+    try:
+        now = os.stat(path)
+    except OSError:
+        return None
+    return now.st_ino, now.st_size, now.st_mtime_ns
+
+
+def wait_for(sources: Iterable[list[int] | None], seconds: float) -> bool:
+    """Waits until one of the descriptors can be read, at most so many seconds; if a source is None, which has to be looked
+    at, a moment. Answers whether one can be read."""
+    poller, polls = select.poll(), False
+    for source in sources:
+        polls = polls or source is None
+        for descriptor in source or []:
+            poller.register(descriptor, select.POLLIN)
+    most = min(seconds, POLL_SECONDS) if polls else seconds
+    return bool(poller.poll(math.ceil(1000 * max(most, 0.0))))

@@ -1,0 +1,83 @@
+"""The connections to a server on this machine, as the system lists them: who has the one that is served, and who waits."""
+
+from __future__ import annotations
+
+import socket
+from collections.abc import Iterator
+from dataclasses import dataclass
+
+from .processes import links_of, processes
+
+TABLES = ("/proc/net/tcp", "/proc/net/tcp6")
+OPEN = frozenset({"01", "08"})  # ESTABLISHED, CLOSE_WAIT: this side has not closed it
+MAPPED = "0000000000000000FFFF0000"  # an address of version 4 in the table of version 6
+
+
+@dataclass(frozen=True)
+class Row:
+    """A socket: its own address and the other end's, both as the system writes them, its state, user and inode."""
+
+    local: str
+    remote: str
+    state: str
+    user: int
+    inode: int
+
+
+@dataclass(frozen=True)
+class Peer:
+    """A client with a connection: from where, whose it is and which processes have it, as far as this user may see them. The
+    server has accepted it, or it waits for that. `user` is None where no process of this network namespace has it."""
+
+    address: str
+    user: int | None
+    processes: tuple[int, ...]
+    is_served: bool
+
+
+def rows() -> list[Row]:
+    """The sockets of this network namespace."""
+    found: list[Row] = []
+    for table in TABLES:
+        try:
+            with open(table, encoding="utf-8") as lines:
+                found += [row_of(line.split()) for line in list(lines)[1:]]
+        except OSError:
+            pass
+    return found
+
+
+def row_of(words: list[str]) -> Row:
+    return Row(words[1].removeprefix(MAPPED), words[2].removeprefix(MAPPED), words[3], int(words[7]), int(words[9]))
+
+
+def written(host: str, port: int) -> str:
+    """An address as the system writes it."""
+    return f"{int.from_bytes(socket.inet_aton(host), 'little'):08X}:{port:04X}"
+
+
+def read_address(text: str) -> str:
+    """An address of version 4 as people write it; one of version 6 as it stands."""
+    host, port = text.split(":")
+    return f"{socket.inet_ntoa(int(host, 16).to_bytes(4, 'little'))}:{int(port, 16)}" if len(host) == 8 else text
+
+
+def peers(host: str, port: int) -> list[Peer]:
+    """Who has a connection to a server there, the one that is served first. A socket that the server has not accepted yet
+    has no inode."""
+    table, here = rows(), written(host, port)
+    clients = {(row.remote, row.local): row for row in table}
+    found = []
+    for row in table:
+        if row.local == here and row.state in OPEN:
+            client = clients.get((row.local, row.remote))
+            is_here = client is not None and client.inode != 0
+            having = tuple(having_open(client.inode)) if client and is_here else ()
+            found.append(Peer(read_address(row.remote), client.user if client and is_here else None, having, row.inode != 0))
+    return sorted(found, key=lambda peer: not peer.is_served)
+
+
+def having_open(inode: int) -> Iterator[int]:
+    """The processes that have a socket open."""
+    name = f"socket:[{inode}]"
+    return (process for process in processes() if name in links_of(process))

@@ -1,0 +1,128 @@
+"""The front's audit file, for people: who ordered what, when, and what came of it."""
+
+from __future__ import annotations
+
+import argparse
+import json
+import sys
+from collections.abc import Iterable, Mapping
+from typing import Any
+
+from . import ranges
+from .base import DONE, Command, Control
+
+FILE = "/var/log/resetd-front/audit"
+Entry = Mapping[str, Any]
+
+
+def log(control: Control) -> int:
+    """Prints each line of the file, or those that are asked for."""
+    words = control.words
+    if words.file == "-":
+        print_entries(sys.stdin, words)
+        return DONE
+    with open(words.file, encoding="utf-8", errors="replace", newline="\n") as file:
+        print_entries(file, words)
+    return DONE
+
+
+def print_entries(lines: Iterable[str], words: argparse.Namespace) -> None:
+    for line in lines:
+        entry = entry_of(line)
+        if entry is None:
+            print(printable(f"? {line.strip()}"), flush=True)  # a line that was cut, or another program's
+        elif is_asked_for(entry, words):
+            print(json.dumps(entry, separators=(",", ":")) if words.json else printable(told(entry)), flush=True)
+
+
+def printable(text: str) -> str:
+    """A text that does nothing to a terminal, whatever a client has put into its line or its certificate."""
+    return "".join(each if each.isprintable() else repr(each)[1:-1] for each in text)
+
+
+def entry_of(line: str) -> Entry | None:
+    """The members of a line; None if it is none of a front."""
+    try:
+        entry = json.loads(line)
+    except (ValueError, RecursionError):
+        return None
+    return entry if isinstance(entry, dict) and "time" in entry and "event" in entry else None
+
+
+def is_asked_for(entry: Entry, words: argparse.Namespace) -> bool:
+    """Whether an entry passes all that the words ask for."""
+    request = line_of(entry)
+    return ((not words.reset or is_reset(entry))
+            and (words.node is None or words.node in (request.get("node"), request.get("a"), request.get("b")))
+            and (not words.denied or entry["event"] in ("denied", "handshake"))
+            and (words.since is None or str(entry["time"]) >= words.since)
+            and (words.until is None or str(entry["time"]) < words.until))
+
+
+def is_reset(entry: Entry) -> bool:
+    """Whether an entry is of a reset that was carried out, or may have been."""
+    answer = entry.get("answer")
+    return line_of(entry).get("op") == "reset" and (
+        entry["event"] == "unanswered" or isinstance(answer, dict) and "kind" in answer)
+
+
+def line_of(entry: Entry) -> Entry:
+    """The request of an entry; nothing if it was none."""
+    line = entry.get("line")
+    return line if isinstance(line, dict) else {}
+
+
+def told(entry: Entry) -> str:
+    """An entry as a line: when, who, what, and what came of it."""
+    parts = [str(entry["time"]), who(entry.get("who")), what(entry), came_of(entry)]
+    return "  ".join(part for part in parts if part)
+
+
+def who(found: object) -> str:
+    """Who did it: the user, or the certificate, and from where."""
+    if not isinstance(found, dict):
+        return ""
+    name = found.get("certificate") or found.get("user") or (f"uid {found['uid']}" if "uid" in found else "")
+    place = found.get("address") or (f"pid {found['pid']}" if "pid" in found else "")
+    return f"{name} ({place})" if name and place else str(name or place)
+
+
+def what(entry: Entry) -> str:
+    """The order, as `resetctl` takes it, or the event."""
+    line = entry.get("line")
+    if isinstance(line, dict):
+        words = [str(value) for name, value in line.items() if name not in ("client", "number")]
+        return " ".join(words) + (f" [client {line['client']}, number {line['number']}]" if {"client", "number"} <= set(line) else "")
+    return repr(line) if isinstance(line, str) else str(entry["event"])
+
+
+def came_of(entry: Entry) -> str:
+    """What was answered, or why not."""
+    answer, parts = entry.get("answer"), list[str]()
+    if isinstance(answer, dict):
+        if "kind" in answer:
+            parts.append(f"{answer['kind']} {answer.get('step', '')}".strip())
+        elif "refused" in answer:
+            parts.append(f"refused: {answer['refused']} {answer.get('name', '')}".strip())
+        else:
+            parts.append(str(answer.get("fault", "answered")))
+    elif entry["event"] == "unanswered":
+        parts.append("no answer: perhaps carried out")
+    if isinstance(passed := entry.get("passed"), dict):
+        parts.append(f"as client {passed.get('client')}, number {passed.get('number')}")
+    if "seconds" in entry:
+        parts.append(f"{entry['seconds']} s")
+    return "; ".join([*parts, *([str(entry["why"])] if "why" in entry else [])])
+
+
+def add_log_words(parser: argparse.ArgumentParser) -> None:
+    parser.add_argument("file", metavar="FILE", nargs="?", default=FILE, help=f"the front's audit file, - for standard input ({FILE})")
+    parser.add_argument("--reset", action="store_true", help="who asked for a reset that was carried out, or may have been")
+    parser.add_argument("--denied", action="store_true", help="who was denied what")
+    parser.add_argument("--node", type=ranges.of("node"), help="orders at this node")
+    parser.add_argument("--since", metavar="TIME", help="from this time on, as the file has it (2026-01-31T12:00), in UTC")
+    parser.add_argument("--until", metavar="TIME", help="before this time")
+    parser.add_argument("--json", action="store_true", help="the lines as the file has them")
+
+
+COMMANDS = (Command("log", "prints who ordered what and when, from the audit file of a front", log, add_log_words, is_look=True),)

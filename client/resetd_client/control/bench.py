@@ -1,0 +1,101 @@
+"""Measures a server: how many orders a second it carries out, and how long a wave takes."""
+
+from __future__ import annotations
+
+import argparse
+import statistics
+import time
+from collections.abc import Callable
+from functools import partial
+
+from ..answers import Away, NotTaken
+from ..limits import GROUPS, NODES
+from ..orders import Order, Orders
+from ..view import View
+from . import ranges
+from .base import DONE, REFUSED, Command, Control, add_json, complain, print_json
+
+ORDERS, TOGETHER, WAVES = 200, 1_000, 9
+WAVE_SECONDS = 60.0  # after which a wave that is not over is told
+
+
+def bench(control: Control) -> int:
+    """Adds and removes a node again and again, and has resets made. Refused where services are there, which would all begin
+    anew. One that is broken off may leave a node without links."""
+    words = control.words
+    view = control.show()
+    if (served := [node.node for node in view.nodes if node.confirmed]) and not words.with_services:
+        complain(f"services have confirmed epochs of nodes {', '.join(map(str, served))}: each would begin anew at each of "
+                 f"{words.waves} resets; --with-services does it all the same")
+        return REFUSED
+    with control.orders() as book:
+        control.settle(book)
+        found = {**measured_orders(control, book, view), **measured_waves(control, book, view)}
+    if words.json:
+        print_json(found)
+        return DONE
+    for what, value in found.items():
+        print(f"{what.replace('_', ' '):36s} {value:10,.2f}")
+    return DONE
+
+
+def measured_orders(control: Control, book: Orders, view: View) -> dict[str, float]:
+    """Orders a second, one after the other and together; none where all nodes are there."""
+    node = next((node for node in reversed(NODES) if view.node(node) is None), None)
+    if node is None:
+        complain(f"all {len(NODES)} nodes are there: no orders are measured, since they would add and remove one")
+        return {}
+    pair: list[Order] = [{"op": "add", "node": node, "group": GROUPS[-1]}, {"op": "remove", "node": node}]
+    each = [timed(partial(carried_out, control, book, [order])) for order in pair * (control.words.orders // 2)]
+    together = pair * (TOGETHER // 2)
+    seconds = timed(partial(carried_out, control, book, together))
+    return {"orders_a_second": len(each) / sum(each), "milliseconds_an_order_p50": 1_000 * statistics.median(each),
+            "milliseconds_an_order_p99": 1_000 * statistics.quantiles(each, n=100)[-1],
+            "orders_a_second_together": len(together) / seconds}
+
+
+def measured_waves(control: Control, book: Orders, view: View) -> dict[str, float]:
+    """Milliseconds from the order to the view in which a whole group is ready again; of the largest group."""
+    groups = [view.connected(node.node) for node in view.nodes]
+    if not groups or not control.words.waves:
+        return {}
+    group = max(groups, key=len)
+    waves = [timed(partial(wave, control, book, group[0].node)) for _ in range(control.words.waves)]
+    return {"nodes_of_a_wave": len(group), "milliseconds_a_wave_p50": 1_000 * statistics.median(waves),
+            "milliseconds_a_wave_most": 1_000 * max(waves)}
+
+
+def wave(control: Control, book: Orders, node: int) -> None:
+    """One reset, until `show` has all nodes that it reaches ready at a new epoch. Raises Away after a minute."""
+    before = {row.node: row.epoch for row in control.show().connected(node)}
+    carried_out(control, book, [{"op": "reset", "node": node}])
+    until = time.monotonic() + WAVE_SECONDS
+    while not all(row.mode == "ready" and row.epoch > before.get(row.node, -1) for row in control.show().connected(node)):
+        if time.monotonic() > until:
+            raise Away(f"the reset of node {node} is not over after {WAVE_SECONDS:g} s")
+
+
+def carried_out(control: Control, book: Orders, orders: list[Order]) -> None:
+    """Has orders carried out. Raises what was not taken."""
+    for outcome in control.patient(lambda: book.order_all(orders)):
+        if isinstance(outcome, NotTaken):
+            raise outcome
+
+
+def timed(call: Callable[[], object]) -> float:
+    """How many seconds a call takes."""
+    began = time.perf_counter()
+    call()
+    return time.perf_counter() - began
+
+
+def add_bench_words(parser: argparse.ArgumentParser) -> None:
+    add_json(parser)
+    parser.add_argument("--orders", type=ranges.some_orders, default=ORDERS, metavar="N",
+                        help=f"how many orders one after the other, 2 at least ({ORDERS})")
+    parser.add_argument("--waves", type=ranges.amount, default=WAVES, metavar="N", help=f"how many resets ({WAVES})")
+    parser.add_argument("--with-services", action="store_true", help="also where services are there, which then begin anew")
+
+
+COMMANDS = (Command("bench", "measures orders a second and a wave of this server; refused where nodes have services", bench,
+                    add_bench_words),)

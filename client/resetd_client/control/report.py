@@ -1,0 +1,155 @@
+"""A file for whoever looks into a fault: what the commands for a person on call find, and what the server stands on."""
+
+from __future__ import annotations
+
+import argparse
+import io
+import json
+import os
+import sys
+import tarfile
+import time
+from collections.abc import Callable, Iterator
+from dataclasses import dataclass
+
+from .. import __version__
+from ..answers import Away, NotTaken
+from ..device import file_system, kernel_lines, said
+from ..port import patiently
+from ..processes import checksum_of, lock_holders, program_of, threads_of
+from ..store_file import NoStore, Restless, open_store, read_half, read_store, reader_of, store_of
+from .base import DONE, Command, Control
+from .stores import looked_at, store_rows, told_start
+
+MOST_LINES = "5000"  # of the journal
+PACKAGE = os.path.dirname(os.path.dirname(os.path.abspath(__file__)))
+
+
+@dataclass(frozen=True)
+class Part:
+    """A file of the report: its name, what it is, and how it is found."""
+
+    name: str
+    about: str
+    find: Callable[[], bytes | str]
+
+
+def parts(control: Control) -> Iterator[Part]:
+    words = control.words
+    yield Part("why.txt", "what resetctl why prints", lambda: why_text(control))
+    yield Part("show.json", "what the server shows", lambda: json.dumps(patiently(control.port.show, control.patience).members()))
+    yield Part("store", "a copy of the store, as resetctl backup makes it; of one that does not read, the file's bytes",
+               lambda: copy_of(words.store))
+    yield Part("steps.txt", "its steps since the last checkpoint", lambda: steps_text(words.store, False))
+    yield Part("steps-before.txt", "the steps of the half before", lambda: steps_text(words.store, True))
+    for name, path in memories(control):
+        yield Part(name, f"what resetctl health remembers ({path})", lambda path=path: bytes_of(path))  # type: ignore[misc]
+    yield Part("journal.txt", f"the last {MOST_LINES} lines of the units {words.unit} and {words.unit}-health",
+               lambda: said("journalctl", "--no-pager", "--quiet", "--output", "short-iso-precise", "--lines", MOST_LINES,
+                            "--unit", words.unit, "--unit", f"{words.unit}-health"))
+    yield Part("versions.txt", "versions, and checksums of the program and the library", lambda: versions(words.store))
+    yield Part("process.txt", "the server's limits, and the state of each of its threads", lambda: process_text(words.store))
+    yield Part("filesystem.txt", "mount, space and device of the store", lambda: file_system(words.store))
+    yield Part("kernel.txt", "what the kernel has said of that device", lambda: kernel_lines(words.store))
+
+
+def why_text(control: Control) -> str:
+    findings = list(looked_at(control.words.store, None, control.words.address.split(",")[0], control.seconds))
+    return "".join(f"{each.about:8s} {each.text}\n" for each in findings) + told_start(findings) + "\n"
+
+
+def copy_of(path: str) -> bytes:
+    descriptor = open_store(path)
+    try:
+        half = read_half(reader_of(descriptor))
+        store_of(half)
+        return half.file()
+    except NoStore:
+        return bytes_of(path)
+    finally:
+        os.close(descriptor)
+
+
+def steps_text(path: str, is_before: bool) -> str:
+    return "".join(f"{row}\n" for row in store_rows(read_store(path, is_before)))
+
+
+def memories(control: Control) -> Iterator[tuple[str, str]]:
+    """The files of health's memory: the timer's and this person's."""
+    address = os.path.basename(control.folder)
+    for whose, folder in (("timer", os.path.join(control.words.memory, address)), ("person", control.folder)):
+        for name in ("health.json", "signals.json"):
+            if os.path.exists(path := os.path.join(folder, name)):
+                yield f"health/{whose}-{name}", path
+
+
+def bytes_of(path: str) -> bytes:
+    with open(path, "rb") as file:
+        return file.read()
+
+
+def versions(path: str) -> str:
+    lines = [f"resetctl {__version__}", f"python {sys.version.split()[0]}", f"kernel {os.uname().release}",
+             "package " + said("dpkg-query", "--show", "resetd").strip()]
+    for process in lock_holders(os.stat(path)):
+        if program := program_of(process):
+            now = "it stands there now" if program.is_there else "another one stands there now"
+            lines.append(f"{program.checksum}  {program.path}, run by process {process}; {now}")
+    for folder, _, names in sorted(os.walk(PACKAGE)):
+        lines += [f"{checksum_of(os.path.join(folder, name))}  {os.path.relpath(os.path.join(folder, name), PACKAGE)}"
+                  for name in sorted(names) if name.endswith(".py")]
+    return "\n".join(lines) + "\n"
+
+
+def process_text(path: str) -> str:
+    text = ""
+    for process in lock_holders(os.stat(path)):
+        text += f"process {process}\n{bytes_of(f'/proc/{process}/limits').decode()}"
+        text += "".join(f"thread {thread}: {state}, went to rest {rests} times\n"
+                        for thread, (state, rests) in sorted(threads_of(process).items()))
+    return text or "nobody on this machine has the store locked\n"
+
+
+def found(part: Part) -> bytes:
+    """What a part holds; where it can't be found, the reason."""
+    try:
+        content = part.find()
+    except (Away, NotTaken, NoStore, Restless, OSError, ValueError) as fault:
+        content = f"not found: {fault}\n"
+    return content if isinstance(content, bytes) else content.encode()
+
+
+def report(control: Control) -> int:
+    """Writes the report into a new file, which its owner alone may read, and prints what is in it."""
+    out = control.words.out
+    descriptor = os.open(out, os.O_WRONLY | os.O_CREAT | os.O_EXCL | os.O_CLOEXEC, 0o600)
+    try:
+        with open(descriptor, "wb") as file, tarfile.open(fileobj=file, mode="w:gz") as archive:
+            contents = [(part, found(part)) for part in parts(control)]
+            table = "".join(f"{part.name:28s} {len(content):9,} bytes  {part.about}\n" for part, content in contents)
+            for name, content in (("README.txt", table.encode()), *((part.name, content) for part, content in contents)):
+                put_into(archive, f"report/{name}", content)
+    except BaseException:
+        os.remove(out)
+        raise
+    print(f"{table}written to {out}, which nobody else may read; it holds nothing else of this machine")
+    return DONE
+
+
+def put_into(archive: tarfile.TarFile, name: str, content: bytes) -> None:
+    entry = tarfile.TarInfo(name)
+    entry.size, entry.mtime, entry.mode = len(content), int(time.time()), 0o600
+    archive.addfile(entry, io.BytesIO(content))
+
+
+def add_words(parser: argparse.ArgumentParser) -> None:
+    parser.add_argument("out", metavar="OUT.tar.gz", help="a file that is not there yet")
+    parser.add_argument("--store", metavar="FILE", default="/var/lib/resetd/store", help="the store (/var/lib/resetd/store)")
+    parser.add_argument("--unit", metavar="NAME", default="resetd", help="the unit of the server (resetd)")
+    parser.add_argument("--memory", metavar="FOLDER", default="/var/lib/resetd-health",
+                        help="the state of the timer's health (/var/lib/resetd-health)")
+
+
+COMMANDS = (Command("report", "writes a file for whoever looks into a fault: what why, show, steps and health find, a copy of the "
+                    "store, the units' journal, versions, limits, file system, kernel lines of the device", report, add_words,
+                    is_look=True),)

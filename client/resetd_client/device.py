@@ -1,0 +1,69 @@
+"""What a store's file stands on: its mount, its file system and its device, and what the kernel says of that one."""
+
+from __future__ import annotations
+
+import os
+import re
+import subprocess
+
+LONGEST = 20.0  # seconds of a command
+
+
+def said(*words: str) -> str:
+    """What a command prints, or why it prints nothing."""
+    try:
+        done = subprocess.run(words, stdin=subprocess.DEVNULL, capture_output=True, encoding="utf-8", errors="replace",
+                              timeout=LONGEST, check=False)
+    except (OSError, subprocess.TimeoutExpired) as fault:
+        return f"{words[0]}: {fault.strerror if isinstance(fault, OSError) else f'did not end within {LONGEST:g} s'}\n"
+    return done.stdout + done.stderr
+
+
+def mount_of(path: str) -> str:
+    """The row of /proc/self/mountinfo of the mount that a file stands in: the longest of those that lead to it. Raises
+    OSError."""
+    path = os.path.realpath(path)
+    with open("/proc/self/mountinfo", encoding="utf-8") as lines:
+        rows = [line.rstrip("\n") for line in lines]
+    points = [(point.encode().decode("unicode_escape"), row) for row in rows for point in [row.split()[4]]]
+    return max((each for each in points if os.path.join(path, "").startswith(os.path.join(each[0], ""))),
+               key=lambda each: len(each[0]))[1]
+
+
+def devices_of(path: str) -> list[str]:
+    """The names of the device that a file stands on, and of the disks below it; none where it stands on no block device."""
+    number = os.stat(path).st_dev
+    link = f"/sys/dev/block/{os.major(number)}:{os.minor(number)}"
+    if not os.path.exists(link):
+        return []
+    names = re.findall(r"/block/([^/]+)(?:/([^/]+))?$", os.path.realpath(link))
+    found = [name for pair in names for name in reversed(pair) if name]
+    below = f"{link}/slaves"
+    return found + (sorted(os.listdir(below)) if os.path.isdir(below) else [])
+
+
+def file_system(path: str) -> str:
+    """The mount, the space, the devices and whether each answers before it has stored."""
+    space = os.statvfs(path)
+    lines = [mount_of(path), f"blocks of {space.f_frsize} bytes: {space.f_blocks}, {space.f_bavail} free; "
+             f"inodes: {space.f_files}, {space.f_favail} free"]
+    for name in devices_of(path):
+        cache = f"/sys/block/{name}/queue/write_cache"
+        lines.append(f"device {name}")
+        if os.path.exists(cache):
+            with open(cache, encoding="utf-8") as file:
+                lines[-1] += f": {file.read().strip()}"
+    return "\n".join(lines) + "\n"
+
+
+def kernel_lines(path: str) -> str:
+    """What the kernel has said of a file's device since the start of the machine, and of nothing else."""
+    names = devices_of(path)
+    if not names:
+        return "the file stands on no block device of this machine\n"
+    wanted = re.compile(r"\b(?:" + "|".join(map(re.escape, names)) + r")\b")
+    told = said("journalctl", "--dmesg", "--no-pager", "--quiet", "--output", "short-iso").splitlines()
+    if len(told) < 2:  # no journal, or none that this user may read
+        told = said("dmesg", "--time-format", "iso").splitlines()
+    lines = "".join(f"{line}\n" for line in told if wanted.search(line))
+    return lines or f"nothing of {', '.join(names)} among {len(told):,} lines\n"

@@ -1,0 +1,50 @@
+"""What the library raises: each is a `ResetdError`, and says whether it needs a person.
+
+`needs_person` is False where the program itself can go on: after `Away` it makes the same call again, and after
+`OutOfRun` it closes the connection that the message came from. It is True where the same call would end in the same way
+until a person, or the program's author, has changed something.
+
+Beside these the library raises the OSError of a file or a folder that can't be used.
+"""
+
+from __future__ import annotations
+
+import sys
+from typing import ClassVar
+
+
+class ResetdError(Exception):
+    """What all exceptions of the library have in common."""
+
+    needs_person: ClassVar[bool] = True
+
+
+class BadWords(ResetdError, ValueError):
+    """The caller's words are wrong: an address, or a number out of its range. Nothing was sent. Needs a person: who
+    wrote the words."""
+
+
+class Unreadable(ResetdError, ValueError):
+    """A file that the library keeps, or takes its words from, does not read. Needs a person: the text says what to do.
+    `path` is the file."""
+
+    def __init__(self, path: str, what_to_do: str) -> None:
+        super().__init__(f"{path} does not read{what_to_do}")
+        self.path = path
+
+
+class Untrusted(ResetdError):
+    """One end of a TLS connection does not take the other one's certificate, or one that it needs is missing. Needs a
+    person: who gives out certificates."""
+
+
+class InLoop(ResetdError, RuntimeError):
+    """The call would block the event loop that runs in this thread: `resetd_client.aio` has one that does not. Needs a
+    person: the program's author."""
+
+
+def refuse_in_loop(what: str) -> None:
+    """Raises InLoop if an event loop of asyncio runs in this thread."""
+    asyncio = sys.modules.get("asyncio")  # a loop runs only where somebody has imported it
+    if asyncio is not None and asyncio._get_running_loop() is not None:
+        raise InLoop(f"{what} would block the event loop that runs in this thread: use resetd_client.aio")

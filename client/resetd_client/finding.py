@@ -1,0 +1,26 @@
+"""What a look from outside has found, as a line for a person."""
+
+from __future__ import annotations
+
+import pwd
+from dataclasses import dataclass
+
+
+@dataclass(frozen=True)
+class Finding:
+    """`fault` names the fault with which a start of the server would end because of it, `later` what a running server will
+    meet or meets, `left_out` what could not be looked at; each may be empty."""
+
+    about: str
+    text: str
+    fault: str = ""
+    later: str = ""
+    left_out: str = ""
+
+
+def user_name(number: int) -> str:
+    """The name of a user, or the number where there is none."""
+    try:
+        return pwd.getpwuid(number).pw_name
+    except KeyError:
+        return str(number)

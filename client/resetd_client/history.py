@@ -1,0 +1,49 @@
+"""The history of a member: the digests of all parties with which its starts ever first talked, in a file that only
+grows."""
+
+from __future__ import annotations
+
+import os
+import re
+
+from . import files
+from .errors import Unreadable
+
+LINES = re.compile(rb"(?:[0-9a-f]{64}\n)*")
+
+
+class History:
+    """A file of one digest a line, in 64 hexadecimal digits. What is added counts, and is on the disk, after the next
+    `keep`. It is never cut: a store may be put back from any copy. A last line that a power cut tore was of a start that
+    never talked, so it is passed over, and the next one takes its place."""
+
+    def __init__(self, path: str) -> None:
+        """Raises Unreadable if the file does not read."""
+        self._path = path
+        text = files.read_bytes(path) or b""
+        self._size = text.rfind(b"\n") + 1  # of the lines that are whole
+        if not LINES.fullmatch(text, 0, self._size):
+            raise Unreadable(path, ": remove it with the member's other files, and a reset is asked for")
+        self._digests = {bytes.fromhex(line.decode()) for line in text[:self._size].splitlines()}
+        self._added: list[str] = []
+
+    def __contains__(self, digest: object) -> bool:
+        return isinstance(digest, str) and bytes.fromhex(digest) in self._digests
+
+    def __len__(self) -> int:
+        return len(self._digests)
+
+    def add(self, digest: str) -> None:
+        """Adds a digest with the next `keep`."""
+        if digest not in self and digest not in self._added:
+            self._added.append(digest)
+
+    def keep(self) -> None:
+        """Writes all that was added to the disk. After an error call it again: it writes all of it anew."""
+        if not self._added:
+            return
+        text = "".join(f"{digest}\n" for digest in self._added).encode()
+        files.append(self._path, self._size, text)
+        self._size += len(text)
+        self._digests |= {bytes.fromhex(digest) for digest in self._added}
+        self._added = []

@@ -1,0 +1,52 @@
+"""The party of a start: with whom it talks, as lines, and the digests that name it.
+
+A party has the line `NODE EPOCH` for each connected node and `A B INCARNATION` for each link between them. Its text has
+these lines in the order of their bytes, each with a line feed.
+"""
+
+from __future__ import annotations
+
+import hashlib
+
+Party = frozenset[str]
+
+TAG_DIGITS = 32  # of the 64 of a SHA-256
+BETWEEN = "-"  # the two digests of a tag
+
+
+def digest_of(party: Party, word: str = "") -> str:
+    """The SHA-256 of the party's text in 64 hexadecimal digits. `word`, if it is not empty, is the text's first line."""
+    lines = [word] * bool(word) + sorted(party)
+    return hashlib.sha256("".join(f"{line}\n" for line in lines).encode()).hexdigest()
+
+
+def is_alone(party: Party) -> bool:
+    """Whether it is of one node, connected with nobody."""
+    return len(party) == 1
+
+
+def tag_of(first: Party, shown: Party, word: str = "") -> str:
+    """The tag of a start that first talked with `first` and is shown `shown` now: 32 digits of either's digest with `-`
+    between. A start that was alone has none: the empty text."""
+    if is_alone(first):
+        return ""
+    return digest_of(first, word)[:TAG_DIGITS] + BETWEEN + digest_of(shown, word)[:TAG_DIGITS]
+
+
+def is_same_run(tag: str, other: str) -> bool:
+    """Whether a message with the tag `other` belongs to the run of `tag`, which is its receiver's. A receiver without a
+    tag takes no message."""
+    return tag != "" and _run(tag) == _run(other)
+
+
+def are_parted(tag: str, other: str) -> bool:
+    """Whether two starts refuse each other for ever: they talk in two runs, though the same was shown to both last."""
+    return "" not in (tag, other) and _run(tag) != _run(other) and _shown(tag) == _shown(other)
+
+
+def _run(tag: str) -> str:
+    return tag.partition(BETWEEN)[0]
+
+
+def _shown(tag: str) -> str:
+    return tag.partition(BETWEEN)[2]

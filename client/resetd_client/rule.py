@@ -1,0 +1,80 @@
+"""The rule of a member: what it has to do where a view is shown to it, and what it has to keep before it does that.
+
+Nothing here reads or writes. What is proved of the rule, and of any members that keep it, rests on this alone:
+
+- a start talks only with those that were connected when it first talked, at the epochs that they had then;
+- no two starts of a node ever first talk with the same party.
+
+So the party names the run. If either would be broken, the member asks for a reset, which gives new epochs to all that
+links connect.
+"""
+
+from __future__ import annotations
+
+import enum
+from collections.abc import Container
+from dataclasses import dataclass
+from typing import NamedTuple
+
+from .party import Party, digest_of, is_alone
+from .view import Node, View
+
+
+class Due(enum.Enum):
+    """What a member has to do."""
+
+    TALK = enum.auto()  # all that are connected are through, and its start may talk with them
+    WAIT = enum.auto()  # for others, or for a reset that is under way
+    BEGIN = enum.auto()  # it begins the shown epoch, and confirms it
+    RESET = enum.auto()  # it asks for a reset: its start and what is shown do not belong together
+
+
+@dataclass(frozen=True)
+class Kept:
+    """What a member keeps on the disk beside the history of its parties: the epoch of the work in hand, None for no
+    work; and with whom its present start first talked, None for nobody yet."""
+
+    begun: int | None = None
+    party: Party | None = None
+
+
+class Shown(NamedTuple):
+    """What a view says to the member of one node: the node's epoch and the last one that was confirmed; whether all that
+    are connected are through; whether no reset is at any of them; and who they are."""
+
+    epoch: int
+    confirmed: int
+    is_through: bool
+    is_quiet: bool
+    party: Party
+
+
+class Judged(NamedTuple):
+    """What is due, and what is to be on the disk before that is done: what is kept, and before it the digest that the
+    history gets, if any. A member that is to begin loads the common start and then keeps the epoch as begun."""
+
+    due: Due
+    kept: Kept
+    digest: str | None = None
+
+
+def shown_to(view: View, row: Node) -> Shown:
+    """What a view says to the member of a node that is there."""
+    return Shown(row.epoch, row.confirmed, not view.awaited(row.node),
+                 all(node.mode == "ready" for node in view.connected(row.node)), view.party(row.node))
+
+
+def judge(kept: Kept, history: Container[str], shown: Shown) -> Judged:
+    """What is due. `history` has the digests of all parties with which a start of the member ever first talked; that of
+    a start that was alone is not among them."""
+    digest = digest_of(shown.party)
+    if shown.epoch > shown.confirmed and digest not in history:
+        return Judged(Due.BEGIN, Kept())
+    if shown.epoch == shown.confirmed == kept.begun:
+        if not shown.is_through:
+            return Judged(Due.WAIT, kept)
+        if kept.party is not None and shown.party <= kept.party:
+            return Judged(Due.TALK, kept)
+        if kept.party is None and digest not in history:
+            return Judged(Due.TALK, Kept(kept.begun, shown.party), None if is_alone(shown.party) else digest)
+    return Judged(Due.RESET if shown.is_quiet else Due.WAIT, kept)

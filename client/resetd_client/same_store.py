@@ -1,0 +1,46 @@
+"""Whether a coordinator's store is the one on a file. The server reads its file at its start alone, and answers on when
+somebody cuts, overwrites, replaces or removes it; what it answers then is lost with its end."""
+
+from __future__ import annotations
+
+from dataclasses import dataclass
+
+from .store_file import NoStore, Restless, read_store
+from .view import View
+
+
+class NotCompared(Exception):
+    """The file may be the store or not: this user may not read it, or each look at it met a checkpoint."""
+
+
+@dataclass(frozen=True)
+class Reading:
+    """How many steps a file has at a moment, or why it is no store."""
+
+    count: int | None
+    why_not: str = ""
+
+
+def reading(path: str) -> Reading:
+    """What a file holds now. Raises NotCompared."""
+    try:
+        return Reading(read_store(path).count)
+    except NoStore as fault:
+        return Reading(None, f"does not read as a store ({fault})")
+    except (PermissionError, Restless) as fault:
+        raise NotCompared(f"{path}: {fault.strerror if isinstance(fault, OSError) else fault}") from fault
+    except OSError as fault:
+        return Reading(None, f"can't be read ({fault.strerror})")
+
+
+def difference(before: Reading, view: View, after: Reading) -> str:
+    """Why a file is not the store of a coordinator that answered with this view between the two readings; empty where it
+    may be the one. What the view has on the disk is in the file since then, and the file never has a step that was not
+    accepted. A flight that is on its way to the disk may be in the file before it is settled."""
+    if after.count is None:
+        return after.why_not
+    if after.count < view.settled:
+        return f"has {after.count:,} steps, and the coordinator has {view.settled:,} on the disk"
+    if before.count is not None and before.count > view.accepted:
+        return f"had {before.count:,} steps, and the coordinator had accepted {view.accepted:,}"
+    return ""

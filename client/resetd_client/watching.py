@@ -1,0 +1,193 @@
+"""Told by a front: it pushes the view at once, at each change, and every 15 seconds so that a dead one is noticed."""
+
+from __future__ import annotations
+
+import json
+import select
+import socket
+import ssl
+import time
+from collections.abc import Iterator
+
+from .address import Address, away
+from .answers import Away, Garbled, NotTaken, members_of
+from .errors import BadWords
+from .port import Port, line_of
+from .signals import Clock, Follower, Wake, Wakes
+from .view import View
+
+SILENCE_SECONDS = 45.0  # after so long without a line the front, or the way to it, is taken for dead
+FIRST_PAUSE, PAUSE = 0.1, 2.0  # seconds between two trials to connect, at first and at most
+MOST_BYTES = 1 << 20  # of a line: 64 nodes and 128 links take some ten thousand
+
+
+class Pushed:
+    """One connection to a front, over which views come."""
+
+    def __init__(self, address: Address, seconds: float) -> None:
+        """`seconds` is how long it may take to connect. Raises Away and Untrusted."""
+        self._address, self._rest, self.is_over = address, b"", False
+        self._is_answered = False
+        self._connection = address.connect(seconds)
+        try:
+            self._connection.sendall(line_of({"op": "watch"}))
+            self._connection.setblocking(False)
+        except OSError as fault:
+            self._connection.close()
+            raise address.refusal() or away(address, fault) from fault
+        self.heard = time.monotonic()
+
+    def close(self) -> None:
+        self._connection.close()
+
+    def fileno(self) -> int:
+        return self._connection.fileno()
+
+    def views(self, seconds: float) -> list[View]:
+        """The views that have come, after at most so many seconds; `is_over` is then true if no more will. Raises Away
+        after a silence, NotTaken (Garbled, Faulted) if what came is no view, and Untrusted."""
+        silence = self.heard + SILENCE_SECONDS - time.monotonic()
+        if self._is_ready(max(0.0, min(seconds, silence))):
+            self._read()
+        elif silence <= 0:
+            raise Away(f"{self._address}: no line for {SILENCE_SECONDS:g} s")
+        *lines, self._rest = self._rest.split(b"\n")
+        self._is_answered = self._is_answered or bool(lines)
+        if self.is_over and not self._is_answered and (refusal := self._address.refusal()):
+            raise refusal
+        if len(self._rest) > MOST_BYTES:
+            raise Garbled(self._rest[:100].decode("utf-8", "replace"), str(self._address))
+        return [view_of(line.decode("utf-8", "replace"), str(self._address)) for line in lines]
+
+    def _is_ready(self, seconds: float) -> bool:
+        """Whether something can be read; TLS may hold what the system has given already."""
+        if isinstance(self._connection, ssl.SSLSocket) and self._connection.pending():
+            return True
+        return bool(select.select([self._connection], [], [], seconds)[0])
+
+    def _read(self) -> None:
+        """Reads all that has come."""
+        while not self.is_over and len(self._rest) <= MOST_BYTES:
+            try:
+                read = self._connection.recv(65536)
+            except (BlockingIOError, ssl.SSLWantReadError):
+                return
+            except OSError:
+                read = b""
+            self.is_over = not read
+            self._rest += read
+            self.heard = time.monotonic()
+
+
+class Watched:
+    """Wakes whoever waits for it within milliseconds of a change, on any host, where a front is at one of a port's
+    addresses. It connects again by itself, and then takes it that something is new."""
+
+    def __init__(self, port: Port, seconds: float = 5.0) -> None:
+        """`seconds` is how long it may take to connect. Raises BadWords if none of the addresses is a front's."""
+        self._fronts = [address for address in port.addresses if address.is_front]
+        if not self._fronts:
+            raise BadWords("no address of a front (unix:PATH, tls:HOST:PORT) to be told by")
+        self._pushed: Pushed | None = None
+        self._seconds, self._turn = seconds, 0
+        self._pause, self._not_before = FIRST_PAUSE, 0.0
+        self._seen: View | None = None
+
+    def wait(self, seconds: float) -> Wake:
+        """Waits until a view comes that is not the last one, at most so long. It never answers END. Raises NotTaken
+        (Garbled, or Faulted where the policy allows no watch) and Untrusted."""
+        until = time.monotonic() + seconds
+        while True:
+            for view in self._views(until - time.monotonic()):
+                if view != self._seen:
+                    self._seen = view
+                    return Wake.CAME
+            if time.monotonic() >= until:
+                return Wake.QUIET
+
+    def descriptors(self) -> list[int] | None:
+        """What can be read once something may be new after the last wait; None while there is no connection, so that
+        `wait` has to be called."""
+        return None if self._pushed is None else [self._pushed.fileno()]
+
+    def close(self) -> None:
+        """Ends its connection."""
+        if self._pushed is not None:
+            self._pushed.close()
+            self._pushed = None
+
+    def _views(self, seconds: float) -> list[View]:
+        """The views that come in so many seconds; none while the front is away."""
+        try:
+            if self._pushed is None:
+                self._connect(seconds)
+            return self._taken(self._pushed, seconds) if self._pushed is not None else []
+        except Away:
+            self.close()
+            self._put_off()
+            return []
+        except BaseException:
+            self.close()
+            raise
+
+    def _taken(self, pushed: Pushed, seconds: float) -> list[View]:
+        views = pushed.views(max(0.0, seconds))
+        if views:
+            self._pause = FIRST_PAUSE
+        if pushed.is_over:
+            self.close()
+            self._put_off()
+        return views
+
+    def _connect(self, seconds: float) -> None:
+        """Connects with the next front, once its pause is over; waits no longer than so many seconds."""
+        left = self._not_before - time.monotonic()
+        if left > 0:
+            time.sleep(max(0.0, min(left, seconds)))
+        if time.monotonic() >= self._not_before:
+            self._pushed = Pushed(self._fronts[self._turn % len(self._fronts)], self._seconds)
+
+    def _put_off(self) -> None:
+        """The front was away: the next one is tried, after a pause that grows, and what it tells first is new."""
+        self._turn += 1
+        self._seen = None
+        self._not_before = time.monotonic() + self._pause
+        self._pause = min(2 * self._pause, PAUSE)
+
+
+def view_of(line: str, where: str) -> View:
+    """The view of a pushed line. Raises NotTaken (Garbled, Faulted, Refused), and NotNow."""
+    answer = members_of(line, where)
+    try:
+        return View.of(answer)
+    except (KeyError, ValueError, TypeError, IndexError) as fault:
+        raise Garbled(json.dumps(answer), where) from fault
+
+
+def views(port: Port, seconds: float = 5.0) -> Iterator[View]:
+    """The views that a front at one of the port's addresses pushes over one connection: the present one, and one at each
+    change. Raises Away when it ends, or can't be had within so many seconds, NotTaken, Untrusted, and BadWords if none
+    of the addresses is a front's."""
+    fronts = [address for address in port.addresses if address.is_front]
+    if not fronts:
+        raise BadWords("no address of a front (unix:PATH, tls:HOST:PORT) to be told by")
+    pushed = Pushed(fronts[0], seconds)
+    try:
+        seen: View | None = None
+        while not pushed.is_over:
+            for view in pushed.views(SILENCE_SECONDS):
+                if view != seen:
+                    yield view
+                seen = view
+        raise Away(f"{fronts[0]}: it ended the connection")
+    finally:
+        pushed.close()
+
+
+def wakes_of(port: Port, signals: str | None = None) -> Wakes:
+    """What wakes a member: the file of signals where one is named, a front where there is one, else only time."""
+    if signals is not None:
+        return Follower(signals)
+    if port.is_front:
+        return Watched(port)
+    return Clock()

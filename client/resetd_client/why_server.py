@@ -1,0 +1,124 @@
+"""What is behind a fault of a server at an address: what listens there, who has its one connection, and what it does."""
+
+from __future__ import annotations
+
+import os
+import socket
+from collections.abc import Iterator
+
+from .address import host_and_port
+from .answers import Away, NotNow, NotTaken
+from .connections import Peer, peers
+from .finding import Finding, user_name
+from .port import Port
+from .processes import Condition, commanded, condition_of, listening, lock_holders
+from .same_store import NotCompared, Reading, difference, reading
+from .view import View
+
+KEPT_SECONDS = "11 minutes"  # the longest that one client keeps all others out
+CONDITIONS = {
+    Condition.STOPPED: ("is stopped by a signal (SIGSTOP or a debugger): kill -CONT {} lets it go on", "a stop"),
+    Condition.IN_A_CALL: ("has a thread in a call of the system that does not come back, as a sync of a disk that is slow or hangs: "
+                          "look at the kernel's lines (journalctl -k)", "a disk that is slow or hangs"),
+    Condition.SPINNING: ("has a thread that never rests: it works, or it spins", ""),
+}
+
+
+def of_address(text: str, seconds: float, path: str) -> Iterator[Finding]:
+    """What listens at an address, whether a server could, and whether a coordinator there has the store on this file."""
+    try:
+        host, port = host_and_port(text)
+        socket.inet_aton(host)
+    except (ValueError, OSError):
+        yield Finding("address", f"{text} is not of the form A.B.C.D:P", "Usage")
+        return
+    try:
+        with socket.socket() as trial:
+            trial.bind((host, 0))
+    except OSError as fault:
+        yield Finding("address", f"{host}: {fault.strerror}", "Socket")
+    if port < lowest_port() and os.geteuid() != 0:
+        yield Finding("address", f"port {port} is root's: others have those from {lowest_port()}", "Socket")
+    listeners = sorted(listening(host, port))
+    for process in listeners:
+        yield Finding("address", f"process {process}{commanded(process)} listens there: a second one can't", "Socket")
+    yield from of_answer(f"{host}:{port}", seconds, path, listeners)
+
+
+def of_answer(address: str, seconds: float, path: str, listeners: list[int]) -> Iterator[Finding]:
+    """What answers at an address."""
+    fault = "" if listeners else "Socket"
+    before = read_if_allowed(path)
+    try:
+        view = Port(address, seconds).show()
+    except NotNow as not_now:
+        yield Finding("answer", f"a coordinator says {not_now.name}: its device has failed, or it is ending; resetctl close ends it",
+                      fault)
+    except NotTaken as other:
+        yield Finding("answer", str(other), fault)
+    except Away as away:
+        is_refused = "refused" in str(away)
+        yield Finding("answer", str(away), "" if is_refused else fault)
+        if not is_refused:
+            yield from of_silence(address, listeners or holders_of(path))
+    else:
+        yield Finding("answer", f"a coordinator with {len(view.nodes)} nodes and {view.settled:,} steps on the disk", fault)
+        yield from of_store_behind(path, before, view)
+
+
+def read_if_allowed(path: str) -> Reading | None:
+    try:
+        return reading(path)
+    except NotCompared:
+        return None
+
+
+def of_store_behind(path: str, before: Reading | None, view: View) -> Iterator[Finding]:
+    """Whether a coordinator has the store on this file."""
+    after = read_if_allowed(path)
+    if not before or not after:
+        text = "whether the coordinator has the store on this file"
+        yield Finding("answer", f"{text} can't be seen by this user, or while it is at work", left_out=text)
+    elif differs := difference(before, view, after):
+        yield Finding("answer", f"that is not the store on this file: it {differs}. The coordinator has another one, or this one was "
+                                "written over, cut or replaced under it, and what it answers is lost with its end", later="a loss")
+
+
+def holders_of(path: str) -> list[int]:
+    try:
+        return lock_holders(os.stat(path))
+    except OSError:
+        return []
+
+
+def of_silence(address: str, servers: list[int]) -> Iterator[Finding]:
+    """Why a server that listens does not answer: its own state, and who has its one connection."""
+    for process in servers:
+        if condition := condition_of(process):
+            text, later = CONDITIONS[condition]
+            yield Finding("server", f"process {process} {text.format(process)}", later=later)
+    having = peers(*host_and_port(address))
+    for peer in having:
+        if peer.is_served:
+            yield Finding("client", f"{told_peer(peer)} has the one connection, and nobody else is served: end it, or wait, "
+                                    f"at most {KEPT_SECONDS}", later="a client that keeps the one connection")
+    if waiting := [peer for peer in having if not peer.is_served and peer.user is not None]:
+        yield Finding("client", f"{', '.join(map(told_peer, waiting))} {'wait' if len(waiting) > 1 else 'waits'} for a connection")
+
+
+def told_peer(peer: Peer) -> str:
+    """A client: its processes, and its user where they can't be seen."""
+    if peer.processes:
+        return " and ".join(f"process {each}{commanded(each)}" for each in peer.processes) + (
+            f" of {user_name(peer.user)}" if peer.user is not None else "")
+    if peer.user is not None:
+        return f"a process of {user_name(peer.user)} (root sees which) at {peer.address}"
+    return f"a client at {peer.address}, of no process here,"
+
+
+def lowest_port() -> int:
+    try:
+        with open("/proc/sys/net/ipv4/ip_unprivileged_port_start", encoding="utf-8") as file:
+            return int(file.read())
+    except OSError:
+        return 1024

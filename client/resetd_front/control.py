@@ -1,0 +1,214 @@
+"""`resetd-front`: many clients at a coordinator side by side, each with its own rights (docs/FRONT.md).
+
+Exit statuses: 0 it was ended by SIGTERM or SIGINT, or a policy is good; 1 a fault at the start, or a policy that is not
+taken; 2 wrong words.
+"""
+
+from __future__ import annotations
+
+import argparse
+import asyncio
+import contextlib
+import os
+import signal
+import socket
+import sys
+from dataclasses import dataclass
+from typing import Any
+
+from resetd_client import CLIENTS, Held
+from resetd_client import __version__
+
+from . import policy
+from .audit import Audit
+from .front import Front, complain
+from .listeners import Listeners
+from .metrics import Metrics
+from .own_orders import OwnOrders
+from .page import Page
+from .peers import group_number, server_context
+from .signals import Signals
+from .upstream import address_of
+
+SOCKET, STATE = "/run/resetd-front/socket", "/var/lib/resetd-front"
+OK, FAULT, WRONG_WORDS = 0, 1, 2
+
+
+def parser() -> argparse.ArgumentParser:
+    top = argparse.ArgumentParser(prog="resetd-front", description=__doc__,
+                                  formatter_class=argparse.RawDescriptionHelpFormatter)
+    top.add_argument("--version", action="version", version=f"resetd-front {__version__}")
+    commands = top.add_subparsers(dest="command", required=True, metavar="COMMAND")
+    check = commands.add_parser("check", help="says what each may do by a policy, or why it is not taken")
+    check.add_argument("policy", metavar="POLICY")
+    serve = commands.add_parser("serve", help="serves until SIGTERM; SIGHUP reads policy and certificates again, and opens "
+                                              "the audit anew")
+    add_serve_words(serve)
+    return top
+
+
+def add_serve_words(serve: argparse.ArgumentParser) -> None:
+    def word(flag: str, metavar: str, about: str, **how: Any) -> None:
+        serve.add_argument(flag, metavar=metavar, help=about, **how)
+
+    word("--server", "HOST:PORT", "the server's port, or several with commas (127.0.0.1:4170)", default="127.0.0.1:4170")
+    word("--socket", "PATH", f"the Unix socket ({SOCKET})", default=SOCKET)
+    word("--mode", "OCTAL", "its mode (660)", type=lambda text: int(text, 8), default=0o660)
+    word("--group", "NAME", "its group", type=group_named)
+    word("--tls", "HOST:PORT", "also TLS 1.3 with client certificates", type=listened)
+    word("--certificate", "PEM", "the front's certificate for TLS, with its chain")
+    word("--key", "PEM", "its key")
+    word("--authority", "PEM", "the authority that signed the clients' certificates")
+    word("--tcp", "HOST:PORT", "also TCP on the loopback, where whoever comes counts as the user nobody", type=listened)
+    word("--policy", "FILE", "who may do what (root and this user everything, the socket's group looks)")
+    word("--audit", "FILE", "where each order is written down (standard output)", default="-")
+    word("--signals", "FILE", "the server's file of signals, so that watchers are told at once")
+    word("--state", "FOLDER", f"where the front's own number is kept ({STATE})", default=os.environ.get("STATE_DIRECTORY") or STATE)
+    word("--client", "C", "the client as which the front orders for others, and nobody else (15)", type=int, choices=CLIENTS, default=15)
+    word("--patience", "SECONDS", "how long a line waits for its answer (30)", type=float, default=30.0)
+    word("--stuck", "SECONDS", "how long a client may take nothing of its answers (10)", type=float, default=10.0)
+    word("--page", "ADDRESS", "unix:PATH or a loopback HOST:PORT, for a page and metrics (read only)")
+
+
+def group_named(name: str) -> int:
+    """Raises ValueError."""
+    try:
+        return group_number(name)
+    except KeyError:
+        raise ValueError(f"no group {name!r}") from None
+
+
+def listened(text: str) -> tuple[str, int]:
+    """HOST:PORT, where port 0 is a free one. Raises ValueError."""
+    return (text[:-2], 0) if text.endswith(":0") else address_of(text)
+
+
+def main() -> int:
+    words = parser().parse_args()
+    if words.command == "check":
+        return check(words.policy)
+    if words.tls and not (words.certificate and words.key and words.authority):
+        complain("--tls needs --certificate, --key and --authority")
+        return WRONG_WORDS
+    try:
+        asyncio.run(served(words))
+    except (OSError, ValueError, Held) as fault:
+        complain(str(fault))
+        return FAULT
+    return OK
+
+
+def check(path: str) -> int:
+    """Prints a line for each rule, or says why the policy is not taken."""
+    try:
+        rules = policy.read(path).rules
+    except (policy.BadPolicy, OSError) as fault:
+        complain(f"{path}: {fault}")
+        return FAULT
+    print("".join(f"{rule}\n" for rule in rules) + "All else is not allowed.")
+    return OK
+
+
+@dataclass
+class Process:
+    """The parts of a front that serves."""
+
+    words: argparse.Namespace
+    front: Front
+
+    def __post_init__(self) -> None:
+        words = self.words
+        self.context = server_context(words.certificate, words.key, words.authority) if words.tls else None
+
+    def listen(self) -> Listeners:
+        """Raises OSError, and ValueError."""
+        listeners, words = Listeners(self.front), self.words
+        listeners.unix(words.socket, words.mode, words.group)
+        if self.context:
+            listeners.tls(words.tls, self.context)
+        if words.tcp:
+            listeners.tcp(words.tcp)
+        return listeners
+
+    async def show(self) -> Page | None:
+        """The page and the metrics, as far as what they need is installed. Raises OSError, and ValueError."""
+        try:
+            metrics = Metrics(self.front)
+        except ImportError:
+            metrics = None
+            complain("there are no metrics: python3-prometheus-client is not installed")
+        try:
+            page = Page(self.front, metrics)
+        except ImportError:
+            complain("there is no page: python3-aiohttp is not installed")
+            return None
+        await page.listen(self.words.page)
+        return page
+
+    def reload(self) -> None:
+        """What is broken is not taken, and what there was stays."""
+        try:
+            self.front.audit.reopen()
+        except OSError as fault:
+            complain(f"the audit goes on in the old file: {fault}")
+        try:
+            if self.words.policy:
+                self.front.take_policy(policy.read(self.words.policy))
+                self.front.audit.note("policy", why="it was read")
+        except (policy.BadPolicy, OSError) as fault:
+            complain(f"the old policy stays: {self.words.policy}: {fault}")
+            self.front.audit.note("policy", why=f"the old one stays: {fault}")
+        try:
+            if self.context:
+                self.context.load_cert_chain(self.words.certificate, self.words.key)
+                self.context.load_verify_locations(self.words.authority)
+        except OSError as fault:
+            complain(f"the old certificate stays: {fault}")
+        if why := self.front.audit.write():
+            complain(why)
+
+
+async def served(words: argparse.Namespace) -> None:
+    """Serves until SIGTERM or SIGINT. Raises OSError, ValueError and Held where it can't begin."""
+    loop, ended = asyncio.get_running_loop(), asyncio.Event()
+    with contextlib.ExitStack() as stack:
+        rules = policy.read(words.policy) if words.policy else policy.without_policy(os.getuid(), group_of(words))
+        own = OwnOrders(words.client, words.state)
+        stack.callback(own.close)
+        audit = Audit(words.audit)
+        stack.callback(audit.close)
+        front = Front(words.server, own, rules, audit, words.patience, words.stuck)
+        stack.callback(front.close)
+        if words.signals:
+            stack.callback(Signals(words.signals, front.signalled).close)
+        process = Process(words, front)
+        listeners = process.listen()
+        stack.callback(listeners.close)
+        page = await process.show() if words.page else None
+        for number in (signal.SIGTERM, signal.SIGINT):
+            loop.add_signal_handler(number, ended.set)
+        loop.add_signal_handler(signal.SIGHUP, process.reload)
+        audit.note("starts")
+        audit.write()
+        tell_manager("READY=1")
+        await ended.wait()
+        if page:
+            await page.close()
+        front.close()
+        await asyncio.sleep(0)  # so that the ends of connections are written down
+        audit.note("stops")
+        audit.write()
+
+
+def group_of(words: argparse.Namespace) -> int | None:
+    """The group whose members may look where there is no policy: the socket's."""
+    given: int | None = words.group
+    return given if given is not None else os.getgid() if words.mode & 0o060 else None
+
+
+def tell_manager(text: str) -> None:
+    """Tells a service manager that asked for it (Type=notify of systemd)."""
+    path = os.environ.get("NOTIFY_SOCKET")
+    if path:
+        with socket.socket(socket.AF_UNIX, socket.SOCK_DGRAM) as manager:
+            manager.sendto(text.encode(), "\0" + path[1:] if path.startswith("@") else path)

@@ -1,0 +1,66 @@
+"""Where a line goes in its flight, by what the front knows at that moment. Nothing here reads or writes."""
+
+from __future__ import annotations
+
+from resetd_client import Node
+
+from .building import Hold, Place, Verdict
+from .own_orders import OwnOrders
+from .requests import Request
+from .views import Views
+
+BAD_EPOCH = b'{"name":"BadEpoch","refused":15}'
+UNKNOWN_NODE = b'{"name":"UnknownNode","refused":6}'
+
+
+class Judging:
+    """The judge of one flight. `is_fresh` says that the last view was read behind all that was sent. Afterwards
+    `wants_count`, `wants_look` and `wants_end` say what lines were held for: the count of the front's own client, a look,
+    the end of a reset."""
+
+    def __init__(self, own: OwnOrders, views: Views, is_fresh: bool) -> None:
+        self._own, self._views, self._is_fresh = own, views, is_fresh
+        self.wants_count = self.wants_look = self.wants_end = False
+
+    def __call__(self, request: Request) -> Verdict:
+        if request.op == "close":
+            return Place.LAST
+        if not request.is_order:
+            return Place.LOOK
+        if not request.is_unnumbered:
+            return Place.ORDER
+        if request.epoch_seen is not None:
+            verdict = self._of_reset(request.members["node"], request.epoch_seen)
+            if verdict is not Place.ORDER:
+                return verdict
+        if not self._own.is_known:
+            self.wants_count = True
+            return Hold.HOLD
+        if not self._is_doubtful(request):
+            return Place.ORDER
+        self.wants_look = self.wants_look or not self._is_fresh
+        return Place.DOUBTFUL if self._is_fresh else Hold.HOLD
+
+    def _of_reset(self, number: int, epoch: int) -> Verdict:
+        """A reset goes to the server only if its node has the epoch that its asker saw, and no reset will change it."""
+        if not self._is_fresh or self._views.view is None:
+            self.wants_look = True
+            return Hold.HOLD
+        node = self._views.node(number)
+        if node is None:
+            return UNKNOWN_NODE
+        if node.epoch != epoch:
+            return BAD_EPOCH
+        if node.mode != "ready":
+            return b'{"kind":"joined","step":%d}' % self._views.view.settled
+        if any(other.mode != "ready" for other in self._views.view.connected(number)):
+            self.wants_end = True  # it may have gone through the node already, or not
+            return Hold.HOLD
+        return Place.ORDER
+
+    def _is_doubtful(self, request: Request) -> bool:
+        """Whether the server would refuse it, by the last view. That may be an old one, so then the front looks first."""
+        if self._views.view is None:
+            return True
+        node: Node | None = self._views.node(request.members["node"])
+        return node is None or request.op == "confirm" and not node.confirmed < request.members["epoch"] <= node.epoch

@@ -1,0 +1,122 @@
+"""The orders that the front gives as its own client: their numbers, and what an answer says of them.
+
+A file keeps the last number that was sent. It need not be right: at each start, and whenever an answer fits no more, the
+number is found by refusals, beginning at the one that is kept.
+"""
+
+from __future__ import annotations
+
+import os
+from collections.abc import Sequence
+from dataclasses import dataclass
+from typing import Any
+
+from resetd_client import Port, Refusal, files, find_count
+
+from .building import Line, Place
+
+MOST_TRIES = 3  # of one order whose number was not the next: somebody else may order as the same client
+CARRIED_OUT = b'{"kind":"carried out","step":0}'  # it was carried out, and its reply was lost with a connection
+PASSING = (Refusal.STOPPED, Refusal.OUT_OF_MEMORY, Refusal.PENDING_FULL)  # they say nothing of the number
+SECONDS = 5.0  # for one answer, where the number is looked for
+
+
+@dataclass(frozen=True, slots=True)
+class Outcome:
+    """What came of a line: its answer, or None if it has to go once more, with another number."""
+
+    line: Line
+    answer: bytes | None
+
+
+class OwnOrders:
+    """The count of one client, which nobody else uses."""
+
+    def __init__(self, client: int, folder: str) -> None:
+        """Raises Held if another process has the folder, and OSError."""
+        self.client = client
+        self.is_known = False  # whether the number is that of the coordinator
+        self._lock = files.hold(folder)
+        self._path = os.path.join(folder, f"client-{client}")
+        self._number = kept_number(self._path)
+        self._is_free = False  # in this flight a number was refused, so that those behind it are out of turn
+        self._unsure: list[Line] = []  # out of turn, sent more than once: carried out if a later one is in turn
+
+    def close(self) -> None:
+        self._lock.close()
+
+    def find(self, addresses: str) -> int:
+        """The number of the client's last order, by the coordinator. It blocks. Raises Away, NotTaken, CountNotFound."""
+        return find_count(Port(addresses, SECONDS), self.client, self._number)
+
+    def found(self, number: int) -> None:
+        self._number, self.is_known = number, True
+
+    def give_numbers(self, lines: Sequence[Line]) -> None:
+        """Numbers the own orders of a new flight, and keeps the last number before any is sent. Those that will be refused,
+        by all that is known, have one number together: a refused order leaves it to the next."""
+        number = self._number
+        for line in lines:
+            if line.request.is_unnumbered:
+                line.number = number + 1
+                number += line.place is Place.ORDER
+        if number != self._number:
+            keep_number(self._path, number)
+
+    def answered(self, line: Line, text: bytes, answer: dict[str, Any]) -> list[Outcome]:
+        """What an answer to a numbered line says of it, and of lines before it."""
+        refused = answer.get("refused")
+        if refused == Refusal.OUT_OF_TURN:
+            return self._out_of_turn(line, text)
+        if refused == Refusal.NUMBER_REUSED:
+            is_taken = line.place is Place.DOUBTFUL and self._number == line.number  # by another of this flight
+            return [Outcome(line, None) if is_taken else self._lost(line, text)]
+        if "fault" in answer or refused in PASSING:
+            self.is_known, self._is_free = False, True
+            return [Outcome(line, text)]
+        before = [Outcome(each, CARRIED_OUT) for each in self._unsure]
+        self._unsure = []
+        self._is_free = self._is_free or refused is not None
+        self._number = line.number - (refused is not None)
+        return [*before, Outcome(line, text)]
+
+    def flight_over(self) -> list[Outcome]:
+        """What is left of a flight, each of whose lines has its answer."""
+        left = [self._lost(line, b"") for line in self._unsure]
+        self._unsure, self._is_free = [], False
+        return left
+
+    def broken(self) -> None:
+        """The connection is gone: what is sent again is judged by what comes then."""
+        self._is_free = False
+
+    def _out_of_turn(self, line: Line, text: bytes) -> list[Outcome]:
+        if self._is_free:
+            return [Outcome(line, None)]
+        if line.sent > 1:
+            self._unsure.append(line)
+            return []
+        return [self._lost(line, text)]
+
+    def _lost(self, line: Line, text: bytes) -> Outcome:
+        """The count is not the coordinator's. The order goes once more, some times."""
+        self.is_known = False
+        self._is_free = True
+        is_given_up = any(asked.tries >= MOST_TRIES for asked in line.asked)
+        for asked in line.asked:
+            asked.tries += 1
+        return Outcome(line, (text or b'{"name":"OutOfTurn","refused":4}') if is_given_up else None)
+
+
+def kept_number(path: str) -> int:
+    try:
+        return max(int(files.read(path) or 0), 0)
+    except ValueError:
+        return 0
+
+
+def keep_number(path: str, number: int) -> None:
+    """Replaces the file as a whole. It is not synced: after a power cut the number is found from an older one."""
+    with open(path + ".new", "w", encoding="ascii") as file:
+        file.write(str(number))
+    os.replace(path + ".new", path)

@@ -1,0 +1,98 @@
+"""A page to look at and the metrics, over HTTP on a Unix socket or the loopback, by Debian's python3-aiohttp: read only."""
+
+from __future__ import annotations
+
+import asyncio
+import ipaddress
+import json
+import os
+from typing import Any
+
+from .audit import moment
+from .front import Front, complain
+from .metrics import Metrics
+from .upstream import address_of
+
+PAGE = os.path.join(os.path.dirname(os.path.abspath(__file__)), "page.html")
+POLICY = "default-src 'none'; script-src 'unsafe-inline'; style-src 'unsafe-inline'; connect-src 'self'"
+EACH_SECONDS = 0.05  # at most so often a page is told
+LOOK_SECONDS = 2.0  # for which a page waits before the server is looked at again
+
+
+class Page:
+    """What a browser gets."""
+
+    def __init__(self, front: Front, metrics: Metrics | None) -> None:
+        """Raises ImportError where the library is not there."""
+        from aiohttp import web
+
+        self._web, self._front, self._metrics = web, front, metrics
+        self._runner: Any = None
+        self._since: dict[int, tuple[Any, str]] = {}  # each node's row, and when it was first seen so
+        with open(PAGE, "rb") as file:
+            self._text = file.read()
+
+    async def listen(self, address: str) -> None:
+        """At unix:PATH or HOST:PORT of the loopback. Raises OSError, and ValueError."""
+        web = self._web
+        application = web.Application()
+        application.add_routes([web.get("/", self._page), web.get("/events", self._events), web.get("/metrics", self._numbers)])
+        self._runner = web.AppRunner(application, access_log=None)
+        await self._runner.setup()
+        if address.startswith("unix:"):
+            site = web.UnixSite(self._runner, address.removeprefix("unix:"), shutdown_timeout=1.0)
+        else:
+            host, port = address_of(address) if not address.endswith(":0") else (address[:-2], 0)
+            if not ipaddress.ip_address(host).is_loopback:
+                raise ValueError(f"{host} is no address of the loopback")
+            site = web.TCPSite(self._runner, host, port, shutdown_timeout=1.0)
+        await site.start()
+        where = site.name if address.startswith("unix:") else "http://{}:{}".format(*self._runner.addresses[0][:2])
+        complain(f"the page is at {where}")
+
+    async def close(self) -> None:
+        if self._runner:
+            await self._runner.cleanup()
+
+    async def _page(self, request: Any) -> Any:
+        return self._web.Response(body=self._text, content_type="text/html", charset="utf-8",
+                                  headers={"Content-Security-Policy": POLICY, "Cache-Control": "no-store"})
+
+    async def _numbers(self, request: Any) -> Any:
+        if self._metrics is None:
+            raise self._web.HTTPNotImplemented(text="python3-prometheus-client is not installed\n")
+        self._front.upstream.look()
+        return self._web.Response(body=self._metrics.text(), headers={"Content-Type": "text/plain; version=0.0.4; charset=utf-8"})
+
+    async def _events(self, request: Any) -> Any:
+        """A stream of what the page shows, at each change."""
+        response = self._web.StreamResponse(headers={"Content-Type": "text/event-stream", "Cache-Control": "no-store"})
+        await response.prepare(request)
+        changed = asyncio.Event()
+        self._front.followers.add(changed.set)
+        try:
+            while True:
+                self._front.upstream.look()
+                await response.write(b"data: " + json.dumps(self.state()).encode() + b"\n\n")
+                changed.clear()
+                try:
+                    await asyncio.wait_for(changed.wait(), LOOK_SECONDS)
+                    await asyncio.sleep(EACH_SECONDS)
+                except asyncio.TimeoutError:
+                    pass
+        except (ConnectionError, asyncio.CancelledError):
+            pass
+        finally:
+            self._front.followers.discard(changed.set)
+        return response
+
+    def state(self) -> dict[str, Any]:
+        """What a page shows."""
+        front, view = self._front, self._front.views.view
+        now = moment()
+        for node in view.nodes if view else ():
+            if self._since.get(node.node, (None, ""))[0] != node:
+                self._since[node.node] = (node, now)
+        return {"since": {number: when for number, (_, when) in self._since.items()}, "up": bool(front.upstream.is_up),
+                "stopped": front.upstream.is_stopped, "view": view.members() if view else None,
+                "recent": list(front.recent)[::-1], "connections": len(front.connections), "watchers": len(front.watchers)}

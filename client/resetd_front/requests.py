@@ -1,0 +1,151 @@
+"""What a line asks for: the lines of docs/FORMATS.md, "Administration lines", and those that only a front takes.
+
+The front passes on no text of a client but what it has read itself: what it judged is what is carried out.
+"""
+
+from __future__ import annotations
+
+import json
+import math
+from dataclasses import dataclass
+from typing import Any
+
+MOST_BYTES = 512  # of a line, without its line feed
+MOST_DEPTH = 127  # of arrays and objects in each other, as the server reads them
+
+WORD = range(1 << 64)
+NODES, GROUPS, CLIENTS = range(1, 65), range(1, 17), range(1, 17)
+RANGES = {"client": CLIENTS, "number": WORD, "node": NODES, "group": GROUPS, "a": NODES, "b": NODES, "epoch": WORD}
+ORDERS = {"add": ("node", "group"), "remove": ("node",), "reset": ("node",), "join": ("a", "b"), "drop": ("a", "b"),
+          "confirm": ("node", "epoch")}
+LOOKS = ("show", "watch")
+OPS = (*ORDERS, *LOOKS, "resend", "close")
+NUMBERED = ("client", "number")
+# Orders that the front numbers itself: they do no harm when they are repeated.
+WITHOUT_NUMBER = {"confirm": (frozenset({"node", "epoch"}),), "reset": (frozenset({"node"}), frozenset({"node", "epoch"}))}
+
+
+class NotARequest(Exception):
+    """A line asks for nothing; `fault` is the name of the fault that the server has for it."""
+
+    def __init__(self, fault: str) -> None:
+        super().__init__(fault)
+        self.fault = fault
+
+
+@dataclass(frozen=True, slots=True)
+class Request:
+    """An op and its members."""
+
+    op: str
+    members: dict[str, int]
+
+    @property
+    def is_order(self) -> bool:
+        return self.op in ORDERS
+
+    @property
+    def is_unnumbered(self) -> bool:
+        """An order that names no client: the front gives it its own client and the next number."""
+        return self.op in ORDERS and "client" not in self.members
+
+    @property
+    def epoch_seen(self) -> int | None:
+        """Of a reset, the epoch that its asker saw, where it names one."""
+        return self.members.get("epoch") if self.op == "reset" else None
+
+    @property
+    def nodes(self) -> tuple[int, ...]:
+        """The nodes that it names."""
+        return tuple(self.members[name] for name in ("node", "a", "b") if name in self.members)
+
+    @property
+    def shared(self) -> tuple[object, ...] | None:
+        """What is equal of requests that one answer may stand for: looks, confirms that the front numbers, and resets that
+        name the epoch that their asker saw. None for all others."""
+        if self.op in LOOKS:
+            return LOOKS
+        if self.is_unnumbered and "epoch" in self.members:
+            return (self.op, self.members["node"], self.members["epoch"])
+        return None
+
+    def told(self) -> dict[str, Any]:
+        """The request as the object that it was."""
+        return {"op": self.op, **self.members}
+
+    def line(self, **numbered: int) -> bytes:
+        """The line for the server, with the client and the number of an order that names none."""
+        if self.op in LOOKS:
+            return b'{"op":"show"}\n'
+        members = {name: value for name, value in self.members.items() if self.op != "reset" or name != "epoch"}
+        return json.dumps({"op": self.op, **numbered, **members}, separators=(",", ":")).encode() + b"\n"
+
+
+SHOW = Request("show", {})
+
+
+def read(line: bytes) -> Request:
+    """The request of a line, given without its line feed. Raises NotARequest, with the fault that the server would answer."""
+    if len(line) > MOST_BYTES:
+        raise NotARequest("TooLong")
+    value = object_of(line)
+    op = value.pop("op", None)
+    if not isinstance(op, str):
+        raise NotARequest("BadRequest")
+    if op not in OPS:
+        raise NotARequest("UnknownOp")
+    names = frozenset(value)
+    if op in ORDERS:
+        is_right = names == {*NUMBERED, *ORDERS[op]} or names in WITHOUT_NUMBER.get(op, ())
+    else:
+        is_right = not names
+    if not is_right or not all(type(each) is int and each in RANGES[name] for name, each in value.items()):
+        raise NotARequest("BadRequest")
+    return Request(op, value)
+
+
+def object_of(line: bytes) -> dict[str, Any]:
+    """The object that a line spells, by the rules of the server's reader. Raises NotARequest."""
+    try:
+        text = line.decode("utf-8")
+    except UnicodeDecodeError:
+        raise NotARequest("BadText") from None
+    try:
+        value = json.loads(text, parse_constant=refused, parse_float=finite, parse_int=whole)
+        if "\\u" in text:
+            json.dumps(value, ensure_ascii=False).encode("utf-8")  # half of a pair of surrogates is no text
+    except (ValueError, RecursionError):
+        raise NotARequest("BadJson") from None
+    if text.count("[") + text.count("{") > MOST_DEPTH and depth(value) > MOST_DEPTH:
+        raise NotARequest("BadJson")
+    if not isinstance(value, dict):
+        raise NotARequest("BadRequest")
+    return value
+
+
+def refused(name: str) -> None:
+    raise ValueError(f"{name} is no JSON")
+
+
+def finite(text: str) -> float:
+    value = float(text)
+    if math.isinf(value):
+        raise ValueError(f"{text} is out of range")
+    return value
+
+
+def whole(text: str) -> int | float:
+    """A whole number; one with a sign is none of 64 bits, not even -0."""
+    return finite(text) if text.startswith("-") or len(text) > 20 else int(text)
+
+
+def depth(value: object) -> int:
+    """How many arrays and objects stand in each other."""
+    deepest, rest = 0, [(value, 0)]
+    while rest:
+        each, above = rest.pop()
+        inner = each.values() if isinstance(each, dict) else each if isinstance(each, list) else ()
+        if isinstance(each, (dict, list)):
+            deepest = max(deepest, above + 1)
+        rest += [(one, above + 1) for one in inner]
+    return deepest

@@ -1,0 +1,51 @@
+"""The file of signals, by inotify: the system tells when it changes. It need not be there yet, and it may go."""
+
+from __future__ import annotations
+
+import asyncio
+import ctypes
+import os
+import struct
+from collections.abc import Callable
+
+IN_MODIFY, IN_MOVED_TO, IN_CREATE = 0x2, 0x80, 0x100
+HEAD = struct.Struct("iIII")  # of an event: the watch, what happened, a cookie, the length of the name behind it
+MOST_BYTES = 65_536
+
+
+class Signals:
+    """Calls `grown` when the file is written, made or put in place. It watches its folder, which has to be there."""
+
+    def __init__(self, path: str, grown: Callable[[], None]) -> None:
+        """Raises OSError."""
+        self._name, self._grown = os.path.basename(path).encode(), grown
+        library = ctypes.CDLL(None, use_errno=True)
+        self._file = library.inotify_init1(os.O_NONBLOCK | os.O_CLOEXEC)
+        folder = os.path.dirname(os.path.abspath(path))
+        if self._file < 0 or library.inotify_add_watch(
+                self._file, os.fsencode(folder), IN_MODIFY | IN_MOVED_TO | IN_CREATE) < 0:
+            number = ctypes.get_errno()
+            raise OSError(number, os.strerror(number), folder)
+        asyncio.get_running_loop().add_reader(self._file, self._read)
+
+    def close(self) -> None:
+        asyncio.get_running_loop().remove_reader(self._file)
+        os.close(self._file)
+
+    def _read(self) -> None:
+        try:
+            text = os.read(self._file, MOST_BYTES)
+        except BlockingIOError:
+            return
+        if self._name in names_in(text):
+            self._grown()
+
+
+def names_in(text: bytes) -> set[bytes]:
+    """The names of files that events are of."""
+    names, at = set[bytes](), 0
+    while at < len(text):
+        length = HEAD.unpack_from(text, at)[3]
+        names.add(text[at + HEAD.size:at + HEAD.size + length].rstrip(b"\0"))
+        at += HEAD.size + length
+    return names

@@ -1,0 +1,48 @@
+"""What the front knows of the nodes and links: the answer to its last look."""
+
+from __future__ import annotations
+
+import json
+
+from resetd_client import Node, View
+
+MODES_OF_A_RESET = (b'"abort"', b'"converge"')
+
+
+class Views:
+    """The last view, as the line that the server said it with (without its line feed)."""
+
+    def __init__(self) -> None:
+        self.line = b""
+        self._rows = b""  # of the line, what has nodes and links
+        self._view: View | None = None
+
+    def note(self, line: bytes) -> bool:
+        """Takes a new answer to a look, and answers whether nodes or links differ from before. What is no view is left."""
+        rows = rows_of(line)
+        if rows is None:
+            return False
+        is_new = rows != self._rows
+        self.line, self._rows, self._view = line, rows, None
+        return is_new
+
+    @property
+    def is_in_reset(self) -> bool:
+        """Whether a reset is under way at some node."""
+        return any(mode in self._rows for mode in MODES_OF_A_RESET)
+
+    @property
+    def view(self) -> View | None:
+        """The rows, None before the first look."""
+        if self._view is None and self.line:
+            self._view = View.of(json.loads(self.line))
+        return self._view
+
+    def node(self, number: int) -> Node | None:
+        return self.view.node(number) if self.view else None
+
+
+def rows_of(line: bytes) -> bytes | None:
+    """The part of a view's line that has its links and nodes. A count of steps alone is no change."""
+    begin, end = line.find(b',"links":'), line.rfind(b',"settled":')
+    return line[begin:end] if line.startswith(b'{"accepted":') and 0 < begin < end else None

@@ -1,0 +1,141 @@
+"""What a front does for its clients, before a coordinator in memory: a socket of this host or TLS, and views that it pushes."""
+
+from __future__ import annotations
+
+import contextlib
+import json
+import os
+import socket
+import ssl
+import subprocess
+import threading
+
+from fake import Fake
+
+SUBJECTS = {"authority": "CA:TRUE", "front": "", "client": "", "foreign": "CA:TRUE", "stranger": ""}  # and what they may be
+
+
+class Pushing:
+    """Serves each connection in a thread of its own. `names` are of the certificates that clients have shown."""
+
+    def __init__(self, fake: Fake, listener: socket.socket, context: ssl.SSLContext | None = None) -> None:
+        self.fake, self._listener, self._context = fake, listener, context
+        self.names: list[str] = []
+        self.connections = 0
+        self.answer = ""  # to a watch, in place of views
+        self.ends = False  # each connection as soon as it is there
+        self._watchers: list[socket.socket] = []
+        self._open: list[socket.socket] = []
+        self._changes = threading.Condition()
+        threading.Thread(target=self._serve, daemon=True).start()
+
+    def push(self) -> None:
+        """Pushes the present view to all that watch."""
+        with self._changes:
+            for each in self._watchers:
+                with contextlib.suppress(OSError):
+                    each.sendall(self._view())
+
+    def wait_for_watchers(self, count: int) -> bool:
+        """Waits until so many connections watch."""
+        with self._changes:
+            return self._changes.wait_for(lambda: len(self._watchers) >= count, 60)
+
+    def drop(self) -> None:
+        """Ends all connections."""
+        with self._changes:
+            for each in self._open:
+                with contextlib.suppress(OSError):
+                    each.shutdown(socket.SHUT_RDWR)
+            self._watchers, self._open = [], []
+
+    def close(self) -> None:
+        with contextlib.suppress(OSError):
+            self._listener.shutdown(socket.SHUT_RDWR)
+        self._listener.close()
+        self.drop()
+
+    def _view(self) -> bytes:
+        return self.fake.respond(b'{"op":"show"}\n').encode() + b"\n"
+
+    def _serve(self) -> None:
+        while True:
+            try:
+                connection, _ = self._listener.accept()
+            except OSError:
+                return
+            threading.Thread(target=self._serve_one, args=(connection,), daemon=True).start()
+
+    def _serve_one(self, connection: socket.socket) -> None:
+        with contextlib.suppress(OSError):
+            if self._context is not None:
+                connection = self._context.wrap_socket(connection, server_side=True)
+                self.names.append(name_in(connection))
+            with self._changes:
+                self.connections += 1
+                self._open.append(connection)
+            if self.ends:
+                connection.close()
+                return
+            with connection, connection.makefile("rb") as lines:
+                for line in lines:
+                    self._answer(connection, line)
+
+    def _answer(self, connection: socket.socket, line: bytes) -> None:
+        with self._changes:
+            if json.loads(line) != {"op": "watch"}:
+                connection.sendall(self.fake.respond(line).encode() + b"\n")
+            elif self.answer:
+                connection.sendall(self.answer.encode() + b"\n")
+            else:
+                connection.sendall(self._view())
+                self._watchers.append(connection)
+                self._changes.notify_all()
+
+
+def name_in(connection: ssl.SSLSocket) -> str:
+    """The common name of the certificate that a client has shown."""
+    subject = (connection.getpeercert() or {}).get("subject", ())
+    return next((str(value) for row in subject for key, value in row if key == "commonName"), "")  # type: ignore[misc]
+
+
+def make_certificates(folder: str) -> None:
+    """NAME.pem and NAME.key: an authority, a front and a client that it has signed, and a foreign authority with a
+    stranger that it has signed."""
+    signers = {"front": "authority", "client": "authority", "stranger": "foreign"}
+    for name, what in SUBJECTS.items():
+        signed_by = signers.get(name)
+        ran("openssl", "req", "-x509", "-newkey", "ec", "-pkeyopt", "ec_paramgen_curve:prime256v1", "-nodes", "-days", "2",
+            "-keyout", f"{folder}/{name}.key", "-out", f"{folder}/{name}.pem", "-subj", f"/CN={name}",
+            "-addext", f"basicConstraints=critical,{what or 'CA:FALSE'}",
+            *(["-addext", "subjectAltName=IP:127.0.0.1"] if name == "front" else []),
+            *(["-CA", f"{folder}/{signed_by}.pem", "-CAkey", f"{folder}/{signed_by}.key"] if signed_by else []))
+
+
+def ran(*words: str) -> None:
+    done = subprocess.run(words, capture_output=True, encoding="utf-8", check=False)
+    if done.returncode:
+        raise RuntimeError(f"{words}: {done.stderr}")
+
+
+def of_unix(fake: Fake, path: str) -> Pushing:
+    listener = socket.socket(socket.AF_UNIX)
+    listener.bind(path)
+    listener.listen(16)
+    return Pushing(fake, listener)
+
+
+def context_of(folder: str, name: str = "front") -> ssl.SSLContext:
+    """Of a front that shows this certificate, and wants one of the authority's."""
+    context = ssl.SSLContext(ssl.PROTOCOL_TLS_SERVER)
+    context.minimum_version = ssl.TLSVersion.TLSv1_3
+    context.load_cert_chain(os.path.join(folder, f"{name}.pem"), os.path.join(folder, f"{name}.key"))
+    context.load_verify_locations(os.path.join(folder, "authority.pem"))
+    context.verify_mode = ssl.CERT_REQUIRED
+    return context
+
+
+def of_tls(fake: Fake, folder: str, name: str = "front") -> tuple[Pushing, str]:
+    """A front that shows this certificate, and its address."""
+    listener = socket.create_server(("127.0.0.1", 0))
+    return Pushing(fake, listener, context_of(folder, name)), f"tls:127.0.0.1:{listener.getsockname()[1]}"

@@ -1,0 +1,180 @@
+"""Addresses of a front: a socket of this host, and TLS with a certificate at each end."""
+
+from __future__ import annotations
+
+import asyncio
+import os
+import shutil
+import socket
+import tempfile
+import threading
+import unittest
+from unittest import mock
+
+from case import Case
+from pushing import context_of, make_certificates, of_tls, of_unix
+from resetd_client import Away, BadWords, Credentials, Fault, Faulted, Orders, Port, Unreadable, Untrusted
+from resetd_client.address import SERVER, addresses_of, default_address
+from resetd_client.control import main
+
+
+class Words(unittest.TestCase):
+    def test_what_an_address_is(self) -> None:
+        text = "127.0.0.1:4170,unix:/run/front, tls:host.example:443,host:1"
+        found = addresses_of(text, Credentials())
+        self.assertEqual(",".join(map(str, found)), text.replace(" ", ""))
+        self.assertEqual([each.is_front for each in found], [False, True, True, False])
+        self.assertEqual([each.is_front for each in addresses_of("unix:4170,tls:4170")], [False, False])  # hosts of these names
+
+    def test_what_is_none(self) -> None:
+        for text in ("", "here", "127.0.0.1:", ":4170", "127.0.0.1:0", "127.0.0.1:65536", "127.0.0.1:x", "unix:", "unix:relative",
+                     f"unix:/{'x' * 107}", "tls:host:0", "tls::4170", "127.0.0.1:4170,", "127.0.0.1:\u0661"):
+            with self.subTest(text=text):
+                self.assertRaises(BadWords, addresses_of, text)
+
+
+class Sockets(Case):
+    def setUp(self) -> None:
+        super().setUp()
+        self.server.ring(2)
+        self.path = f"{self.folder}/front"
+        self.front = of_unix(self.server, self.path)
+        self.addCleanup(self.front.close)
+
+    def test_it_is_asked_as_a_port_is(self) -> None:
+        port = Port(f"unix:{self.path}", 30)
+        self.assertTrue(port.is_front)
+        self.assertEqual(len(port.show().nodes), 2)
+        with Orders(port, 3, f"{self.folder}/orders") as orders:
+            self.assertEqual(orders.order("reset", node=1).kind, "started")
+        self.assertEqual(self.server.row(1)[1], 1)
+
+    def test_one_that_is_not_there_gives_way_to_the_next(self) -> None:
+        self.assertEqual(len(Port(f"unix:{self.folder}/none,unix:{self.path}", 30).show().nodes), 2)
+        with self.assertRaisesRegex(Away, f"unix:{self.folder}/none: No such file"):
+            Port(f"unix:{self.folder}/none").show()
+
+    def test_what_is_not_allowed(self) -> None:
+        """A fault that this library knows: nothing was carried out, and the order's number is free."""
+        with Orders(Port(f"unix:{self.path}", 30), 3, f"{self.folder}/orders") as orders:
+            orders.order("reset", node=1)
+            with mock.patch.object(self.server, "respond", return_value='{"fault":"NotAllowed"}'), self.assertRaises(Faulted) as caught:
+                orders.order("remove", node=1)
+            self.assertIs(caught.exception.fault, Fault.NOT_ALLOWED)
+            self.assertEqual((orders.number, orders.unanswered), (1, []))
+
+    def test_the_default_is_the_front_where_it_is(self) -> None:
+        with mock.patch("resetd_client.address.FRONT_SOCKET", self.path):
+            self.assertEqual(default_address(), f"unix:{self.path}")
+        for path in (f"{self.folder}/none", self.folder):
+            with mock.patch("resetd_client.address.FRONT_SOCKET", path):
+                self.assertEqual(default_address(), SERVER)
+
+    def test_resetctl_takes_the_default(self) -> None:
+        with mock.patch.dict(os.environ, {"RESETD_ADDRESS": ""}), mock.patch("resetd_client.address.FRONT_SOCKET", self.path):
+            self.assertEqual(main(["--quiet", "--state", self.folder, "reset", "1"]), 0)
+        self.assertEqual(self.server.row(1)[1], 1)
+
+
+@unittest.skipUnless(shutil.which("openssl"), "openssl is not installed: no certificates to try")
+class Certificates(Case):
+    @classmethod
+    def setUpClass(cls) -> None:
+        super().setUpClass()
+        cls.pem = tempfile.mkdtemp()
+        cls.addClassCleanup(shutil.rmtree, cls.pem)
+        make_certificates(cls.pem)
+
+    pem: str
+
+    def credentials(self, client: str = "client", authority: str = "authority") -> Credentials:
+        return Credentials(f"{self.pem}/{client}.pem", f"{self.pem}/{client}.key", f"{self.pem}/{authority}.pem")
+
+    def setUp(self) -> None:
+        super().setUp()
+        self.server.ring(2)
+        self.front, self.address = of_tls(self.server, self.pem)
+        self.addCleanup(self.front.close)
+
+    def test_it_is_asked_as_a_port_is(self) -> None:
+        port = Port(self.address, 30, self.credentials())
+        self.assertEqual(len(list(port.ask_many([{"op": "show"}] * 70))), 70)
+        self.assertEqual(self.front.names, ["client"])
+
+    def test_a_front_that_the_authority_has_not_signed(self) -> None:
+        stranger, address = of_tls(self.server, self.pem, "stranger")
+        self.addCleanup(stranger.close)
+        with self.assertRaisesRegex(Untrusted, "its certificate is not taken"):
+            Port(address, 30, self.credentials()).show()
+        self.assertEqual(self.server.seen, [])
+
+    def test_a_front_of_another_name(self) -> None:
+        with self.assertRaisesRegex(Untrusted, "its certificate is not taken"):
+            Port(self.address.replace("127.0.0.1", "localhost"), 30, self.credentials()).show()
+
+    def test_a_client_that_the_front_does_not_take(self) -> None:
+        for _ in range(3):
+            with self.assertRaisesRegex(Untrusted, "does not take this client's certificate"):
+                Port(self.address, 30, self.credentials("stranger")).show()
+
+    def test_a_client_that_is_not_taken_without_a_word(self) -> None:
+        """As by a server on asyncio, which ends the connection and sends no alert."""
+        listener, stop = socket.create_server(("127.0.0.1", 0)), threading.Event()
+        self.addCleanup(stop.set)
+
+        async def serve() -> None:
+            asyncio.get_running_loop().set_exception_handler(lambda *_: None)
+            async with await asyncio.start_server(lambda _, writer: writer.close(), sock=listener, ssl=context_of(self.pem)):
+                await asyncio.to_thread(stop.wait)
+            await asyncio.sleep(0.1)  # what it has ended is closed
+
+        thread = threading.Thread(target=lambda: asyncio.run(serve()), daemon=True)
+        thread.start()
+        port = f"tls:127.0.0.1:{listener.getsockname()[1]}"
+        for _ in range(3):
+            with self.assertRaisesRegex(Untrusted, "does not take this client's certificate"):
+                Port(port, 30, self.credentials("stranger")).show()
+        with self.assertRaises(Away):
+            Port(port, 30, self.credentials()).show()
+        stop.set()
+        thread.join(60)
+
+    def test_a_front_that_takes_a_client_and_ends_is_away(self) -> None:
+        self.front.ends = True
+        for _ in range(3):
+            self.assertRaises(Away, Port(self.address, 30, self.credentials()).show)
+
+    def test_what_is_missing_or_is_no_certificate(self) -> None:
+        wrong = (Credentials(), self.credentials().over(key=f"{self.pem}/none"), self.credentials().over(key=f"{self.pem}/foreign.key"),
+                 self.credentials().over(authority=f"{self.pem}/client.key"))
+        for credentials in wrong:
+            with self.subTest(credentials=credentials):
+                self.assertRaises(Untrusted, Port(self.address, 30, credentials).show)
+        self.assertEqual(self.front.connections, 0)
+
+    def test_a_front_that_is_not_there(self) -> None:
+        self.assertRaises(Away, Port("tls:127.0.0.1:1", 30, self.credentials()).show)
+
+    def test_where_credentials_are_found(self) -> None:
+        """By options before variables, and by these before a file, whose paths begin at its folder."""
+        path = f"{self.folder}/tls.toml"
+        with open(path, "w", encoding="utf-8") as file:
+            file.write(f'certificate = "{self.pem}/client.pem"\nkey = "there.key"\nauthority = "/none"\n')
+        found = Credentials.found({"RESETD_TLS": path, "RESETD_AUTHORITY": "/other"})
+        self.assertEqual(found, Credentials(f"{self.pem}/client.pem", f"{self.folder}/there.key", "/other"))
+        self.assertEqual(found.over(key="/mine", authority=None), Credentials(f"{self.pem}/client.pem", "/mine", "/other"))
+        self.assertEqual(Credentials.found({}), Credentials())
+        for text in ("key = 1\n", "word = 'x'\n", "no toml"):
+            with open(path, "w", encoding="utf-8") as file:
+                file.write(text)
+            self.assertRaises(Unreadable, Credentials.found, {"RESETD_TLS": path})
+        self.assertRaises(Unreadable, Credentials.found, {"RESETD_TLS": "/none"})
+
+    def test_resetctl(self) -> None:
+        words = ("--certificate", f"{self.pem}/client.pem", "--key", f"{self.pem}/client.key")
+        status, out, told = self.run_words(*words, "--authority", f"{self.pem}/authority.pem", "show", address=self.address)
+        self.assertEqual((status, "node group" in out), (0, True), told)
+        status, _, told = self.run_words(*words, "--authority", f"{self.pem}/foreign.pem", "show", address=self.address)
+        self.assertEqual((status, "its certificate is not taken" in told), (1, True), told)
+        status, _, told = self.run_words(*words, "show", address=self.address)
+        self.assertEqual((status, "no authority given" in told), (1, True), told)

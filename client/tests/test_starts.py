@@ -1,0 +1,230 @@
+"""What is kept of a member's starts on the disk, and what a power cut leaves of it."""
+
+from __future__ import annotations
+
+import json
+import os
+import tempfile
+import unittest
+from collections.abc import Callable
+from unittest import mock
+
+import case  # noqa: F401
+from resetd_client import Due, Shelf, Starts, View, keep, read
+from resetd_client.history import History
+from resetd_client.party import digest_of
+from test_rule import DIGEST, PARTY, THROUGH, in_reset, view_of
+
+UNCONFIRMED = view_of((1, 4, 3), (2, 7, 7))
+
+
+class Cut(Exception):
+    """The power is cut here."""
+
+
+class Case(unittest.TestCase):
+    def setUp(self) -> None:
+        temporary = tempfile.TemporaryDirectory()
+        self.addCleanup(temporary.cleanup)
+        self.folder = temporary.name
+        self.path = f"{self.folder}/start.json"
+
+    def due(self, starts: Starts, view: View) -> Due:
+        row = view.node(1)
+        assert row
+        return starts.due(view, row)
+
+
+class Kept(Case):
+    def begun(self, epoch: int) -> tuple[Shelf, Starts]:
+        """A start of this epoch, which has not talked."""
+        shelf = Shelf(self.path)
+        starts = Starts(shelf, 1, None)
+        starts.note_begin()
+        starts.note_begun(epoch)
+        shelf.keep()
+        return shelf, starts
+
+    def test_who_first_talked_is_written_down(self) -> None:
+        shelf, starts = self.begun(4)
+        more = view_of((1, 4, 4), (2, 7, 7), (3, 0, 0))
+        self.assertEqual([self.due(starts, each) for each in (THROUGH, more)], [Due.TALK, Due.RESET])
+        shelf.keep()
+        again = Starts(Shelf(self.path), 1, 4)
+        self.assertEqual([self.due(again, each) for each in (more, THROUGH)], [Due.RESET, Due.TALK])
+        self.assertEqual(json.loads(read(self.path) or ""), {"1": {"begun": 4, "party": sorted(PARTY)}})
+        self.assertEqual(read(f"{self.folder}/start.history"), f"{DIGEST}\n")
+
+    def test_a_party_comes_only_once(self) -> None:
+        """Another start does not talk by it, and none is begun for it."""
+        shelf, starts = self.begun(4)
+        self.due(starts, THROUGH)
+        shelf.keep()
+        _, starts = self.begun(4)
+        self.assertEqual([self.due(starts, view) for view in (THROUGH, UNCONFIRMED)], [Due.RESET, Due.RESET])
+
+    def test_a_begin_takes_the_party_and_the_work_in_one_write(self) -> None:
+        shelf, starts = self.begun(4)
+        self.due(starts, THROUGH)
+        shelf.keep()
+        starts.note_begin()
+        with mock.patch("os.replace", side_effect=os.replace) as replaced:
+            shelf.keep()
+        self.assertEqual((replaced.call_count, json.loads(read(self.path) or "")), (1, {"1": {"begun": None, "party": None}}))
+        other = view_of((1, 4, 4), (9, 7, 7))
+        self.assertEqual(self.due(Starts(Shelf(self.path), 1, 4), other), Due.RESET)
+
+    def test_a_start_that_is_begun_has_talked_with_nobody(self) -> None:
+        shelf, starts = self.begun(4)
+        self.due(starts, THROUGH)
+        starts.note_begun(5)
+        shelf.keep()
+        self.assertEqual(json.loads(read(self.path) or ""), {"1": {"begun": 5, "party": None}})
+
+    def test_the_tag_is_of_the_first_party(self) -> None:
+        shelf, starts = self.begun(4)
+        first = view_of((1, 4, 4), (2, 7, 7), (3, 1, 1))
+        self.assertEqual(self.due(starts, first), Due.TALK)
+        self.assertEqual(starts.tag(first), first.tag(1))
+        self.assertEqual(self.due(starts, THROUGH), Due.TALK)
+        self.assertEqual(starts.tag(THROUGH, "w"), f"{digest_of(first.party(1), 'w')[:32]}-{digest_of(PARTY, 'w')[:32]}")
+
+    def test_work_that_is_not_that_of_the_start(self) -> None:
+        """None, of another epoch, or of a begin that was not kept."""
+        self.begun(4)
+        for work in (None, 3, 5):
+            self.assertEqual(self.due(Starts(Shelf(self.path), 1, work), THROUGH), Due.RESET)
+        self.assertEqual(self.due(Starts(Shelf(self.path), 1, 4), THROUGH), Due.TALK)
+        self.assertEqual(self.due(Starts(Shelf(f"{self.folder}/none.json"), 1, 4), THROUGH), Due.RESET)
+
+    def test_what_a_gateway_tells_again_is_written(self) -> None:
+        """Also where nothing else changes."""
+        shelf = Shelf(self.path)
+        for told in ("1 1\n", "1 2\n"):
+            Starts(shelf, 1, None).note_begin(told)
+            shelf.keep()
+            self.assertEqual(Shelf(self.path).told, {1: told})
+
+    def test_nothing_is_written_where_nothing_changes(self) -> None:
+        shelf, starts = self.begun(4)
+        for _ in range(2):
+            self.due(starts, THROUGH)
+            shelf.keep()
+        with mock.patch("os.fsync") as synced:
+            self.due(starts, THROUGH)
+            self.due(starts, UNCONFIRMED)
+            shelf.keep()
+        self.assertEqual(synced.call_count, 0)
+
+    def test_a_file_that_does_not_read_is_told(self) -> None:
+        for text in ("[]", "{", '{"1": {}}', '{"1": {"begun": 4}}', '{"1": {"begun": "4", "party": null}}', '{"1": {"begun": 4, "party": "1 4"}}'):
+            keep(self.path, text)
+            self.assertRaises(ValueError, Shelf, self.path)
+
+
+class Cuts(Case):
+    """The power is cut at each call that puts something on the disk."""
+
+    def steps(self, cut: int) -> Callable[..., mock.Mock]:
+        """Calls that pass until one of this number is cut."""
+        self.left = cut
+
+        def made(call: Callable[..., object]) -> mock.Mock:
+            def called(*words: object) -> object:
+                self.left -= 1
+                if self.left < 0:
+                    raise Cut
+                return call(*words)
+            return mock.Mock(side_effect=called)
+        return made
+
+    def test_no_party_without_its_history(self) -> None:
+        """At a first talk: either no party is kept, or its digest is in the history."""
+        outcomes = set()
+        for cut in range(20):
+            folder = tempfile.mkdtemp(dir=self.folder)
+            shelf = Shelf(f"{folder}/start.json")
+            starts = Starts(shelf, 1, None)
+            starts.note_begun(4)
+            shelf.keep()
+            made = self.steps(cut)
+            with mock.patch("os.fsync", made(os.fsync)), mock.patch("os.replace", made(os.replace)):
+                try:
+                    self.assertEqual(self.due(starts, THROUGH), Due.TALK)
+                    shelf.keep()
+                    is_over = True
+                except Cut:
+                    is_over = False
+            again = Shelf(f"{folder}/start.json")
+            outcomes.add((again.get(1).party is not None, DIGEST in again.history))
+            if is_over:
+                break
+        self.assertTrue(is_over and outcomes <= {(False, False), (False, True), (True, True)}, outcomes)
+        self.assertIn((False, True), outcomes)
+
+    def test_a_line_that_was_torn(self) -> None:
+        """It is passed over, and the next one takes its place; a whole one that does not read is told."""
+        path = f"{self.folder}/a.history"
+        lines = [digest_of(frozenset({str(place)})) for place in range(3)]
+        for torn in ("", lines[1][:20], lines[1], "\0" * 200):
+            with open(path, "w", encoding="utf-8") as file:
+                file.write(f"{lines[0]}\n{torn}")
+            history = History(path)
+            self.assertEqual([line in history for line in lines], [True, False, False])
+            history.add(lines[2])
+            self.assertNotIn(lines[2], history)
+            history.keep()
+            self.assertEqual((read(path), lines[2] in history), (f"{lines[0]}\n{lines[2]}\n", True))
+        keep(path, f"{lines[0][1:]}\n{lines[1]}\n")
+        self.assertRaises(ValueError, History, path)
+
+    def test_a_line_that_could_not_be_written_is_written_again(self) -> None:
+        history = History(f"{self.folder}/a.history")
+        history.add(DIGEST)
+        with mock.patch("os.fsync", side_effect=OSError("full")), self.assertRaises(OSError):
+            history.keep()
+        self.assertNotIn(DIGEST, history)
+        history.keep()
+        self.assertEqual((read(f"{self.folder}/a.history"), DIGEST in history), (f"{DIGEST}\n", True))
+
+    def test_a_new_history_stands_in_its_folder(self) -> None:
+        """The folder is synced, once, before anything rests on the file."""
+        history = History(f"{self.folder}/a.history")
+        for digest, syncs in ((DIGEST, 2), (digest_of(frozenset({"1 9"})), 1)):
+            history.add(digest)
+            with mock.patch("os.fsync", side_effect=os.fsync) as synced:
+                history.keep()
+            self.assertEqual(synced.call_count, syncs)
+
+
+class Earlier(Case):
+    """The file of an earlier version, which had the greatest epoch and the party of that start."""
+
+    def of(self, epoch: int, party: View | None) -> Starts:
+        keep(self.path, json.dumps({"1": {"epoch": epoch, "party": sorted(party.party(1)) if party else None}}))
+        return Starts(Shelf(self.path), 1, 4)
+
+    def test_a_reset_is_asked_for_once(self) -> None:
+        for epoch in (4, 9):
+            starts = self.of(epoch, THROUGH)
+            self.assertEqual([self.due(starts, view) for view in (in_reset(THROUGH, 2), THROUGH, view_of((1, 5, 4), (2, 8, 7)))],
+                             [Due.WAIT, Due.RESET, Due.BEGIN])
+
+    def test_none_if_the_shown_epoch_is_above(self) -> None:
+        self.assertEqual(self.due(self.of(3, view_of((1, 3, 3), (2, 6, 6))), UNCONFIRMED), Due.BEGIN)
+
+    def test_the_epoch_that_it_knows_is_not_begun_again(self) -> None:
+        """Without a reset: though nobody has confirmed it, and others are connected."""
+        other = view_of((1, 4, 3), (9, 7, 7))
+        self.assertEqual([self.due(self.of(4, THROUGH), other), self.due(self.of(3, THROUGH), other)], [Due.RESET, Due.BEGIN])
+
+    def test_its_party_does_not_come_again(self) -> None:
+        """Nor by another start of this version."""
+        for starts in (self.of(3, THROUGH), Starts(Shelf(self.path), 1, None)):
+            self.assertEqual(self.due(starts, UNCONFIRMED), Due.RESET)
+
+    def test_the_next_write_is_of_this_version(self) -> None:
+        starts = self.of(3, THROUGH)
+        starts.note_begin()
+        starts._shelf.keep()
+        self.assertEqual(json.loads(read(self.path) or ""), {"1": {"begun": None, "party": None}})

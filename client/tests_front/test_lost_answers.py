@@ -1,0 +1,107 @@
+"""What comes of lines that the server carried out, and whose answers were lost with its connection."""
+
+from __future__ import annotations
+
+import os
+import socket
+import sys
+import tempfile
+import time
+import unittest
+from typing import IO, Any
+
+from case import CLIENT, Client, Front, until
+
+sys.path.append(os.path.join(CLIENT, "tests"))
+from fake import Fake  # noqa: E402
+
+
+class Losing(Fake):
+    """A coordinator in memory that carries out the next lines, as many as `loses` says, and ends their connection without an
+    answer."""
+
+    def __init__(self) -> None:
+        self.loses, self.look_seconds = 0, 0.0
+        super().__init__()
+
+    def respond(self, line: bytes) -> str:
+        if b'"show"' in line:
+            time.sleep(self.look_seconds)
+        return super().respond(line)
+
+    def _serve_lines(self, connection: socket.socket, lines: IO[bytes]) -> None:
+        for line in lines:
+            self.seen.append({"line": line.decode()})
+            text = self.respond(line)
+            if not self.loses:
+                connection.sendall(text.encode() + b"\n")
+                continue
+            self.loses -= 1
+            if not self.loses:
+                return
+
+
+class Lost(unittest.TestCase):
+    def setUp(self) -> None:
+        folder = tempfile.TemporaryDirectory()
+        self.addCleanup(folder.cleanup)
+        self.server = Losing()
+        self.addCleanup(self.server.close)
+        self.server.ring(3)
+        self.front = Front(folder.name, self.server.address)
+        self.addCleanup(self.front.kill)
+
+    def connect(self) -> Client:
+        """A connection of which a first look was answered, so that the count of the front is known."""
+        client = self.front.connect()
+        self.addCleanup(client.close)
+        client.ask(op="confirm", node=1, epoch=9)
+        return client
+
+    def send_and_lose(self, client: Client, *lines: dict[str, Any]) -> None:
+        """These go out in one flight, are carried out, and no answer comes."""
+        self.server.loses = len(lines)
+        client.send(*lines)
+
+    def test_an_order_gets_the_reply_that_is_kept(self) -> None:
+        client = self.connect()
+        self.send_and_lose(client, {"op": "reset", "client": 1, "number": 1, "node": 1})
+        self.assertEqual(client.reply()["kind"], "started")
+        self.assertEqual(self.server.nodes[1][1], 1)
+
+    def test_orders_that_another_follows_get_no_wrong_answer(self) -> None:
+        """The server keeps the reply of the last one alone, and answers OutOfTurn to the others, which it has carried out."""
+        client = self.connect()
+        orders = [{"op": "reset", "client": 1, "number": number, "node": 1} for number in (1, 2, 3)]
+        self.send_and_lose(client, *orders)
+        self.assertEqual(client.line(), b"")
+        self.assertEqual(self.server.nodes[1][1], 3)
+        lines = until("lines of them", lambda: [line for line in self.front.audited() if line.get("line", {}).get("client")])
+        self.assertEqual({line["event"] for line in lines if line["line"]["number"] < 3}, {"unanswered"})
+        self.assertEqual(self.front.ask(**orders[2])["kind"], "started")
+        self.assertEqual(self.server.nodes[1][1], 3)
+
+    def test_orders_of_the_front_s_own_count_as_carried_out(self) -> None:
+        client = self.connect()
+        self.send_and_lose(client, *({"op": "reset", "node": node} for node in (1, 2, 3)))
+        self.assertEqual([client.reply()["kind"] for _ in range(3)], ["carried out", "carried out", "started"])
+        self.assertEqual(self.server.nodes[1][1], 3)
+        client.ask(op="reset", node=1)
+        self.assertEqual((self.server.nodes[1][1], self.server.last(15)), (4, 4))
+
+    def test_looks_that_take_longer_than_a_connection_is_kept(self) -> None:
+        """A reset that names an epoch goes right behind its look all the same."""
+        client = self.connect()
+        self.server.look_seconds = 1.1
+        self.assertEqual(client.ask(op="reset", node=1, epoch=0)["kind"], "started")
+
+    def test_a_close_is_sent_once(self) -> None:
+        client = self.connect()
+        self.send_and_lose(client, {"op": "close"})
+        self.assertEqual(client.line(), b"")
+        self.assertIn("nodes", self.front.ask(op="show"))
+        self.assertEqual(sum("close" in str(line) for line in self.server.seen), 1)
+
+
+if __name__ == "__main__":
+    unittest.main()

@@ -1,0 +1,344 @@
+"""Who comes in: users by their credentials, certificates over TLS, nobody over the loopback; and reloads."""
+
+from __future__ import annotations
+
+import contextlib
+import functools
+import os
+import random
+import shutil
+import socket
+import ssl
+import subprocess
+import sys
+import tempfile
+import threading
+import time
+import unittest
+from typing import Any
+
+from case import DEADLINE, USER, Case, Client, until
+
+POLICY = """
+[[allow]]
+user = "root"
+ops = ["show", "close"]
+[[allow]]
+user = "daemon"
+ops = ["show", "reset"]
+nodes = [1]
+[[allow]]
+group = "games"
+ops = ["watch"]
+[[allow]]
+certificate = "service2"
+ops = ["show", "watch", "confirm"]
+nodes = [2]
+[[allow]]
+user = "nobody"
+ops = ["show"]
+"""
+ASKING = """
+import socket, sys
+connection = socket.socket(socket.AF_UNIX); connection.connect(sys.argv[1])
+connection.sendall(sys.argv[2].encode() + b"\\n"); print(connection.makefile("rb").readline().decode(), end="")
+"""
+PYTHON = "/usr/bin/python3" if os.path.exists("/usr/bin/python3") else sys.executable  # which other users can run
+SHOW, WATCH, RESET_1, RESET_2 = '{"op":"show"}', '{"op":"watch"}', '{"op":"reset","node":1}', '{"op":"reset","node":2}'
+DENIED = '{"fault":"NotAllowed"}\n'
+
+
+class Ruled(Case):
+    nodes = 2
+    has_front = False
+
+    def setUp(self) -> None:
+        super().setUp()
+        self.policy = f"{self.folder}/policy"
+        self.write(POLICY)
+
+    def write(self, text: str) -> None:
+        with open(self.policy, "w", encoding="ascii") as file:
+            file.write(text)
+
+
+@unittest.skipUnless(os.getuid() == 0 and shutil.which("setpriv"), "it needs root and setpriv, to be other users")
+class Users(Ruled):
+    parent = "/tmp"
+
+    def ask_as(self, user: str, group: str, line: str) -> str:
+        """What a process of this user and this group is answered."""
+        ran = subprocess.run(["setpriv", f"--reuid={user}", f"--regid={group}", "--clear-groups", PYTHON, "-c", ASKING,
+                              self.front.path, line], capture_output=True, text=True, timeout=DEADLINE, check=False, cwd="/")
+        return ran.stdout if ran.returncode == 0 else "no connection" if "PermissionError" in ran.stderr else ran.stderr
+
+    def open_folder(self) -> None:
+        os.chmod(self.folder, 0o755)
+
+    def test_each_does_what_its_rules_allow(self) -> None:
+        self.open_folder()
+        self.front = self.started("--policy", self.policy, "--mode", "666")
+        for user, group, line, is_allowed in (
+                ("root", "root", SHOW, True), ("root", "root", RESET_1, False), ("root", "root", WATCH, False),
+                ("daemon", "daemon", RESET_1, True), ("daemon", "daemon", RESET_2, False), ("daemon", "daemon", WATCH, False),
+                ("mail", "games", WATCH, True), ("mail", "games", SHOW, False), ("mail", "mail", SHOW, False),
+                ("mail", "mail", '{"op":"close"}', False), ("nobody", "nogroup", SHOW, True), ("nobody", "nogroup", RESET_1, False)):
+            with self.subTest(user=user, group=group, line=line):
+                answer = self.ask_as(user, group, line)
+                self.assertEqual(answer != DENIED, is_allowed, answer)
+                self.assertNotIn("Traceback", answer)
+        denied = [(line["who"]["user"], line["line"]["op"]) for line in self.front.audited() if line["event"] == "denied"]
+        self.assertEqual(len(denied), 8)
+        self.assertIn(("mail", "close"), denied)
+
+    def test_rights_are_judged_line_by_line(self) -> None:
+        self.front = self.started("--policy", self.policy)
+        with self.front.connect() as client:
+            self.assertIn("nodes", client.ask(op="show"))
+            self.assertEqual(client.ask(op="reset", node=1), {"fault": "NotAllowed"})
+            self.assertIn("nodes", client.ask(op="show"))
+
+    def test_without_a_policy_the_group_looks_and_others_stay_out(self) -> None:
+        self.open_folder()
+        self.front = self.started("--group", "games", "--mode", "660")
+        self.assertIn('"nodes"', self.ask_as("mail", "games", SHOW))
+        self.assertEqual(self.ask_as("mail", "games", RESET_1), DENIED)
+        self.assertEqual(self.ask_as("mail", "mail", SHOW), "no connection")
+        self.assertIn('"kind"', self.ask_as("root", "root", RESET_1))
+
+
+class Reloads(Ruled):
+    def setUp(self) -> None:
+        super().setUp()
+        self.write(POLICY.replace('"root"', f'"{USER}"'))
+
+    def test_a_broken_policy_is_not_taken(self) -> None:
+        self.front = self.started("--policy", self.policy)
+        client = self.client()
+        self.assertEqual(client.ask(op="reset", node=1), {"fault": "NotAllowed"})
+        self.write(f"[[allow]]\nuser = '{USER}'\nops = ['reset', 'fly']\n")
+        self.front.reload()
+        self.front.await_audited("a line of it", lambda line: line["event"] == "policy" and "fly" in line["why"])
+        self.assertIn("the old policy stays", self.front.said())
+        self.assertEqual(client.ask(op="reset", node=1), {"fault": "NotAllowed"})
+        self.assertIn("nodes", client.ask(op="show"))
+        self.write(f"[[allow]]\nuser = '{USER}'\nops = ['reset']\n")
+        self.front.reload()
+        self.front.await_audited("a line of it", lambda line: line["event"] == "policy" and line["why"] == "it was read")
+        self.assertEqual(client.ask(op="reset", node=1)["kind"], "started")
+        self.assertEqual(client.ask(op="show"), {"fault": "NotAllowed"})
+
+    def test_it_does_not_begin_with_a_broken_policy(self) -> None:
+        self.write("[[allow]]\n")
+        with self.assertRaisesRegex(AssertionError, "(?s)the front ended: .*rule 1"):
+            self.started("--policy", self.policy)
+
+    def test_the_loopback_counts_as_nobody(self) -> None:
+        self.front = self.started("--policy", self.policy, "--tcp", "127.0.0.1:0")
+        with Client(socket.create_connection(self.front.listening("tcp:"), DEADLINE)) as client:
+            self.assertIn("nodes", client.ask(op="show"))
+            self.assertEqual(client.ask(op="close"), {"fault": "NotAllowed"})
+        line = self.front.await_audited("a line of it", lambda line: line["event"] == "denied")
+        self.assertEqual(line["who"]["user"], "nobody")
+
+    def test_only_the_loopback(self) -> None:
+        with self.assertRaisesRegex(AssertionError, "no address of the loopback"):
+            self.started("--policy", self.policy, "--tcp", "0.0.0.0:0")
+
+
+def openssl(folder: str, *words: str) -> None:
+    subprocess.run(["openssl", *words], cwd=folder, check=True, capture_output=True, timeout=DEADLINE)
+
+
+def signed(folder: str, name: str, *more: str, authority: str = "authority", days: str = "30") -> None:
+    """Makes a certificate of this name, signed by an authority; of the past where the days are negative."""
+    openssl(folder, "req", "-newkey", "ec", "-pkeyopt", "ec_paramgen_curve:prime256v1", "-nodes", "-subj", f"/CN={name}",
+            "-keyout", f"{name}.key", "-out", f"{name}.csr", *more)
+    openssl(folder, "x509", "-req", "-in", f"{name}.csr", "-CA", f"{authority}.pem", "-CAkey", f"{authority}.key",
+            "-CAcreateserial", "-days", days, "-copy_extensions", "copy", "-out", f"{name}.pem")
+
+
+@functools.cache
+def certificates() -> tempfile.TemporaryDirectory[str]:
+    """A folder with two authorities, and what they have signed, made once."""
+    folder = tempfile.TemporaryDirectory()
+    for name in ("authority", "foreign"):
+        openssl(folder.name, "req", "-x509", "-newkey", "ec", "-pkeyopt", "ec_paramgen_curve:prime256v1", "-nodes", "-days", "30",
+                "-subj", f"/CN={name}", "-keyout", f"{name}.key", "-out", f"{name}.pem")
+    signed(folder.name, "front", "-addext", "subjectAltName=DNS:localhost")
+    signed(folder.name, "service2", "-addext", "subjectAltName=DNS:service2")
+    signed(folder.name, "root")
+    signed(folder.name, "stranger", authority="foreign")
+    signed(folder.name, "old", days="-1")
+    return folder
+
+
+@unittest.skipUnless(shutil.which("openssl"), "it needs openssl, to make certificates")
+class Certificates(Ruled):
+    def setUp(self) -> None:
+        super().setUp()
+        shutil.copytree(certificates().name, self.folder, dirs_exist_ok=True)
+        self.front = self.started("--policy", self.policy, "--tls", self.address(), "--certificate", f"{self.folder}/front.pem",
+                                  "--key", f"{self.folder}/front.key", "--authority", f"{self.folder}/authority.pem", before=self.before())
+
+    def before(self) -> tuple[str, ...]:
+        """What the front and the server are begun by."""
+        return ()
+
+    def address(self) -> str:
+        """Where the front listens for TLS."""
+        return "127.0.0.1:0"
+
+    def connected(self, name: str | None, version: ssl.TLSVersion = ssl.TLSVersion.TLSv1_3) -> Client:
+        """Raises OSError."""
+        context = ssl.create_default_context(cafile=f"{self.folder}/authority.pem")
+        context.maximum_version = version
+        if name:
+            context.load_cert_chain(f"{self.folder}/{name}.pem", f"{self.folder}/{name}.key")
+        connection = socket.create_connection(self.front.listening("tls:"), DEADLINE)
+        client = Client(context.wrap_socket(connection, server_hostname="localhost"))
+        self.addCleanup(client.close)
+        return client
+
+    def refused(self, name: str | None, why: str, **how: Any) -> None:
+        """It is not let in, and the audit says why."""
+        before = len(self.handshakes())
+        with self.assertRaises(OSError):
+            self.connected(name, **how).ask(op="show")
+        line = until("a line of the handshake", lambda: self.handshakes()[before:])[0]
+        self.assertIn(why, line["why"])
+        self.assertTrue(line["who"]["address"].startswith("127.0.0.1:"))
+
+    def handshakes(self) -> list[dict[str, Any]]:
+        return [line for line in self.front.audited() if line["event"] == "handshake"]
+
+    def test_each_does_what_its_rules_allow(self) -> None:
+        client = self.connected("service2")
+        self.assertIn("nodes", client.ask(op="show"))
+        self.assertIn("nodes", client.ask(op="watch"))
+        self.assertEqual(client.ask(op="reset", node=2), {"fault": "NotAllowed"})
+        self.assertEqual(client.ask(op="confirm", node=1, epoch=1), {"fault": "NotAllowed"})
+        self.assertEqual(client.ask(op="confirm", node=2, epoch=1), {"name": "BadEpoch", "refused": 15})
+        line = self.front.await_audited("a line of it", lambda line: line["event"] == "denied")
+        self.assertEqual(line["who"]["certificate"], "service2")
+        self.assertTrue(line["who"]["address"].startswith("127.0.0.1:"))
+
+    def test_a_certificate_without_a_rule_may_nothing(self) -> None:
+        client = self.connected("root")
+        for op in ("show", "watch", "close"):
+            self.assertEqual(client.ask(op=op), {"fault": "NotAllowed"})
+
+    def test_many_at_once(self) -> None:
+        """Whatever comes together with the end of a handshake is read too."""
+        faults: list[str] = []
+
+        def ask() -> None:
+            try:
+                for _ in range(6):
+                    client = self.connected("root")
+                    for op in ("show", "watch", "close"):
+                        if random.random() < 0.5:
+                            time.sleep(random.random() / 50)  # at any moment
+                        client.ask(op=op)
+            except OSError as fault:
+                faults.append(str(fault))
+        asking = [threading.Thread(target=ask) for _ in range(12)]
+        for each in asking:
+            each.start()
+        for each in asking:
+            each.join()
+        self.assertEqual(faults, [])
+
+    def test_who_is_not_let_in(self) -> None:
+        self.refused("stranger", "unable to get local issuer certificate")
+        self.refused("old", "expired")
+        self.refused(None, "certificate")
+        self.refused("service2", "unsupported protocol", version=ssl.TLSVersion.TLSv1_2)
+        with socket.create_connection(self.front.listening("tls:"), DEADLINE) as plain:
+            plain.sendall(b'{"op":"show"}\n' * 10)
+            until("a fifth line", lambda: len(self.handshakes()) == 5)
+
+    def test_a_name_that_is_taken_out_of_the_policy(self) -> None:
+        client = self.connected("service2")
+        self.assertIn("nodes", client.ask(op="show"))
+        self.write(POLICY.replace("service2", "service3"))
+        self.front.reload()
+        self.front.await_audited("a line of it", lambda line: line["event"] == "policy")
+        self.assertEqual(client.ask(op="show"), {"fault": "NotAllowed"})
+        self.assertEqual(self.connected("service2").ask(op="show"), {"fault": "NotAllowed"})
+
+
+def namespaces() -> bool:
+    """Whether this process may make network namespaces."""
+    name = f"resetd-{os.getpid()}"
+    with contextlib.suppress(FileNotFoundError):
+        if subprocess.run(["ip", "netns", "add", name], capture_output=True, check=False).returncode == 0:
+            return subprocess.run(["ip", "netns", "del", name], capture_output=True, check=False).returncode == 0
+    return False
+
+
+FAR = """
+import socket, ssl, sys
+host, port, folder, name, line = sys.argv[1:]
+context = ssl.create_default_context(cafile=f"{folder}/authority.pem")
+context.load_cert_chain(f"{folder}/{name}.pem", f"{folder}/{name}.key")
+connection = context.wrap_socket(socket.create_connection((host, int(port)), 120), server_hostname="localhost")
+connection.sendall(line.encode() + b"\\n"); print(connection.makefile("rb").readline().decode(), end="")
+"""
+
+
+@unittest.skipUnless(namespaces(), "optional: it needs network namespaces")
+class Hosts(Certificates):
+    """Two hosts, as network namespaces: the server and the front on one, a service on the other."""
+
+    def setUp(self) -> None:
+        self.near, self.far = f"resetd-{os.getpid()}-near", f"resetd-{os.getpid()}-far"
+        for name, address in ((self.near, "10.99.7.1/24"), (self.far, "10.99.7.2/24")):
+            self.ip("netns", "add", name)
+            self.addCleanup(self.ip, "netns", "del", name)
+            self.ip("-n", name, "link", "set", "lo", "up")
+        self.ip("-n", self.near, "link", "add", "wire", "type", "veth", "peer", "name", "wire", "netns", self.far)
+        for name, address in ((self.near, "10.99.7.1/24"), (self.far, "10.99.7.2/24")):
+            self.ip("-n", name, "address", "add", address, "dev", "wire")
+            self.ip("-n", name, "link", "set", "wire", "up")
+        super().setUp()
+
+    def ip(self, *words: str) -> None:
+        subprocess.run(["ip", *words], check=True, capture_output=True, timeout=DEADLINE)
+
+    def before(self) -> tuple[str, ...]:
+        return ("ip", "netns", "exec", self.near)
+
+    def address(self) -> str:
+        return "10.99.7.1:0"
+
+    def asked_far(self, name: str, line: str) -> str:
+        """What the other host is answered."""
+        host, port = self.front.listening("tls:")
+        ran = subprocess.run(["ip", "netns", "exec", self.far, sys.executable, "-c", FAR, host, str(port), self.folder, name, line],
+                             capture_output=True, text=True, timeout=DEADLINE, check=False)
+        return ran.stdout or ran.stderr
+
+    def test_each_does_what_its_rules_allow(self) -> None:
+        self.assertIn('"nodes"', self.asked_far("service2", SHOW))
+        self.assertEqual(self.asked_far("service2", RESET_1), DENIED)
+        line = self.front.await_audited("a line of it", lambda line: line["event"] == "denied")
+        self.assertEqual(line["who"]["certificate"], "service2")
+        self.assertTrue(line["who"]["address"].startswith("10.99.7.2:"), line)
+
+    def test_who_is_not_let_in(self) -> None:
+        self.assertNotIn("nodes", self.asked_far("stranger", SHOW))
+        self.assertIn("local issuer", until("a line of the handshake", self.handshakes)[0]["why"])
+
+    def test_the_port_is_not_reached_from_the_other_host(self) -> None:
+        port = self.server.address.rsplit(":", 1)[1]
+        for host in ("127.0.0.1", "10.99.7.1"):
+            ran = subprocess.run(["ip", "netns", "exec", self.far, sys.executable, "-c",
+                                  f"import socket; socket.create_connection(('{host}', {port}), 120)"], capture_output=True, text=True, check=False)
+            self.assertIn("ConnectionRefusedError", ran.stderr)
+
+    test_many_at_once = test_a_certificate_without_a_rule_may_nothing = test_a_name_that_is_taken_out_of_the_policy = None  # type: ignore[assignment]
+
+
+if __name__ == "__main__":
+    unittest.main()

@@ -1,0 +1,140 @@
+"""`watch`: a view at once, at each change, and from time to time; slow and dead watchers."""
+
+from __future__ import annotations
+
+import json
+import socket
+import unittest
+from typing import Any
+
+from case import USER, Case, Client, until
+from resetd_front.watchers import Watchers
+
+
+class Told:
+    """A watcher in memory, which takes a line only while it is ready."""
+
+    def __init__(self) -> None:
+        self.lines: list[bytes] = []
+        self.is_ready = True
+
+    def push(self, line: bytes) -> bool:
+        if self.is_ready:
+            self.lines.append(line)
+        return self.is_ready
+
+
+class Newest(unittest.IsolatedAsyncioTestCase):
+    async def turns(self) -> None:
+        import asyncio
+        for _ in range(100):
+            await asyncio.sleep(0)
+
+    async def test_a_slow_one_gets_the_newest_alone(self) -> None:
+        watchers, slow, quick = Watchers(), Told(), Told()
+        watchers.add(slow)
+        watchers.add(quick)
+        slow.is_ready = False
+        for line in (b"1", b"2", b"3"):
+            watchers.tell(line)
+            await self.turns()
+        slow.is_ready = True
+        watchers.ready(slow)
+        watchers.ready(slow)
+        self.assertEqual((slow.lines, quick.lines), ([b"3"], [b"1", b"2", b"3"]))
+
+    async def test_many_are_told_in_turns(self) -> None:
+        watchers, all_of_them = Watchers(), [Told() for _ in range(1_000)]
+        for watcher in all_of_them:
+            watchers.add(watcher)
+        watchers.tell(b"1")
+        watchers.remove(all_of_them[-1])
+        await self.turns()
+        self.assertEqual({tuple(watcher.lines) for watcher in all_of_them[:-1]}, {(b"1",)})
+        self.assertEqual(all_of_them[-1].lines, [])
+
+
+class Watching(Case):
+    nodes = 8
+
+    def started(self, *words: str, **how: Any) -> Any:
+        return super().started("--signals", self.server.signals, *words, **how)
+
+    def watcher(self) -> tuple[Client, dict[str, Any]]:
+        client = self.client()
+        return client, client.ask(op="watch")
+
+    def view_where(self, client: Client, holds: Any) -> dict[str, Any]:
+        """The first view of those that come for which this holds."""
+        while not holds(view := client.reply()):
+            pass
+        return view
+
+    def test_a_reset_of_the_front_and_one_beside_it(self) -> None:
+        client, view = self.watcher()
+        self.assertEqual([row[4] for row in view["nodes"]], [0] * 8)
+        self.front.ask(op="reset", node=1)
+        self.view_where(client, lambda view: all(row[2] == "ready" and row[4] == 1 for row in view["nodes"]))
+        self.server.ask(op="reset", client=3, number=1, node=2)
+        self.view_where(client, lambda view: all(row[2] == "ready" and row[4] == 2 for row in view["nodes"]))
+        self.front.ask(op="confirm", node=5, epoch=2)
+        self.view_where(client, lambda view: view["nodes"][4][5] == 2)
+        self.front.ask(op="drop", client=1, number=1, a=1, b=2)
+        self.view_where(client, lambda view: len(view["links"]) == 7)
+
+    def test_it_is_told_after_the_server_was_away(self) -> None:
+        client, _ = self.watcher()
+        self.server.kill()
+        self.server.start()
+        self.front.ask(op="reset", node=1)
+        self.view_where(client, lambda view: all(row[4] == 1 for row in view["nodes"]))
+
+    def test_one_that_does_not_read_holds_nobody_up(self) -> None:
+        """It gets few views, and the newest in the end; another gets them all the while."""
+        with socket.socket(socket.AF_UNIX) as slow:
+            slow.setsockopt(socket.SOL_SOCKET, socket.SO_RCVBUF, 1)
+            slow.connect(self.front.path)
+            slow.sendall(b'{"op":"watch"}\n')
+            client, _ = self.watcher()
+            for epoch in range(1, 4):
+                self.front.ask(op="reset", node=1)
+                self.view_where(client, lambda view: all(row[2] == "ready" and row[4] == epoch for row in view["nodes"]))
+            slow.settimeout(120)
+            late = Client(slow)
+            self.view_where(late, lambda view: all(row[4] == 3 for row in view["nodes"]))
+
+    def test_one_that_leaves(self) -> None:
+        client, _ = self.watcher()
+        client.close()
+        self.front.await_audited("its end", lambda line: line["event"] == "ends")
+        self.front.ask(op="reset", node=1)
+        self.assertEqual([row[4] for row in self.server.settled()["nodes"]], [1] * 8)
+
+    def test_other_lines_over_the_same_connection(self) -> None:
+        client, _ = self.watcher()
+        client.send({"op": "reset", "node": 1}, b"fly\n")
+        answers = []
+        while len(answers) < 2:
+            answer = json.loads(client.line())
+            if "nodes" not in answer:
+                answers.append(answer)
+        self.assertEqual((answers[0]["kind"], answers[1]), ("started", {"fault": "BadJson"}))
+
+    def test_who_may_watch_no_more_is_told_no_more(self) -> None:
+        self.front.kill()
+        path = f"{self.folder}/policy"
+        with open(path, "w", encoding="ascii") as file:
+            file.write(f"[[allow]]\nuser = '{USER}'\nops = ['watch']\n")
+        self.front = self.started("--policy", path)
+        client, _ = self.watcher()
+        with open(path, "w", encoding="ascii") as file:
+            file.write(f"[[allow]]\nuser = '{USER}'\nops = ['show']\n")
+        self.front.reload()
+        while client.line():
+            pass
+        self.assertIn("may not watch", until("its end", lambda: [
+            line["why"] for line in self.front.audited() if line["event"] == "ends" and "why" in line])[0])
+
+
+if __name__ == "__main__":
+    unittest.main()

@@ -1,0 +1,110 @@
+-- Members, what is shown to them, and the messages between them.
+use Rattle.std.specs.Prelude.{ℕ, ◌+◌, ◌==◌, Bool, false, List, [], ◌∷◌, ◌++◌, Option, Some, None, if◌then◌else◌, slice_get}
+use Rattle.coord_member.specs.declared.view.Entry.{Entry}
+use Rattle.coord_member.specs.declared.view.Row.{Row}
+use Rattle.coord_member.specs.declared.rule.Due.{Due}
+use Rattle.coord_member.specs.declared.rule.Due.TheVariants.{Begin}
+use Rattle.coord_member.specs.Rule.{Kept, new_kept, due, kept_after, tag_for, begun_with, without_work, same_party}
+
+-- the work that a member has from one begin to the next: no other has its serial number
+pub record Start : Type 0 where
+  pub node : ℕ
+  pub epoch : ℕ
+  pub serial : ℕ
+
+pub record Member : Type 0 where
+  pub kept : Kept  -- on the disk
+  pub tag : Option (List Entry)  -- in memory: it talks, in the run of this name
+  pub loading : Option ℕ  -- in memory: it loads the common start for this epoch
+  pub work : Option Start
+  pub cone : List Start  -- the starts that its work has heard of, at first or at second hand, itself among them
+
+pub record Message : Type 0 where
+  pub tag : List Entry
+  pub cone : List Start
+
+-- this start has talked in the run of this name
+pub record Talked : Type 0 where
+  pub start : Start
+  pub party : List Entry
+
+pub record World : Type 0 where
+  pub member : ℕ → Member
+  pub messages : List Message  -- all that were ever sent, the newest first
+  pub talked : List Talked  -- all that ever were
+  pub serial : ℕ  -- of the next start
+
+-- no work in hand
+abbrev pub idle : Kept → Member
+idle kept = record { kept = kept; tag = None; loading = None; work = None; cone = [] }
+
+abbrev pub new_world : World
+new_world = record { member = λ i. idle new_kept; messages = []; talked = []; serial = 0 }
+
+-- what may happen next, to member i. A message that is lost is never heard
+pub data Event : Type 0 where
+  Look : (i : ℕ) → Row → List Entry → Event  -- it is shown a row of its node and those that are connected
+  Load : (i : ℕ) → Event  -- it has loaded the common start for the epoch that it begins
+  Crash : (i : ℕ) → Event  -- what is on the disk stays
+  Forget : (i : ℕ) → Event  -- its work is gone, and what is kept beside it stays
+  Lose : (i : ℕ) → Event  -- all its files are gone
+  Send : (i : ℕ) → Event
+  Hear : (i k : ℕ) → Event  -- the k-th message comes, late, again or for the first time
+
+abbrev pub with_member : World → ℕ → Member → World
+with_member w i m = record w { member = λ j. if j == i then m else w.member j }
+
+-- ---- a look
+
+abbrev pub talked_by : Option Start → Option (List Entry) → List Talked
+talked_by (Some start) (Some party) = record { start = start; party = party } ∷ []
+talked_by _ _ = []
+
+-- the member, when what is due is done and what is due to be kept is kept
+abbrev pub member_for : Member → Kept → Row → Due → Member
+member_for m kept row Begin = record { kept = kept; tag = None; loading = Some row.epoch; work = None; cone = [] }
+member_for m kept row d = record m { kept = kept; tag = tag_for kept d }
+
+abbrev pub member_after : Member → Row → List Entry → Member
+member_after m row now = member_for m (kept_after m.kept row now) row (due m.kept row now)
+
+abbrev pub looked : World → ℕ → Member → World
+looked w i m = with_member (record w { talked = talked_by m.work m.tag ++ w.talked }) i m
+
+-- ---- a begin's second half
+
+abbrev pub loaded : World → ℕ → Option ℕ → World
+loaded w i None = w
+loaded w i (Some epoch) =
+    let start : Start = record { node = i; epoch = epoch; serial = w.serial } in
+    with_member (record w { serial = w.serial + 1 }) i (record { kept = begun_with (w.member i).kept epoch; tag = None; loading = None; work = Some start; cone = start ∷ [] })
+
+-- ---- messages
+
+abbrev pub message_of : Option (List Entry) → List Start → List Message
+message_of None cone = []
+message_of (Some tag) cone = record { tag = tag; cone = cone } ∷ []
+
+-- only a member that talks hears, and only what has its own tag
+abbrev pub is_of_run : Option (List Entry) → List Entry → Bool
+is_of_run None tag = false
+is_of_run (Some own) tag = same_party own tag
+
+abbrev pub heard : Member → Option Message → Member
+heard m None = m
+heard m (Some message) = if is_of_run m.tag message.tag then record m { cone = message.cone ++ m.cone } else m
+
+-- ----
+
+abbrev pub happens : World → Event → World
+happens w (Look i row now) = looked w i (member_after (w.member i) row now)
+happens w (Load i) = loaded w i (w.member i).loading
+happens w (Crash i) = with_member w i (record (w.member i) { tag = None; loading = None })
+happens w (Forget i) = with_member w i (idle (without_work (w.member i).kept))
+happens w (Lose i) = with_member w i (idle new_kept)
+happens w (Send i) = record w { messages = message_of (w.member i).tag (w.member i).cone ++ w.messages }
+happens w (Hear i k) = with_member w i (heard (w.member i) (slice_get w.messages k))
+
+abbrev pub run : World → List Event → World
+run w [] = w
+run w (event ∷ events) = run (happens w event) events

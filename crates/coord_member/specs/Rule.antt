@@ -1,0 +1,130 @@
+-- What a member does when it looks.
+use Rattle.std.specs.Prelude.{ℕ, ◌==◌, ◌&&◌, not, nat_lt, Bool, true, false, List, [], ◌∷◌, ◌++◌, Option, Some, None, if◌then◌else◌, unwrap_or}
+use Rattle.std.specs.List.{list_all, list_any}
+use Rattle.coord_member.specs.declared.view.Entry.{Entry}
+use Rattle.coord_member.specs.declared.view.Entry.TheVariants.{Node, Link}
+use Rattle.coord_member.specs.declared.view.Row.{Row}
+use Rattle.coord_member.specs.declared.rule.Due.{Due}
+use Rattle.coord_member.specs.declared.rule.Due.TheVariants.{Talk, Wait, Begin, Reset}
+use Rattle.coord_member.specs.declared.rule.Change.{Change}
+use Rattle.coord_member.specs.declared.rule.Change.TheVariants.{Keeps, Drops, NotesAlone, NotesFirst}
+
+-- what a member has on the disk
+pub record Kept : Type 0 where
+  pub begun : Option ℕ  -- the epoch of the work in hand
+  pub party : Option (List Entry)  -- with whom the present start first talked
+  pub history : List (List Entry)  -- with whom any start ever talked
+
+abbrev pub new_kept : Kept
+new_kept = record { begun = None; party = None; history = [] }
+
+-- ---- parties: lists in one order that all members share
+
+abbrev pub same_entry : Entry → Entry → Bool
+same_entry (Node n e) (Node m f) = (n == m) && (e == f)
+same_entry (Link a b i) (Link c d j) = (a == c) && (b == d) && (i == j)
+same_entry _ _ = false
+
+abbrev pub is_within : List Entry → List Entry → Bool
+is_within now party = list_all (λ e. list_any (same_entry e) party) now
+
+abbrev pub same_party : List Entry → List Entry → Bool
+same_party [] [] = true
+same_party (x ∷ xs) (y ∷ ys) = same_entry x y && same_party xs ys
+same_party _ _ = false
+
+-- a start talked with just these
+abbrev pub was_before : List Entry → List (List Entry) → Bool
+was_before now history = list_any (same_party now) history
+
+-- connected with nobody
+abbrev pub is_alone : List Entry → Bool
+is_alone (Node n e ∷ []) = true
+is_alone _ = false
+
+-- ---- what is due
+
+abbrev pub is_at : ℕ → Option ℕ → Bool
+is_at epoch None = false
+is_at epoch (Some e) = e == epoch
+
+-- the work in hand is of the epoch that is shown and confirmed
+abbrev pub is_begun : Option ℕ → Row → Bool
+is_begun begun row = (row.epoch == row.confirmed) && is_at row.epoch begun
+
+-- a start that talked talks on if nobody has come; one that didn't, if no start before it talked with just these
+abbrev pub admits : Option (List Entry) → Bool → List Entry → Bool
+admits None was now = not was
+admits (Some party) was now = is_within now party
+
+-- where a start talked with just these before, or none did
+abbrev pub due_of : Option ℕ → Option (List Entry) → Bool → Row → List Entry → Due
+due_of begun party was row now =
+    if nat_lt row.confirmed row.epoch && not was then Begin
+    else (if is_begun begun row && not row.through then Wait
+    else (if is_begun begun row && admits party was now then Talk
+    else (if row.quiet then Reset else Wait)))
+
+abbrev pub due : Kept → Row → List Entry → Due
+due kept row now = due_of kept.begun kept.party (was_before now kept.history) row now
+
+-- ---- what is kept before that is done
+
+abbrev pub history_with : Option (List Entry) → List (List Entry) → List Entry → List (List Entry)
+history_with None history now = if is_alone now then history else history ++ (now ∷ [])
+history_with (Some party) history now = history
+
+-- the party is noted, if there is none: for this start, and, if there is anybody else in it, for all that follow
+abbrev pub with_party : Kept → List Entry → Kept
+with_party kept now = record kept { party = Some (unwrap_or kept.party now); history = history_with kept.party kept.history now }
+
+abbrev pub kept_for : Kept → List Entry → Due → Kept
+kept_for kept now Begin = record kept { party = None; begun = None }
+kept_for kept now Talk = with_party kept now
+kept_for kept now Wait = kept
+kept_for kept now Reset = kept
+
+abbrev pub kept_after : Kept → Row → List Entry → Kept
+kept_after kept row now = kept_for kept now (due kept row now)
+
+-- the same as a change of what is kept
+abbrev pub change_of : Due → Bool → List Entry → Change
+change_of Begin has_party now = Drops
+change_of Talk has_party now = if has_party then Keeps else (if is_alone now then NotesAlone else NotesFirst)
+change_of Wait has_party now = Keeps
+change_of Reset has_party now = Keeps
+
+abbrev pub changed : Kept → List Entry → Change → Kept
+changed kept now Keeps = kept
+changed kept now Drops = record kept { party = None; begun = None }
+changed kept now NotesAlone = record kept { party = Some now }
+changed kept now NotesFirst = record kept { party = Some now; history = kept.history ++ (now ∷ []) }
+
+-- what is kept once the common start is loaded for an epoch
+abbrev pub begun_with : Kept → ℕ → Kept
+begun_with kept epoch = record kept { begun = Some epoch }
+
+-- what is kept beside work that is gone
+abbrev pub without_work : Kept → Kept
+without_work kept = record kept { begun = None }
+
+-- ---- the tag
+
+-- the run of a start, named by the party that it first talked with. A start that was alone has none
+abbrev pub run_of : Option (List Entry) → Option (List Entry)
+run_of None = None
+run_of (Some party) = if is_alone party then None else Some party
+
+-- the run that it talks in, if it does
+abbrev pub tag_for : Kept → Due → Option (List Entry)
+tag_for kept Talk = run_of kept.party
+tag_for kept Wait = None
+tag_for kept Begin = None
+tag_for kept Reset = None
+
+-- what is due after the look that a refused tag led to
+abbrev pub due_when_refused : Due → Bool → Bool → Due
+due_when_refused Talk is_same_tag is_same_view = if not is_same_tag && is_same_view then Reset else Talk
+due_when_refused Wait is_same_tag is_same_view = Wait
+due_when_refused Begin is_same_tag is_same_view = Begin
+due_when_refused Reset is_same_tag is_same_view = Reset

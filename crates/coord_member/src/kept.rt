@@ -1,0 +1,195 @@
+//! What a member keeps, and what a view makes of it.
+
+ghost use Rattle.std.specs.Prelude.{◌≡◌, [], ◌∷◌, ◌++◌, IfOk, OnOk, map};
+ghost use Rattle.coord_member.specs.Rule.{due, kept_after, was_before};
+
+use crate::party::{is_alone, same_party};
+use crate::rule::{Change, Due, change_of, due_of};
+use crate::view::{Entry, Row};
+use std::alloc::{AllocError, Global};
+use std::marker::Model;
+
+/// What a member keeps on the disk beside its work.
+#[derive(Drop, Debug)]
+pub struct Kept {
+    /// The epoch of the work in hand; None: no work is begun.
+    begun: Option<u64>,
+    /// With whom the present start first talked; None: with nobody yet.
+    party: Option<Vec<Entry>>,
+    /// With whom any start ever talked.
+    history: Vec<Vec<Entry>>,
+}
+
+impl Model for Kept {
+    ghost use Rattle.coord_member.specs.Rule as rule;
+    ghost use Rattle.std.specs.Option.{option_map};
+    ghost use Rattle.std.specs.Prelude.{map};
+
+    ghost Value = { rule.Kept };
+
+    ghost view = { λ k. record {
+      begun = k.begun;
+      party = option_map (λ v. v.items) k.party;
+      history = map (λ v. v.items) k.history.items;
+    } };
+}
+
+/// What is due, and what is to be on the disk before it is done.
+#[derive(Drop, Debug)]
+pub struct Judged {
+    pub due: Due,
+    pub kept: Kept,
+}
+
+impl Judged {
+    ghost use Rattle.coord_member.specs.Rule.{tag_for};
+    ghost use Rattle.std.specs.Option.{option_map};
+
+    /// The party whose digest is the tag of each message, as long as the member talks: that of its
+    /// first talk, and not what is shown now. None: it doesn't talk, or was alone at its first talk,
+    /// and sends nothing and hears nothing.
+    pub fn tag(&self) -> Option<&[Entry]>
+        ensures { option_map (λ party. party.now) result ≡ tag_for self.now.kept self.now.due }
+    {
+        match self.due {
+            Due::Talk => self.kept.run(),
+            Due::Wait | Due::Begin | Due::Reset => None,
+        }
+    }
+}
+
+impl Kept {
+    ghost use Rattle.std.specs.Option.{option_map};
+    ghost use Rattle.std.specs.Prelude.{is_some};
+    ghost use Rattle.coord_member.specs.Rule.{begun_with, changed, due, new_kept, run_of, was_before};
+
+    /// Nothing was ever begun.
+    pub fn new(alloc: Global) -> Self
+        ensures { result ≡ new_kept }
+    {
+        Kept {
+            begun: None,
+            party: None,
+            history: Vec::new(alloc),
+        }
+    }
+
+    /// Whether its start has talked.
+    fn has_party(&self) -> bool
+        ensures { result ≡ is_some self.now.party }
+    {
+        self.party.is_some()
+    }
+
+    /// The run of its start, if that talked with anybody.
+    fn run(&self) -> Option<&[Entry]>
+        ensures { option_map (λ party. party.now) result ≡ run_of self.now.party }
+    {
+        match &self.party {
+            None => None,
+            Some(party) => {
+                if is_alone(party) {
+                    None
+                } else {
+                    Some(party.as_slice())
+                }
+            }
+        }
+    }
+
+    /// What a view asks of it.
+    fn due(&self, row: Row, now: &[Entry]) -> Due
+        ensures { result ≡ due self.now row now.now }
+    {
+        let was = was_before(now, &self.history);
+        match &self.party {
+            None => due_of(self.begun, None, was, row, now),
+            Some(party) => due_of(self.begun, Some(party.as_slice()), was, row, now),
+        }
+    }
+
+    /// With this change, where these are shown.
+    fn with(self, alloc: Global, change: Change, now: Vec<Entry>) -> Result<Self, AllocError>
+        ensures { IfOk result (λ kept. kept ≡ changed self now.items change) }
+    {
+        let Kept {
+            begun,
+            party,
+            mut history,
+        } = self;
+        match change {
+            Change::Keeps => Ok(Kept {
+                begun,
+                party,
+                history,
+            }),
+            Change::Drops => Ok(Kept {
+                begun: None,
+                party: None,
+                history,
+            }),
+            Change::NotesAlone => Ok(Kept {
+                begun,
+                party: Some(now),
+                history,
+            }),
+            Change::NotesFirst => {
+                append(alloc, &mut history, &now)?;
+                Ok(Kept {
+                    begun,
+                    party: Some(now),
+                    history,
+                })
+            }
+        }
+    }
+
+    /// The common start is loaded, and on the disk with that epoch, after a begin.
+    pub fn begun(self, epoch: u64) -> Self
+        requires { (self.begun ≡ None) × (self.party ≡ None) }
+        ensures { result ≡ begun_with self epoch }
+    {
+        let Kept { party, history, .. } = self;
+        Kept {
+            begun: Some(epoch),
+            party,
+            history,
+        }
+    }
+}
+
+/// A party joins the history.
+fn append(alloc: Global, history: &mut Vec<Vec<Entry>>, now: &[Entry]) -> Result<(), AllocError>
+    ensures { OnOk result (map (λ v. v.items) history.new.items ≡ map (λ v. v.items) history.old.items ++ (now.now ∷ [])) }
+{
+    history.push(Vec::from_slice(alloc, now)?)?;
+    Ok(())
+}
+
+/// Whether a start talked with just these.
+fn was_before(now: &[Entry], history: &[Vec<Entry>]) -> bool
+    ensures { result ≡ was_before now.now (map (λ v. v.items) history.now) }
+{
+    let mut was = false;
+    for party in history {
+        if same_party(now, party) {
+            was = true;
+        }
+    }
+    was
+}
+
+/// What a view asks of a member. What is kept has to be on the disk before the member acts: a party
+/// joins the history before it is noted as the start's own, and a begin leaves neither work nor party.
+#[tactic(auto, using(crate::proofs::Changed::changed_is))]
+pub fn judge(alloc: Global, kept: Kept, row: Row, now: Vec<Entry>) -> Result<Judged, AllocError>
+    ensures due { IfOk result (λ judged. judged.due ≡ due kept row now.items) }
+    ensures kept { IfOk result (λ judged. judged.kept ≡ kept_after kept row now.items) }
+{
+    let due = kept.due(row, &now);
+    let change = change_of(due, kept.has_party(), &now);
+    Ok(Judged {
+        due,
+        kept: kept.with(alloc, change, now)?,
+    })
+}

@@ -1,0 +1,29 @@
+//! The members' rule: what a service does when it looks at the coordinator, with whom its start may
+//! talk, and why that mixes no runs.
+//!
+//! [`judge`] is the rule: from what a member keeps on the disk, its node's row and those that are
+//! connected with it, it says what is due (to talk, to wait, to begin the epoch that is shown, to ask
+//! for a reset) and what is to be on the disk before that is done. `specs/Rule.antt` defines both.
+//! [`due_of`] and [`change_of`] are the same without memory, for whoever keeps the history elsewhere.
+//! [`party_text`] is the text whose digest is a message's tag, and [`on_refused`] what a refused tag
+//! adds.
+//!
+//! The main theorems are the contracts of [`laws`], over the events of `specs/Members.antt`: looks,
+//! loads, crashes, lost work and files, messages that come late, again or never. No start ever hears,
+//! at first or at second hand, of two starts of one member (`specs/NoMix.antt`), whatever is shown to
+//! members that keep their files (`laws::no_mix`), and, if what is shown is a store's history,
+//! wherever members lose theirs (`laws::no_mix_where_files_are_lost`; `specs/Honest.antt`).
+#![tactic(auto)]
+
+mod kept;
+pub mod laws;
+mod party;
+mod rule;
+mod text;
+mod view;
+
+pub use kept::{Judged, Kept, judge};
+pub use party::{is_alone, is_within, same_party};
+pub use rule::{Change, Due, change_of, due_of, on_refused};
+pub use text::{party_text, print_entry};
+pub use view::{Entry, Row};

@@ -1,0 +1,29 @@
+//! The text of a party, whose digest names the run.
+
+ghost use Rattle.std.specs.Prelude.{◌≡◌, ◌++◌, OnOk, IfOk, string_bytes};
+ghost use Rattle.coord_member.specs.Text.{entry_line, party_text};
+
+use crate::view::Entry;
+use std::alloc::{AllocError, Global};
+
+/// Adds the line of an entry: a node's number and epoch, or a link's ends and incarnation.
+pub fn print_entry(text: &mut String, entry: Entry) -> Result<(), AllocError>
+    ensures { OnOk result (string_bytes text.new ≡ string_bytes text.old ++ entry_line entry) }
+{
+    match entry {
+        Entry::Node { node, epoch } => writeln!(text, "{node} {epoch}"),
+        Entry::Link { a, b, incarnation } => writeln!(text, "{a} {b} {incarnation}"),
+    }
+}
+
+/// The text of a party: the line of each entry, in the party's order. Its digest is the tag of those
+/// who talk in that run; docs/SERVICES.md asks for the order of the lines' bytes.
+pub fn party_text(alloc: Global, party: &[Entry]) -> Result<String, AllocError>
+    ensures { IfOk result (λ text. string_bytes text ≡ party_text party.now) }
+{
+    let mut text = String::new(alloc);
+    for entry in party {
+        print_entry(&mut text, *entry)?;
+    }
+    Ok(text)
+}

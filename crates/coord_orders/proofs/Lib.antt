@@ -1,0 +1,5 @@
+mod Lists
+mod Orders
+mod Holding
+mod FoundCount
+mod Worked

@@ -1,0 +1,35 @@
+-- The server carries out each order of a client once.
+use Rattle.std.specs.Prelude.{◌≡◌, ◌≢◌, ℕ, ◌+◌, List, [], ◌∷◌, ◌++◌, Some, take, slice_get}
+use Rattle.coord_types.specs.Table.{get}
+use Rattle.coord_types.specs.declared.steps.Session.{Session}
+use Rattle.coord_world.specs.Facade.{World, last_number}
+use Rattle.coord_orders.specs.declared.book.Kept.{Kept}
+use Rattle.coord_orders.specs.declared.meaning.Meaning.TheVariants.{CountLost}
+use Rattle.coord_orders.specs.Meanings.{meaning_of}
+use Rattle.coord_orders.specs.Exchange.{Event, Exchange, Given, begun, orders_of, run}
+
+-- nothing, or the order in hand with its number
+abbrev pub IsInHand : Kept → List Session → Type 0
+IsInHand kept [] = Unit {0}
+IsInHand kept (s ∷ []) = (s.number ≡ kept.last + 1) × (kept.in_hand ≡ Some s.command)
+IsInHand kept (s ∷ t ∷ ss) = ⊥
+
+-- the numbers rise by one, from behind the first number to the last one
+abbrev pub Counts : ℕ → ℕ → List Session → Type 0
+Counts first last [] = last ≡ first
+Counts first last (s ∷ ss) = (s.number ≡ first + 1) × Counts s.number last ss
+
+pub record IsOnce (c : ℕ) (base : World) (first : ℕ) (e : Exchange) : Type 0 where
+  -- the client's orders in the trail are those that it noted as done, with their replies and in turn, and behind them at most the
+  -- one in hand: none that was refused
+  pub orders : (more : List Session) × ((orders_of c base e.trail ≡ e.done ++ more) × IsInHand e.book.kept more)
+  -- those noted as done are settled, so no crash takes one away
+  pub settled : (more : List Session) × (orders_of c base (take e.settled e.trail) ≡ e.done ++ more)
+  -- none is there twice
+  pub numbers : Counts first e.book.kept.last e.done
+  -- no answer that counts tells of a lost count
+  pub counted : (k : ℕ) (g : Given) → slice_get e.answers k ≡ Some g → e.book.awaited ≡ Some g.serial → meaning_of g.answer ≢ CountLost
+
+-- over any world, and whatever happens, if the client begins with its last number there
+abbrev pub ExactlyOnce : Type 0
+ExactlyOnce = (c : ℕ) (base : World) (events : List Event) → IsOnce c base (last_number (get base.sessions c)) (run c base (begun (last_number (get base.sessions c))) events)

@@ -1,0 +1,69 @@
+//! What an answer says of the order that it answers.
+
+ghost use Rattle.std.specs.Prelude.{◌≡◌};
+ghost use Rattle.coord_orders.specs.Meanings.{meaning_of, meaning_of_refusal};
+
+use coord_types::{Refusal, Reply};
+
+/// The answer to the line of an order: a reply or a refusal. A fault, or the end of the connection,
+/// is none.
+#[derive(Clone, Copy, Debug, PartialEq, Eq)]
+pub enum Answer {
+    Replied(Reply),
+    Refused(Refusal),
+}
+
+/// What an answer says of its order.
+#[derive(Clone, Copy, Debug, PartialEq, Eq)]
+pub enum Meaning {
+    /// It was carried out, with this reply.
+    Done(Reply),
+    /// It was not carried out, and its number is free.
+    NotDone,
+    /// Nothing: the same line has to be sent again.
+    SendAgain,
+    /// The number is neither the client's last one nor the next, or it is the last one with another
+    /// order: this client's numbers are not those of the server.
+    CountLost,
+}
+
+impl Answer {
+    /// What it means.
+    pub fn meaning(self) -> Meaning
+        ensures { result ≡ meaning_of self }
+    {
+        match self {
+            Answer::Replied(reply) => Meaning::Done(reply),
+            Answer::Refused(refusal) => of_refusal(refusal),
+        }
+    }
+}
+
+/// What a refusal means. What no order is refused for tells nothing.
+fn of_refusal(refusal: Refusal) -> Meaning
+    ensures { result ≡ meaning_of_refusal refusal }
+{
+    match refusal {
+        Refusal::OutOfTurn | Refusal::NumberReused => Meaning::CountLost,
+        Refusal::Exhausted
+        | Refusal::UnknownNode
+        | Refusal::NodeExists
+        | Refusal::HasLinks
+        | Refusal::SameNode
+        | Refusal::OtherGroup
+        | Refusal::LinkExists
+        | Refusal::NoLink
+        | Refusal::DegreeFull
+        | Refusal::LinksFull
+        | Refusal::BadEpoch => Meaning::NotDone,
+        Refusal::Stopped
+        | Refusal::OutOfMemory
+        | Refusal::PendingFull
+        | Refusal::Old
+        | Refusal::Early
+        | Refusal::Differs
+        | Refusal::NotReleased
+        | Refusal::Behind { .. }
+        | Refusal::Stranger => Meaning::SendAgain,
+    }
+}

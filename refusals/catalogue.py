@@ -1,0 +1,212 @@
+"""Wrong bodies as the catalogues keep them: one file a crate, `refusals/CRATE.edits`, in the order of its sources.
+
+A catalogue is made of blocks, with an empty line between two:
+
+    @ src/print.rt
+
+    # settled_count_first
+    - what stands there
+    + what the wrong body has in its place
+    % the clause that refuses it
+    ! tests_drill lines::one_of_each
+
+`@` names the file of the blocks behind it, up to the next `@`; a block that changes several files names each in its
+midst. `#` gives the block its name, and ` witnessed` behind that says that no clause refuses it. The lines behind `-`
+stand once in the file, the lines behind `+` take their place; a `-` behind a `+` begins the next exchange. In a proof
+file (`proofs/..`) the texts are names, and each place of an old one is changed. `%` names a clause or a definition that
+the body breaks, one a line. `!` is the witness, a test that fails with the body in: its crate (`tests` for those of the
+folder tests/), its name, and `waits` or `refused N` where that is how it fails (refusals/run says what they mean).
+
+The edits of the gate (crates/CRATE/must-fail/NAME.edit) are files of their own, since `rt ci` reads them: a line
+`file: PATH`, then pairs of `old: TEXT` and `new: TEXT` with `⏎` for an end of a line, and `witness: CRATE TEST`.
+"""
+
+import os
+from dataclasses import dataclass, field
+
+ROOT = os.path.dirname(os.path.dirname(os.path.abspath(__file__)))
+
+
+class BadCatalogue(ValueError):
+    """A catalogue, or an edit of the gate, that does not read."""
+
+
+@dataclass
+class Exchange:
+    """One old text of a file, and the text that takes its place."""
+
+    file: str
+    old: str
+    new: str
+
+
+@dataclass
+class Body:
+    """One wrong body: what it exchanges, what refuses it, and which test sees it."""
+
+    crate: str
+    name: str
+    exchanges: list[Exchange] = field(default_factory=list)
+    clauses: list[str] = field(default_factory=list)
+    witness: str = ""
+    witnessed: bool = False
+
+    @property
+    def id(self) -> str:
+        """What a command line calls it: CRATE/NAME."""
+        return f"{self.crate}/{self.name}"
+
+
+def path_of(crate: str) -> str:
+    """The file of a crate's catalogue, whether it is there or not."""
+    return os.path.join(ROOT, "refusals", f"{crate}.edits")
+
+
+def crates() -> list[str]:
+    """The crates that have a catalogue, by name."""
+    names = sorted(os.listdir(os.path.join(ROOT, "refusals")))
+    return [name.removesuffix(".edits") for name in names if name.endswith(".edits")]
+
+
+def read(crate: str) -> list[Body]:
+    """The wrong bodies of a crate's catalogue, as they stand there; none where it has no catalogue. Raises BadCatalogue."""
+    try:
+        with open(path_of(crate), encoding="utf-8") as catalogue:
+            return parse(crate, catalogue.read())
+    except FileNotFoundError:
+        return []
+
+
+def parse(crate: str, text: str) -> list[Body]:
+    """The wrong bodies of a catalogue's text. Raises BadCatalogue with the number of the line that does not fit."""
+    bodies: list[Body] = []
+    file, body, last = "", None, ""
+    for number, line in enumerate(text.split("\n"), 1):
+        mark, rest = line[:1], line[2:]
+        if mark == "":
+            body, last = None, ""
+            continue
+        if mark not in "@#-+%!" or (mark != line and line[1] != " "):
+            raise BadCatalogue(f"{crate}.edits:{number}: no mark: {line}")
+        if mark == "@":
+            file = rest
+        elif mark == "#":
+            name, _, word = rest.partition(" ")
+            body = Body(crate, name, witnessed=word == "witnessed")
+            bodies.append(body)
+        elif body is None or not file:
+            raise BadCatalogue(f"{crate}.edits:{number}: it stands outside a block: {line}")
+        elif mark == "-" and last == "-":
+            body.exchanges[-1].old += "\n" + rest
+        elif mark == "-":
+            body.exchanges.append(Exchange(file, rest, ""))
+        elif mark == "+" and last == "+":
+            body.exchanges[-1].new += "\n" + rest
+        elif mark == "+" and last == "-":
+            body.exchanges[-1].new = rest
+        elif mark == "%":
+            body.clauses.append(rest)
+        elif mark == "!":
+            body.witness = rest
+        else:
+            raise BadCatalogue(f"{crate}.edits:{number}: nothing stands before it that it replaces: {line}")
+        last = mark
+    return bodies
+
+
+def read_edit(path: str) -> Body:
+    """The wrong body of a file of its own, in the form of the gate's edits. Its crate is that of its folder."""
+    folder, name = os.path.split(os.path.abspath(path))
+    above, last = os.path.split(folder)
+    body = Body(os.path.basename(above) if last == "must-fail" else last, name.removesuffix(".edit"))
+    body.witnessed = os.path.basename(above) == "witnessed"
+    file = ""
+    with open(path, encoding="utf-8") as edit:
+        for line in edit.read().split("\n"):
+            word, _, text = line.partition(": ")
+            word, text = word.rstrip(":"), text.replace("⏎", "\n")
+            if word == "file":
+                file = text
+            elif word == "old":
+                body.exchanges.append(Exchange(file, text, ""))
+            elif word == "new":
+                body.exchanges[-1].new = text
+            elif word == "witness":
+                body.witness = text
+    return body
+
+
+def of_gate(crate: str) -> list[Body]:
+    """The wrong bodies of a crate that the gate itself tries."""
+    folder = os.path.join(ROOT, "crates", crate, "must-fail")
+    names = sorted(os.listdir(folder)) if os.path.isdir(folder) else []
+    return [read_edit(os.path.join(folder, name)) for name in names if name.endswith(".edit")]
+
+
+def find(word: str) -> Body:
+    """The wrong body that a command line names: CRATE/NAME of a catalogue, or the file of an edit. Raises BadCatalogue."""
+    if word.endswith(".edit"):
+        return read_edit(word)
+    crate, _, name = word.partition("/")
+    for body in [*read(crate), *of_gate(crate)]:
+        if body.name == name:
+            return body
+    raise BadCatalogue(f"{word}: no such wrong body")
+
+
+def written(bodies: list[Body]) -> str:
+    """The text of a catalogue that has these bodies of one crate, in the order of its sources and of their names."""
+    lines: list[str] = []
+    file = ""
+    for body in sorted(bodies, key=place):
+        first = body.exchanges[0].file
+        if first != file:
+            lines += [f"@ {first}", ""]
+            file = first
+        lines.append(f"# {body.name}" + (" witnessed" if body.witnessed else ""))
+        for exchange in body.exchanges:
+            if exchange.file != file:
+                lines.append(f"@ {exchange.file}")
+                file = exchange.file
+            lines += marked("-", exchange.old) + marked("+", exchange.new)
+        lines += [f"% {clause}" for clause in body.clauses]
+        lines += [f"! {body.witness}"] if body.witness else []
+        lines.append("")
+    return "\n".join(lines)
+
+
+def marked(mark: str, text: str) -> list[str]:
+    return [f"{mark} {line}".rstrip() if not line else f"{mark} {line}" for line in text.split("\n")]
+
+
+def place(body: Body) -> tuple[str, int, str]:
+    """Where a body stands among the others of its crate: by file, by where its old text stands there, by name."""
+    first = body.exchanges[0]
+    text = source(body.crate, first.file)
+    at = text.find(first.old)
+    return first.file, at if at >= 0 else len(text), body.name
+
+
+def source(crate: str, file: str) -> str:
+    """The text of a file of a crate, empty where there is none."""
+    try:
+        with open(os.path.join(ROOT, "crates", crate, file), encoding="utf-8") as found:
+            return found.read()
+    except FileNotFoundError:
+        return ""
+
+
+def misfits(body: Body) -> list[str]:
+    """What of a body does not fit the sources: an old text that does not stand just once in its file (in a proof file, at all).
+
+    The exchanges are made one behind the other, so an old text stands once where those before it are made.
+    """
+    texts: dict[str, str] = {}
+    found = []
+    for exchange in body.exchanges:
+        text = texts.setdefault(exchange.file, source(body.crate, exchange.file))
+        count = text.count(exchange.old)
+        if count != 1 and not (count and exchange.file.startswith("proofs/")):
+            found.append(f"{body.id}: {exchange.file} has {count} times: {exchange.old}")
+        texts[exchange.file] = text.replace(exchange.old, exchange.new)
+    return found

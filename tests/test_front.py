@@ -1,0 +1,55 @@
+"""The tests of client/tests_front, each file as it is run by hand."""
+
+import os
+import sys
+
+from test_tools import Run
+
+from support.program import ROOT
+
+FOLDER = f"{ROOT}/client/tests_front"
+
+
+class Front(Run):
+    """`resetd-front` before the program."""
+
+    takes = 15
+
+    def files(self, *names):
+        for name in names:
+            with self.subTest(name):
+                self.expect(sys.executable, "-m", "unittest", "discover", "-s", FOLDER, "-p", f"{name}.py", ends_with="OK")
+
+    def test_the_parts_by_themselves(self):
+        self.files("test_pairing", "test_policy", "test_own_orders")
+
+    def test_lines_and_orders(self):
+        self.files("test_requests", "test_orders", "test_lost_answers")
+
+    def test_watchers(self):
+        self.files("test_watch")
+
+    def test_peers(self):
+        self.files("test_peers")
+
+    def test_the_audit(self):
+        self.files("test_audit")
+
+    def test_hostile_clients(self):
+        self.files("test_hostile")
+
+    def test_kills(self):
+        self.files("test_kills")
+
+    def test_the_page(self):
+        self.files("test_page")
+
+    def test_no_file_is_left_out(self):
+        with open(__file__, encoding="utf-8") as file:
+            text = file.read()
+        for name in os.listdir(FOLDER):
+            if name.startswith("test_"):
+                self.assertIn(f'"{name[:-3]}"', text)
+
+
+del Run  # or its tests would be found here once more

@@ -1,0 +1,255 @@
+"""The rows of what is seen of a server that runs."""
+
+import contextlib
+import os
+import resource
+import shutil
+import signal
+import socket
+import subprocess
+import sys
+import time
+
+from support.case import until
+from support.piped import Piped
+from support.program import PROGRAM, ROOT, ran
+from support.refusing import WORKERS, Refusing
+from support.serving import Serving, spelled
+
+from resetd_client import Port
+from resetd_client.health import Bounds, check
+from resetd_client.since import Since, boot_clock
+
+from .desk import LEFT_OUT, LONG, NotSeen, row, see
+
+LEFT_OUT["`20 PendingFull`"] = ("no client reaches it, since a server posts no more orders at a time than one flight has; "
+                                "client/tests has it of a coordinator in memory")
+
+
+@row("`resetctl health`: `no answer`")
+def no_answer(desk):
+    store = desk.store()
+    see(desk.health(None, patience=0, seconds=2).text, "resetd CRITICAL: no answer: ")
+    with Serving(store) as server:
+        with stopped(server):
+            see(desk.health(server, patience=0, seconds=2).text, "resetd CRITICAL: no answer: ")
+            see(desk.why(store, server), f"is stopped by a signal (SIGSTOP or a debugger): kill -CONT {server.process.pid}")
+        with socket.create_connection(server.address.split(":"), LONG) as client:
+            client.sendall(spelled({"op": "show"}))
+            client.recv(1)
+            see(desk.health(server, patience=0, seconds=2).text, "resetd CRITICAL: no answer: ")
+            see(desk.why(store, server), f"client   process {os.getpid()} (", "has the one connection")
+        see(desk.health(server).text, "resetd OK: well")
+
+
+@contextlib.contextmanager
+def stopped(server):
+    server.process.send_signal(signal.SIGSTOP)
+    try:
+        yield
+    finally:
+        server.process.send_signal(signal.SIGCONT)
+
+
+@row("`the server answers Stopped`")
+def a_device_that_fails(desk):
+    store = desk.store()
+    with desk.serve(store, SYNC_FAILS=8) as server:
+        number, step = 1, 0
+        while "step" in (answer := server.order(number, "reset", client=9, node=1)):
+            number, step = number + 1, answer["step"]
+        see(str(answer), "Stopped")
+        see(desk.health(server, "--close-stopped", patience=0).text, "the server answers Stopped", "was closed")
+        ended = server.ended()
+        if (ended.status, ended.told) != (3, "resetd: Device\n"):
+            raise NotSeen(f"the server ended with {ended}")
+    with Serving(store) as server:
+        if server.show()["settled"] < step:
+            raise NotSeen(f"step {step} was answered, and is lost")
+        see(desk.health(server).text, "resetd OK: well")
+
+
+@row("`that is not the store on this file`")
+def another_store(desk):
+    store = desk.store()
+    shutil.copy(store, desk.path("old"))
+    with Serving(store) as server:
+        server.order(1, "reset", node=1)
+        shutil.copy(desk.path("old"), desk.path("new"))
+        os.replace(desk.path("new"), store)
+        server.order(2, "reset", node=1)
+        server.await_quiet()
+        words = ("--store", store, "--unconfirmed", "1000000")
+        see(desk.health(server, *words).text, f"resetd CRITICAL: that is not the store on this file: {store} has ")
+        see(desk.why(store, server), "a server that runs meets a loss: answer: that is not the store on this file")
+        folder = f"/proc/{server.process.pid}/fd"
+        held = next(f"{folder}/{name}" for name in os.listdir(folder) if os.readlink(f"{folder}/{name}") == f"{store} (deleted)")
+        see(desk.resetctl("backup", held, desk.path("left")).text, "copied ")
+        settled = server.show()["settled"]
+        server.close()
+    os.replace(desk.path("left"), store)
+    desk.expect_served(store, f"{settled} steps on the disk")
+
+
+@row("`resetd: Write`")
+@row("``the file of signals lacks `signal N E` ``")
+def a_file_of_signals_that_is_full(desk):
+    store, most = desk.store(), 400_000
+
+    def limited():
+        signal.signal(signal.SIGXFSZ, signal.SIG_IGN)
+        resource.setrlimit(resource.RLIMIT_FSIZE, (most, most))
+
+    with open(f"{store}.signals", "w", encoding="ascii") as file:
+        file.write("#" * (most - 40) + "\n")
+    with Serving(store, preexec_fn=limited, restore_signals=False) as server:
+        words = ("--signals", server.output, "--unconfirmed", "1000000")
+        see(desk.health(server, *words).text, "resetd OK: well")
+        for number in (1, 2):
+            server.order(number, "reset", node=1)
+            server.await_quiet(epoch=number)
+        desk.await_health(server, "the file of signals lacks `signal 1 2`", *words)
+        ended = server.close()
+        see(ended.told, "resetd: Write")
+    os.truncate(server.output, 0)
+    desk.expect_served(store)
+
+
+@row("`N steps have waited for the disk`", is_slow=True)
+def a_slow_disk(desk):
+    """At 2, 4 and 7 seconds a sync, of which a flight has two. A flight that takes longer than 5 s is told, and no wave as
+    one that stands still, since it moves with its flights."""
+    for seconds in (2, 4, 7):
+        store = desk.store(name=f"slow{seconds}")
+        with desk.serve(store, SYNC_MILLIS=1_000 * seconds) as server:
+            with server.connect() as connection:
+                connection.send({"op": "reset", "client": 1, "number": 1, "node": 1})
+            told = told_of_a_wave(server, desk.path(f"health{seconds}"))
+            see(desk.why(store, server), "a sync of both took ")
+        if "stood still" in told or seconds > 2 and "have waited for the disk" not in told:
+            raise NotSeen(f"at {seconds} s a sync the check told: {sorted(told)}")
+
+
+def told_of_a_wave(server, memory):
+    """What the check tells from the begin of a wave to its end, by looks that follow each other closely: words of it."""
+    port, told, words = Port(server.address, LONG), set(), {"stood still", "have waited for the disk"}
+    while True:
+        view = port.show()
+        if view.settled == view.accepted > 4 and all(node.mode == "ready" for node in view.nodes):
+            return told
+        findings = check(port, Since(memory, boot_clock()), Bounds(unconfirmed=1_000_000), LONG).findings
+        told |= {each for each in words if each in " ".join(findings)}
+        time.sleep(0.1)
+
+
+@row("`a wave has stood still at node N`")
+def a_lost_packet(desk):
+    """Those that take packets find no memory, and so lose one."""
+    store, refusing = desk.store(), Refusing(PROGRAM, desk.folder)
+    with Serving(store, env=refusing.environment(threads=WORKERS)) as server:
+        refusing.refuse(refusing.count() + 1, 1_000_000)
+        server.order(1, "reset", node=1)
+        desk.await_health(server, "a wave has stood still at node 1 (abort)")
+        refusing.refuse(refusing.count() + 1, 0)
+        until("the end of the wave", lambda: desk.resetctl("resend", server=server) and
+              all(row[2] == "ready" for row in server.show()["nodes"]))
+        see(desk.health(server).text, "resetd OK: well")
+
+
+@row("`epoch E of node N is unconfirmed`")
+def a_service_that_is_down(desk):
+    store = desk.store(1)
+    with Serving(store) as server:
+        server.order(1, "reset", client=9, node=1)
+        server.await_quiet()
+        desk.await_health(server, "epoch 1 of node 1 is unconfirmed for ", "--unconfirmed", "1")
+        with service(desk, server) as words:
+            until("its start", lambda: server.show()["nodes"][0][4] == server.show()["nodes"][0][5] > 0)
+            see(words(), "service 1: starts anew, epoch ")
+        see(desk.health(server, "--unconfirmed", "1").text, "resetd OK: well")
+
+
+@row("a service says `a reset is asked for`")
+def a_new_service(desk):
+    store = desk.store(1)
+    with Serving(store) as server, service(desk, server) as words:
+        until("what it says", lambda: "a reset is asked for" in words())
+        until("its start", lambda: "service 1: starts anew, epoch 1" in words())
+
+
+@contextlib.contextmanager
+def service(desk, server):
+    """The example, as member 1; and what it has printed."""
+    said = desk.path("service.txt")
+    with open(said, "wb") as out:
+        process = subprocess.Popen([sys.executable, "-B", f"{ROOT}/examples/service", "1", server.address, desk.path("member"),
+                                    "--signals", server.output], stdin=subprocess.DEVNULL, stdout=out, stderr=out)
+    try:
+        yield lambda: open(said, encoding="utf-8").read()
+    finally:
+        process.kill()
+        process.wait()
+
+
+@row("`4 OutOfTurn`, `5 NumberReused`")
+def a_lost_count(desk):
+    store = desk.store()
+    with Serving(store) as server:
+        server.order(1, "reset", client=9, node=1)
+        see(str(server.order(7, "reset", client=9, node=1)), "OutOfTurn")
+        see(str(server.order(1, "reset", client=9, node=2)), "NumberReused")
+        see(desk.resetctl("--client", "9", "count", server=server).text, "client 9: 1")
+        see(desk.resetctl("--client", "9", "reset", "1", server=server).text, "started ")
+
+
+@row("no answer to an order")
+def no_answer_to_an_order(desk):
+    """Killed with an order on its way: it is carried out once, however often it is sent."""
+    store = desk.store(1)
+    order = {"op": "reset", "client": 9, "number": 1, "node": 1}
+    with desk.serve(store, SYNC_MILLIS=300) as server, server.connect() as connection:
+        connection.send(order)
+        until("that it was accepted", lambda: os.path.getsize(store) > 0)
+        server.kill()
+    with Serving(store) as server:
+        for _ in range(3):
+            see(str(server.ask(order)), "'step': ")
+        server.await_quiet(epoch=1)
+
+
+@row("the power failed, or the process was killed")
+def a_kill(desk):
+    """In the midst of a reset."""
+    store = desk.store(8)
+    with desk.serve(store, SYNC_MILLIS=100) as server:
+        server.order(1, "reset", node=1)
+        server.kill()
+    with Serving(store) as server:
+        server.await_quiet(epoch=1)
+        see(desk.health(server).text, "resetd OK: well")
+
+
+@row("no signals come, and the output is a pipe")
+def a_reader_that_hangs(desk):
+    store = desk.store(1)
+    with Piped(store) as server:
+        for number in range(1, 401):
+            server.order(number, "reset", node=1)
+        reader = subprocess.Popen(["sleep", "3600"], stdin=server.reader)
+        try:
+            server.leave()
+            see(str(server.ask({"op": "close"})), "closed")
+            see(desk.why(store, server), f"process {reader.pid} (sleep 3600) reads; it is full: end its reader")
+        finally:
+            reader.kill()
+            reader.wait()
+        if (status := server.process.wait(LONG)) == 0:
+            raise NotSeen("the server ended as if all were printed")
+        see(server_errors(server), "resetd: Write")
+    if ran("check", store).status:
+        raise NotSeen("the store is not legal")
+
+
+def server_errors(server):
+    with open(server.errors, encoding="utf-8") as file:
+        return file.read()

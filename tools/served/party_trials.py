@@ -1,0 +1,114 @@
+"""Trials of who talks with whom: through others, and after a member was removed and added again."""
+
+from .services import Failed, Member, Orders, OutOfRun, Port, patiently
+
+READDS = 30
+MOST_RESETS = 3
+
+
+class Slow:
+    """The members of a group in one process, of which each looks when it is told to. What a start has heard of, at
+    first or at second hand, goes with each message that it sends; messages may come late."""
+
+    def __init__(self, trial, nodes):
+        self.trial, self.heard, self.starts, self.sent = trial, {}, 0, []
+        self.while_it_begins = []  # what happens while the next member begins
+        self.members = {node: self.member(node) for node in nodes}
+
+    def member(self, node):
+        def begin(epoch):
+            self.starts += 1
+            self.heard[node] = {(node, self.starts)}
+            while self.while_it_begins:
+                self.while_it_begins.pop()(self.trial)
+        orders = Orders(Port(self.trial.server.address, 30), node, f"{self.trial.folder}/slow{node}", recovers=True,
+                        told=lambda _: None)
+        return Member(orders.port, orders, node, None, begin, told=lambda _: None)
+
+    def look(self, *nodes):
+        """Members look until they have done what is due, and then all that was ever said is heard by whom it may be."""
+        for node in nodes:
+            patiently(self.members[node].look, 20)
+            self.trial.expect_quiet()
+            self.talk()
+
+    def talk(self):
+        """Each member that talks sends what it has heard of, and hears what fits its run, until nobody learns more."""
+        before = None
+        while before != (before := ({node: set(heard) for node, heard in self.heard.items()}, len(self.sent))):
+            for node, member in self.members.items():
+                if member.run and (message := (member.run.tag, frozenset(self.heard[node]))) not in self.sent:
+                    self.sent.append(message)
+                self.hear(node, member)
+        self.expect_unmixed()
+
+    def hear(self, node, member):
+        for tag, heard in self.sent:
+            try:
+                with member.in_run(tag):
+                    self.heard[node] |= heard
+            except OutOfRun:
+                pass
+
+    def expect_unmixed(self):
+        for node, heard in self.heard.items():
+            if len({other for other, _ in heard}) < len(heard):
+                raise Failed(f"the start of member {node} has heard of two starts of one member: (member, start) {sorted(heard)}")
+
+
+def unlink(trial):
+    for other in (1, 2):
+        trial.order("drop", a=3, b=other)
+
+
+def link(trial):
+    for other in (1, 2):
+        trial.order("join", a=3, b=other)
+
+
+def second_hand(trial):
+    """Member 1 is slow, then member 2, while 3 is taken off its links, reset alone, and linked again while it begins. Members
+    1 and 2 have then talked with two starts of 3, and are shown the same."""
+    slow = Slow(trial, trial.nodes)
+    trial.reset()
+    trial.expect_quiet()
+    slow.look(1, 2, 3)   # all begin; the last one sees that all are through
+    slow.look(2)         # it talks with 3
+    unlink(trial)
+    trial.order("reset", node=3)
+    trial.expect_quiet()
+    slow.while_it_begins.append(link)
+    slow.look(3)
+    slow.look(1)         # it talks with 3
+    unlink(trial)
+    slow.look(1, 2)
+    link(trial)
+    for _ in range(4):
+        slow.look(1, 2, 3)
+    if len({member.run and member.run.tag for member in slow.members.values()}) != 1 or not slow.members[1].run:
+        raise Failed(f"the members don't come to one run: {[member.run for member in slow.members.values()]}")
+    return f"{slow.starts} starts, {len(slow.sent)} messages"
+
+
+def readd(trial):
+    """Members keep their files, and are there all the time."""
+    trial.services()
+    trial.expect_begun("the services began")
+    most = 0
+    for turn in range(READDS):
+        node, stays = turn % 3 + 1, (turn + 1) % 3 + 1
+        before, epoch = trial.times(), trial.port.show().node(stays).epoch
+        others = [other for other in trial.nodes if other != node]
+        for other in others:
+            trial.order("drop", a=node, b=other)
+        trial.order("remove", node=node)
+        trial.order("add", node=node, group=1)
+        for other in others:
+            trial.order("join", a=node, b=other)
+        trial.expect_begun(f"re-add {turn + 1}, of member {node}", before)
+        trial.expect(f"all are through after re-add {turn + 1}", lambda: trial.is_at_rest())
+        resets = trial.port.show().node(stays).epoch - epoch
+        most = max(most, resets)
+        if resets > MOST_RESETS:
+            raise Failed(f"re-add {turn + 1} took {resets} resets")
+    return f"{READDS} re-adds, each with at most {most} resets"

@@ -1,0 +1,49 @@
+"""Members of a work queue in a ring, each a process, whose own lines say what was mixed."""
+
+import json
+import os
+import shutil
+import subprocess
+import sys
+
+from .services import ROOT, free_ports, read
+
+MEMBER = f"{ROOT}/tools/served/queue_member.py"
+
+
+class QueueRing:
+    """So many members, who hand items round. `words` are what each is started with: an address and a file of signals, and
+    what it is without."""
+
+    def __init__(self, folder, nodes, address, signals, *without):
+        self.folder, self.nodes, self.address, self.signals, self.without = folder, range(1, nodes + 1), address, signals, without
+        self.ports, self.processes = free_ports(nodes), {}
+        os.makedirs(folder)
+
+    def start(self, *nodes):
+        for node in nodes or self.nodes:
+            words = [str(node), self.address, f"{self.folder}/{node}", str(self.ports[node - 1]),
+                     str(self.ports[node % len(self.ports)]), self.signals, *self.without]
+            with open(f"{self.folder}/{node}.lines", "ab") as lines:
+                self.processes[node] = subprocess.Popen([sys.executable, MEMBER, *words], stdin=subprocess.DEVNULL,
+                                                        stdout=lines, stderr=lines)
+
+    def start_anew(self, node):
+        """What a service manager does with a member whose work is spoilt: signal 9, and a start without that work."""
+        self.processes[node].kill()
+        self.processes[node].wait()
+        shutil.rmtree(f"{self.folder}/{node}")
+        self.start(node)
+
+    def handed(self):
+        """How many items each member has taken in its present start."""
+        return [json.loads(read(f"{self.folder}/{node}/work") or '{"taken": 0}')["taken"] for node in self.nodes]
+
+    def told(self, word):
+        """How many lines of the members have a word."""
+        return sum(read(f"{self.folder}/{node}.lines").count(f": {word}: ") for node in self.nodes)
+
+    def end(self):
+        for process in self.processes.values():
+            process.kill()
+            process.wait()

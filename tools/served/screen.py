@@ -1,0 +1,31 @@
+"""What a demo prints: lines that stay, and in a terminal a picture below them that is drawn in place."""
+
+import os
+import shutil
+import sys
+
+
+class Screen:
+    """It moves where the output is a terminal and neither NO_COLOR nor CI is set; else it has lines alone."""
+
+    def __init__(self):
+        self.moves = sys.stdout.isatty() and not os.environ.get("NO_COLOR") and not os.environ.get("CI")
+        self.drawn = 0  # lines of the picture that stands there
+
+    def say(self, *lines):
+        """Prints lines that stay."""
+        self.wipe()
+        print(*lines or ("",), sep="\n", flush=True)
+
+    def draw(self, lines):
+        """Draws a picture over the one before. What a terminal would break into two can't be drawn over."""
+        if self.moves:
+            width = shutil.get_terminal_size().columns - 1
+            self.wipe()
+            print(*(line[:width] for line in lines), sep="\n", flush=True)
+            self.drawn = len(lines)
+
+    def wipe(self):
+        if self.drawn:
+            print(f"\x1b[{self.drawn}A\x1b[J", end="")
+        self.drawn = 0
