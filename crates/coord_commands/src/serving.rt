@@ -82,7 +82,8 @@ fn serve_at<S: Net + Threads + Wait + Clock + Sync + AllocGlobal, F: Folder, W: 
     let store = opened(rt.alloc(), folder, file)?;
     match TcpListener::bind(rt, SocketAddr::V4(address)) {
         Ok(listener) => {
-            let served = serve_store(rt, rt.alloc(), store, &listener, output)?.into_closed();
+            let ended = serve_store(rt, rt.alloc(), store, &listener, output)?;
+            let served = ended.into_closed();
             drop(listener);
             match served {
                 Ok(closed) => {

@@ -26,19 +26,19 @@ desk_answered {D} b d e f (request.Order client number command) posted reply put
       reply,
       refl,
       both b s posted reply d.notes f.notes (subst (λ notes. AtSomeMoment b (Submits {D = D} s posted d.notes notes)) (sym told.1) put.0) told.0,
-      told.2.0 ∙ ap (seen_after reply) put.1.0,
-      told.2.1 ∙ put.1.1,
+      told.2 ∙ ap (seen_after reply) put.1,
+      told.3 ∙ put.2,
     )
 desk_answered b d e f request.Show posted reply put told = absurd put
 desk_answered b d e f request.Resend posted reply put told = absurd put
 desk_answered b d e f request.Close posted reply put told = absurd put
 
 -- a reply is the same before an order is posted and behind that
-pub desk_apart : {D P : Type 0} (b : Basis D) (d e f : DeskState P) (r : Request) (p q : Result Claim Refusal) (reply : Result Reply Refusal) → DeskPosts b d r q e → DeskReplies b e p reply f → (m : DeskState) × DeskReplies b d p reply m × DeskPosts b m r q f
+pub desk_apart : {D P : Type 0} (b : Basis D) (d e f : DeskState P) (r : Request) (p q : Result Claim Refusal) (reply : Result Reply Refusal) → DeskPosts b d r q e → DeskReplies b e p reply f → (m : DeskState P) × DeskReplies b d p reply m × DeskPosts b m r q f
 desk_apart {D} b d e f (request.Order client number command) p q reply put told = (
   record { notes = d.notes; seen = f.seen; port = d.port },
-  (told.0, refl, told.2.0 ∙ ap (seen_after reply) put.1.0, refl),
-  (subst (λ notes. AtSomeMoment b (Submits {D = D} (step.Order client number command) q d.notes notes)) (sym told.1) put.0, refl, told.2.1 ∙ put.1.1),
+  (told.0, refl, told.2 ∙ ap (seen_after reply) put.1, refl),
+  (subst (λ notes. AtSomeMoment b (Submits {D = D} (step.Order client number command) q d.notes notes)) (sym told.1) put.0, refl, told.3 ∙ put.2),
 )
 desk_apart b d e f request.Show p q reply put told = absurd put
 desk_apart b d e f request.Resend p q reply put told = absurd put

@@ -1,6 +1,6 @@
 //! A port within one process.
 
-ghost use Rattle.std.specs.Prelude.{◌≡◌, Unit};
+ghost use Rattle.std.specs.Prelude.{◌≡◌};
 ghost use Rattle.coord_server.specs.Workers.{worker_of};
 
 use coord_engine::Port;
@@ -84,13 +84,15 @@ fn send<R: Wait>(rt: &R, channels: &[Sender<Packet>], packet: Packet) -> bool {
 impl<R: Wait> Port for &LocalPort<R> {
     /// A packet says itself where it goes.
     fn carry(&mut self, _to: NodeId, packet: Packet) -> bool {
-        let channels = self.channels.lock(&self.rt);
-        send(&self.rt, &channels, packet)
+        let port = *self;
+        let channels = port.channels.lock(&port.rt);
+        send(&port.rt, &channels, packet)
     }
 
     fn signal(&mut self, node: NodeId, epoch: u64) -> bool {
-        match &*self.signals.lock(&self.rt) {
-            Some(signals) => signals.send(&self.rt, Signal { node, epoch }).is_ok(),
+        let port = *self;
+        match &*port.signals.lock(&port.rt) {
+            Some(signals) => signals.send(&port.rt, Signal { node, epoch }).is_ok(),
             None => false,
         }
     }

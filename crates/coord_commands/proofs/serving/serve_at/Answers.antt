@@ -4,3 +4,15 @@ use Rattle.coord_commands.proofs.Opening.{ended, lost, not_bound, served_to_end}
 use Rattle.coord_commands.specs.Faults.{fault_of_server}
 use Rattle.coord_commands.specs.Serving.{EndsServing}
 use Rattle.coord_commands.proofs.serving.serve_at.Goals as goal
+
+pub returns-in_err-ended-in-Ok-clause-fault : goal.returns-in_err-ended-in-Ok-clause-fault
+returns-in_err-ended-in-Ok-clause-fault g c =
+    let before = g.F.Folder.holds c.args.folder.now c.args.file.now in
+    let after = g.F.Folder.holds c.opened.new.folder c.args.file.now in
+    let fault = c.in_err-ended-in-Ok.field-0.0 in
+    let told : c.from_residual-in_err-ended-in-Ok.result ≡ Err (fault_of_server fault) = search rules in
+    err_last (EndsServing g.F.Disk.Disk.model before after) c.from_residual-in_err-ended-in-Ok.result (fault_of_server fault) told (lost g.F.Disk.Disk.model before after c.in_ok-store.store fault c.in_ok-store.ensures.opened c.in_err-ended-in-Ok.ensures.nothing)
+
+pub returns-in-Err-clause-fault : goal.returns-in-Err-clause-fault
+returns-in-Err-clause-fault g c =
+    not_bound g.F.Disk.Disk.model (g.F.Folder.holds c.args.folder.now c.args.file.now) (g.F.Folder.holds c.close-in-Err.new.self c.args.file.now) c.in_ok-store.store c.into_disk.result c.in_ok-store.ensures.opened c.into_disk.ensures.disk c.close-in-Err.ensures
