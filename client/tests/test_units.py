@@ -16,7 +16,7 @@ from resetd_client.health import metrics
 
 EXAMPLES = os.path.join(ROOT, "examples")
 # What the rules are to say of ten minutes of metrics: each alert fires in its own case, and none in the last ones.
-CASES = (
+CASES: tuple[tuple[str | None, dict[str, str]], ...] = (
     ("ResetdAbsent", {}),
     ("ResetdAbsent", {"resetd_up": "0x10"}),
     ("ResetdStopped", {"resetd_up": "1x10", "resetd_stopped": "1x10"}),
@@ -53,7 +53,7 @@ class Units(unittest.TestCase):
     def unit(self, name: str) -> configparser.ConfigParser:
         """A unit; of a setting that stands there several times, the last one."""
         parser = configparser.ConfigParser(strict=False, interpolation=None, comment_prefixes=("#",))
-        parser.optionxform = str  # type: ignore[assignment,method-assign]
+        parser.optionxform = str  # type: ignore[assignment]
         parser.read_string(shipped(name).replace("\\\n", " "))
         return parser
 

@@ -13,6 +13,7 @@ from collections.abc import Callable, Iterator
 from dataclasses import dataclass
 
 from .. import __version__
+from ..address import Tcp, addresses_of
 from ..answers import Away, NotTaken
 from ..device import file_system, kernel_lines, said
 from ..port import patiently
@@ -54,7 +55,8 @@ def parts(control: Control) -> Iterator[Part]:
 
 
 def why_text(control: Control) -> str:
-    findings = list(looked_at(control.words.store, None, control.words.address.split(",")[0], control.seconds))
+    port = next((str(each) for each in addresses_of(control.words.address) if isinstance(each, Tcp)), None)  # not a front's
+    findings = list(looked_at(control.words.store, None, port, control.seconds))
     return "".join(f"{each.about:8s} {each.text}\n" for each in findings) + told_start(findings) + "\n"
 
 
