@@ -1,4 +1,3 @@
-pub mod Begins
 pub mod Ends
 pub mod OneHistory
 pub mod Starts
