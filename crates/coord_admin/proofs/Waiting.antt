@@ -1,5 +1,5 @@
 -- The queue of orders that were posted: what it holds, and what their replies make of it.
-use Rattle.std.proofs.Common.{◌≡◌, ℕ, ◌<◌, ◌≤◌, true, List, [], ◌∷◌, ◌++◌, length, map, Result, Ok, refl, sym, ap, ◌∙◌, append_assoc, arith}
+use Rattle.std.proofs.Common.{◌≡◌, ℕ, ◌<◌, ◌≤◌, true, List, [], ◌∷◌, ◌++◌, length, map, Result, Ok, refl, sym, ap, ◌∙◌, subst, append_assoc, arith}
 use Rattle.std.proofs.lemmas.List.{map-append}
 use Rattle.coord_types.specs.declared.limits.TheConstants.{MAX_BATCH_STEPS}
 use Rattle.coord_types.specs.declared.refusals.Refusal.{Refusal}
@@ -97,3 +97,13 @@ module _ {D P : Type 0} (answers : D → Request → Answer → D → Type 0) (p
   part-written d e f [] posted results told part few some h replied w is_part left = absurd (omega (arith, as-many posts d e [] h.0 posted h.1 h.2, some))
   part-written d e f (line ∷ lines) posted results told part few some h replied w is_part left =
       breaks-among answers d f line lines left told part (are-posted posts d e (line ∷ lines) posted h few) (whole-written d e f (line ∷ lines) posted results told h replied w) is_part
+
+-- ---- steps
+
+-- no reply of these makes a desk keep fewer
+pub all-kept : {D P : Type 0} (replies : D → P → Result Reply Refusal → D → Type 0) (keeps : D → ℕ → Type 0) (loses_none : (a b : D) (p : P) (x : Result Reply Refusal) (kept : ℕ) → replies a p x b → keeps a kept → keeps b kept)
+    → (d e : D) (posted : List P) (results : List (Result Reply Refusal)) (kept : ℕ) → AllReplied replies d posted results e → keeps d kept → keeps e kept
+all-kept replies keeps loses_none d e [] [] kept same is = subst (λ x. keeps x kept) (sym same) is
+all-kept replies keeps loses_none d e [] (r ∷ results) kept told is = absurd told
+all-kept replies keeps loses_none d e (p ∷ posted) [] kept told is = absurd told
+all-kept replies keeps loses_none d e (p ∷ posted) (r ∷ results) kept told is = all-kept replies keeps loses_none told.0 e posted results kept told.2 (loses_none d told.0 p r kept told.1 is)

@@ -33,7 +33,7 @@ has_closed (Err f) = false
 module _ {D : Type 0} (answers : D → Request → Answer → D → Type 0) (keeps : D → ℕ → Type 0) (most : ℕ) where
   -- a connection began while the desk kept fewer steps than its life has, was served, and was cut off only once it kept twice as many
   abbrev pub IsServed : D → Connection → D → Type 0
-  IsServed d c e = HasKeptFewer keeps d most × Served answers d c.talk.bytes_read c.talk.bytes_written c.ended e × (c.ended ≡ Ok Cut → (over : D) × HasKept keeps over (2 * most))
+  IsServed d c e = HasKeptFewer keeps d most × Served answers d c.talk.bytes_read c.talk.bytes_written c.ended e × (c.ended ≡ Ok Cut → HasKept keeps e (2 * most))
 
   -- connections one after the other, none of which closed the desk
   abbrev pub AllServed : D → List Connection → D → Type 0

@@ -1,11 +1,18 @@
 //! Those who call a server.
 
-ghost use Rattle.std.specs.Prelude.{◌≡◌, List, [], ◌∷◌, ◌++◌, ℕ, Bool, ⊤, IfOk, OnErr};
+ghost use Rattle.std.specs.Prelude.{◌≡◌, List, [], ◌∷◌, ◌++◌, ℕ, ⊤, Result, Err, Ok, IfOk, OnErr};
 ghost use Rattle.coord_admin.specs.Connections.{Talk};
+ghost use Rattle.coord_admin.specs.LifeLimit.{ends_here};
+ghost use Rattle.coord_admin.specs.declared.fault.ServeFault.{ServeFault};
+ghost use Rattle.coord_admin.specs.declared.fault.ServeFault.TheVariants.{Read, Write};
+ghost use Rattle.coord_admin.specs.declared.session.Ended.{Ended};
+ghost use Rattle.coord_admin.specs.declared.session.Ended.TheVariants.{Input};
 
 use crate::accepting::Failure;
 use crate::duplex::Duplex;
+use crate::fault::ServeFault;
 use crate::patience::{ACCEPT_TRIES, Patience};
+use crate::session::Ended;
 use crate::timed::TimedStream;
 use std::io::{ErrorKind, Read, Write};
 use std::marker::Model;
@@ -26,8 +33,8 @@ pub trait Callers {
     /// It was asked for the next client, and no client will come any more.
     ghost failed: { Self → Self → Type 0 } = { λ _ _. ⊤ };
 
-    /// It was told that this connection has ended, and whether it was ended from here.
-    ghost ended: { Self → Self.Line → Bool → Self → Type 0 } = { λ _ _ _ _. ⊤ };
+    /// It was told that this connection was served, and how that ended.
+    ghost ended: { Self → Self.Line → Result Ended ServeFault → Self → Type 0 } = { λ _ _ _ _. ⊤ };
 
     /// At which address they call.
     fn address(&self) -> io::Result<SocketAddr>;
@@ -38,10 +45,14 @@ pub trait Callers {
         ensures failed { OnErr result (failed self.old self.new) }
         ensures none_ended { talked self.old [] self.new };
 
-    /// Ends a connection. If it was ended from here, by a close or a cut, its client is first given
-    /// time to read the last answer.
-    fn end(&mut self, line: Self::Line, ends_here: bool)
-        ensures ended { ended self.old line ends_here self.new }
+    /// Ends a connection that was served so: to the end of its input only where nothing more comes
+    /// in, and with a failed read or write only where one has failed. If it was ended from here, by a
+    /// close or a cut, its client is first given time to read the last answer.
+    fn end(&mut self, line: Self::Line, served: Result<Ended, ServeFault>)
+        requires input { served ≡ Ok Input → Self.Line.has_ended line }
+        requires read { served ≡ Err Read → Self.Line.has_failed line }
+        requires write { served ≡ Err Write → Self.Line.has_failed line }
+        ensures ended { ended self.old line served self.new }
         ensures talked { (first : Self.Line) (bytes_read bytes_written : List ℕ) → begins first →
             Self.Line.exchanged first bytes_read bytes_written line →
             talked self.old (record { bytes_read = bytes_read; bytes_written = bytes_written } ∷ []) self.new };
@@ -50,6 +61,13 @@ pub trait Callers {
 
     ghost in_turn: { (a b c : Self) (some more : List Talk) → talked a some b → talked b more c →
         talked a (some ++ more) c };
+}
+
+/// Whether a connection was closed or cut from here.
+fn ends_here(served: Result<Ended, ServeFault>) -> bool
+    ensures { result ≡ ends_here served }
+{
+    matches!(served, Ok(Ended::Closed | Ended::Cut))
 }
 
 /// The connections that a listener accepts, each with a bound on how long its client is waited for.
@@ -117,9 +135,9 @@ impl<'a, S: Read + Write + OpenStream + Drop, L: OpenListener<Stream = S>, T: Cl
         Err(ErrorKind::TimedOut.into())
     }
 
-    fn end(&mut self, line: TimedStream<'a, S, T>, ends_here: bool) {
+    fn end(&mut self, line: TimedStream<'a, S, T>, served: Result<Ended, ServeFault>) {
         let mut line = line;
-        if ends_here {
+        if ends_here(served) {
             line.discard();
         }
     }

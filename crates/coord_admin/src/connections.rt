@@ -2,7 +2,7 @@
 
 ghost use Rattle.std.specs.Prelude.{◌≡◌, ◌∷◌, [], Ok, OnErr};
 ghost use Rattle.coord_admin.specs.Connections.{IsServed, ServedOpen, ServedToClose, Talk, has_closed};
-ghost use Rattle.coord_admin.specs.LifeLimit.{HasKept, HasKeptFewer, ends_here};
+ghost use Rattle.coord_admin.specs.LifeLimit.{HasKept, HasKeptFewer};
 ghost use Rattle.coord_admin.specs.declared.connections.Stop.TheVariants as StopAs;
 
 use crate::callers::Callers;
@@ -70,11 +70,11 @@ fn serve_connection<C: Callers, D: Desk>(
     requires young { HasKeptFewer D.keeps desk.old most }
     ensures served { (talk : Talk) × C.talked callers.old (talk ∷ []) callers.new ×
         IsServed D.answers D.keeps most desk.old (record { talk = talk; ended = result }) desk.new }
-    ensures ended { (last : C.Line) × C.ended callers.old last (ends_here result) callers.new }
+    ensures ended { (last : C.Line) × C.ended callers.old last result callers.new }
 {
     let mut line = line;
     let ended = serve(alloc, most, &mut line, desk);
-    callers.end(line, ends_here(ended));
+    callers.end(line, ended);
     ended
 }
 
@@ -83,11 +83,4 @@ fn has_closed(ended: Result<Ended, ServeFault>) -> bool
     ensures { result ≡ has_closed ended }
 {
     matches!(ended, Ok(Ended::Closed))
-}
-
-/// Whether a connection was closed or cut from here.
-fn ends_here(ended: Result<Ended, ServeFault>) -> bool
-    ensures { result ≡ ends_here ended }
-{
-    matches!(ended, Ok(Ended::Closed | Ended::Cut))
 }

@@ -39,7 +39,7 @@ pub struct Counted {
 }
 
 impl Desk for CountDesk {
-    ghost use Rattle.coord_admin.specs.Counted.{counted_answered, counted_apart};
+    ghost use Rattle.coord_admin.specs.Counted.{counted_answered, counted_apart, counted_keeps};
 
     type Posted = Counted;
 
@@ -95,4 +95,6 @@ impl Desk for CountDesk {
 
     ghost stays_apart = { λ a b c r p q x put replied.
         counted_apart a b c r p.reply q.reply x put replied };
+
+    ghost loses_none = { λ a b p x kept replied is. counted_keeps a b kept replied.1 is };
 }

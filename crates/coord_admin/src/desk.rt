@@ -76,4 +76,8 @@ pub trait Desk {
     ghost stays_apart: { (a b c : Self) (r : Request) (p q : Self.Posted)
         (x : Result Reply Refusal) → posts a r q b → replies b p x c →
         (m : Self) × replies a p x m × posts m r q c };
+
+    /// A law: of the steps that it may keep none is lost where a reply is waited for.
+    ghost loses_none: { (a b : Self) (p : Self.Posted) (x : Result Reply Refusal) (kept : ℕ) →
+        replies a p x b → keeps a kept → keeps b kept };
 }

@@ -20,6 +20,9 @@ pub trait Duplex {
     /// Nothing more comes in.
     ghost has_ended: { Self → Type 0 };
 
+    /// A read or a write of it has failed.
+    ghost has_failed: { Self → Type 0 } = { λ _. ⊤ };
+
     /// It was asked for what comes next, and told whether a line has begun.
     ghost asked: { Self → Bool → Self → Type 0 } = { λ _ _ _. ⊤ };
 
@@ -31,7 +34,7 @@ pub trait Duplex {
         ensures length { length buffer.new ≡ length buffer.old }
         ensures bytes { IfOk result (λ n. exchanged self.old (take n buffer.new) [] self.new) }
         ensures end { IfOk result (λ n. n ≡ 0 → 0 < length buffer.old → has_ended self.new) }
-        ensures failed { OnErr result (exchanged self.old [] [] self.new) }
+        ensures failed { OnErr result (exchanged self.old [] [] self.new × has_failed self.new) }
         ensures asked { asked self.old is_within_line self.new };
 
     /// Whether more has come in already, so that to take it waits for nothing.
@@ -44,6 +47,8 @@ pub trait Duplex {
         ensures whole { OnOk result (exchanged self.old [] text.now self.new) }
         ensures part { OnErr result ((part : List ℕ) × exchanged self.old [] part self.new ×
             IsFirstPart part text.now) }
+        ensures failed { OnErr result (has_failed self.new) }
+        ensures still { has_failed self.old → has_failed self.new }
         ensures end { has_ended self.old → has_ended self.new };
 
     ghost at_rest: { (a : Self) → exchanged a [] [] a };

@@ -78,6 +78,7 @@ pub fn receive_in_life<C: Duplex, D: Desk>(
     ensures end { IfOk result (λ n. n ≡ 0 → 0 < length buffer.old →
         C.has_ended connection.new) }
     ensures failed { OnErr result (C.exchanged connection.old [] [] connection.new) }
+    ensures broken { result ≡ Err UnreadAs.Failed → C.has_failed connection.new }
     ensures asked { result ≢ Err UnreadAs.Over → HasKeptFewer D.keeps desk.now (2 * most) ×
         C.asked connection.old is_within_line connection.new }
     ensures over { result ≡ Err UnreadAs.Over → HasKept D.keeps desk.now (2 * most) }

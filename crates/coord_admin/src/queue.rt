@@ -90,6 +90,7 @@ impl<D: Desk> Queue<D> {
             AwaitReplies D.posts d lines self.old.posted.items desk.old → (part : List ℕ)
             × C.exchanged connection.old [] part connection.new
             × ((left : List Line) → BreaksOff D.answers d (lines ++ left) part desk.new)) }
+        ensures failed { OnErr result (C.has_failed connection.new) }
         ensures empty { OnErr result (self.new.posted.items ≡ []) }
     {
         if self.has_room() && connection.has_more() {
@@ -114,6 +115,7 @@ impl<D: Desk> Queue<D> {
             AwaitReplies D.posts d lines self.old.posted.items desk.old → (part : List ℕ)
             × C.exchanged connection.old [] part connection.new
             × ((left : List Line) → BreaksOff D.answers d (lines ++ left) part desk.new)) }
+        ensures failed { OnErr result (C.has_failed connection.new) }
         ensures empty { OnErr result (self.new.posted.items ≡ []) }
     {
         if self.has_room() {
@@ -138,7 +140,10 @@ impl<D: Desk> Queue<D> {
             AwaitReplies D.posts d lines self.old.posted.items desk.old → (part : List ℕ)
             × C.exchanged connection.old [] part connection.new
             × ((left : List Line) → BreaksOff D.answers d (lines ++ left) part desk.new)) }
+        ensures failed { OnErr result (C.has_failed connection.new) }
         ensures empty { self.new.posted.items ≡ [] }
+        ensures kept { (kept : ℕ) → D.keeps desk.old kept → D.keeps desk.new kept }
+        ensures still { C.has_failed connection.old → C.has_failed connection.new }
         ensures end { C.has_ended connection.old → C.has_ended connection.new }
     {
         if self.posted.is_empty() {

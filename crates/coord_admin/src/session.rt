@@ -1,11 +1,12 @@
 //! Lines read from a connection, each answered to it.
 
-ghost use Rattle.std.specs.Prelude.{◌≡◌, ◌*◌, ◌++◌, ◌∷◌, ◌<◌, [], length, List, ℕ, Ok, OnOk, OnErr, IfOk, IfSome, IfNone, true, false, vec_len};
+ghost use Rattle.std.specs.Prelude.{◌≡◌, ◌*◌, ◌++◌, ◌∷◌, ◌<◌, [], length, List, ℕ, Err, Ok, OnOk, OnErr, IfOk, IfSome, IfNone, true, false, vec_len};
 ghost use Rattle.std.specs.Option.{option_copied};
 ghost use Rattle.coord_lines.specs.Lines.{Line, lines_on, IsWithin};
 ghost use Rattle.coord_admin.specs.declared.answer.Answer.{Answer};
 ghost use Rattle.coord_admin.specs.declared.answer.Answer.TheVariants.{Closed, Faulted};
 ghost use Rattle.coord_admin.specs.declared.fault.LineFault.TheVariants.{Unfinished};
+ghost use Rattle.coord_admin.specs.declared.fault.ServeFault.TheVariants as ServeAs;
 ghost use Rattle.coord_admin.specs.declared.session.Ended.TheVariants.{Cut, Input};
 ghost use Rattle.coord_admin.specs.LifeLimit.{HasKept};
 ghost use Rattle.coord_admin.specs.Replies.{reply_line, reply_lines};
@@ -65,7 +66,9 @@ pub fn serve<C: Duplex, D: Desk>(
         × C.exchanged connection.old seen text connection.new
         × Served D.answers desk.old seen text result desk.new }
     ensures end { result ≡ Ok Input → C.has_ended connection.new }
-    ensures cut { result ≡ Ok Cut → (d : D) × HasKept D.keeps d (2 * most) }
+    ensures read { result ≡ Err ServeAs.Read → C.has_failed connection.new }
+    ensures write { result ≡ Err ServeAs.Write → C.has_failed connection.new }
+    ensures cut { result ≡ Ok Cut → HasKept D.keeps desk.new (2 * most) }
 {
     let (mut buffer, mut queue) = room(alloc)?;
     let ended = serve_lines(
@@ -105,7 +108,9 @@ fn serve_lines<C: Duplex, D: Desk>(
         × C.exchanged connection.old seen text connection.new
         × Served D.answers desk.old seen text result desk.new }
     ensures end { result ≡ Ok Input → C.has_ended connection.new }
-    ensures cut { result ≡ Ok Cut → (d : D) × HasKept D.keeps d (2 * most) }
+    ensures read { result ≡ Err ServeAs.Read → C.has_failed connection.new }
+    ensures write { result ≡ Err ServeAs.Write → C.has_failed connection.new }
+    ensures cut { result ≡ Ok Cut → HasKept D.keeps desk.new (2 * most) }
     ensures queue { queue.new.posted.items ≡ [] }
 {
     let mut line = LineBuffer::new();
@@ -171,6 +176,7 @@ fn take<C: Duplex, D: Desk>(
         AwaitReplies D.posts d waiting queue.old.posted.items desk.old → (text : List ℕ)
         × C.exchanged connection.old [] text connection.new
         × BreaksOff D.answers d (waiting ++ lines_on line.old piece.now) text desk.new) }
+    ensures broken { OnErr result (C.has_failed connection.new) }
     ensures over { result ≡ Ok true → queue.new.posted.items ≡ [] }
     ensures empty { OnErr result (queue.new.posted.items ≡ []) }
 {
@@ -210,6 +216,7 @@ fn end_line<C: Duplex, D: Desk>(
         × C.exchanged connection.old [] text connection.new
         × ((left : List Line) → BreaksOff D.answers d
         (waiting ++ option_copied line.entry ∷ left) text desk.new)) }
+    ensures broken { OnErr result (C.has_failed connection.new) }
     ensures over { IfOk result (λ closed. closed ≡ true → queue.new.posted.items ≡ []) }
     ensures empty { OnErr result (queue.new.posted.items ≡ []) }
 {
@@ -246,6 +253,7 @@ fn finish<C: Duplex>(line: &LineBuffer, connection: &mut C) -> Result<(), NotWri
         (C.exchanged connection.old [] (reply_lines (last_answers line.now)) connection.new) }
     ensures failed { OnErr result (WritesPart C.exchanged connection.old connection.new
         (reply_line (Faulted Unfinished))) }
+    ensures broken { OnErr result (C.has_failed connection.new) }
     ensures within { IsWithin line.now }
     ensures end { C.has_ended connection.old → C.has_ended connection.new }
 {

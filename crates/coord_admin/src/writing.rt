@@ -44,6 +44,7 @@ pub fn write_answer<C: Duplex>(
         × C.exchanged connection.old [] (reply_line told) connection.new) }
     ensures err { OnErr result ((told : Answer) × IsWritten answer.now told
         × WritesPart C.exchanged connection.old connection.new (reply_line told)) }
+    ensures failed { OnErr result (C.has_failed connection.new) }
 {
     let line = line_of_answer(alloc, answer);
     connection.reply(line.as_bytes())
@@ -60,6 +61,8 @@ pub fn write_answers<C: Duplex>(
     ensures part { OnErr result ((told : List Answer) × (part : List ℕ)
         × AreWritten answers.now told × C.exchanged connection.old [] part connection.new
         × IsFirstPart part (reply_lines told)) }
+    ensures failed { OnErr result (C.has_failed connection.new) }
+    ensures still { C.has_failed connection.old → C.has_failed connection.new }
     ensures end { C.has_ended connection.old → C.has_ended connection.new }
 {
     let mut text = Vec::new(alloc);
@@ -83,6 +86,8 @@ fn add_line<C: Duplex>(
     ensures part { OnErr result ((part : List ℕ)
         × C.exchanged connection.old [] part connection.new
         × IsFirstPart part (text.old.items ++ line.now)) }
+    ensures failed { OnErr result (C.has_failed connection.new) }
+    ensures still { C.has_failed connection.old → C.has_failed connection.new }
     ensures end { C.has_ended connection.old → C.has_ended connection.new }
 {
     if text.extend_from_slice(line).is_ok() {

@@ -150,4 +150,6 @@ impl<'a, D: Disk, L: Origin, P: Port, R: Wait> Desk for EngineDesk<'a, D, L, P, 
     ghost is_answered = { desk_answered (based_on D.model.keeps_model D.model.present L.base L.before) };
 
     ghost stays_apart = { desk_apart (based_on D.model.keeps_model D.model.present L.base L.before) };
+
+    ghost loses_none = { λ _ _ _ _ _ _ is. is };
 }

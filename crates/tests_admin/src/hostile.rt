@@ -129,3 +129,44 @@ fn replies_byte_by_byte(rt: HostRuntime) {
         &b"{\"count\":0,\"kind\":\"resent\"}\n".as_slice(),
     );
 }
+
+/// Keeps what it takes back until it is flushed.
+#[derive(Drop)]
+struct HeldBack {
+    held: Vec<u8>,
+    given: Vec<u8>,
+}
+
+impl Write for HeldBack {
+    fn write(&mut self, buf: &[u8]) -> io::Result<usize> {
+        self.held.extend_from_slice(buf)?;
+        Ok(buf.len())
+    }
+
+    fn flush(&mut self) -> io::Result<()> {
+        self.given.extend_from_slice(&self.held)?;
+        self.held.clear();
+        Ok(())
+    }
+}
+
+/// A reply is given on by a writer that gives nothing on before it is flushed.
+#[test]
+fn replies_are_flushed(rt: HostRuntime) {
+    let mut lines = b"{\"op\":\"resend\"}\n".as_slice();
+    let mut writer = HeldBack {
+        held: Vec::new(rt.alloc()),
+        given: Vec::new(rt.alloc()),
+    };
+    let mut desk = CountDesk::new(rt.alloc(), 0);
+    same(
+        &rt,
+        &serve_halves(&rt, &mut lines, &mut writer, &mut desk),
+        &Ok(Ended::Input),
+    );
+    same(
+        &rt,
+        &writer.given.as_slice(),
+        &b"{\"count\":0,\"kind\":\"resent\"}\n".as_slice(),
+    );
+}

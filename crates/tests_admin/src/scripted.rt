@@ -36,6 +36,10 @@ enum Client {
     Floods(u64),
     /// So often there is no room in the table of files, and then it closes the desk.
     Waits(u64),
+    /// The same, but that each second time a client has left instead.
+    Alternates(u64),
+    /// So many reads of it are interrupted, and then it closes the desk.
+    Interrupts(u64),
     /// The listener fails.
     Breaks,
 }
@@ -49,10 +53,13 @@ struct Script<T: Clock> {
     refused: AtomicU64,
     /// How many bytes were written as they were to be.
     written: AtomicU64,
-    /// How often a stream was to wait longer than it may.
+    /// How often a stream was to wait longer than it may, or was read without being told how long.
     too_long: AtomicU64,
-    /// How often it was read behind a close or in a line without a pause.
+    /// How often it was read behind a close or a failed read, or in a line without a pause.
     read_on: AtomicU64,
+    /// Whether a stream was told how long its next read may wait: 1 if so.
+    is_bounded: AtomicU64,
+    interrupted: AtomicU64,
 }
 
 /// A client's stream.
@@ -71,9 +78,11 @@ impl<'a, T: Clock> OpenListener for &'a Script<T> {
         let script = *self;
         let place = usize::try_from(script.come.load(Ordering::SeqCst)).unwrap_or(usize::MAX);
         let client = script.clients.get(place).copied().unwrap_or(Client::Breaks);
-        if let Client::Waits(times) = client {
-            if script.refused.fetch_add(1, Ordering::SeqCst) < times {
-                return Err(io::Error::from_raw_os_error(24));
+        if let Client::Waits(times) | Client::Alternates(times) = client {
+            let refused = script.refused.fetch_add(1, Ordering::SeqCst);
+            if refused < times {
+                let has_left = matches!(client, Client::Alternates(_)) && refused % 2 == 1;
+                return Err(io::Error::from_raw_os_error(if has_left { 103 } else { 24 }));
             }
         }
         script.come.fetch_add(1, Ordering::SeqCst);
@@ -116,6 +125,7 @@ impl<T: Clock> OpenStream for Scripted<'_, T> {
     }
 
     fn set_read_timeout(&self, patience: Option<Duration>) -> io::Result<()> {
+        self.script.is_bounded.store(1, Ordering::SeqCst);
         self.waits(patience, 15);
         Ok(())
     }
@@ -128,8 +138,20 @@ impl<T: Clock> OpenStream for Scripted<'_, T> {
 
 impl<T: Clock> Read for Scripted<'_, T> {
     fn read(&mut self, buf: &mut [u8]) -> io::Result<usize> {
+        if self.script.is_bounded.swap(0, Ordering::SeqCst) == 0 {
+            self.script.too_long.fetch_add(1, Ordering::SeqCst);
+        }
         if matches!(self.client, Client::Silent) {
+            if self.is_read {
+                self.script.read_on.fetch_add(1, Ordering::SeqCst);
+            }
+            self.is_read = true;
             return Err(ErrorKind::WouldBlock.into());
+        }
+        if let Client::Interrupts(times) = self.client {
+            if self.script.interrupted.fetch_add(1, Ordering::SeqCst) < times {
+                return Err(ErrorKind::Interrupted.into());
+            }
         }
         if let Client::Floods(pieces) = self.client {
             thread::sleep(&self.script.clock, Duration::from_millis(1));
@@ -191,6 +213,8 @@ impl<T: Clock> Script<T> {
             written: AtomicU64::new(0),
             too_long: AtomicU64::new(0),
             read_on: AtomicU64::new(0),
+            is_bounded: AtomicU64::new(0),
+            interrupted: AtomicU64::new(0),
         }
     }
 
@@ -321,6 +345,25 @@ fn no_room_for_a_connection(rt: HostRuntime) {
     let gives_up = [Client::Waits(ACCEPT_TRIES + 1); 6];
     same(&rt, &ended(&rt, waits, patience()), &closed_as(1));
     same(&rt, &ended(&rt, gives_up, patience()), &broken_as(0));
+}
+
+/// That a client has left meanwhile makes room for no other.
+#[test]
+fn no_room_for_a_connection_while_clients_leave(rt: HostRuntime) {
+    let waits = [Client::Alternates(2 * ACCEPT_TRIES); 6];
+    let gives_up = [Client::Alternates(4 * ACCEPT_TRIES); 6];
+    same(&rt, &ended(&rt, waits, patience()), &closed_as(1));
+    same(&rt, &ended(&rt, gives_up, patience()), &broken_as(0));
+}
+
+/// Each read is told how long it may wait, also behind one that was interrupted.
+#[test]
+fn reads_that_are_interrupted(rt: HostRuntime) {
+    same(
+        &rt,
+        &ended(&rt, [Client::Interrupts(3); 6], patience()),
+        &closed_as(1),
+    );
 }
 
 /// What accept(2) has fail with one connection alone: EPERM, EINTR, ENONET, EPROTO, ENOPROTOOPT,

@@ -93,6 +93,8 @@ impl Desk for Told {
     ghost is_answered = { λ _ _ _ _ _ _ _ _. tt };
 
     ghost stays_apart = { λ a _ _ _ _ _ _ _ _. (a, tt, tt) };
+
+    ghost loses_none = { λ _ _ _ _ _ _ _. tt };
 }
 
 /// Gives so many bytes at a time, may say whether there are more, keeps what is written, and has room

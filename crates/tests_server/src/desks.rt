@@ -95,6 +95,8 @@ impl<'a, E: Desk> Desk for Front<'a, E> {
     ghost is_answered = { λ _ _ _ _ _ _ _ _. tt };
 
     ghost stays_apart = { λ a _ _ _ _ _ _ _ _. (a, tt, tt) };
+
+    ghost loses_none = { λ _ _ _ _ _ _ _. tt };
 }
 
 /// Sends the lines. Whether they are told their replies; None where they are told that there was no

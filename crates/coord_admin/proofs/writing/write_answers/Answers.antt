@@ -5,7 +5,7 @@ use Rattle.coord_admin.proofs.Stream.{all-taken, part-at_end, part-within, text-
 use Rattle.coord_admin.proofs.writing.write_answers.Goals as goal
 
 pub loop-answer-init : goal.loop-answer-init
-loop-answer-init g c = ([], [], tt, g.met.C.Duplex.at_rest _, sym c.new-text.ensures.items, λ ended. ended)
+loop-answer-init g c = ([], [], tt, g.met.C.Duplex.at_rest _, sym c.new-text.ensures.items, λ ended. ended, λ failed. failed)
 
 pub returns-in_err-add_line-clause-part : goal.returns-in_err-add_line-clause-part
 returns-in_err-add_line-clause-part g c =
@@ -30,6 +30,7 @@ loop-answer-preserved g c =
       told-on g.C.Duplex.exchanged g.met.C.Duplex.in_turn _ _ _ [] inv.0 added.0 inv.3 added.1,
       text-on inv.1 line.0 inv.0 added.0 c.loop-answer.text.items _ _ inv.4 (c.as_bytes.ensures ∙ line.2) added.2,
       λ ended. c.add_line.ensures.end (inv.5 ended),
+      λ failed. c.add_line.ensures.still (inv.6 failed),
     )
 
 pub returns-clause-whole : goal.returns-clause-whole
@@ -59,3 +60,9 @@ returns-in_err-add_line-clause-end g c = λ ended. c.add_line.ensures.end (c.loo
 
 pub returns-clause-end : goal.returns-clause-end
 returns-clause-end g c = λ ended. c.reply.ensures.end (c.loop-answer.invariant.5 ended)
+
+pub returns-in_err-add_line-clause-still : goal.returns-in_err-add_line-clause-still
+returns-in_err-add_line-clause-still g c = λ failed. c.add_line.ensures.still (c.loop-answer.invariant.6 failed)
+
+pub returns-clause-still : goal.returns-clause-still
+returns-clause-still g c = λ failed. c.reply.ensures.still (c.loop-answer.invariant.6 failed)

@@ -12,3 +12,4 @@ invariant-loop-answer g l =
     × g.C.Duplex.exchanged l.fn.connection [] out l.connection
     × (reply_lines told ≡ out ++ l.text.items)
     × (g.C.Duplex.has_ended l.fn.connection → g.C.Duplex.has_ended l.connection)
+    × (g.C.Duplex.has_failed l.fn.connection → g.C.Duplex.has_failed l.connection)

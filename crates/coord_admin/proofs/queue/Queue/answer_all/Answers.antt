@@ -4,7 +4,7 @@ use Rattle.std.proofs.lemmas.Result.{on_err_weaker, on_ok_weaker}
 use Rattle.coord_types.specs.declared.limits.TheConstants.{MAX_BATCH_STEPS}
 use Rattle.coord_admin.specs.Replies.{order_answer}
 use Rattle.coord_admin.specs.Stream.{AreWritten}
-use Rattle.coord_admin.proofs.Waiting.{none-answered, none-left, part-written, whole-written}
+use Rattle.coord_admin.proofs.Waiting.{all-kept, none-answered, none-left, part-written, whole-written}
 use Rattle.coord_admin.proofs.queue.Queue.answer_all.Goals as goal
 
 pub returns-then-is_empty-clause-whole : goal.returns-then-is_empty-clause-whole
@@ -38,3 +38,8 @@ returns-clause-part g c =
       part.3,
       part-written g.D.Desk.answers g.D.Desk.posts g.D.Desk.replies g.met.D.Desk.is_answered g.met.D.Desk.stays_apart d _ _ lines queue.posted.items replied.0 part.0 part.1 few some await replied.1 (subst (λ l. AreWritten l part.0) all part.2) part.4,
     )) c.write_answers-written.ensures.part
+
+pub returns-clause-kept : goal.returns-clause-kept
+returns-clause-kept g c = λ kept is.
+    let replied = c.reply_all.ensures.replied in
+    all-kept g.D.Desk.replies g.D.Desk.keeps g.met.D.Desk.loses_none c.args.desk.now _ c.args.self.now.posted.items replied.0 kept replied.1 is
