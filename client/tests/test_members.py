@@ -70,7 +70,9 @@ class Members(MemberCase):
         self.look(again)
         self.assertEqual((self.begun, again.run), ([1], first.run))
 
+    @in_memory
     def test_a_restored_store_is_reset_until_its_party_is_new(self) -> None:
+        """Over the program a look may fall into the midst of a wave, whose party is new: the member then begins there too."""
         member = self.in_a_run()
         copy = self.server.copy()
         for _ in range(3):

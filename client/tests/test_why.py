@@ -12,6 +12,7 @@ import signal
 import socket
 import subprocess
 import sys
+import tempfile
 import time
 import unittest
 from unittest import mock
@@ -31,6 +32,13 @@ class Files(Case):
             file.write(data)
         os.chmod(path, 0o640)
         return path
+
+    def move_to_all(self) -> None:
+        """The folder is where every user may come: TMPDIR may be this user's alone."""
+        folder = tempfile.TemporaryDirectory(dir="/tmp")
+        self.addCleanup(folder.cleanup)
+        self.folder = folder.name
+        os.chmod(self.folder, 0o755)
 
     def why(self, *words: str) -> tuple[int, list[str]]:
         status, out, told = self.run_words("why", *words)
@@ -90,9 +98,9 @@ class Files(Case):
     @unittest.skipUnless(os.geteuid() == 0, "needs root: it acts as another user")
     def test_the_user_of_the_server(self) -> None:
         """Root sees what that user meets: by default the one who owns the folder."""
+        self.move_to_all()
         store = self.put(FRESH)
         os.chmod(store, 0o600)
-        os.chmod(self.folder, 0o755)
         refused = "a start now would end with Device: access: the user nobody can't open it to read and write: Permission denied; "
         self.assertEqual(self.why(store)[0], 0)
         status, lines = self.why("--user", "nobody", store)
@@ -110,6 +118,7 @@ class Files(Case):
     @unittest.skipUnless(os.geteuid() == 0, "needs root: it acts as another user")
     def test_a_folder_of_a_lost_machine(self) -> None:
         """Its owner has no name here, and is told so; who may open the file as that number, may."""
+        self.move_to_all()
         store = self.put(FRESH)
         for path in (store, self.folder):
             os.chown(path, 54_321, 54_321)
