@@ -29,6 +29,14 @@ class Controls(Case):
             self.assertEqual((status, out.split()[:1]), (0, said.split()))
         self.assertEqual(self.run_words("close")[:2], (0, "closed\n"))
 
+    def test_what_becomes_of_the_files_of_a_node_that_is_removed(self) -> None:
+        self.run_words("drop", "1", "2")
+        status, _, told = self.run_words("remove", "2")
+        self.assertEqual(status, 0)
+        self.assertIn("removed: 2. A service may keep its files", told)
+        self.run_words("add", "2", "1")
+        self.assertEqual(self.run_words("--quiet", "remove", "2"), (0, "", ""))
+
     def test_a_refusal_says_what_was_found(self) -> None:
         for node in (3, 4):
             self.run_words("add", str(node), str(node - 2))

@@ -22,7 +22,16 @@ def order(control: Control) -> int:
     with control.orders() as book:
         control.settle(book)
         control.tell(told_reply(control.carry_out(book, words.command, **members)))
+    if words.command == "remove":
+        say_what_becomes_of_files(control, [words.node])
     return DONE
+
+
+def say_what_becomes_of_files(control: Control, nodes: list[int]) -> None:
+    """Tells a person what the services of nodes that were removed do with their files."""
+    if nodes and not control.words.quiet:
+        complain(f"removed: {', '.join(map(str, nodes))}. A service may keep its files: where its node is added again it asks for one "
+                 "reset. When it goes for good, remove its files with it")
 
 
 def resend(control: Control) -> int:
@@ -89,6 +98,7 @@ def apply(control: Control) -> int:
         lines: list[Line] = [{"op": each.op, **each.members} for each in orders]
         for each, reply in zip(orders, control.carry_out_all(book, lines, view.accepted)):
             print(f"{told_reply(reply)}: {each}", flush=True)
+    say_what_becomes_of_files(control, [each.members["node"] for each in orders if each.op == "remove"])
     print(f"{len(orders)} orders; the network is what {control.words.topology} wants")
     return DONE
 
