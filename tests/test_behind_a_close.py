@@ -7,7 +7,7 @@ import time
 
 from support import preloaded
 from support.case import Case
-from support.serving import Serving
+from support.serving import Connection, Serving
 from support.stores import topology
 
 DISCARD = 1  # for how many seconds it is discarded
@@ -17,12 +17,12 @@ LATE = 60  # seconds by which a busy machine may be late
 class BehindAClose(Case):
     takes = 6
 
-    def serving(self, name="store"):
+    def serving(self, name: str = "store") -> Serving:
         """By a clock that stands still: what has come is discarded to its end, however long the server takes for it."""
         self.needs("a C compiler", preloaded.has_compiler())
         return Serving(self.made(topology([(1, 1)]), name), env=preloaded.environment(self.folder, STILL=1))
 
-    def test_further_lines_are_discarded(self):
+    def test_further_lines_are_discarded(self) -> None:
         for behind in (b'{"op":"show"}\n', b'{"op":"show"}\n' * 2_000, b" " * 40_000):
             with self.subTest(behind=len(behind)), self.serving(f"store{len(behind)}") as server, \
                     server.connect() as connection:
@@ -32,7 +32,7 @@ class BehindAClose(Case):
                 connection.socket.close()
                 self.assertEqual((server.ended().status, server.ended().told), (0, ""))
 
-    def test_lines_that_come_later_are_discarded(self):
+    def test_lines_that_come_later_are_discarded(self) -> None:
         for number in range(20):
             with self.serving(f"store{number}") as server, server.connect() as connection:
                 begun = time.monotonic()
@@ -45,7 +45,7 @@ class BehindAClose(Case):
                         return
         self.fail("the machine was too busy to send a line behind a close in time")
 
-    def expect_discarded(self, server, connection):
+    def expect_discarded(self, server: Serving, connection: Connection) -> None:
         """Nothing more is said, and the connection is not torn off."""
         try:
             self.assertEqual(connection.rest(), [])
@@ -54,7 +54,7 @@ class BehindAClose(Case):
         connection.socket.close()
         self.assertEqual(server.ended().status, 0)
 
-    def test_a_client_is_told_that_no_more_comes(self):
+    def test_a_client_is_told_that_no_more_comes(self) -> None:
         """Behind the answer, and before what it still sends is discarded: so it need not wait for the end of that."""
         self.needs("a C compiler", preloaded.has_compiler())
         environment = preloaded.environment(self.folder, CALLS=self.path("calls"), WAITS=1)
@@ -69,13 +69,13 @@ class BehindAClose(Case):
                  or name == "read-within"]
         self.assertEqual(names[:4], ["read-within", "out", "no-more", "read-within"])
 
-    def test_a_client_that_stays_holds_up_no_end(self):
+    def test_a_client_that_stays_holds_up_no_end(self) -> None:
         with Serving(self.made(topology([(1, 1)]))) as server, server.connect() as connection:
             connection.send({"op": "close"})
             self.assertEqual(connection.line(), b'{"kind":"closed"}\n')
             self.assertEqual(server.ended(DISCARD + LATE).status, 0)
 
-    def test_a_client_that_sends_on_holds_up_no_end(self):
+    def test_a_client_that_sends_on_holds_up_no_end(self) -> None:
         with Serving(self.made(topology([(1, 1)]))) as server, server.connect() as connection:
             connection.send({"op": "close"})
             self.assertEqual(connection.line(), b'{"kind":"closed"}\n')
@@ -85,14 +85,14 @@ class BehindAClose(Case):
             sender.join()
 
     @staticmethod
-    def send_on(connection):
+    def send_on(connection: Connection) -> None:
         """A few bytes at a time, until nobody takes them."""
         with contextlib.suppress(OSError):
             while True:
                 connection.socket.send(b"x")
                 time.sleep(0.005)
 
-    def test_a_client_that_has_left(self):
+    def test_a_client_that_has_left(self) -> None:
         with Serving(self.made(topology([(1, 1)]))) as server:
             with server.connect() as connection:
                 connection.send({"op": "close"})

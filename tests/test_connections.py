@@ -15,7 +15,7 @@ RESENT = {"count": 0, "kind": "resent"}
 GONE_AT_ONCE = b"\1\0\0\0\0\0\0\0"  # of SO_LINGER: a close resets the connection
 
 
-def state_of(process):
+def state_of(process: int) -> str:
     """The letter of a process's state; T of one that is stopped."""
     with open(f"/proc/{process}/stat", encoding="ascii") as file:
         return file.read().rsplit(")", 1)[1].split()[0]
@@ -24,10 +24,10 @@ def state_of(process):
 class Connections(Case):
     takes = 8
 
-    def serving(self):
+    def serving(self) -> Serving:
         return Serving(self.made(topology([(1, 1)])))
 
-    def test_two_hundred_one_after_the_other(self):
+    def test_two_hundred_one_after_the_other(self) -> None:
         with self.serving() as server:
             descriptors = os.listdir(f"/proc/{server.process.pid}/fd")
             for number in range(1, 201):
@@ -37,7 +37,7 @@ class Connections(Case):
             self.assertEqual(server.await_signals(200), [(1, epoch) for epoch in range(1, 201)])
             self.assertEqual(server.close().status, 0)
 
-    def test_fifteen_hundred_that_say_nothing(self):
+    def test_fifteen_hundred_that_say_nothing(self) -> None:
         """They come and go. There is no end to those who may come."""
         with self.serving() as server:
             host, port = server.address.split(":")
@@ -46,7 +46,7 @@ class Connections(Case):
             self.assertEqual(server.ask({"op": "resend"}), RESENT)
             self.assertEqual(server.close().status, 0)
 
-    def test_an_answer_goes_out_at_once(self):
+    def test_an_answer_goes_out_at_once(self) -> None:
         """The system is told so of each connection: otherwise it may wait for the client to take what was sent before."""
         self.needs("a C compiler", preloaded.has_compiler())
         environment = preloaded.environment(self.folder, CALLS=self.path("calls"), WAITS=1)
@@ -57,7 +57,7 @@ class Connections(Case):
         told = [line.split()[2] for line in self.read("calls").decode().splitlines() if line.startswith("at-once ")]
         self.assertEqual(told, ["1"] * 3)
 
-    def test_reads_and_writes_that_are_interrupted(self):
+    def test_reads_and_writes_that_are_interrupted(self) -> None:
         """As a stop of the process does. Also answers that go out byte by byte come whole, and once."""
         self.needs("a C compiler", preloaded.has_compiler())
         environment = preloaded.environment(self.folder, INTERRUPTS=1, PIECE=1)
@@ -68,13 +68,13 @@ class Connections(Case):
             connection.socket.close()
             self.assertEqual(server.close().status, 0)
 
-    def test_a_wait_that_is_interrupted_very_often(self):
+    def test_a_wait_that_is_interrupted_very_often(self) -> None:
         self.expect_served(RECEIVE_STORM=STORM)
 
-    def test_an_answer_that_is_interrupted_very_often(self):
+    def test_an_answer_that_is_interrupted_very_often(self) -> None:
         self.expect_served(SEND_STORM=STORM)
 
-    def expect_served(self, **settings):
+    def expect_served(self, **settings: int) -> None:
         """By a clock that stands still: however long it takes, it is in time."""
         self.needs("a C compiler", preloaded.has_compiler())
         environment = preloaded.environment(self.folder, STILL=1, **settings)
@@ -82,7 +82,7 @@ class Connections(Case):
             self.assertEqual(server.order(1, "reset", node=1), {"kind": "finished", "step": 2})
             self.assertEqual(server.close().status, 0)
 
-    def test_a_server_that_is_stopped_and_goes_on(self):
+    def test_a_server_that_is_stopped_and_goes_on(self) -> None:
         """A wait for a line, and for the rest of one, goes on too."""
         with self.serving() as server, server.connect() as connection:
             for _ in range(10):
@@ -95,12 +95,12 @@ class Connections(Case):
             connection.socket.close()
             self.assertEqual(server.close().status, 0)
 
-    def test_two_hundred_at_once(self):
+    def test_two_hundred_at_once(self) -> None:
         """Each has its answer, in whatever order they are served."""
         with self.serving() as server:
             answers, lock = [], threading.Lock()
 
-            def call(number):
+            def call(number: int) -> None:
                 answer = server.ask({"op": "resend"}) if number > 1 else server.order(1, "reset", node=1)
                 with lock:
                     answers.append(answer)
@@ -114,7 +114,7 @@ class Connections(Case):
             self.assertEqual([answer for answer in answers if answer != RESENT], [{"kind": "finished", "step": 2}])
             self.assertEqual(server.close().status, 0)
 
-    def test_clients_that_left_before_they_were_served(self):
+    def test_clients_that_left_before_they_were_served(self) -> None:
         """Some have sent a line, of which nobody can say whether it was carried out; the next one has its turn."""
         with self.serving() as server:
             descriptors = os.listdir(f"/proc/{server.process.pid}/fd")
@@ -130,7 +130,7 @@ class Connections(Case):
             self.assertLessEqual(len(os.listdir(f"/proc/{server.process.pid}/fd")), len(descriptors) + 1)
             self.assertEqual(server.close().status, 0)
 
-    def test_a_client_that_says_it_sends_no_more(self):
+    def test_a_client_that_says_it_sends_no_more(self) -> None:
         """It still has all its answers, and then the connection ends."""
         with self.serving() as server, server.connect() as connection:
             connection.send({"op": "resend"}, {"op": "resend"}, b'{"op":"sh')
@@ -138,14 +138,14 @@ class Connections(Case):
             resent = b'{"count":0,"kind":"resent"}\n'
             self.assertEqual(connection.rest(), [resent, resent, b'{"fault":"Unfinished"}\n'])
 
-    def test_a_client_that_sends_nothing_and_says_so(self):
+    def test_a_client_that_sends_nothing_and_says_so(self) -> None:
         with self.serving() as server:
             for _ in range(20):
                 with server.connect() as connection:
                     connection.socket.shutdown(socket.SHUT_WR)
                     self.assertEqual(connection.rest(), [])
 
-    def test_an_order_of_a_client_that_left_is_kept(self):
+    def test_an_order_of_a_client_that_left_is_kept(self) -> None:
         """It had no answer; sent again, it has the answer of its one step."""
         with Serving(self.made(ring(8))) as server:
             for number in range(1, 11):
@@ -157,7 +157,7 @@ class Connections(Case):
                 self.assertEqual(server.order(number, "reset", 3, node=1), first)
             server.await_quiet()
 
-    def test_many_lines_of_one_connection(self):
+    def test_many_lines_of_one_connection(self) -> None:
         """A thousand that are sent before the first answer is read: the answers come in their order."""
         with self.serving() as server, server.connect() as connection:
             sent = [{"op": "reset", "client": 1, "number": number, "node": 1} for number in range(1, 1_001)]
@@ -166,7 +166,7 @@ class Connections(Case):
             self.assertEqual([connection.reply()["step"] for _ in sent], list(range(2, 1_002)))
             sender.join()
 
-    def test_more_bytes_than_reads(self):
+    def test_more_bytes_than_reads(self) -> None:
         """The bound of 1,048,576 for a connection is one of reads, and a read takes more than a byte."""
         line = b'{"op":"resend"}'.ljust(511) + b"\n"
         with self.serving() as server, server.connect() as connection:
@@ -174,7 +174,7 @@ class Connections(Case):
                 connection.send(line * 64)
                 self.assertEqual([connection.reply() for _ in range(64)], [RESENT] * 64)
 
-    def test_a_second_connection_after_each_kind_of_end(self):
+    def test_a_second_connection_after_each_kind_of_end(self) -> None:
         """Behind a line that is too long, one that is cut, and one that was reset."""
         with self.serving() as server:
             for last in (b"x" * 600 + b"\n", b"x" * 600, b'{"op":"resend"}', b"\xff\xff\n", b"\0" * 5_000):

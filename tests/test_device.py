@@ -7,6 +7,7 @@ that was answered, or whose signal was printed, before that moment.
 
 import random
 import re
+from collections.abc import Iterable, Iterator, Mapping, Sequence
 
 from support import preloaded, stores
 from support.case import Case
@@ -18,27 +19,30 @@ STEP = re.compile(rb'"step":(\d+)\}\n')
 SIGNAL = re.compile(rb"^signal 1 (\d+)\n")
 ANY_SIGNAL = re.compile(rb"^signal (\d+) 1\n")
 BEGUN = re.compile(r"^node (\d+) 1 \w+ \d+ 1 ", re.MULTILINE)
-RESET = {"op": "reset", "node": 1}
+Order = dict[str, str | int]
+# A call as it was written down: its name, its file, its place and its bytes.
+Call = tuple[str, int, int, bytes]
+RESET: Order = {"op": "reset", "node": 1}
 # The second step is the one that signals.
-EACH_KIND = [RESET, {"op": "add", "node": 2, "group": 1}, {"op": "join", "a": 1, "b": 2}, {"op": "drop", "a": 1, "b": 2},
+EACH_KIND: list[Order] = [RESET, {"op": "add", "node": 2, "group": 1}, {"op": "join", "a": 1, "b": 2}, {"op": "drop", "a": 1, "b": 2},
              {"op": "confirm", "node": 1, "epoch": 1}, {"op": "remove", "node": 2}]
 
 
 class Device:
     """A file as the calls have it: what is synced, and the writes since."""
 
-    def __init__(self, content):
-        self.synced, self.since = bytearray(content), []
+    def __init__(self, content: bytes) -> None:
+        self.synced, self.since = bytearray(content), list[tuple[int, bytes]]()
 
-    def write(self, place, text):
+    def write(self, place: int, text: bytes) -> None:
         self.since.append((place, text))
 
-    def sync(self):
+    def sync(self) -> None:
         for place, text in self.since:
             put(self.synced, place, text)
         self.since = []
 
-    def images(self):
+    def images(self) -> list[bytes]:
         """What a power cut may leave: of each write since the last sync nothing, a part or all, in every mixture."""
         images = [bytes(self.synced)]
         for place, text in self.since:
@@ -47,20 +51,20 @@ class Device:
         return images
 
 
-def put(content, place, text):
+def put(content: bytearray, place: int, text: bytes) -> None:
     content.extend(bytes(max(0, place + len(text) - len(content))))
     content[place:place + len(text)] = text
 
 
-def with_part(before, place, text):
+def with_part(before: bytes, place: int, text: bytes) -> bytes:
     content = bytearray(before)
     if text:
         put(content, place, text)
     return bytes(content)
 
 
-def calls_of(path):
-    """The calls that were written down: of each its name, its file, its place and its bytes."""
+def calls_of(path: str) -> Iterator[Call]:
+    """The calls that were written down."""
     with open(path, encoding="ascii") as file:
         for line in file:
             name, descriptor, place, text = line.rstrip("\n").split(" ")
@@ -70,11 +74,11 @@ def calls_of(path):
 class Moments(Case):
     takes = 60
 
-    def setUp(self):
+    def setUp(self) -> None:
         super().setUp()
         self.needs("a C compiler", preloaded.has_compiler())
 
-    def followed(self, before, calls):
+    def followed(self, before: bytes, calls: Iterable[Call]) -> Iterator[tuple[str, int, bytes, Device]]:
         """After each call: the device, and what the call was."""
         device, store = Device(before), None
         for name, descriptor, place, text in calls:
@@ -85,7 +89,7 @@ class Moments(Case):
                 device.sync()
             yield name, place, text, device
 
-    def moments(self, before, calls):
+    def moments(self, before: bytes, calls: Iterable[Call]) -> Iterator[tuple[str, int, Device, int]]:
         """After each call: the device, and the greatest step that was answered so far."""
         answered = 1
         for name, place, text, device in self.followed(before, calls):
@@ -94,13 +98,13 @@ class Moments(Case):
                 answered = max([answered, *steps])
             yield name, place, device, answered
 
-    def expect_kept(self, image, answered):
+    def expect_kept(self, image: bytes, answered: int) -> None:
         """A file that a power cut left has all that was answered."""
         ended = ran("check", self.write("left", image))
         self.assertEqual((ended.status, ended.told), (0, ""), ended.printed)
         self.assertGreaterEqual(int(ended.printed.split()[1]), answered)
 
-    def served(self, first, orders):
+    def served(self, first: int, orders: Sequence[Order]) -> tuple[bytes, list[Call]]:
         """Serves orders, from one number to another: the store before, and the calls."""
         store, calls = self.made(topology([(1, 1)], half=stores.HALF)), self.path("calls")
         self.order(store, orders[:first - 1])
@@ -108,16 +112,16 @@ class Moments(Case):
         self.order(store, orders[first - 1:], first, env=preloaded.environment(self.folder, CALLS=calls))
         return before, list(calls_of(calls))
 
-    def order(self, store, orders, first=1, **how):
+    def order(self, store: str, orders: Sequence[Order], first: int = 1, env: Mapping[str, str] | None = None) -> None:
         """One order at a time, so that each takes a flight of its own and as much of the journal."""
-        with Serving(store, **how) as server:
+        with Serving(store, env=env) as server:
             with server.connect() as connection:
                 for number, order in enumerate(orders, first):
                     connection.send({"client": 1, "number": number, **order})
                     self.assertEqual(connection.reply()["step"], 1 + number)
             self.assertEqual(server.close().status, 0)
 
-    def test_each_moment_of_a_few_orders(self):
+    def test_each_moment_of_a_few_orders(self) -> None:
         before, calls = self.served(1, EACH_KIND)
         seen = set()
         for name, _, device, answered in self.moments(before, calls):
@@ -127,10 +131,10 @@ class Moments(Case):
         self.assertLessEqual({("out", step) for step in range(2, 8)}, seen)
         self.assertEqual(ran("check", self.path("left")).printed, "legal 7\n")
 
-    def test_each_moment_of_a_wave(self):
+    def test_each_moment_of_a_wave(self) -> None:
         """A node whose signal was printed has begun its epoch on the device, so the next start does not signal it again."""
         store, calls = self.made(ring(4, stores.HALF)), self.path("calls")
-        before, printed = self.read("store"), set()
+        before, printed = self.read("store"), set[str]()
         with Serving(store, env=preloaded.environment(self.folder, CALLS=calls)) as server:
             self.assertEqual(server.order(1, "reset", node=1)["kind"], "started")
             server.await_signals(4)
@@ -142,7 +146,7 @@ class Moments(Case):
                 self.assertLessEqual(printed, set(BEGUN.findall(ran("show", self.write("left", image)).printed)))
         self.assertEqual(printed, {"1", "2", "3", "4"})
 
-    def test_moments_of_many_orders_and_checkpoints(self):
+    def test_moments_of_many_orders_and_checkpoints(self) -> None:
         """All moments of two checkpoints, which move the journal to the other half and back, and some of the others."""
         choice, selectors, near = random.Random(1), [], 0
         before, calls = self.served(1_150, [RESET] * 2_450)

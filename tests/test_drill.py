@@ -3,6 +3,7 @@
 import glob
 import os
 import subprocess
+from collections.abc import Iterator
 
 from support.case import Case
 from support.program import PATIENCE, PROGRAM, Ended, ran
@@ -20,19 +21,19 @@ BAD_LINES = (
 )
 
 
-def drilled(text):
+def drilled(text: str) -> Ended:
     return ran("drill", given=text.encode())
 
 
 class WorkedRuns(Case):
     """Each text of the folder drill: what is read, and what is printed for it."""
 
-    def runs(self):
+    def runs(self) -> Iterator[tuple[str, bytes, bytes]]:
         for path in sorted(glob.glob(f"{RUNS}/*.in")):
             with open(path, "rb") as given, open(path.removesuffix(".in") + ".out", "rb") as wanted:
                 yield os.path.basename(path), given.read(), wanted.read()
 
-    def test_each_is_printed(self):
+    def test_each_is_printed(self) -> None:
         count = 0
         for name, given, wanted in self.runs():
             with self.subTest(run=name):
@@ -40,11 +41,12 @@ class WorkedRuns(Case):
                 count += 1
         self.assertGreater(count, 30)
 
-    def test_input_in_pieces(self):
+    def test_input_in_pieces(self) -> None:
         """An answer comes before the end of the input: each line is answered as it is read."""
         for name, given, wanted in self.runs():
             with self.subTest(run=name):
                 drill = subprocess.Popen([PROGRAM, "drill"], stdin=subprocess.PIPE, stdout=subprocess.PIPE)
+                assert drill.stdin
                 printed = b""
                 for line in given.splitlines(keepends=True)[:40]:
                     for piece in (line[:3], line[3:]):
@@ -54,8 +56,9 @@ class WorkedRuns(Case):
                 printed += drill.communicate(timeout=PATIENCE)[0]
                 self.assertEqual((drill.returncode, printed.decode()), (0, wanted.decode()))
 
-    def test_an_answer_does_not_wait_for_the_next_line(self):
+    def test_an_answer_does_not_wait_for_the_next_line(self) -> None:
         with subprocess.Popen([PROGRAM, "drill"], stdin=subprocess.PIPE, stdout=subprocess.PIPE) as drill:
+            assert drill.stdin and drill.stdout
             for line, answer in ((b"add 1 1\n", b"done 1\n"), (b"reset 1\n", b"finished 2\n"), (b"", b"signal 1 1\n")):
                 drill.stdin.write(line)
                 drill.stdin.flush()
@@ -65,7 +68,7 @@ class WorkedRuns(Case):
 
 
 class LongRuns(Case):
-    def test_a_crash_after_many_steps(self):
+    def test_a_crash_after_many_steps(self) -> None:
         """Every step that was settled is there again, far beyond a thousand."""
         for count in (1_002, 3_000):
             text = "add 1 1\n" + "reset 1\n" * (count - 1) + "crash\n" + "reset 1\ncheck\nshow\n"
@@ -74,7 +77,7 @@ class LongRuns(Case):
             wanted += f"view {count + 1} {count + 1}\nnode 1 1 ready 0 {count} 0\n"
             self.assertEqual(drilled(text), Ended(0, wanted, ""))
 
-    def test_a_second_epoch_and_a_second_crash(self):
+    def test_a_second_epoch_and_a_second_crash(self) -> None:
         text = "add 1 1\nadd 2 1\njoin 1 2\n"
         wanted = "done 1\ndone 2\ndone 3\n"
         step, number = 3, 0
@@ -92,7 +95,7 @@ class LongRuns(Case):
             step, number = step + 7, number + 1
         self.assertEqual(drilled(text), Ended(0, wanted, ""))
 
-    def test_packets_of_a_second_link(self):
+    def test_packets_of_a_second_link(self) -> None:
         """Both its lanes have the number of the step that joined it."""
         text = "add 1 1\nadd 2 1\nadd 3 1\njoin 1 2\njoin 2 3\nreset 2\n"
         wanted = "".join(f"done {step}\n" for step in range(1, 6)) + "started 6\ndata 2 1 1 abort\ndata 2 3 1 abort\n"
@@ -100,10 +103,10 @@ class LongRuns(Case):
         wanted += "no 12 NoLink\ntaken 7\nreceipt 2 3 1\ndata 3 2 1 ack\nno 12 NoLink\ntaken 8\nreceipt 3 2 1\n"
         self.assertEqual(drilled(text), Ended(0, wanted, ""))
 
-    def test_a_last_line_without_its_end(self):
+    def test_a_last_line_without_its_end(self) -> None:
         self.assertEqual(drilled("add 1 1\nadd 2 1"), Ended(0, "done 1\ndone 2\n", ""))
 
-    def test_lines_that_are_bad(self):
+    def test_lines_that_are_bad(self) -> None:
         """They are counted from 1, skipped ones too."""
         bad = ["add 1", "add  1 1", " add 1 1", "add 1 1 ", "add 1 1\r", "fly", "add 65 1", "#" * 513]
         text = "".join(f"{line}\n" for line in ["# a comment", "", *bad]) + "#" * 512
@@ -111,7 +114,7 @@ class LongRuns(Case):
         self.assertEqual(ran("drill", given=b"\xff\nadd 1 1\n"), Ended(0, "bad line 1\ndone 1\n", ""))
         self.assertEqual(ran("drill", given=b"\xff\n#\xff\n\n\xff"), Ended(0, "bad line 1\nbad line 4\n", ""))
 
-    def test_the_limit_of_a_line(self):
+    def test_the_limit_of_a_line(self) -> None:
         """A line of at most 512 bytes is read, and a longer one is bad, be it a comment or not."""
         lines = ["#".ljust(length, "a") for length in (512, 513, 1_500)]
         lines += ["add " + "0" * (length - 7) + "1 1" for length in (512, 513)]
@@ -119,11 +122,11 @@ class LongRuns(Case):
         text = "".join(f"{line}\n" for line in lines)
         self.assertEqual(drilled(text), Ended(0, "bad line 2\nbad line 3\ndone 1\nbad line 5\n", ""))
 
-    def test_more_bytes_than_reads(self):
+    def test_more_bytes_than_reads(self) -> None:
         """The bound of 1,048,576 is one of reads, and a read asks for 512 bytes."""
         self.assertEqual(drilled(("#".ljust(511, "a") + "\n") * 2_400 + "add 1 1\n"), Ended(0, "done 1\n", ""))
 
-    def test_as_many_are_held_again(self):
+    def test_as_many_are_held_again(self) -> None:
         """No more than 1,024 steps are held, and as many again once these are settled."""
         text = "add 1 1\nhold\n" + "reset 1\n" * 1_025 + "flush\n" * 4 + "reset 1\n" * 1_024
         wanted = "done 1\n" + "".join(f"pending {step}\n" for step in range(2, 1_026)) + "no 20 PendingFull\n"
@@ -133,18 +136,18 @@ class LongRuns(Case):
         wanted += "".join(f"pending {step}\n" for step in range(1_026, 2_050))
         self.assertEqual(drilled(text), Ended(0, wanted, ""))
 
-    def test_each_line_that_is_bad(self):
+    def test_each_line_that_is_bad(self) -> None:
         """Alone, and with no line feed behind it."""
         for line in BAD_LINES:
             with self.subTest(line=line):
                 self.assertEqual(drilled(line), Ended(0, "bad line 1\n", ""))
 
-    def test_no_input(self):
+    def test_no_input(self) -> None:
         """Standard input that is closed can't be read."""
         done = subprocess.run(["sh", "-c", 'exec "$0" drill <&-', PROGRAM], capture_output=True, timeout=PATIENCE)
         self.assertEqual(Ended(done.returncode, done.stdout.decode(), done.stderr.decode()), Ended(3, "", "resetd: Read\n"))
 
-    def test_an_input_that_is_a_folder(self):
+    def test_an_input_that_is_a_folder(self) -> None:
         folder = os.open(self.folder, os.O_RDONLY)
         self.addCleanup(os.close, folder)
         done = subprocess.run([PROGRAM, "drill"], stdin=folder, capture_output=True, timeout=PATIENCE)

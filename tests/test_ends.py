@@ -17,7 +17,7 @@ SERVED_ALREADY = faulted(3, "Device")
 class Ends(Case):
     takes = 5
 
-    def test_a_signal_ends_it_as_a_crash_does(self):
+    def test_a_signal_ends_it_as_a_crash_does(self) -> None:
         """In the midst of a reset too: the next start goes on, and no node is signalled twice."""
         store = self.made(ring(8))
         for number, each in enumerate((signal.SIGTERM, signal.SIGKILL, signal.SIGTERM, signal.SIGINT), 1):
@@ -33,7 +33,7 @@ class Ends(Case):
                 self.assertEqual(len(set(first) & set(server.signals())), 0)
                 self.assertEqual(server.close().status, 0)
 
-    def test_two_servers_on_one_file(self):
+    def test_two_servers_on_one_file(self) -> None:
         """The second one says Device, whatever name of the file it is given, and the first one goes on."""
         store, others = self.made(topology([(1, 1)])), [self.path("link"), self.path("hard")]
         os.symlink(store, others[0])
@@ -51,7 +51,7 @@ class Ends(Case):
         with Serving(store) as server:
             self.assertEqual(server.order(3, "reset", node=1), {"kind": "finished", "step": 4})
 
-    def test_two_servers_at_one_address(self):
+    def test_two_servers_at_one_address(self) -> None:
         """The second one says Socket, and has written nothing."""
         with Serving(self.made(topology([(1, 1)]))) as server:
             other = self.made(topology([(2, 2)]), "other")
@@ -62,11 +62,11 @@ class Ends(Case):
             self.assertEqual(ran("serve", self.write("no", "no store at all, no"), server.address), faulted(1, "NoMagic"))
             self.assertEqual(server.close().status, 0)
 
-    def test_an_address_of_another_machine(self):
+    def test_an_address_of_another_machine(self) -> None:
         store = self.made(topology([(1, 1)]))
         self.assertEqual(ran("serve", store, "192.0.2.1:4170"), faulted(3, "Socket"))
 
-    def test_the_address_that_is_named(self):
+    def test_the_address_that_is_named(self) -> None:
         """It can be had again at once by the next start."""
         store = self.made(topology([(1, 1)]))
         with Serving(store) as server:
@@ -80,7 +80,7 @@ class Ends(Case):
                 self.assertEqual(server.order(number, "reset", node=1), {"kind": "finished", "step": 1 + number})
                 self.assertEqual(server.close().status, 0)
 
-    def test_an_address_of_several(self):
+    def test_an_address_of_several(self) -> None:
         """It listens at the one that is named, says so, and is at no other."""
         store = self.made(topology([(1, 1)]))
         with Serving(store, address="127.255.255.254:0") as server:
@@ -94,7 +94,7 @@ class Ends(Case):
                 Connection(f"127.0.0.1:{port}")
             self.assertEqual(server.close().status, 0)
 
-    def test_a_limit_on_the_size_of_files(self):
+    def test_a_limit_on_the_size_of_files(self) -> None:
         """The signal of the system ends it without a line, and nothing that was answered is lost."""
         store = self.made(topology([(1, 1)], half=stores.HALF))
         limit = ["prlimit", "--core=0", f"--fsize={os.path.getsize(store) + 300}"]
@@ -113,7 +113,7 @@ class Ends(Case):
             self.assertEqual(server.order(len(answers), "reset", node=1), answers[-1])
             self.assertEqual(server.close().status, 0)
 
-    def test_a_device_that_fails(self):
+    def test_a_device_that_fails(self) -> None:
         """A limit on the size of the file: each later order and `show` is Stopped, and the close ends with Device."""
         store = self.made(topology([(1, 1)], half=stores.HALF))
         most = os.path.getsize(store) + 300

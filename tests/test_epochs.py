@@ -12,7 +12,7 @@ from support.stores import ring, topology
 class Epochs(Served):
     takes = 20
 
-    def test_a_ring_of_8_through_20_epochs(self):
+    def test_a_ring_of_8_through_20_epochs(self) -> None:
         """One wave after the other, each begun at another node."""
         with Serving(self.made(ring(8))) as server:
             for epoch in range(1, 21):
@@ -25,7 +25,7 @@ class Epochs(Served):
             self.expect_each_signal_once(server)
             self.expect_closed(server, 8 * 20)
 
-    def test_the_links_of_high_nodes(self):
+    def test_the_links_of_high_nodes(self) -> None:
         """A ring of 64, so every node has a worker that carries its packets."""
         with Serving(self.made(ring(64))) as server:
             for epoch in range(1, 5):
@@ -34,7 +34,7 @@ class Epochs(Served):
             self.expect_each_signal_once(server)
             self.expect_closed(server, 64 * 4)
 
-    def test_the_longest_way(self):
+    def test_the_longest_way(self) -> None:
         """64 nodes in a row: the last one is 63 links away from the first."""
         row = topology([(node, 1) for node in range(1, 65)], [(node, node + 1) for node in range(1, 64)])
         with Serving(self.made(row)) as server:
@@ -44,7 +44,7 @@ class Epochs(Served):
             self.expect_each_signal_once(server)
             self.expect_closed(server, 64 * 2)
 
-    def test_signals_come_in_the_order_of_their_steps(self):
+    def test_signals_come_in_the_order_of_their_steps(self) -> None:
         """Those of one flight too, whichever nodes they are of."""
         nodes = [7, 64, 1, 8, 9, 33, 2, 63]
         with Serving(self.made(topology([(node, 1) for node in nodes]))) as server, server.connect() as connection:
@@ -59,7 +59,7 @@ class Epochs(Served):
             self.expect_each_signal_once(server)
             self.expect_closed(server, 1_000)
 
-    def test_several_that_ask_at_once(self):
+    def test_several_that_ask_at_once(self) -> None:
         """Those that begin or join one wave: as many signals of each node as its epoch says."""
         with Serving(self.made(ring(16))) as server:
             for number in range(1, 11):
@@ -72,7 +72,7 @@ class Epochs(Served):
 class ManySignals(Served):
     takes = 15
 
-    def test_one_node_that_is_reset_a_thousand_times(self):
+    def test_one_node_that_is_reset_a_thousand_times(self) -> None:
         with Serving(self.made(topology([(64, 16)], half=stores.HALF))) as server, server.connect() as connection:
             for first in range(1, 1_001, 50):
                 numbers = range(first, first + 50)
@@ -86,7 +86,7 @@ class ManySignals(Served):
             self.assertEqual(server.ended(), Ended(0, wanted, ""))
         self.assertEqual(ran("show", server.store).printed, "view 1001 1001\nnode 64 16 ready 0 1000 0\n")
 
-    def test_seven_hundred_waves_over_one_link(self):
+    def test_seven_hundred_waves_over_one_link(self) -> None:
         """Packets far beyond the first ones of a link: each wave takes two of one lane and one of the other."""
         waves = 700
         with Serving(self.made(topology([(1, 1), (2, 1)], [(1, 2)], stores.HALF))) as server, server.connect() as connection:
@@ -104,7 +104,7 @@ class ManySteps(Served):
     takes = 100
     most = 3_600
 
-    def test_a_hundred_thousand_steps_in_one_life(self):
+    def test_a_hundred_thousand_steps_in_one_life(self) -> None:
         """Waves over as many links as there may be, asked for by all clients at once."""
         links = [(node, (node + far - 1) % 64 + 1) for far in (1, 9) for node in range(1, 65)]
         store = self.made(topology([(node, 1) for node in range(1, 65)], links, 1_048_576))

@@ -26,20 +26,22 @@ AT_A_START, AT_AN_ORDER = 2, 2
 
 
 class Made(Case):
-    def test_its_owner_alone_may_open_it(self):
+    def test_its_owner_alone_may_open_it(self) -> None:
         """Whichever command makes it, and whatever the user lets others do."""
-        words = {"init": [self.write("topology", ONE)], "check": [], "show": [], "migrate": [], "serve": ["127.0.0.1:0"]}
+        words: dict[str, list[str]] = {
+            "init": [self.write("topology", ONE)], "check": [], "show": [], "migrate": [], "serve": ["127.0.0.1:0"]}
         for command, more in words.items():
             with self.subTest(command=command):
                 ran(command, self.path(command), *more, umask=0)
                 self.assertEqual(stat.S_IMODE(os.stat(self.path(command)).st_mode), 0o600)
 
-    def test_one_that_another_process_makes_meanwhile(self):
+    def test_one_that_another_process_makes_meanwhile(self) -> None:
         """It stays as it is."""
         self.needs("a C compiler", preloaded.has_compiler())
         other = self.made(ONE, "other")
         before = self.read("other")
-        for command, more in (("init", [f"{other}.toml"]), ("migrate", [])):
+        words: dict[str, list[str]] = {"init": [f"{other}.toml"], "migrate": []}
+        for command, more in words.items():
             with self.subTest(command=command):
                 environment = preloaded.environment(self.folder, MEANWHILE=other)
                 self.assertEqual(ran(command, self.path(command), *more, env={**os.environ, **environment}), FAILED)
@@ -52,11 +54,11 @@ class ReadOnly(Case):
 
     words = ["setpriv", "--bounding-set=-dac_override,-dac_read_search"] if os.geteuid() == 0 else []
 
-    def user(self, *words):
+    def user(self, *words: str) -> Ended:
         done = subprocess.run([*self.words, PROGRAM, *words], stdin=subprocess.DEVNULL, capture_output=True, timeout=PATIENCE)
         return Ended(done.returncode, done.stdout.decode(), done.stderr.decode())
 
-    def test_a_store(self):
+    def test_a_store(self) -> None:
         """It is checked and shown, and neither served nor raised."""
         path = self.made(ONE)
         before = self.read("store")
@@ -67,7 +69,7 @@ class ReadOnly(Case):
             self.assertEqual(self.user(*words), FAILED)
         self.assertEqual(self.read("store"), before)
 
-    def test_a_folder(self):
+    def test_a_folder(self) -> None:
         """A store that stands there is served. None is made there, and no other file."""
         topology_path, folder = self.write("topology", ONE), self.path("folder")
         os.mkdir(folder)
@@ -80,7 +82,7 @@ class ReadOnly(Case):
             self.assertEqual(server.close().status, 0)
         self.assertEqual(os.listdir(folder), ["store"])
 
-    def test_a_folder_that_is_not_read(self):
+    def test_a_folder_that_is_not_read(self) -> None:
         """Its entries can't be synced: so nothing that stands there is written to."""
         topology_path, folder = self.write("topology", ONE), self.path("folder")
         os.mkdir(folder)
@@ -95,13 +97,13 @@ class ReadOnly(Case):
         self.assertEqual([self.content(f"{folder}/{name}") for name in ("store", "other")], [before, b""])
 
     @staticmethod
-    def content(path):
+    def content(path: str) -> bytes:
         with open(path, "rb") as file:
             return file.read()
 
 
 class Looked(Case):
-    def test_who_reads_a_store_locks_nobody_out(self):
+    def test_who_reads_a_store_locks_nobody_out(self) -> None:
         """`check` and `show` take no lock, not even for the moment in which they read."""
         self.needs("a C compiler", preloaded.has_compiler())
         store = self.made(ONE)
@@ -119,7 +121,7 @@ class Looked(Case):
             self.assertIn(store, self.opened(reader.pid))
 
     @staticmethod
-    def opened(process):
+    def opened(process: int) -> set[str]:
         """The files that a process has open."""
         names = set()
         for number in os.listdir(f"/proc/{process}/fd"):
@@ -131,14 +133,14 @@ class Looked(Case):
 class Called(Case):
     takes = 8
 
-    def setUp(self):
+    def setUp(self) -> None:
         super().setUp()
         self.needs("a C compiler", preloaded.has_compiler())
 
-    def environment(self, **settings):
+    def environment(self, **settings: str | int) -> dict[str, str]:
         return {**os.environ, **preloaded.environment(self.folder, **settings)}
 
-    def synced_at_first(self):
+    def synced_at_first(self) -> tuple[set[str], bool]:
         """What was synced before anything was said, by the paths; and whether something was written that was not."""
         synced, is_written = [], False
         with open(self.path("calls"), encoding="ascii") as calls:
@@ -150,7 +152,7 @@ class Called(Case):
         os.remove(self.path("calls"))
         return set(synced), is_written
 
-    def test_a_file_and_its_entry_are_synced(self):
+    def test_a_file_and_its_entry_are_synced(self) -> None:
         """Before anything is said of it. The entry is synced though the file was there: its maker may have left it so."""
         folder, topology_path, log = self.path("folder"), self.write("topology", ONE), self.path("calls")
         os.mkdir(folder)
@@ -165,7 +167,7 @@ class Called(Case):
             self.assertEqual(server.close().status, 0)
         self.assertEqual(self.synced_at_first(), ({folder, store}, False))
 
-    def test_a_sync_that_fails_where_a_store_is_made(self):
+    def test_a_sync_that_fails_where_a_store_is_made(self) -> None:
         """Device is told, whichever it is."""
         words = ["init", self.path("store"), self.write("topology", ONE)]
         log = self.path("calls")
@@ -177,25 +179,25 @@ class Called(Case):
                 os.remove(self.path("store"))
                 self.assertEqual(ran(*words, env=self.environment(SYNC_FAILS=number)), FAILED)
 
-    def test_a_length_that_is_not_told(self):
+    def test_a_length_that_is_not_told(self) -> None:
         for number in (1, 2):
             self.expect_refused(COMMANDS, LENGTH_FAILS=number)
 
-    def test_a_lock_that_can_not_be_had(self):
+    def test_a_lock_that_can_not_be_had(self) -> None:
         """Whatever the reason is."""
         self.expect_refused(["init", "migrate", "serve"], LOCK_FAILS=1)
 
-    def test_a_first_sync_that_fails(self):
+    def test_a_first_sync_that_fails(self) -> None:
         self.expect_refused(COMMANDS, SYNC_FAILS=1)
 
-    def test_a_read_that_fails(self):
+    def test_a_read_that_fails(self) -> None:
         self.expect_refused(COMMANDS[1:], READ_FAILS=1)
 
-    def test_a_file_that_ends_too_soon(self):
+    def test_a_file_that_ends_too_soon(self) -> None:
         """It is cut while it is read."""
         self.expect_refused(COMMANDS[1:], [errno.EIO], READ_ENDS=1)
 
-    def test_a_write_that_is_interrupted(self):
+    def test_a_write_that_is_interrupted(self) -> None:
         """It is made again, and nobody hears of it."""
         for number in (1, 2, 3):
             words = ["init", self.path(f"store{number}"), self.write("topology", ONE)]
@@ -203,11 +205,11 @@ class Called(Case):
             self.assertEqual((number, ran(*words, env=environment)), (number, Ended(0, "created 1\n", "")))
             self.assertEqual(ran("check", words[1]), Ended(0, "legal 1\n", ""))
 
-    def test_a_read_that_is_interrupted(self):
+    def test_a_read_that_is_interrupted(self) -> None:
         environment = self.environment(ERROR=errno.EINTR, READ_FAILS=1)
         self.assertEqual(ran("check", self.made(ONE), env=environment), Ended(0, "legal 1\n", ""))
 
-    def expect_refused(self, commands, errors=ERRORS, **call):
+    def expect_refused(self, commands: list[str], errors: list[int] = ERRORS, **call: int) -> None:
         """Where this call fails alone, with any error, the commands tell Device, and leave a store as it was."""
         more = {"init": [self.write("topology", ONE)], "serve": ["127.0.0.1:0"]}
         content = stores.store(bodies=[stores.batch(1, stores.add(1))])
@@ -217,7 +219,7 @@ class Called(Case):
                 ended = ran(command, path, *more.get(command, []), env=self.environment(ERROR=error, **call))
                 self.assertEqual((where, ended, self.read("store")), (where, FAILED, content))
 
-    def test_a_write_that_fails_where_a_store_is_made(self):
+    def test_a_write_that_fails_where_a_store_is_made(self) -> None:
         words = ["init", self.path("store"), self.write("topology", ONE)]
         for number in (1, 2, 3):
             for error in ERRORS:
@@ -226,7 +228,7 @@ class Called(Case):
                 os.remove(self.path("store"))
         self.assertEqual(ran(*words, env=self.environment(WRITE_FAILS=4)), Ended(0, "created 1\n", ""))
 
-    def test_a_write_that_fails_while_a_store_is_raised(self):
+    def test_a_write_that_fails_while_a_store_is_raised(self) -> None:
         content = stores.store(bodies=[stores.batch(1, stores.add(1))])
         for number in (1, 2):
             for error in ERRORS:
@@ -236,7 +238,7 @@ class Called(Case):
                     self.assertEqual(ran("migrate", path, env=environment), FAILED)
                     self.assertEqual((ran("check", path), stores.version_of(path)), (Ended(0, "legal 1\n", ""), 1))
 
-    def test_a_write_that_fails_while_orders_are_served(self):
+    def test_a_write_that_fails_while_orders_are_served(self) -> None:
         """Alone, with each error: the order is Stopped, and each later one, and the close ends with Device."""
         store = self.made(ONE)
         before = self.read("store")
@@ -252,7 +254,7 @@ class Called(Case):
                 self.assertEqual((ended.status, ended.told), (3, "resetd: Device\n"))
             self.assertGreaterEqual(int(ran("check", store).printed.split()[1]), 1 + done)
 
-    def test_a_sync_that_fails_while_a_store_is_raised(self):
+    def test_a_sync_that_fails_while_a_store_is_raised(self) -> None:
         """One that fails alone: it is told, and the store is of one version or the other."""
         content, log = stores.store(bodies=[stores.batch(1, stores.add(1))]), self.path("calls")
         path = self.write("store", content)
@@ -263,7 +265,7 @@ class Called(Case):
                 self.assertEqual(ran("migrate", path, env=self.environment(SYNC_FAILS=number)), FAILED)
                 self.assertEqual(ran("check", path), Ended(0, "legal 1\n", ""))
 
-    def test_a_sync_that_fails_while_orders_are_served(self):
+    def test_a_sync_that_fails_while_orders_are_served(self) -> None:
         """The order that waited for it, and each later one, is Stopped, though no other sync fails."""
         for number in range(AT_A_START + 1, AT_A_START + 1 + AT_AN_ORDER * ORDERS):
             store = self.made(ONE, f"store{number}")
@@ -277,12 +279,12 @@ class Called(Case):
                 self.assertEqual(server.signals(), [(1, epoch) for epoch in range(1, done + 1)])
             self.assertGreaterEqual(int(ran("check", store).printed.split()[1]), 1 + done)
 
-    def test_a_start_whose_sync_fails(self):
+    def test_a_start_whose_sync_fails(self) -> None:
         store = self.made(ONE)
         for number in range(1, AT_A_START + 1):
             self.assertEqual(ran("serve", store, "127.0.0.1:0", env=self.environment(SYNC_FAILS=number)), FAILED)
 
-    def test_read_and_written_in_pieces(self):
+    def test_read_and_written_in_pieces(self) -> None:
         """The system may do a part of what it is asked for, of a file, of the output and of a connection."""
         pieces = self.environment(PIECE=5)
         topology_path = self.write("topology", stores.ring(8, stores.HALF))

@@ -15,36 +15,36 @@ class Front(Run):
 
     takes = 15
 
-    def files(self, *names):
+    def files(self, *names: str) -> None:
         for name in names:
             with self.subTest(name):
                 self.expect(sys.executable, "-m", "unittest", "discover", "-s", FOLDER, "-p", f"{name}.py", ends_with="OK")
 
-    def test_the_parts_by_themselves(self):
+    def test_the_parts_by_themselves(self) -> None:
         self.files("test_pairing", "test_policy", "test_own_orders")
 
-    def test_lines_and_orders(self):
+    def test_lines_and_orders(self) -> None:
         self.files("test_requests", "test_orders", "test_lost_answers")
 
-    def test_watchers(self):
+    def test_watchers(self) -> None:
         self.files("test_watch")
 
-    def test_peers(self):
+    def test_peers(self) -> None:
         self.files("test_peers")
 
-    def test_the_audit(self):
+    def test_the_audit(self) -> None:
         self.files("test_audit")
 
-    def test_hostile_clients(self):
+    def test_hostile_clients(self) -> None:
         self.files("test_hostile")
 
-    def test_kills(self):
+    def test_kills(self) -> None:
         self.files("test_kills")
 
-    def test_the_page(self):
+    def test_the_page(self) -> None:
         self.files("test_page")
 
-    def test_no_file_is_left_out(self):
+    def test_no_file_is_left_out(self) -> None:
         with open(__file__, encoding="utf-8") as file:
             text = file.read()
         for name in os.listdir(FOLDER):

@@ -8,14 +8,14 @@ import subprocess
 from support import preloaded
 from support.case import Case, tool
 from support.program import PATIENCE, PROGRAM, SHORT, SHORT_STEPS, Ended, faulted, ran
-from support.serving import Serving
+from support.serving import Connection, Serving
 from support.stores import topology
 
 THREADS = 10  # that a server starts: a flusher, eight workers and a printer
 
 
 class Descriptors(Case):
-    def test_none_is_left_for_a_while(self):
+    def test_none_is_left_for_a_while(self) -> None:
         """A client waits, and is served once there is one again; twice."""
         with Serving(self.made(topology([(1, 1)]))) as server:
             usual = resource.prlimit(server.process.pid, resource.RLIMIT_NOFILE)
@@ -28,7 +28,7 @@ class Descriptors(Case):
                     self.assertEqual(connection.reply(), {"count": 0, "kind": "resent"})
             self.assertEqual(server.close().status, 0)
 
-    def unanswered(self, server):
+    def unanswered(self, server: Serving) -> Connection:
         """A client that waits: the second one at the latest, since a call that waits for a client has its descriptor."""
         for _ in range(2):
             connection = server.connect()
@@ -41,13 +41,14 @@ class Descriptors(Case):
                 return connection
         self.fail("a client was served without a descriptor")
 
-    def test_too_few_to_begin(self):
+    def test_too_few_to_begin(self) -> None:
         """It says which one it could not have, and leaves the store as it was."""
         store, seen = self.made(topology([(1, 1)])), set()
         before = self.read("store")
         for most in range(4, 12):
             words = ["prlimit", f"--nofile={most}", PROGRAM, "serve", store, "127.0.0.1:0"]
             with subprocess.Popen(words, stdout=subprocess.PIPE, stderr=subprocess.PIPE) as server:
+                assert server.stdout and server.stderr
                 line = server.stdout.readline()
                 if line:
                     server.kill()
@@ -60,7 +61,7 @@ class Descriptors(Case):
         self.assertEqual((self.read("store"), ran("check", store).status), (before, 0))
 
 
-    def test_an_address_that_can_not_be_listened_at(self):
+    def test_an_address_that_can_not_be_listened_at(self) -> None:
         """Whatever the reason is."""
         self.needs("a C compiler", preloaded.has_compiler())
         store = self.made(topology([(1, 1)]))
@@ -69,7 +70,7 @@ class Descriptors(Case):
             ended = ran("serve", store, "127.0.0.1:0", env=environment)
             self.assertEqual((error, ended), (error, faulted(3, "Socket")))
 
-    def test_an_address_that_is_not_told(self):
+    def test_an_address_that_is_not_told(self) -> None:
         """It can't be printed, so nobody is served."""
         self.needs("a C compiler", preloaded.has_compiler())
         environment = {**os.environ, **preloaded.environment(self.folder, NAME_FAILS=1)}
@@ -81,14 +82,14 @@ class Threads(Case):
     takes = 20
     programs = ("RESETD", "RESETD_SHORT")
 
-    def test_it_serves_with_all_of_them_or_not_at_all(self):
+    def test_it_serves_with_all_of_them_or_not_at_all(self) -> None:
         """tools/few_threads, as root."""
         self.needs("root", os.geteuid() == 0)
         done = subprocess.run([tool("few_threads"), PROGRAM], capture_output=True, text=True, timeout=self.most - 30)
         self.assertEqual((done.returncode, done.stderr), (0, ""), done.stdout)
 
 
-    def test_one_that_is_refused(self):
+    def test_one_that_is_refused(self) -> None:
         """Any one of them, with all others there: it says so, prints nothing and leaves the store as it was."""
         self.needs("a C compiler", preloaded.has_compiler())
         store = self.made(topology([(1, 1)]))
@@ -103,7 +104,7 @@ class Threads(Case):
             self.assertEqual(server.close().status, 0)
 
 
-    def test_one_that_is_refused_to_a_later_life(self):
+    def test_one_that_is_refused_to_a_later_life(self) -> None:
         """The flusher or a worker of the second life, or of the third: it says so, and ends with all that was answered."""
         self.needs("a C compiler", preloaded.has_compiler())
         for life in (2, 3):
@@ -127,7 +128,7 @@ class Threads(Case):
 class Reads(Case):
     takes = 60
 
-    def test_an_end_that_does_not_come(self):
+    def test_an_end_that_does_not_come(self) -> None:
         """A drill reads 1,048,576 times, and no more."""
         self.needs("a C compiler", preloaded.has_compiler())
         environment = {**os.environ, **preloaded.environment(self.folder, PIECE=1)}

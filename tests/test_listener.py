@@ -21,25 +21,25 @@ TRIES, REST = 100, 0.1  # after a failure that may pass, and how many seconds ap
 class Failing(Case):
     takes = 15
 
-    def setUp(self):
+    def setUp(self) -> None:
         super().setUp()
         self.needs("a C compiler", preloaded.has_compiler())
 
-    def serving(self, name, times, after=0):
+    def serving(self, name: str, times: int, after: int = 0) -> Serving:
         settings = {"ACCEPT_ERROR": getattr(errno, name), "ACCEPT_TIMES": times, "ACCEPT_AFTER": after,
                     "CALLS": self.path("calls"), "WAITS": 1}
         store = self.made(topology([(1, 1)]), f"store-{name}-{after}")
         self.write("calls", b"")
         return Serving(store, env=preloaded.environment(self.folder, **settings))
 
-    def rests(self):
+    def rests(self) -> list[int]:
         """For how many microseconds it has rested each time, before it took the last client that was served."""
         before = self.read("calls").rpartition(b"at-once ")[0].splitlines()
         return [int(line.split()[2]) for line in before if line.startswith(b"rest ")]
 
 
 class Listener(Failing):
-    def test_what_passes(self):
+    def test_what_passes(self) -> None:
         """Before each client it fails three times."""
         for name in PASSES:
             with self.subTest(error=name), self.serving(name, 3) as server:
@@ -47,7 +47,7 @@ class Listener(Failing):
                     self.assertEqual(server.order(number, "reset", node=1), {"kind": "finished", "step": 1 + number})
                 self.assertEqual(server.close().status, 0)
 
-    def test_what_does_not_pass(self):
+    def test_what_does_not_pass(self) -> None:
         """At once, or behind the first clients."""
         for name in ENDS_IT:
             for after in (0, 2):
@@ -59,7 +59,7 @@ class Listener(Failing):
                     signals = "".join(f"signal 1 {epoch}\n" for epoch in range(1, after + 1))
                     self.assertEqual(ended.printed, f"listening {server.address}\n{signals}")
 
-    def test_what_lasts(self):
+    def test_what_lasts(self) -> None:
         """It fails 60 times in turn, and as often again before the next client: more than it may in turn. The server rests
         before each further try; behind a client that has left it does not."""
         for name, rests in (("ENFILE", 60), ("EPROTO", 0)):
@@ -68,13 +68,13 @@ class Listener(Failing):
                     self.assertEqual(server.ask({"op": "resend"}), {"count": 0, "kind": "resent"})
                     self.assertEqual(Counter(self.rests()), Counter({REST * 1_000_000: rests * clients}))
 
-    def test_a_rest_before_each_further_try(self):
+    def test_a_rest_before_each_further_try(self) -> None:
         """It takes as long as docs/OPERATING.md says."""
         with self.serving("ENFILE", 3) as server:
             self.assertEqual(server.ask({"op": "resend"}), {"count": 0, "kind": "resent"})
             self.assertEqual(self.rests(), [REST * 1_000_000] * 3)
 
-    def test_connections_that_can_not_be_made_ready(self):
+    def test_connections_that_can_not_be_made_ready(self) -> None:
         """Each is ended, and keeps no descriptor. However many come, the next client is served."""
         store, count = self.made(topology([(1, 1)])), TRIES + 10
         with Serving(store, env=preloaded.environment(self.folder, UNREADY=count)) as server:
@@ -87,7 +87,7 @@ class Listener(Failing):
             self.assertEqual(server.close().status, 0)
 
 
-    def test_a_client_whose_waits_can_not_be_bounded(self):
+    def test_a_client_whose_waits_can_not_be_bounded(self) -> None:
         """It is not waited for: its connection ends before a line, in the midst of one, or before an answer."""
         resend = b'{"op":"resend"}\n'
         for call, number, said in (("READ_TIME_FAILS", 1, b""), ("READ_TIME_FAILS", 2, b'{"op":'), ("WRITE_TIME_FAILS", 1, resend)):
@@ -105,18 +105,18 @@ class Listener(Failing):
 class LastTry(Failing):
     """A failure that may pass is tried again 100 times in turn, and no more."""
 
-    def test_the_last_try(self):
+    def test_the_last_try(self) -> None:
         with self.serving("ENFILE", TRIES) as server:
             self.assertEqual(server.ask({"op": "resend"}), {"count": 0, "kind": "resent"})
             self.assertEqual(len(self.rests()), TRIES)
 
-    def test_clients_that_leave_without_end(self):
+    def test_clients_that_leave_without_end(self) -> None:
         """Their errors are not counted, and the next client does not wait for them."""
         with self.serving("ECONNABORTED", 10 * TRIES) as server:
             self.assertEqual(server.ask({"op": "resend"}), {"count": 0, "kind": "resent"})
             self.assertEqual(self.rests(), [])
 
-    def test_one_failure_more(self):
+    def test_one_failure_more(self) -> None:
         with self.serving("EMFILE", TRIES + 1) as server:
             self.assertEqual((server.ended().status, server.ended().told), (3, "resetd: Socket\n"))
 
@@ -124,7 +124,7 @@ class LastTry(Failing):
 class Idle(Case):
     takes = 3
 
-    def test_a_server_that_nobody_asks(self):
+    def test_a_server_that_nobody_asks(self) -> None:
         """It waits, and takes no processor for that: before the first client, behind an order of one that stays,
         and behind the first part of a line."""
         with Serving(self.made(topology([(1, 1)]))) as server:
@@ -137,10 +137,10 @@ class Idle(Case):
                 self.expect_rest(server)
             self.assertEqual(server.close().status, 0)
 
-    def expect_rest(self, server):
+    def expect_rest(self, server: Serving) -> None:
         until("rest of all threads", lambda: self.rests(server))
 
-    def rests(self, server):
+    def rests(self, server: Serving) -> bool:
         """Whether no thread of it has come back from a rest for a second, as one would that looks from time to time, nor
         has been taken the processor, nor has used it, as one would that spins."""
         before = self.turns(server), processor_seconds(server.process.pid)
@@ -148,7 +148,7 @@ class Idle(Case):
         return (self.turns(server), processor_seconds(server.process.pid)) == before
 
     @staticmethod
-    def turns(server):
+    def turns(server: Serving) -> int:
         """How often its threads have gone to rest, or were taken the processor."""
         threads, count = f"/proc/{server.process.pid}/task", 0
         for thread in os.listdir(threads):

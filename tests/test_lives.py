@@ -19,14 +19,14 @@ class Lives(Served):
     program = SHORT
     programs = ("RESETD_SHORT",)
 
-    def flusher(self, server):
+    def flusher(self, server: Serving) -> int | None:
         """The number of the present life's flusher."""
         threads = sorted(map(int, os.listdir(f"/proc/{server.process.pid}/task")))
         return threads[FLUSHER] if len(threads) > FLUSHER else None
 
-    def test_a_ring_through_fifty_lives(self):
+    def test_a_ring_through_fifty_lives(self) -> None:
         """Lives are counted as they are seen; all signals come, once and in order."""
-        lives, epoch = set(), 0
+        lives, epoch = set[int | None](), 0
         with Serving(self.made(ring(8)), program=SHORT) as server:
             while len(lives) < LIVES and epoch < 400:
                 epoch += 1
@@ -39,7 +39,7 @@ class Lives(Served):
             self.expect_each_signal_once(server)
             self.expect_closed(server, 8 * epoch)
 
-    def test_a_hundred_and_fifty_lives(self):
+    def test_a_hundred_and_fifty_lives(self) -> None:
         """One for each connection, and no more threads than in the first one."""
         with Serving(self.made(topology([(1, 1)])), program=SHORT) as server:
             lives, threads, count = set(), set(), 150 * SHORT_STEPS
@@ -54,7 +54,7 @@ class Lives(Served):
             self.assertEqual(server.await_signals(count), [(1, epoch) for epoch in range(1, count + 1)])
             self.expect_closed(server, count)
 
-    def test_orders_are_answered_the_same_in_a_later_life(self):
+    def test_orders_are_answered_the_same_in_a_later_life(self) -> None:
         with Serving(self.made(topology([(1, 1), (2, 1)])), program=SHORT) as server:
             kept = [server.order(1, "reset", client, node=1) for client in range(2, 9)]
             first = self.flusher(server)
@@ -66,7 +66,7 @@ class Lives(Served):
             self.assertEqual(server.await_signals(206), wanted)
             self.expect_closed(server, 206)
 
-    def test_a_connection_that_stays_is_ended_behind_a_reply(self):
+    def test_a_connection_that_stays_is_ended_behind_a_reply(self) -> None:
         """Whatever it has sent, it reads all answers that were given, and the end; the rest is sent again."""
         with Serving(self.made(topology([(1, 1)])), program=SHORT) as server:
             answered, connections = 0, 0
@@ -87,7 +87,7 @@ class Lives(Served):
             self.assertGreaterEqual(len(signals), answered)
             self.assertEqual(signals, [(1, epoch) for epoch in range(1, len(signals) + 1)])
 
-    def test_a_close_behind_many_lives(self):
+    def test_a_close_behind_many_lives(self) -> None:
         """Its answer can be read though lines stand behind it, and all is settled."""
         with Serving(self.made(topology([(1, 1)])), program=SHORT) as server:
             for number in range(1, 101):
@@ -98,7 +98,7 @@ class Lives(Served):
             ended = server.ended()
             self.assertEqual((ended.status, ended.told, len(ended.printed.splitlines())), (0, "", 101))
 
-    def test_an_output_that_is_not_read(self):
+    def test_an_output_that_is_not_read(self) -> None:
         """It holds up no answer, and no next life: what a life has released is printed in later ones."""
         with Piped(self.made(topology([(1, 1)])), program=SHORT) as server:
             count = 20 * SHORT_STEPS
@@ -113,12 +113,12 @@ class Lives(Served):
             signals = "".join(f"signal 1 {epoch}\n" for epoch in range(1, count + 1))
             self.assertEqual(server.ended(), Ended(0, f"listening {server.address}\n{signals}", ""))
 
-    def test_two_clients_across_lives(self):
+    def test_two_clients_across_lives(self) -> None:
         """Each waits for its turn, and each order is carried out once."""
         with Serving(self.made(topology([(1, 1), (2, 2)])), program=SHORT) as server:
-            steps = {1: [], 2: []}
+            steps: dict[int, list[int]] = {1: [], 2: []}
 
-            def orders(client):
+            def orders(client: int) -> None:
                 for number in range(1, 101):
                     steps[client].append(server.order(number, "reset", client, node=client)["step"])
 

@@ -1,9 +1,11 @@
 """Each allocation of a command is refused in turn: it ends as with ample memory, or says so and leaves all as it was."""
 
 import os
+import pathlib
 import re
 import socket
 import time
+from collections.abc import Callable, Iterator
 
 from support import preloaded, stores
 from support.case import Case, until
@@ -11,7 +13,7 @@ from support.program import PROGRAM, SHORT, SHORT_STEPS, Ended, faulted, ran
 from support.piped import Piped
 from support.refusing import WORKERS, Refusing
 from support.served import FINISHED, STARTED, answered
-from support.serving import Serving
+from support.serving import Answer, Request, Serving
 from support.stores import ABORT, batch, link, node, topology, world
 
 NO_MEMORY = faulted(4, "OutOfMemory")
@@ -31,12 +33,13 @@ VIOLATED = world(4, [node(64, ABORT)])
 class Memory(Case):
     takes = 20
 
-    def setUp(self):
+    def setUp(self) -> None:
         super().setUp()
         self.needs("a C compiler", preloaded.has_compiler())
         self.refusing = Refusing(PROGRAM, self.folder)
 
-    def each_refusal(self, words, prepare, given=b""):
+    def each_refusal(self, words: list[str], prepare: Callable[[], object],
+                     given: bytes = b"") -> Iterator[tuple[str, Ended, Ended]]:
         """Runs a command with each of its allocations refused, alone or with all behind it: where that was, how it ends
         with ample memory, and how it ended.
 
@@ -50,7 +53,7 @@ class Memory(Case):
                 ended, _ = self.refusing.ran(*words, first=first, many=many, given=given)
                 yield f"{words[0]}, {many} from {first} of {count}", ample, ended
 
-    def expect_unchanged(self, wanted, *words, content):
+    def expect_unchanged(self, wanted: Ended, *words: str, content: bytes) -> None:
         """The command ends as wanted, or for want of memory, and its file stays as it was."""
         path, told = self.path("store"), 0
         for where, ample, ended in self.each_refusal([words[0], path, *words[1:]], lambda: self.write("store", content)):
@@ -60,21 +63,21 @@ class Memory(Case):
             told += ended == NO_MEMORY
         self.assertGreater(told, 10)
 
-    def test_a_store_is_never_overwritten(self):
+    def test_a_store_is_never_overwritten(self) -> None:
         for content in (stores.store(bodies=[batch(1, stores.add(1))]), b"\0"):
             self.expect_unchanged(faulted(1, "NotEmpty"), "init", self.write("topology", PAIR), content=content)
 
-    def test_what_only_reads(self):
+    def test_what_only_reads(self) -> None:
         content = stores.store(bodies=[batch(1, stores.add(1))])
         self.expect_unchanged(Ended(0, "legal 1\n", ""), "check", content=content)
         self.expect_unchanged(Ended(0, "view 1 1\nnode 1 1 ready 0 0 0\n", ""), "show", content=content)
         self.expect_unchanged(Ended(1, "violated 64 64 N\n", ""), "check", content=stores.store(VIOLATED))
 
-    def test_a_migration_that_is_refused(self):
+    def test_a_migration_that_is_refused(self) -> None:
         self.expect_unchanged(faulted(1, "NotQuiet 1"), "migrate", content=stores.store(IN_A_RESET))
         self.expect_unchanged(faulted(1, "Violated"), "migrate", content=stores.store(VIOLATED))
 
-    def test_a_migration(self):
+    def test_a_migration(self) -> None:
         """The store has version 1, and is as it was, or version 2: then it may be that the line was not printed."""
         content, path = stores.store(bodies=[batch(1, stores.add(1))]), self.path("store")
         for where, ample, ended in self.each_refusal(["migrate", path], lambda: self.write("store", content)):
@@ -85,16 +88,16 @@ class Memory(Case):
             else:
                 self.assertEqual(ran("check", path), Ended(0, "legal 1\n", ""), where)
 
-    def test_a_store_that_is_made(self):
+    def test_a_store_that_is_made(self) -> None:
         """None, an empty one, or a whole one, though its line may not be printed."""
         store, words = self.path("store"), ["init", self.path("store"), self.write("topology", PAIR)]
-        for where, ample, ended in self.each_refusal(words, lambda: os.path.exists(store) and os.remove(store)):
+        for where, ample, ended in self.each_refusal(words, lambda: pathlib.Path(store).unlink(missing_ok=True)):
             self.assertEqual(ample, Ended(0, "created 3\n", ""))
             self.assertIn(ended, (ample, NO_MEMORY), where)
             if os.path.exists(store):
                 self.assertIn(ran("check", store), CHECKED[2 * (ended == ample):], where)
 
-    def expect_first_part(self, run):
+    def expect_first_part(self, run: str) -> None:
         """A drill prints a first part of what it prints with ample memory, in whole answers; or an answer tells what it lacks."""
         with open(os.path.join(os.path.dirname(os.path.abspath(__file__)), "drill", f"{run}.in"), "rb") as file:
             given = file.read()
@@ -105,20 +108,20 @@ class Memory(Case):
                 self.assertTrue(ample.printed.startswith(ended.printed), where)
                 self.assertEqual(ended.status == 0, ended.printed == ample.printed, where)
 
-    def test_a_drill(self):
+    def test_a_drill(self) -> None:
         self.expect_first_part("stored-run")
 
-    def test_a_drill_that_sends_again(self):
+    def test_a_drill_that_sends_again(self) -> None:
         self.expect_first_part("resend-and-check")
 
-    def test_a_drill_that_is_shown(self):
+    def test_a_drill_that_is_shown(self) -> None:
         self.expect_first_part("crash-loses-pending")
 
 
 class Start(Case):
     takes = 20
 
-    def test_each_allocation_of_a_start(self):
+    def test_each_allocation_of_a_start(self) -> None:
         """Refused alone, or with all behind it: the server listens, or it says so, prints nothing and leaves its store."""
         self.needs("a C compiler", preloaded.has_compiler())
         refusing, store = Refusing(PROGRAM, self.folder), self.made(PAIR)
@@ -133,7 +136,7 @@ class Start(Case):
                     self.assertEqual(self.read("store"), content)
         self.assertGreater(told, 10)
 
-    def start(self, store, environment):
+    def start(self, store: str, environment: dict[str, str]) -> Ended | None:
         """How a server ends that does not listen; None of one that does."""
         try:
             with Serving(store, env=environment, output=self.path("output")):
@@ -146,7 +149,7 @@ class Start(Case):
 class Wave(Case):
     takes = 5
 
-    def test_a_wave_whose_workers_lack_memory(self):
+    def test_a_wave_whose_workers_lack_memory(self) -> None:
         """Each allocation that the workers ask for is refused in turn. The packet is kept and taken a little later: the wave
         comes to its end in as many steps, and nobody has anything sent again."""
         self.needs("a C compiler", preloaded.has_compiler())
@@ -158,7 +161,7 @@ class Wave(Case):
             self.write("store", content)
             self.allocations_of_a_wave(store, refusing.environment(first, threads=WORKERS), refusing)
 
-    def allocations_of_a_wave(self, store, environment, refusing):
+    def allocations_of_a_wave(self, store: str, environment: dict[str, str], refusing: Refusing) -> int:
         with Serving(store, env=environment) as server:
             self.assertEqual(server.order(1, "reset", node=1), answered(STARTED, 4))
             until("the end of the wave", lambda: server.show() == AFTER_A_WAVE)
@@ -174,7 +177,7 @@ class Waves(Case):
     takes = 10
     star = topology([(node, 1) for node in (1, *range(8, 65, 8))], [(1, node) for node in range(8, 65, 8)])
 
-    def test_packets_that_wait_together(self):
+    def test_packets_that_wait_together(self) -> None:
         """That worker is refused memory for a while. Each packet that waits is taken once there is some, and nobody has
         anything sent again."""
         self.needs("a C compiler", preloaded.has_compiler())
@@ -190,7 +193,7 @@ class Waves(Case):
             self.assertEqual(server.close().status, 0)
 
     @staticmethod
-    def has_ended(shown, epoch):
+    def has_ended(shown: Answer, epoch: int) -> bool:
         """Each packet was taken and cleared, of which each link has three in a wave."""
         return all(row[2] == "ready" and row[4] == epoch for row in shown["nodes"]) and \
             shown["settled"] == shown["accepted"] == 17 + epoch * (1 + 2 * 3 * 8)
@@ -202,7 +205,7 @@ class Kept(Case):
     takes = 5
     programs = ("RESETD", "RESETD_SHORT")
 
-    def expect_no_more(self, program, store, work, times=16):
+    def expect_no_more(self, program: str, store: str, work: Callable[[Serving, int], None], times: int = 16) -> None:
         """Doing something so often, once it was done a little, keeps fewer allocations than one each time."""
         self.needs("a C compiler", preloaded.has_compiler())
         refusing = Refusing(program, self.folder)
@@ -214,12 +217,12 @@ class Kept(Case):
             self.assertLess(self.kept(server, refusing.kept) - kept, times // 2)
             self.assertEqual(server.close().status, 0)
 
-    def environment(self, refusing):
+    def environment(self, refusing: Refusing) -> dict[str, str]:
         """Counts, and waits for no device."""
         return preloaded.both(preloaded.environment(self.folder, SYNCS_LEFT_OUT=1), refusing.environment())
 
     @staticmethod
-    def kept(server, count):
+    def kept(server: Serving, count: Callable[[], int]) -> int:
         """What is kept once a server waits for the next client: once it has stayed the same for half a second."""
         server.ask({"op": "resend"})
         now, same = count(), 0
@@ -229,7 +232,7 @@ class Kept(Case):
             same = same + 1 if now == before else 0
         return now
 
-    def test_of_a_command(self):
+    def test_of_a_command(self) -> None:
         """All of it is given back at the end, however many lines a drill had."""
         self.needs("a C compiler", preloaded.has_compiler())
         refusing, path = Refusing(PROGRAM, self.folder), self.write("store", stores.store(bodies=[batch(1, stores.add(1))]))
@@ -242,22 +245,22 @@ class Kept(Case):
                 self.assertEqual((ended.status, refusing.kept()), (status, 0))
                 self.assertGreater(count, 0)
 
-    def test_of_a_connection_and_its_lines(self):
-        lines = [{"op": "show"}, {"op": "resend"}, b"x" * 600 + b"\n", b"{\n", b"\xff\n", {"op": "fly"}, {"op": "reset"},
+    def test_of_a_connection_and_its_lines(self) -> None:
+        lines: list[Request] = [{"op": "show"}, {"op": "resend"}, b"x" * 600 + b"\n", b"{\n", b"\xff\n", {"op": "fly"}, {"op": "reset"},
                  {"op": "reset", "client": 1, "number": 2, "node": 1}, b"{"]
 
-        def ask(server, _):
+        def ask(server: Serving, _: int) -> None:
             with server.connect() as connection:
                 connection.send(*lines)
                 connection.socket.shutdown(socket.SHUT_WR)
                 self.assertEqual(len(connection.rest()), len(lines))
         self.expect_no_more(PROGRAM, self.made(PAIR), ask)
 
-    def test_of_a_connection_that_was_torn_off(self):
+    def test_of_a_connection_that_was_torn_off(self) -> None:
         """By its client: in the midst of a line, before a reply, or before it was served."""
         lines = (b'{"op":', b'{"op":"show"}\n' * 20, b'{"op":"reset","client":1,"number":9,"node":1}\n' * 20)
 
-        def leave(server, number):
+        def leave(server: Serving, number: int) -> None:
             with server.connect() as connection:
                 connection.socket.setsockopt(socket.SOL_SOCKET, socket.SO_LINGER, b"\1\0\0\0\0\0\0\0")
                 connection.send({"op": "resend"})
@@ -266,7 +269,7 @@ class Kept(Case):
             self.assertEqual(server.ask({"op": "resend"}), {"count": 0, "kind": "resent"})
         self.expect_no_more(PROGRAM, self.made(PAIR), leave, times=18)
 
-    def test_of_signals_that_nobody_reads(self):
+    def test_of_signals_that_nobody_reads(self) -> None:
         """Once a line can't be printed, those behind it are not kept: counted in bytes, each time as a life begins."""
         self.needs("a C compiler", preloaded.has_compiler())
         refusing, store = Refusing(SHORT, self.folder), self.made(topology([(1, 1)]))
@@ -284,18 +287,18 @@ class Kept(Case):
         # the signals between the two are some 16 bytes each
         self.assertLess(kept[1] - kept[0], 32 * SHORT_STEPS * 8, kept)
 
-    def test_of_orders_and_waves(self):
-        def reset(server, number):
+    def test_of_orders_and_waves(self) -> None:
+        def reset(server: Serving, number: int) -> None:
             self.assertEqual(server.order(number + 1, "reset", node=number % 2 + 1)["kind"], STARTED)
             server.await_quiet(number + 1)
             server.await_signals(2 * (number + 1))
         self.expect_no_more(PROGRAM, self.made(PAIR), reset)
 
-    def test_of_connections_that_are_cut(self):
+    def test_of_connections_that_are_cut(self) -> None:
         """Each has more lines than a life takes. Its descriptor is given back too."""
         orders, descriptors = 1, []
 
-        def fill(server, _):
+        def fill(server: Serving, _: int) -> None:
             nonlocal orders
             with server.connect() as connection:
                 numbers = range(orders, orders + 3 * SHORT_STEPS)
@@ -307,9 +310,9 @@ class Kept(Case):
         self.expect_no_more(SHORT, self.made(topology([(1, 1)])), fill, times=6)
         self.assertLessEqual(descriptors[-1], descriptors[0] + 2, descriptors)
 
-    def test_of_lives(self):
+    def test_of_lives(self) -> None:
         """Each connection has one of its own."""
-        def reset(server, number):
+        def reset(server: Serving, number: int) -> None:
             with server.connect() as connection:
                 numbers = range(number * SHORT_STEPS + 1, (number + 1) * SHORT_STEPS + 1)
                 connection.send(*({"op": "reset", "client": 1, "number": each, "node": 1} for each in numbers))

@@ -6,14 +6,14 @@ from support import stores
 from support.case import until
 from support.program import Ended, ran
 from support.served import DONE, FINISHED, STARTED, Served, answered, refused
-from support.serving import Serving
+from support.serving import Answer, Serving
 from support.stores import ring, topology
 
 
 class Orders(Served):
     """Each kind of order, sent as it is, sent again, and refused."""
 
-    def test_an_order_of_each_kind_is_repeated(self):
+    def test_an_order_of_each_kind_is_repeated(self) -> None:
         orders = [("add", {"node": 1, "group": 1}, DONE), ("add", {"node": 2, "group": 1}, DONE),
                   ("join", {"a": 1, "b": 2}, DONE), ("drop", {"a": 2, "b": 1}, DONE), ("reset", {"node": 1}, FINISHED),
                   ("confirm", {"node": 1, "epoch": 1}, DONE), ("remove", {"node": 2}, DONE)]
@@ -30,7 +30,7 @@ class Orders(Served):
             self.expect_closed(server, 1)
             self.assertEqual(server.signals(), [(1, 1)])
 
-    def test_each_kind_by_each_client(self):
+    def test_each_kind_by_each_client(self) -> None:
         """All in one packet; each client has nodes of its own, up to the greatest, and its own numbers."""
         with Serving(self.made("")) as server, server.connect() as connection:
             step = 0
@@ -51,7 +51,7 @@ class Orders(Served):
             self.expect_closed(server, 16)
             self.assertEqual(server.signals(), [(65 - client, 1) for client in range(1, 17)])
 
-    def test_one_link_of_several(self):
+    def test_one_link_of_several(self) -> None:
         """It goes alone, and is another one when it is joined again."""
         with Serving(self.made(ring(5))) as server:
             before = server.show()["links"]
@@ -66,7 +66,7 @@ class Orders(Served):
             server.await_quiet(1)
             self.expect_closed(server, 5)
 
-    def test_a_reset_is_started_once(self):
+    def test_a_reset_is_started_once(self) -> None:
         with Serving(self.made(ring(4))) as server:
             first = server.order(1, "reset", node=3)
             self.assertEqual(first, answered(STARTED, 9))
@@ -77,7 +77,7 @@ class Orders(Served):
             self.expect_each_signal_once(server)
             self.expect_closed(server, 4)
 
-    def test_orders_are_kept_over_a_close_and_a_kill(self):
+    def test_orders_are_kept_over_a_close_and_a_kill(self) -> None:
         store = self.made(ring(4))
         with Serving(store) as server:
             replies = [server.order(1, "reset", client, node=1) for client in range(1, 17) if client != 16]
@@ -88,7 +88,7 @@ class Orders(Served):
                 self.assertEqual([server.order(1, "reset", client, node=1) for client in range(1, 16)], replies)
                 getattr(server, end)()
 
-    def test_refusals(self):
+    def test_refusals(self) -> None:
         nodes = [(node, 1) for node in range(1, 19)] + [(64, 2)]
         links = [(1, node) for node in range(2, 18)]
         refusals = [
@@ -108,7 +108,7 @@ class Orders(Served):
             # a refused order's number stays free
             self.assertEqual(server.order(1, "remove", node=18), answered(DONE, len(nodes) + len(links) + 1))
 
-    def test_as_many_links_as_there_may_be(self):
+    def test_as_many_links_as_there_may_be(self) -> None:
         """One more is refused, and there is room for it once another one is dropped."""
         links = [(node, (node + far - 1) % 64 + 1) for far in (1, 2) for node in range(1, 65)]
         with Serving(self.made(topology([(node, 1) for node in range(1, 65)], links))) as server:
@@ -117,7 +117,7 @@ class Orders(Served):
             self.assertEqual(server.order(2, "join", a=33, b=1), answered(DONE, 194))
             self.assertEqual(server.order(3, "join", a=64, b=2), refused(14, "LinksFull"))
 
-    def test_lines_with_a_fault(self):
+    def test_lines_with_a_fault(self) -> None:
         """Each has its reply, and the connection goes on."""
         lines = {
             b"x" * 513 + b"\n": "TooLong", b"x" * 100_000 + b"\n": "TooLong", b"\xff\n": "BadText", b"{\n": "BadJson",
@@ -153,7 +153,7 @@ class Orders(Served):
             connection.send({"op": "resend"})
             self.assertEqual(connection.line(), b'{"count":0,"kind":"resent"}\n')
 
-    def test_the_limit_of_a_line(self):
+    def test_the_limit_of_a_line(self) -> None:
         """A line of at most 512 bytes is read, be it an order, what is no order, or no JSON; a carriage return counts."""
         order, unknown = b'{"op":"reset","client":1,"number":1,"node":1}', refused(6, "UnknownNode")
         with Serving(self.made("")) as server, server.connect() as connection:
@@ -168,7 +168,7 @@ class Orders(Served):
                               {"count": 0, "kind": "resent"}]
                     self.assertEqual((length, replies), (length, [{"fault": fault}] * 6 if fault else wanted))
 
-    def test_other_spellings_of_a_line(self):
+    def test_other_spellings_of_a_line(self) -> None:
         """A carriage return is a space, an escape is its letter, and of two members with one name the last one counts."""
         shown = '{"accepted":0,"links":[],"nodes":[],"settled":0}'
         unknown, late = '{"name":"UnknownNode","refused":6}', '{"name":"OutOfTurn","refused":4}'
@@ -181,22 +181,23 @@ class Orders(Served):
                 connection.send(line)
                 self.assertEqual((line, connection.line().decode()), (line, answer + "\n"))
 
-    def test_the_text_of_every_answer(self):
+    def test_the_text_of_every_answer(self) -> None:
         """Compact, its members in the order of their names."""
         with Serving(self.made(topology([(1, 1), (2, 1)], [(1, 2)]))) as server, server.connect() as connection:
-            for request, text in (
-                    ({"op": "show"}, '{"accepted":3,"links":[[1,2,3]],'
-                                     '"nodes":[[1,1,"ready",0,0,0],[2,1,"ready",0,0,0]],"settled":3}'),
-                    ({"op": "remove", "client": 1, "number": 1, "node": 1}, '{"name":"HasLinks","refused":8}'),
-                    ({"op": "reset", "client": 1, "number": 1, "node": 1}, '{"kind":"started","step":4}'),
-                    ({"op": "close"}, '{"kind":"closed"}')):
+            texts: list[tuple[Answer, str]] = [
+                ({"op": "show"}, '{"accepted":3,"links":[[1,2,3]],'
+                                 '"nodes":[[1,1,"ready",0,0,0],[2,1,"ready",0,0,0]],"settled":3}'),
+                ({"op": "remove", "client": 1, "number": 1, "node": 1}, '{"name":"HasLinks","refused":8}'),
+                ({"op": "reset", "client": 1, "number": 1, "node": 1}, '{"kind":"started","step":4}'),
+                ({"op": "close"}, '{"kind":"closed"}')]
+            for request, text in texts:
                 connection.send(request)
                 self.assertEqual(connection.line().decode(), text + "\n")
             self.assertEqual(connection.rest(), [])
 
 
 class Stores(Served):
-    def test_a_reset_that_was_begun_before_the_start_goes_on(self):
+    def test_a_reset_that_was_begun_before_the_start_goes_on(self) -> None:
         """What a crash may have lost is sent again, of stores of both versions."""
         for version in (1, 2):
             rows = [stores.node(1, stores.ABORT, awaits=[2], version=version), stores.node(2, version=version)]
@@ -208,7 +209,7 @@ class Stores(Served):
                 self.expect_closed(server, 2)
                 self.assertEqual(stores.version_of(server.store), version)
 
-    def test_all_that_may_be_lost_is_sent_again(self):
+    def test_all_that_may_be_lost_is_sent_again(self) -> None:
         """A front on each of 256 lanes. Those to the nodes with a number by 8, which one worker has, are to be taken; those
         from them were taken, and the receipt may be lost."""
         others = [node for node in range(1, 65) if node % 8]
@@ -221,25 +222,25 @@ class Stores(Served):
             content = stores.store(stores.world(1_000, rows, links), version)
             with self.subTest(version=version), Serving(self.write(f"store{version}", content)) as server:
                 # each is taken, where it was not, and its receipt clears it; nobody asks for it again meanwhile
-                until("each packet", lambda: server.show()["settled"] == 1_000 + 128 + 256)
+                until("each packet", lambda: bool(server.show()["settled"] == 1_000 + 128 + 256))
                 self.assertEqual(server.ask({"op": "resend"}), {"count": 0, "kind": "resent"})
                 self.expect_closed(server, 0)
 
-    def test_the_longest_texts(self):
+    def test_the_longest_texts(self) -> None:
         """Of as many nodes and links as there may be, with numbers of 13 digits: by `show`, and over the port."""
         most, pairs = stores.MOST_STEPS, [(a, b) for a in range(1, 65) for b in range(a, 65) if b - a in (1, 2, 62, 63)]
         rows = [stores.node(at, epoch=most - at, confirmed=most - 64 - at, version=2) for at in range(1, 65)]
         links = [stores.link(a, b, most - place) for place, (a, b) in enumerate(pairs)]
         path = self.write("store", stores.store(stores.world(most, rows, links), version=2))
         nodes = [[at, 1, "ready", 0, most - at, most - 64 - at] for at in range(1, 65)]
-        links = [[a, b, most - place] for place, (a, b) in enumerate(pairs)]
-        lines = [["view", most, most], *(["node", *row] for row in nodes), *(["link", *row] for row in links)]
+        joined = [[a, b, most - place] for place, (a, b) in enumerate(pairs)]
+        lines = [["view", most, most], *(["node", *row] for row in nodes), *(["link", *row] for row in joined)]
         self.assertEqual(ran("show", path), Ended(0, "".join(" ".join(map(str, line)) + "\n" for line in lines), ""))
         with Serving(path) as server:
-            self.assertEqual(server.show(), {"accepted": most, "links": links, "nodes": nodes, "settled": most})
+            self.assertEqual(server.show(), {"accepted": most, "links": joined, "nodes": nodes, "settled": most})
             self.expect_closed(server, 0)
 
-    def test_packets_between_any_two_nodes(self):
+    def test_packets_between_any_two_nodes(self) -> None:
         """Each two of the 64 are linked once, as many at a time as there may be. Each lane's front is sent at the start, taken
         and cleared."""
         rows, lane = [stores.node(at, epoch=3, version=2) for at in range(1, 65)], (0, 0, [stores.IS_READY])
@@ -249,10 +250,10 @@ class Stores(Served):
             some = sorted(pairs[first:first + 128])
             links = [stores.link(a, b, 65 + place, lane, lane) for place, (a, b) in enumerate(some)]
             with Serving(self.write("store", stores.store(stores.world(1_000, rows, links), version=2))) as server:
-                until("each packet", lambda: server.show()["settled"] == 1_000 + 4 * len(some), 60)
+                until("each packet", lambda: bool(server.show()["settled"] == 1_000 + 4 * len(some)), 60)
                 self.expect_closed(server, 0)
 
-    def test_a_store_that_has_served_for_long(self):
+    def test_a_store_that_has_served_for_long(self) -> None:
         """Great numbers of steps, epochs, packets and orders: a wave goes on from them."""
         first, second, number, count = 2**39, 2**39 + 7, 2**36, 2**40 - 1_000
         rows = [stores.node(1, epoch=first, confirmed=first - 1, version=2), stores.node(64, epoch=second, version=2)]
@@ -270,7 +271,7 @@ class Stores(Served):
             self.assertEqual([row[4:6] for row in server.show()["nodes"]], [[first + 1, first - 1], [second + 1] * 2])
             self.expect_closed(server, 2)
 
-    def test_the_last_steps_of_a_store(self):
+    def test_the_last_steps_of_a_store(self) -> None:
         """As many resets as steps are left are carried out, though they come together with more; then each order is refused."""
         left, more = 256, 44
         content = stores.store(stores.world(2**40 - left, [stores.node(1, version=2)]), version=2)
@@ -287,7 +288,7 @@ class Stores(Served):
             self.expect_closed(server, left)
         self.assertEqual(ran("show", server.store).printed, f"view {2**40} {2**40}\nnode 1 1 ready 0 {left} 0\n")
 
-    def test_the_longest_world(self):
+    def test_the_longest_world(self) -> None:
         """It is shown whole, and each lane has a packet and a receipt to be sent again. It takes no further step."""
         with Serving(self.write("store", stores.store(stores.longest_world(), version=2))) as server, \
                 server.connect() as connection:
@@ -302,7 +303,7 @@ class Stores(Served):
             connection.socket.close()
             self.expect_closed(server, 0)
 
-    def test_numbers_of_every_size(self):
+    def test_numbers_of_every_size(self) -> None:
         """Of steps, epochs, packets, links and orders: a wave over a link crosses each power of ten, and some of two."""
         sizes = [10**power for power in range(1, 13)] + [2**power for power in (8, 12, 15, 16, 20, 24, 28, 31, 32, 33, 36)]
         for size in sizes:
@@ -320,7 +321,7 @@ class Stores(Served):
                 self.assertEqual(server.order(size + 1, "confirm", 3, node=64, epoch=size + 1), answered(DONE, size + 9))
                 self.assertEqual(server.close().status, 0)
 
-    def test_a_store_of_version_1_stays_so(self):
+    def test_a_store_of_version_1_stays_so(self) -> None:
         path = self.write("store", stores.store())
         with Serving(path) as server:
             for number in range(1, 400, 2):

@@ -15,7 +15,7 @@ PAIR = topology([(1, 1), (2, 1)], [(1, 2)])
 LOST = (3, "resetd: Write\n")
 
 
-def by_shell(redirected, *words):
+def by_shell(redirected: str, *words: str) -> tuple[int, str]:
     """Runs the program by a shell's redirections: its status, and its fault."""
     done = subprocess.run(["sh", "-c", f'exec "$0" "$@" {redirected}', PROGRAM, *words], stdin=subprocess.DEVNULL,
                           capture_output=True, timeout=PATIENCE)
@@ -23,7 +23,7 @@ def by_shell(redirected, *words):
 
 
 class Printed(Case):
-    def test_a_text_goes_out_in_one_write(self):
+    def test_a_text_goes_out_in_one_write(self) -> None:
         """What a command prints, and each answer of a drill: so whoever reads it sees no part of a line."""
         self.needs("a C compiler", preloaded.has_compiler())
         store, network = self.path("store"), self.write("topology", stores.ring(64))
@@ -43,7 +43,7 @@ class Printed(Case):
         lines = [text for text in self.written() if not text.startswith("{")]
         self.assertEqual(lines, printed.splitlines(keepends=True))
 
-    def test_writes_that_are_interrupted_very_often(self):
+    def test_writes_that_are_interrupted_very_often(self) -> None:
         """Of a command, of a drill, and of a server's first line."""
         self.needs("a C compiler", preloaded.has_compiler())
         environment = preloaded.environment(self.folder, WRITE_STORM=15_000)
@@ -55,7 +55,7 @@ class Printed(Case):
         with Serving(store, env=environment) as server:
             self.assertEqual(server.close().status, 0)
 
-    def test_texts_that_go_out_byte_by_byte(self):
+    def test_texts_that_go_out_byte_by_byte(self) -> None:
         """However long they are: the view of the longest world, and a drill's answer to a flight."""
         self.needs("a C compiler", preloaded.has_compiler())
         environment = {**os.environ, **preloaded.environment(self.folder, PIECE=1)}
@@ -67,12 +67,12 @@ class Printed(Case):
                 self.assertGreater(len(usual.printed), 3_000)
                 self.assertEqual(ran(*words, given=flight, env=environment), usual)
 
-    def expect_writes(self, words, given, wanted):
+    def expect_writes(self, words: list[str], given: bytes, wanted: list[str]) -> None:
         environment = preloaded.environment(self.folder, CALLS=self.path("calls"))
         self.assertEqual(ran(*words, given=given, env={**os.environ, **environment}).told, "")
         self.assertEqual(self.written(), wanted)
 
-    def written(self):
+    def written(self) -> list[str]:
         """What each write has printed."""
         rows = [line.split(" ") for line in self.read("calls").decode().splitlines()]
         os.remove(self.path("calls"))
@@ -80,7 +80,7 @@ class Printed(Case):
 
 
 class Unprinted(Case):
-    def test_every_command_says_so(self):
+    def test_every_command_says_so(self) -> None:
         """With an output that is full, or closed."""
         for redirected in (">/dev/full", ">&-"):
             topology_path, store = self.write("topology", PAIR), self.path("store" + redirected[1:3].replace("/", "f"))
@@ -92,15 +92,16 @@ class Unprinted(Case):
                 self.assertEqual(by_shell(redirected, "serve", store, "127.0.0.1:0"), LOST)
                 self.assertEqual(ran("check", store), Ended(0, "legal 3\n", ""))
 
-    def test_a_migration_is_done_though_it_is_not_told(self):
+    def test_a_migration_is_done_though_it_is_not_told(self) -> None:
         path = self.write("store", stores.store())
         self.assertEqual(by_shell(">/dev/full", "migrate", path), LOST)
         self.assertEqual(stores.version_of(path), 2)
 
-    def test_a_store_is_let_go_before_its_line_is_taken(self):
+    def test_a_store_is_let_go_before_its_line_is_taken(self) -> None:
         """Whoever reads what `init` or `migrate` prints may take long: the store can be served meanwhile."""
         old = stores.store(stores.world(3, [stores.node(1), stores.node(2)], [stores.link(1, 2, 3)]))
-        for command, before, more in (("init", b"", [self.write("topology", PAIR)]), ("migrate", old, [])):
+        made: list[tuple[str, bytes, list[str]]] = [("init", b"", [self.write("topology", PAIR)]), ("migrate", old, [])]
+        for command, before, more in made:
             self.write("store", before)
             reader, writer = os.pipe()
             self.addCleanup(os.close, reader)
@@ -114,7 +115,7 @@ class Unprinted(Case):
             os.read(reader, 1 << 20)
             self.assertEqual((waiting.wait(PATIENCE), os.read(reader, 100)[-2:]), (0, b"3\n"))
 
-    def is_free(self, name):
+    def is_free(self, name: str) -> bool:
         """Whether a store of version 2 stands there that nobody has locked."""
         if ran("check", self.path(name)).printed != "legal 3\n" or stores.version_of(self.path(name)) != 2:
             return False
@@ -123,25 +124,26 @@ class Unprinted(Case):
             return True
         return False
 
-    def test_a_drill_ends_where_it_can_not_print(self):
+    def test_a_drill_ends_where_it_can_not_print(self) -> None:
         for redirected in (">/dev/full", ">&-"):
             self.assertEqual(by_shell(f"{redirected} <{self.write('lines', 'add 1 1')}", "drill"), LOST)
 
-    def test_a_violation_that_is_not_printed(self):
+    def test_a_violation_that_is_not_printed(self) -> None:
         path = self.write("store", stores.store(stores.world(4, [stores.node(64, stores.ABORT)])))
         self.assertEqual(by_shell(">/dev/full", "check", path), LOST)
 
-    def test_a_store_does_not_take_the_place_of_a_stream(self):
+    def test_a_store_does_not_take_the_place_of_a_stream(self) -> None:
         """With some of them closed, what is printed goes nowhere, and not into the file of the store."""
         content, topology_path = stores.store(), self.write("topology", PAIR)
+        words: dict[str, list[str]] = {"init": [topology_path], "check": [], "show": [], "serve": ["127.0.0.1:0"]}
         for closed in ("<&- >&- 2>&-", ">&- 2>&-", "<&- >&-"):
-            for command, more in (("init", [topology_path]), ("check", []), ("show", []), ("serve", ["127.0.0.1:0"])):
+            for command, more in words.items():
                 with self.subTest(closed=closed, command=command):
                     path = self.write("store", content)
                     self.assertEqual(by_shell(closed, command, path, *more)[0], 1 if command == "init" else 3)
                     self.assertEqual(self.read("store"), content)
 
-    def test_a_fault_line_that_can_not_be_written(self):
+    def test_a_fault_line_that_can_not_be_written(self) -> None:
         """The status tells it."""
         for redirected in ("2>/dev/full", "2>&-", ">&- 2>&-"):
             self.assertEqual(by_shell(redirected, "check", self.path("none/store"))[0], 3)

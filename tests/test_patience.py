@@ -9,17 +9,17 @@ import time
 from support import preloaded
 from support.case import Case, until
 from support.program import PATIENCE
-from support.serving import Serving
+from support.serving import Answer, Connection, Serving
 from support.stores import ring, topology
 
 LINE, REPLY, SILENCE, CONNECTION, DISCARD = 10, 10, 15, 600, 1
 LATE = 30  # seconds by which a busy machine may be late
-SHOW = {"op": "show"}
+SHOW: Answer = {"op": "show"}
 HALVES = (b'{"op":"re', b'send"}\n')
 RESENT = b'{"count":0,"kind":"resent"}\n'
 
 
-def await_end(connection):
+def await_end(connection: Connection) -> bytes:
     """Waits until the server has ended a connection: what it said meanwhile."""
     connection.socket.settimeout(SILENCE + LATE + 2)
     said = b""
@@ -29,12 +29,12 @@ def await_end(connection):
     return said
 
 
-def ends_of(connection):
+def ends_of(connection: Connection) -> tuple[int, int]:
     """The ports of a connection, the client's and the server's."""
     return connection.socket.getsockname()[1], connection.socket.getpeername()[1]
 
 
-def untaken(client, server):
+def untaken(client: int, server: int) -> int | None:
     """How many bytes the system keeps of what the server has sent to a client that does not read, by their ports; None
     where the connection is over."""
     with open("/proc/net/tcp", encoding="ascii") as rows:
@@ -49,24 +49,24 @@ class Patience(Case):
     takes = 25
     told = 0
 
-    def serving(self, nodes=1, **how):
-        return Serving(self.made(ring(nodes) if nodes > 2 else topology([(1, 1)])), **how)
+    def serving(self, nodes: int = 1, env: dict[str, str] | None = None) -> Serving:
+        return Serving(self.made(ring(nodes) if nodes > 2 else topology([(1, 1)])), env=env)
 
-    def expect_within(self, seconds, begun, server, early=0):
+    def expect_within(self, seconds: float, begun: float, server: Serving, early: float = 0) -> None:
         """It took as long as that since before the client did its part, and the server serves the next client."""
         took = time.monotonic() - begun
         self.assertGreaterEqual(took, seconds - early)
         self.assertLess(took, seconds + LATE)
         self.assertEqual(server.ask({"op": "resend"}), {"count": 0, "kind": "resent"})
 
-    def test_a_client_that_says_nothing(self):
+    def test_a_client_that_says_nothing(self) -> None:
         with self.serving() as server:
             begun = time.monotonic()
             with server.connect() as connection:
                 await_end(connection)
             self.expect_within(SILENCE, begun, server)
 
-    def test_a_client_that_says_nothing_behind_a_reply(self):
+    def test_a_client_that_says_nothing_behind_a_reply(self) -> None:
         with self.serving() as server, server.connect() as connection:
             for _ in range(2):
                 time.sleep(1)
@@ -76,7 +76,7 @@ class Patience(Case):
             await_end(connection)
             self.expect_within(SILENCE, begun, server)
 
-    def test_a_second_client_that_says_nothing(self):
+    def test_a_second_client_that_says_nothing(self) -> None:
         """One that waits meanwhile has its turn then, and its own time."""
         with self.serving() as server, server.connect() as first, server.connect() as second:
             first.send(SHOW)
@@ -88,16 +88,16 @@ class Patience(Case):
             await_end(second)
             self.expect_within(SILENCE, begun, server)
 
-    def test_a_line_that_trickles(self):
+    def test_a_line_that_trickles(self) -> None:
         """A byte each half second: the line's time begins with its first byte."""
-        for first in ([], [SHOW]):
+        for first in (list[Answer](), [SHOW]):
             with self.subTest(behind=first), Serving(self.made(topology([(1, 1)]), f"store{len(first)}")) as server, \
                     server.connect() as connection:
                 connection.send(*first)
                 begun = self.trickle(connection)
                 self.expect_within(LINE, begun, server)
 
-    def trickle(self, connection):
+    def trickle(self, connection: Connection) -> float:
         """Sends a byte each half second until the server ends the connection: since when."""
         connection.socket.settimeout(0.5)
         begun = time.monotonic()
@@ -113,7 +113,7 @@ class Patience(Case):
                 return begun
         return begun
 
-    def test_the_rest_of_a_line(self):
+    def test_the_rest_of_a_line(self) -> None:
         """A first part, and then nothing. It is not answered as the last line of a client that sends no more is."""
         with self.serving() as server, server.connect() as connection:
             begun = time.monotonic()
@@ -121,13 +121,13 @@ class Patience(Case):
             self.assertEqual(await_end(connection), b"")
             self.expect_within(LINE, begun, server)
 
-    def test_the_times_that_the_system_is_told(self):
+    def test_the_times_that_the_system_is_told(self) -> None:
         """For each read and each write: of a line that has begun what is left of its time, and not of a silence. The clock
         stands still, and is put forward by a second between two parts of what is sent."""
         self.needs("a C compiler", preloaded.has_compiler())
-        log, environment = self.path("calls"), {"WAITS": 1, "STILL": 1, "CLOCK": self.clock(0)}
-        with self.serving(env=preloaded.environment(self.folder, CALLS=log, **environment)) as server, \
-                server.connect() as connection:
+        log = self.path("calls")
+        environment = preloaded.environment(self.folder, CALLS=log, WAITS=1, STILL=1, CLOCK=self.clock(0))
+        with self.serving(env=environment) as server, server.connect() as connection:
             self.expect_times(log, [SILENCE])
             for ahead, (part, times) in enumerate((
                     (b'{"op":', [LINE]), (b'"resend"', [LINE - 1]), (b'}\n', [-REPLY, SILENCE]),
@@ -139,9 +139,9 @@ class Patience(Case):
             connection.socket.close()
             self.assertEqual(server.ended().status, 0)
 
-    def expect_times(self, log, wanted):
+    def expect_times(self, log: str, wanted: list[int]) -> None:
         """Just these are told next, in seconds, a write's as a negative number."""
-        def told():
+        def told() -> tuple[list[tuple[str, float]], int] | None:
             with open(log, encoding="ascii") as calls:
                 rows = [line.split(" ") for line in calls.readlines()[self.told:]]
             times = [(name, int(millis) / 1_000) for name, _, millis, _ in rows if name.endswith("-within")]
@@ -150,7 +150,7 @@ class Patience(Case):
         self.told += rows
         self.assertEqual(times, [("read-within" if each > 0 else "write-within", abs(each)) for each in wanted])
 
-    def test_lines_that_are_slow_but_in_time(self):
+    def test_lines_that_are_slow_but_in_time(self) -> None:
         """Each takes some seconds, and all more than any one time."""
         with self.serving() as server, server.connect() as connection:
             for _ in range(4):
@@ -159,7 +159,7 @@ class Patience(Case):
                     time.sleep(1.5)
                 self.assertEqual(connection.line(), b'{"count":0,"kind":"resent"}\n')
 
-    def test_a_client_that_talks(self):
+    def test_a_client_that_talks(self) -> None:
         """A line each second, for longer than a silence may last."""
         with self.serving() as server, server.connect() as connection:
             for _ in range(SILENCE + 5):
@@ -167,7 +167,7 @@ class Patience(Case):
                 self.assertEqual(connection.line(), b'{"count":0,"kind":"resent"}\n')
                 time.sleep(1)
 
-    def test_replies_that_are_not_taken(self):
+    def test_replies_that_are_not_taken(self) -> None:
         """Views of a large ring fill what the system keeps for a client; ten seconds later the next one has its turn."""
         self.needs("a C compiler", preloaded.has_compiler())
         with self.serving(64, env=preloaded.environment(self.folder, SEND_BUFFER=4_096)) as server, \
@@ -181,7 +181,7 @@ class Patience(Case):
             size = 0
             while time.monotonic() < began + 120:
                 before, looked = looked, time.monotonic()
-                if (now := untaken(*ends)) not in (None, size):
+                if (now := untaken(*ends)) is not None and now != size:
                     size, moved = now, before
                 try:
                     self.assertEqual(second.reply(), {"count": 0, "kind": "resent"})
@@ -194,13 +194,13 @@ class Patience(Case):
             sender.join()
 
     @staticmethod
-    def send_all(connection, text):
+    def send_all(connection: Connection, text: bytes) -> None:
         try:
             connection.socket.sendall(text)
         except OSError:
             pass
 
-    def test_a_connection_that_lasts(self):
+    def test_a_connection_that_lasts(self) -> None:
         """By a clock that is put forward. It is looked at before a line is waited for, so one more line may be answered.
         The second client has as long as the first one, and so has one that comes after years."""
         self.needs("a C compiler", preloaded.has_compiler())
@@ -214,7 +214,7 @@ class Patience(Case):
                     self.clock(begun + CONNECTION)
                     self.assertLessEqual(self.served_to_the_end(connection), 1)
 
-    def test_a_connection_that_lasts_with_half_a_line(self):
+    def test_a_connection_that_lasts_with_half_a_line(self) -> None:
         """The same of a client that has begun a line whenever it is waited for."""
         self.needs("a C compiler", preloaded.has_compiler())
         environment = preloaded.environment(self.folder, CLOCK=self.clock(0))
@@ -228,7 +228,7 @@ class Patience(Case):
             self.clock(CONNECTION)
             self.assertLessEqual(self.served_to_the_end(connection, HALVES[1] + HALVES[0]), 1)
 
-    def test_a_line_that_begins_behind_a_slow_one(self):
+    def test_a_line_that_begins_behind_a_slow_one(self) -> None:
         """It has its own time, which begins with its own first byte, though that came with the end of the other."""
         self.needs("a C compiler", preloaded.has_compiler())
         environment = preloaded.environment(self.folder, CLOCK=self.clock(0), STILL=1)
@@ -241,7 +241,7 @@ class Patience(Case):
                 connection.socket.settimeout(PATIENCE)
                 self.assertEqual(connection.line(), RESENT)
 
-    def test_waits_that_are_interrupted(self):
+    def test_waits_that_are_interrupted(self) -> None:
         """Again and again, as by stops of the process. Each goes on, and by a clock that is only put forward as long as it may. A
         connection that is given up keeps no descriptor."""
         self.needs("a C compiler", preloaded.has_compiler())
@@ -259,20 +259,20 @@ class Patience(Case):
                     self.assertEqual(await_end(connection), b"")
             self.assertLessEqual(len(os.listdir(f"/proc/{server.process.pid}/fd")), len(descriptors) + 1)
 
-    def expect_nothing(self, connection):
+    def expect_nothing(self, connection: Connection) -> None:
         """For some time the server neither says anything nor ends the connection."""
         connection.socket.settimeout(0.5)
         with self.assertRaises(TimeoutError):
             connection.socket.recv(1)
 
-    def clock(self, ahead):
+    def clock(self, ahead: int) -> str:
         """Puts the server's clock ahead by so many seconds, and answers its file."""
         with open(self.path("clock"), "r+b" if os.path.exists(self.path("clock")) else "wb") as file:
             file.write(ahead.to_bytes(8, sys.byteorder))
         return self.path("clock")
 
     @staticmethod
-    def served_to_the_end(connection, text=b'{"op":"resend"}\n'):
+    def served_to_the_end(connection: Connection, text: bytes = b'{"op":"resend"}\n') -> int:
         """How many lines are answered before the connection is ended, three at most."""
         with contextlib.suppress(ConnectionError):
             for served in range(3):
@@ -282,7 +282,7 @@ class Patience(Case):
             return 3
         return served
 
-    def expect_served(self, connection, lines):
+    def expect_served(self, connection: Connection, lines: int) -> None:
         for _ in range(lines):
             connection.send({"op": "resend"})
             self.assertEqual(connection.line(), b'{"count":0,"kind":"resent"}\n')

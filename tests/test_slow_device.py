@@ -5,7 +5,7 @@ import time
 
 from support import preloaded
 from support.case import Case, until
-from support.serving import Serving, processor_seconds
+from support.serving import Answer, Connection, Serving, processor_seconds
 from support.stores import ring, topology
 
 SECONDS = 0.4  # of each sync, of which a flight has two
@@ -14,7 +14,7 @@ WAITED = 2  # seconds for callers, at most
 
 
 class Rests(Case):
-    def test_orders_one_after_the_other(self):
+    def test_orders_one_after_the_other(self) -> None:
         """Where nothing fails, no thread rests for a time."""
         self.needs("a C compiler", preloaded.has_compiler())
         environment = preloaded.environment(self.folder, CALLS=self.path("calls"), WAITS=1)
@@ -29,12 +29,12 @@ class Rests(Case):
 class SlowDevice(Case):
     takes = 15
 
-    def serving(self, text, seconds=SECONDS):
+    def serving(self, text: str, seconds: float = SECONDS) -> Serving:
         self.needs("a C compiler", preloaded.has_compiler())
         settings = {"SYNC_MILLIS": int(seconds * 1_000)}
         return Serving(self.made(text, f"store{seconds}"), env=preloaded.environment(self.folder, **settings))
 
-    def test_a_reply_waits_for_its_step(self):
+    def test_a_reply_waits_for_its_step(self) -> None:
         with self.serving(topology([(1, 1)])) as server:
             for number in (1, 2, 3):
                 begun = time.monotonic()
@@ -42,7 +42,7 @@ class SlowDevice(Case):
                 self.assertGreater(time.monotonic() - begun, 2 * SECONDS)
             self.assertEqual(server.close().status, 0)
 
-    def test_a_client_waits_for_a_slow_sync_at_rest(self):
+    def test_a_client_waits_for_a_slow_sync_at_rest(self) -> None:
         """The processor is nearly idle meanwhile."""
         with self.serving(topology([(1, 1)]), LONGER[0]) as server:
             before = processor_seconds(server.process.pid)
@@ -51,15 +51,17 @@ class SlowDevice(Case):
             self.assertLess(processor_seconds(server.process.pid) - before, LONGER[0])
             self.assertEqual(server.close().status, 0)
 
-    def test_what_is_shown_and_sent_again_while_a_step_waits(self):
+    def test_what_is_shown_and_sent_again_while_a_step_waits(self) -> None:
         """The packet of a reset is taken at once, and that step waits: the settled world still has the packet on its way."""
         tries = (self.in_a_flight(seconds) for seconds in (SECONDS, *LONGER))
-        shown, resent = next(filter(None, tries), (None, None))
-        self.assertIsNotNone(shown, "no step was seen that waits")
+        seen = next(filter(None, tries), None)
+        if seen is None:
+            self.fail("no step was seen that waits")
+        shown, resent = seen
         self.assertEqual(shown["nodes"], [[1, 1, "abort", 0, 0, 0], [2, 1, "ready", 0, 0, 0]])
         self.assertEqual(resent, {"count": 1, "kind": "resent"})
 
-    def in_a_flight(self, seconds):
+    def in_a_flight(self, seconds: float) -> tuple[Answer, Answer] | None:
         """What is shown and sent again while the second step of a reset waits: None where the machine was too busy."""
         with self.serving(topology([(1, 1), (2, 1)], [(1, 2)]), seconds) as server:
             self.assertEqual(server.order(1, "reset", node=1), {"kind": "started", "step": 4})
@@ -72,11 +74,12 @@ class SlowDevice(Case):
         return (shown, resent) if shown == again and (shown["accepted"], shown["settled"]) == (5, 4) else None
 
     @staticmethod
-    def accepted(connection):
+    def accepted(connection: Connection) -> int:
         connection.send({"op": "show"})
-        return connection.reply()["accepted"]
+        accepted: int = connection.reply()["accepted"]
+        return accepted
 
-    def test_no_signal_before_it_is_settled(self):
+    def test_no_signal_before_it_is_settled(self) -> None:
         """Each node of which one is printed is shown in its new epoch."""
         with self.serving(ring(4)) as server:
             self.assertEqual(server.order(1, "reset", node=1)["kind"], "started")
@@ -86,7 +89,7 @@ class SlowDevice(Case):
                 self.assertEqual([(epoch, epochs[node]) for node, epoch in printed], [(1, 1)] * len(printed))
             self.assertEqual(server.close().status, 0)
 
-    def test_callers_that_do_not_come_again(self):
+    def test_callers_that_do_not_come_again(self) -> None:
         """They are waited for as long as a sixteenth of their flight took, by a clock that is put forward in its midst."""
         self.needs("a C compiler", preloaded.has_compiler())
         calls, clock = self.path("calls"), self.write("clock", bytes(8))
@@ -101,18 +104,20 @@ class SlowDevice(Case):
             connection.socket.settimeout(12 * WAITED)
             self.assertEqual(connection.reply()["step"], 4)
 
-    def test_a_close_settles_what_was_accepted(self):
+    def test_a_close_settles_what_was_accepted(self) -> None:
         """The close of one client does not wait for a wave, and no step of it that was accepted is lost."""
         tries = (self.closed_in_a_wave(seconds) for seconds in (1.0, *LONGER))
-        store, accepted, signals = next((tried for tried in tries if len(tried[2]) < 4), (None, 0, []))
-        self.assertIsNotNone(store, "a close has waited for a wave")
+        closed = next((tried for tried in tries if len(tried[2]) < 4), None)
+        if closed is None:
+            self.fail("a close has waited for a wave")
+        store, accepted, signals = closed
         with Serving(store) as server:
             self.assertGreaterEqual(server.show()["accepted"], accepted)
             server.await_quiet(1)
             rest = server.await_signals(4 - len(signals))
             self.assertEqual(sorted(signals + rest), [(node, 1) for node in range(1, 5)])
 
-    def closed_in_a_wave(self, seconds):
+    def closed_in_a_wave(self, seconds: float) -> tuple[str, int, list[tuple[int, int]]]:
         """A close behind the order that begins a wave: the store, what was shown as accepted before it, and the signals. A wave
         takes more flights than the one or two that a close settles; a machine that is too busy may be through with it before."""
         with self.serving(ring(4), seconds) as server:

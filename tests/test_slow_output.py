@@ -17,7 +17,7 @@ MANY_SIGNALS = 5_000
 class SlowOutput(Case):
     takes = 20
 
-    def reset(self, server, numbers):
+    def reset(self, server: Serving, numbers: range) -> None:
         """Orders over one connection, each of which is answered though nothing is printed."""
         with server.connect() as connection:
             connection.socket.settimeout(PATIENCE)
@@ -27,7 +27,7 @@ class SlowOutput(Case):
                 for number in each:
                     self.assertEqual(connection.reply(), {"kind": "finished", "step": number + 1})
 
-    def test_an_output_that_is_not_read(self):
+    def test_an_output_that_is_not_read(self) -> None:
         """It holds up no answer. After the close the server ends only once all is printed."""
         with Piped(self.made(topology([(1, 1)], half=stores.HALF))) as server:
             self.reset(server, range(1, MANY_SIGNALS + 1))
@@ -38,7 +38,7 @@ class SlowOutput(Case):
             wanted = f"listening {server.address}\n" + "".join(f"signal 1 {epoch}\n" for epoch in range(1, MANY_SIGNALS + 1))
             self.assertEqual(server.ended(), Ended(0, wanted, ""))
 
-    def test_a_reader_that_leaves(self):
+    def test_a_reader_that_leaves(self) -> None:
         """No more is printed, and the close ends with Write."""
         with Piped(self.made(topology([(1, 1)]))) as server:
             self.reset(server, range(1, 4))
@@ -48,7 +48,7 @@ class SlowOutput(Case):
             ended = server.close()
             self.assertEqual((ended.status, ended.told), (3, "resetd: Write\n"))
 
-    def test_a_last_line_that_no_one_takes(self):
+    def test_a_last_line_that_no_one_takes(self) -> None:
         """One signal alone is not printed, and no other comes behind it."""
         with Piped(self.made(topology([(1, 1)]))) as server:
             server.leave()
@@ -56,14 +56,14 @@ class SlowOutput(Case):
             ended = server.close()
             self.assertEqual((ended.status, ended.told), (3, "resetd: Write\n"))
 
-    def test_a_reader_that_leaves_a_server_that_waits_for_it(self):
+    def test_a_reader_that_leaves_a_server_that_waits_for_it(self) -> None:
         with Piped(self.made(topology([(1, 1)], half=stores.HALF))) as server:
             self.reset(server, range(1, SIGNALS + 1))
             self.assertEqual(server.ask({"op": "close"}), {"kind": "closed"})
             server.leave()
             self.assertEqual((server.ended().status, server.ended().told), (3, "resetd: Write\n"))
 
-    def test_an_output_that_is_full_in_the_midst(self):
+    def test_an_output_that_is_full_in_the_midst(self) -> None:
         """A line is torn, no more are printed, and the close ends with Write; the next start prints again."""
         store = self.made(topology([(1, 1)]))
         first = len("listening 127.0.0.1:12345\n")

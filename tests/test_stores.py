@@ -3,6 +3,7 @@
 import os
 import socket
 import stat
+from collections.abc import Sequence
 
 from support import stores
 from support.case import Case
@@ -12,7 +13,7 @@ from support.serving import Serving
 from support.stores import ACK, ABORT, CONVERGE, IS_READY, abort, add, batch, clear, link, node, order, take, world
 
 PAIR = [node(1), node(2)]
-COMMANDS = {"check": [], "show": [], "migrate": [], "serve": ["127.0.0.1:0"]}
+COMMANDS: dict[str, list[str]] = {"check": [], "show": [], "migrate": [], "serve": ["127.0.0.1:0"]}
 REFUSED = [
     ("NoMagic", b""), ("NoMagic", b"\0ACRRESET"), ("NoMagic", b"something that is no store"),
     ("NoMagic", stores.store(half=32_767)), ("NoMagic", stores.store(half=16_777_217)),
@@ -32,7 +33,7 @@ REFUSED = [
 UNAWAITED = world(3, PAIR, [link(1, 2, 3, back=(0, 0, [ACK]))])
 
 
-def linked(low, high, there=stores.NO_LANE, back=stores.NO_LANE):
+def linked(low: bytes, high: bytes, there: stores.Lane = stores.NO_LANE, back: stores.Lane = stores.NO_LANE) -> bytes:
     """A world of version 1 with the nodes 2 and 64, after 4 steps."""
     return world(4, [low, high], [link(2, 64, 3, there, back)])
 
@@ -103,7 +104,7 @@ TOLD_OF_DISTANCES = [
 ]
 
 
-def in_reset(at, other, version=1):
+def in_reset(at: int, other: int, version: int = 1) -> bytes:
     """A legal world of two nodes, one of which has just begun a reset."""
     lane = (0, 0, [abort(1, version)])
     rows = {at: node(at, ABORT, awaits=[other], version=version), other: node(other, version=version)}
@@ -113,7 +114,7 @@ def in_reset(at, other, version=1):
 
 
 class Refused(Case):
-    def test_what_is_no_store_is_refused_and_stays(self):
+    def test_what_is_no_store_is_refused_and_stays(self) -> None:
         for name, content in REFUSED:
             for command, more in COMMANDS.items():
                 with self.subTest(fault=name, command=command, content=content.hex()[-60:]):
@@ -121,21 +122,21 @@ class Refused(Case):
                     self.assertEqual(ran(command, path, *more), faulted(1, name))
                     self.assertEqual(self.read("store"), content)
 
-    def test_a_file_that_is_not_there(self):
+    def test_a_file_that_is_not_there(self) -> None:
         """It is made, and is no store."""
         for command, more in COMMANDS.items():
             with self.subTest(command=command):
                 self.assertEqual(ran(command, self.path(command), *more), faulted(1, "NoMagic"))
                 self.assertEqual(self.read(command), b"")
 
-    def test_a_file_that_can_not_be_opened(self):
+    def test_a_file_that_can_not_be_opened(self) -> None:
         for command, more in COMMANDS.items():
             for path in (self.folder, self.path("none/store")):
                 with self.subTest(command=command, path=path):
                     self.assertEqual(ran(command, path, *more), faulted(3, "Device"))
         self.assertEqual(os.listdir(self.folder), [])
 
-    def test_what_is_no_file(self):
+    def test_what_is_no_file(self) -> None:
         """The program says so before it opens it: to open a pipe would wait for somebody at its other end."""
         pipe, ring = self.path("pipe"), self.write("ring.toml", stores.ring(3))
         os.mkfifo(pipe)
@@ -148,7 +149,7 @@ class Refused(Case):
                     self.assertEqual(ran(command, path, *more), faulted(3, "Device"))
         self.assertTrue(stat.S_ISFIFO(os.stat(pipe).st_mode))
 
-    def test_a_link_to_a_store_is_that_store(self):
+    def test_a_link_to_a_store_is_that_store(self) -> None:
         """One that leads nowhere is no file, and none is made."""
         os.symlink("store", self.path("name"))
         for command, more in {**COMMANDS, "init": [self.write("ring.toml", stores.ring(3))]}.items():
@@ -163,7 +164,7 @@ class Refused(Case):
             self.assertEqual(server.close().status, 0)
         self.assertTrue(os.path.islink(self.path("name")))
 
-    def test_names_of_all_kinds(self):
+    def test_names_of_all_kinds(self) -> None:
         """Long ones, and such as have spaces and other letters, below a folder or the folder that the program is in."""
         ring = self.write("ring.toml", stores.ring(3))
         folder = self.path("/".join(["l" * 200] * 12))
@@ -186,7 +187,7 @@ class Refused(Case):
                     self.assertEqual(server.order(1, "reset", node=1), answered(STARTED, 7))
                     self.assertEqual(server.close().status, 0)
 
-    def test_a_world_that_is_not_legal(self):
+    def test_a_world_that_is_not_legal(self) -> None:
         """`check` alone says where, and nothing is written."""
         path = self.write("store", stores.store(UNAWAITED))
         self.assertEqual(ran("check", path), Ended(1, "violated 1 2 B\n", ""))
@@ -197,21 +198,21 @@ class Refused(Case):
 
 
 class Checked(Case):
-    def check(self, snapshot, version=1):
+    def check(self, snapshot: bytes, version: int = 1) -> Ended:
         return ran("check", self.write("store", stores.store(snapshot, version)))
 
-    def test_the_first_fault(self):
+    def test_the_first_fault(self) -> None:
         for fault, snapshot in VIOLATED:
             with self.subTest(fault=fault):
                 self.assertEqual(self.check(snapshot), Ended(1, f"violated {fault}\n", ""))
 
-    def test_each_letter(self):
+    def test_each_letter(self) -> None:
         for version, told in ((1, TOLD), (2, TOLD_OF_DISTANCES)):
             for line, snapshot in told:
                 with self.subTest(version=version, line=line):
                     self.assertEqual(self.check(snapshot, version), Ended(int(line[0] == "v"), f"{line}\n", ""))
 
-    def test_a_distance_that_differs(self):
+    def test_a_distance_that_differs(self) -> None:
         """It is told behind a fault of an earlier letter, though that is of the other end."""
         rows = [node(2, ABORT, awaits=[64], version=2), node(64, version=2)]
         queue = (0, 0, [abort(3, 2)])
@@ -219,20 +220,20 @@ class Checked(Case):
         both = world(4, rows, [link(2, 64, 3, queue, (0, 1, []))])
         self.assertEqual(self.check(both, 2), Ended(1, "violated 64 2 A\n", ""))
 
-    def test_legal_worlds(self):
+    def test_legal_worlds(self) -> None:
         for version in (1, 2):
             for at, other in ((1, 2), (64, 63)):
                 with self.subTest(version=version, at=at):
                     self.assertEqual(self.check(in_reset(at, other, version), version), Ended(0, "legal 4\n", ""))
 
-    def test_batches_go_on_from_the_snapshot(self):
+    def test_batches_go_on_from_the_snapshot(self) -> None:
         bodies = [batch(1, add(1), add(2, number=2)), batch(3, add(64, client=16))]
         path = self.write("store", stores.store(bodies=bodies))
         self.assertEqual(ran("check", path), Ended(0, "legal 3\n", ""))
         rows = "".join(f"node {number} 1 ready 0 0 0\n" for number in (1, 2, 64))
         self.assertEqual(ran("show", path), Ended(0, f"view 3 3\n{rows}", ""))
 
-    def test_a_selector_is_even_or_odd(self):
+    def test_a_selector_is_even_or_odd(self) -> None:
         """A torn write may leave any byte there."""
         whole = stores.store(bodies=[batch(1, add(1))]).ljust(stores.HEADER + stores.HALF, b"\xaa")
         other = stores.store(bodies=[batch(1, add(1), add(2, number=2))])[stores.HEADER:]
@@ -240,7 +241,7 @@ class Checked(Case):
             path = self.write("store", bytes([selector]) + whole[1:] + other)
             self.assertEqual(ran("check", path), Ended(0, f"legal {count}\n", ""))
 
-    def test_what_is_shown_of_a_reset(self):
+    def test_what_is_shown_of_a_reset(self) -> None:
         path = self.write("store", stores.store(in_reset(64, 63)))
         shown = "view 4 4\nnode 63 1 ready 0 0 0\nnode 64 1 abort 0 0 0\nlink 63 64 3\n"
         self.assertEqual(ran("show", path), Ended(0, shown, ""))
@@ -251,7 +252,7 @@ class Checked(Case):
 
 
 class Migrated(Case):
-    def test_a_store_of_version_1(self):
+    def test_a_store_of_version_1(self) -> None:
         for content, count in ((stores.store(), 0), (stores.store(world(3, PAIR, [link(1, 2, 3)])), 3),
                                (stores.store(bodies=[batch(1, add(64))]), 1)):
             with self.subTest(count=count):
@@ -261,7 +262,7 @@ class Migrated(Case):
                 self.assertEqual((stores.version_of(path), ran("show", path)), (2, shown))
                 self.assertEqual(ran("check", path), Ended(0, f"legal {count}\n", ""))
 
-    def test_halves_of_every_size(self):
+    def test_halves_of_every_size(self) -> None:
         """The world is written into the second half, wherever that begins, and is there at the next start."""
         for half in (32_768, 100_003, 16_777_216):
             path = self.write("store", stores.store(bodies=[batch(1, add(64))], half=half))
@@ -270,7 +271,7 @@ class Migrated(Case):
                 self.assertEqual((os.path.getsize(path) > stores.HEADER + half, stores.version_of(path)), (True, 2))
                 self.assertEqual(ran("show", path), Ended(0, "view 1 1\nnode 64 1 ready 0 0 0\n", ""))
 
-    def test_one_in_which_a_reset_came_to_its_end(self):
+    def test_one_in_which_a_reset_came_to_its_end(self) -> None:
         """It has one batch a step: two nodes, their link, the reset, and the steps of its wave."""
         started = [add(1), add(2, number=2), order(3, 2, 1, 2), order(4, 4, 1)]
         ended = [take(1, 2, 3, 1, abort()), take(2, 1, 3, 1, ACK), clear(1, 2, 3, 1), take(1, 2, 3, 2, IS_READY)]
@@ -283,12 +284,12 @@ class Migrated(Case):
         self.assertEqual((ran("check", path), ran("show", path)), (Ended(0, "legal 8\n", ""), Ended(0, shown, "")))
         self.assertEqual((ran("migrate", path), self.read("store")), (Ended(0, "migrated 8\n", ""), raised))
 
-    def stored(self, steps, snapshot=stores.EMPTY_WORLD, count=0):
+    def stored(self, steps: Sequence[bytes], snapshot: bytes = stores.EMPTY_WORLD, count: int = 0) -> str:
         """A store of version 1 whose snapshot, after so many steps, is followed by these."""
         bodies = [batch(number, step) for number, step in enumerate(steps, count + 1)]
         return self.write("store", stores.store(snapshot, bodies=bodies))
 
-    def test_a_circle_of_parents_is_opened_first(self):
+    def test_a_circle_of_parents_is_opened_first(self) -> None:
         """Three nodes are each the parent of the next, and each await the next one: no wave ends there but by a drop."""
         rows = [node(1, ABORT, 3, awaits=[2]), node(2, ABORT, 1, awaits=[3]), node(3, ABORT, 2, awaits=[1])]
         circle = world(6, rows, [link(1, 2, 4), link(1, 3, 5), link(2, 3, 6)])
@@ -301,14 +302,14 @@ class Migrated(Case):
         self.assertEqual(ran("migrate", path), Ended(0, "migrated 11\n", ""))
         self.assertEqual(ran("check", path), Ended(0, "legal 11\n", ""))
 
-    def test_one_of_version_2_is_not_written_to(self):
+    def test_one_of_version_2_is_not_written_to(self) -> None:
         content = stores.store(version=2, bodies=[batch(1, add(1))])
         path = self.write("store", content)
         for _ in range(2):
             self.assertEqual(ran("migrate", path), Ended(0, "migrated 1\n", ""))
             self.assertEqual(self.read("store"), content)
 
-    def test_a_node_in_a_reset(self):
+    def test_a_node_in_a_reset(self) -> None:
         """The least one is told, and nothing is written."""
         for at, other in ((1, 2), (2, 1), (1, 64), (64, 1), (63, 64), (64, 63)):
             content = stores.store(in_reset(at, other))
@@ -320,13 +321,13 @@ class Migrated(Case):
         path = self.write("store", stores.store(world(9, rows, [link(2, 64, 3, (0, 0, [ACK]))])))
         self.assertEqual(ran("migrate", path), faulted(1, "NotQuiet 2"))
 
-    def test_one_of_version_2_in_a_reset_is_migrated(self):
+    def test_one_of_version_2_in_a_reset_is_migrated(self) -> None:
         path = self.write("store", stores.store(in_reset(64, 63, 2), version=2))
         self.assertEqual(ran("migrate", path), Ended(0, "migrated 4\n", ""))
 
 
 class Limits(Case):
-    def test_the_longest_legal_world(self):
+    def test_the_longest_legal_world(self) -> None:
         """All nodes are in a reset, and on each lane are an Abort that was taken, a Ready and an Abort."""
         longest = stores.longest_world()
         self.assertEqual(len(longest), 13_259)
@@ -338,9 +339,9 @@ class Limits(Case):
         rows = [f"node {number} 1 abort 0 {512 + number} {256 + number}" for number in range(1, 65)]
         self.assertEqual((lines[:65], len(lines)), ([f"view {stores.MOST_STEPS} {stores.MOST_STEPS}", *rows], 1 + 64 + 128))
 
-    def test_a_world_at_the_limits_is_raised(self):
+    def test_a_world_at_the_limits_is_raised(self) -> None:
         """All nodes are Ready, and on each lane are a message that was taken and a Ready."""
-        def ready(version):
+        def ready(version: int) -> bytes:
             rows = [node(number, epoch=512 + number, confirmed=256 + number, version=version) for number in range(1, 65)]
             front = (abort(0, version), ACK, IS_READY)
             return stores.at_the_limits(version, rows, lambda _, sender: [front[sender % 3], IS_READY])

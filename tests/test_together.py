@@ -5,13 +5,14 @@ import json
 import socket
 import subprocess
 import sys
+from collections.abc import Callable
 
 from support import preloaded
 from support.case import until
-from support.program import PATIENCE, PROGRAM, ROOT, ran
+from support.program import PATIENCE, PROGRAM, ROOT, Ended, ran
 from support.refusing import ALL_THREADS, FIRST_THREAD, Refusing
 from support.served import DONE, FINISHED, Served, answered, refused
-from support.serving import Serving
+from support.serving import Answer, Connection, Serving
 from support.stores import ring, topology
 
 sys.path.insert(0, f"{ROOT}/client")
@@ -27,21 +28,21 @@ ALONE = topology([(node, 1) for node in range(1, 17)], half=HALF)
 
 
 class Together(Served):
-    def setUp(self):
+    def setUp(self) -> None:
         super().setUp()
         self.needs("a C compiler", preloaded.has_compiler())
         self.calls = self.path("calls")
 
-    def serving(self, topology):
+    def serving(self, topology: str) -> Serving:
         return Serving(self.made(topology), env=preloaded.environment(self.folder, CALLS=self.calls, WAITS=1))
 
-    def expect_at_once(self):
+    def expect_at_once(self) -> None:
         """Nothing has waited for a time to pass, whatever time the machine has taken for all: by the times that threads
         asked for. (A flusher waits for callers that it answered before, for a part of what their flight took.)"""
         waits = [line.split() for line in self.read("calls").splitlines() if line.startswith((b"rest ", b"waited "))]
         self.assertLess(sum(int(micros) for _, _, micros, *_ in waits) / 1e6, AT_ONCE, waits[:20])
 
-    def flights(self, server, work):
+    def flights(self, server: Serving, work: Callable[[], object]) -> float:
         """Does something with a server that is quiet: how many flights that took."""
         server.await_quiet()
         before = self.syncs()
@@ -49,30 +50,30 @@ class Together(Served):
         server.await_quiet()
         return (self.syncs() - before) / 2
 
-    def syncs(self):
+    def syncs(self) -> int:
         return sum(line.startswith(b"sync ") for line in self.read("calls").splitlines())
 
-    def resets(self, server, numbers):
+    def resets(self, server: Serving, numbers: range) -> None:
         """Resets a node without links, so often, all in one packet."""
         with server.connect() as connection:
             connection.send(*({"op": "reset", "client": 1, "number": number, "node": 1} for number in numbers))
             for number in numbers:
                 self.assertEqual(connection.reply(), answered(FINISHED, 16 + number))
 
-    def test_ten_orders_in_one_packet(self):
+    def test_ten_orders_in_one_packet(self) -> None:
         with self.serving(ALONE) as server:
             self.resets(server, range(1, 2))
             self.assertEqual(self.flights(server, lambda: self.resets(server, range(2, 12))), 1)
             self.expect_closed(server, 11)
 
-    def test_as_many_as_a_flight_takes(self):
+    def test_as_many_as_a_flight_takes(self) -> None:
         """They come in several reads. One packet may be taken up while it still comes in, so two more are let pass."""
         with self.serving(ALONE) as server:
             self.resets(server, range(1, 2))
             self.assertLessEqual(self.flights(server, lambda: self.resets(server, range(2, 258))), 3)
             self.expect_closed(server, 257)
 
-    def test_fewer_than_the_last_flight_had(self):
+    def test_fewer_than_the_last_flight_had(self) -> None:
         """Orders that come together wake the flusher, be they more or fewer than it answered before."""
         with self.serving(ALONE) as server, server.connect() as connection:
             numbers = iter(range(1, 1_000))
@@ -84,7 +85,7 @@ class Together(Served):
             self.expect_closed(server, 180)
         self.expect_at_once()
 
-    def test_refusals_of_a_whole_flight(self):
+    def test_refusals_of_a_whole_flight(self) -> None:
         """The text of all replies to orders that came together is written whole, however long it is."""
         with self.serving(ALONE) as server, server.connect() as connection:
             for _ in range(4):
@@ -94,7 +95,7 @@ class Together(Served):
             self.expect_closed(server, 0)
         self.expect_at_once()
 
-    def test_a_close_behind_nine_orders(self):
+    def test_a_close_behind_nine_orders(self) -> None:
         with self.serving(ALONE) as server, server.connect() as connection:
             connection.send(*({"op": "reset", "client": 1, "number": number, "node": 1} for number in range(1, 10)),
                             {"op": "close"})
@@ -103,7 +104,7 @@ class Together(Served):
             self.assertEqual(server.ended().status, 0)
         self.expect_at_once()
 
-    def test_a_stop_between_orders_that_came_together(self):
+    def test_a_stop_between_orders_that_came_together(self) -> None:
         """The sync behind their first flight fails: those that were settled have their replies, and each other one is Stopped."""
         settings = preloaded.environment(self.folder, SYNC_FAILS=AT_A_START + AT_A_FLIGHT + 1, STILL=1)
         with Serving(self.made(ALONE), env=settings) as server, server.connect() as connection:
@@ -117,15 +118,15 @@ class Together(Served):
             connection.send({"op": "close"})
             self.assertEqual(server.ended().status, 3)
 
-    def test_a_client_that_leaves_before_its_replies(self):
+    def test_a_client_that_leaves_before_its_replies(self) -> None:
         """All that it has sent is carried out."""
         with self.serving(ALONE) as server:
             with server.connect() as connection:
                 connection.send(*({"op": "reset", "client": 1, "number": number, "node": 1} for number in range(1, 11)))
-            until("ten resets", lambda: server.show()["nodes"][0] == [1, 1, "ready", 0, 10, 0])
+            until("ten resets", lambda: bool(server.show()["nodes"][0] == [1, 1, "ready", 0, 10, 0]))
             self.expect_closed(server, 10)
 
-    def test_a_gateway_that_confirms_64_members(self):
+    def test_a_gateway_that_confirms_64_members(self) -> None:
         with self.serving(ring(64, HALF)) as server:
             self.assertEqual(server.order(1, "reset", node=1)["kind"], "started")
             server.await_quiet(1)
@@ -143,11 +144,11 @@ class Together(Served):
             self.assertEqual(server.show()["accepted"], shown["accepted"])
             self.expect_closed(server, 64)
 
-    def test_a_topology_that_is_applied(self):
+    def test_a_topology_that_is_applied(self) -> None:
         with self.serving("half = 1048576\n") as server:
             wanted = self.write("wanted.toml", ring(64, HALF))
 
-            def apply():
+            def apply() -> None:
                 done = subprocess.run([f"{ROOT}/client/resetctl", "--address", server.address, "--state", self.path("state"),
                                        "--seconds", str(PATIENCE), "apply", wanted],
                                       capture_output=True, text=True, timeout=PATIENCE)
@@ -163,7 +164,7 @@ class Refused(Served):
 
     takes = 30
 
-    def orders(self, store, refusing, threads, first=0):
+    def orders(self, store: str, refusing: Refusing, threads: range, first: int = 0) -> tuple[list[Answer], int, int]:
         """Three orders in one packet, behind which nothing comes: their replies, and how many allocations were asked for
         before them and with them."""
         with Serving(store, env=refusing.environment(first, threads=threads)) as server, server.connect() as connection:
@@ -178,27 +179,27 @@ class Refused(Served):
             self.assertEqual(self.close(server).status, 0)
             return replies, before, behind
 
-    def close(self, server):
+    def close(self, server: Serving) -> Ended:
         """Closes the server. How many allocations come before differs a little, so the refused one may be of the first close."""
         with contextlib.suppress(AssertionError, OSError, ValueError):
             return server.close()
         return server.close()
 
-    def replies(self, connection):
+    def replies(self, connection: Connection) -> list[Answer]:
         """All that come. A connection that lacked memory to begin is reset, since it was not read."""
         try:
             return [json.loads(line) for line in connection.rest()]
         except ConnectionResetError:
             return []
 
-    def test_each_allocation_in_turn(self):
+    def test_each_allocation_in_turn(self) -> None:
         self.expect_answers(ALL_THREADS)
 
-    def test_each_allocation_of_the_thread_that_answers(self):
+    def test_each_allocation_of_the_thread_that_answers(self) -> None:
         """They come in the same order each time, so that none is left out."""
         self.expect_answers(FIRST_THREAD)
 
-    def expect_answers(self, threads):
+    def expect_answers(self, threads: range) -> None:
         """Each order has a reply in its place, or tells that memory lacked; or nothing was begun."""
         self.needs("a C compiler", preloaded.has_compiler())
         refusing, store = Refusing(PROGRAM, self.folder), self.made(topology([(1, 1)]))
@@ -217,12 +218,12 @@ class Refused(Served):
             lacked += {"fault": "OutOfMemory"} in replies
         self.assertGreater(lacked, 10)
 
-    def test_each_allocation_of_a_view(self):
+    def test_each_allocation_of_a_view(self) -> None:
         """A client that asks for what may be lost, for a view and for what there is not has an answer to each, of which one may
         say that memory lacked; or nothing was begun."""
         self.needs("a C compiler", preloaded.has_compiler())
         refusing, store, lacked = Refusing(PROGRAM, self.folder), self.made(ring(3)), 0
-        asked = [{"op": "resend"}, {"op": "show"}, {"op": "reset", "client": 1, "number": 1, "node": 64}, {"op": "resend"}]
+        asked: list[Answer] = [{"op": "resend"}, {"op": "show"}, {"op": "reset", "client": 1, "number": 1, "node": 64}, {"op": "resend"}]
         resent = {"count": 0, "kind": "resent"}
         wanted, before, behind = self.answers(store, refusing, asked, 0)
         self.assertEqual((wanted[1]["settled"], wanted[:1] + wanted[2:]), (6, [resent, refused(6, "UnknownNode"), resent]))
@@ -235,7 +236,7 @@ class Refused(Served):
             lacked += {"fault": "OutOfMemory"} in answers
         self.assertGreater(lacked, 10)
 
-    def answers(self, store, refusing, asked, first):
+    def answers(self, store: str, refusing: Refusing, asked: list[Answer], first: int) -> tuple[list[Answer], int, int]:
         """What is answered over one connection, whose server's first thread is refused one allocation."""
         with Serving(store, env=refusing.environment(first, threads=FIRST_THREAD)) as server, server.connect() as connection:
             before = refusing.count()
@@ -246,7 +247,7 @@ class Refused(Served):
             self.assertEqual(self.close(server).status, 0)
             return answers, before, behind
 
-    def rests(self, store, refusing, first):
+    def rests(self, store: str, refusing: Refusing, first: int) -> list[int] | None:
         """Three orders, where 300 allocations are refused from this one on: for how many microseconds each rest was to last
         until all of them were carried out. None if they were not, or before so many allocations were asked for."""
         calls = self.write("calls", "")
@@ -260,7 +261,7 @@ class Refused(Served):
             rested = [int(line.split()[2]) for line in self.read("calls").splitlines() if line.startswith(b"rest ")]
             return rested if is_done else None
 
-    def test_a_flusher_that_finds_no_memory_rests(self):
+    def test_a_flusher_that_finds_no_memory_rests(self) -> None:
         """From one allocation on it is the flusher that is refused, before a flight or as one comes back. Each time it tries
         again 300 times, and rests for a millisecond before each, so that it does not take the processor from those who have
         the memory."""

@@ -22,7 +22,7 @@ class Run(Case):
     takes = 60
     most = 3_600
 
-    def expect(self, *words, ends_with=""):
+    def expect(self, *words: str, ends_with: str = "") -> str:
         """The command ends well, and its last line begins so."""
         run = subprocess.Popen(words, stdin=subprocess.DEVNULL, stdout=subprocess.PIPE, stderr=subprocess.STDOUT, text=True,
                                cwd=ROOT, env={**os.environ, "RESETD": PROGRAM, "TMPDIR": self.folder},
@@ -40,28 +40,28 @@ class Run(Case):
 
 
 class Tools(Run):
-    def test_kills(self):
+    def test_kills(self) -> None:
         self.expect(tool("soak"), "--program", PROGRAM, "--rounds", "20", "--faults", "0", "--migrations", "0",
                     ends_with="nothing was lost")
 
-    def test_faults_of_the_device(self):
+    def test_faults_of_the_device(self) -> None:
         """Each write and each sync fails once, by strace."""
         self.needs("strace that may trace", faults.can_inject(), is_optional=True)
         printed = self.expect(tool("soak"), "--program", PROGRAM, "--rounds", "0", "--faults", "3", "--migrations", "0",
                               ends_with="nothing was lost")
         self.assertIn("failed at 3 places", printed)
 
-    def test_killed_migrations(self):
+    def test_killed_migrations(self) -> None:
         self.expect(tool("soak"), "--program", PROGRAM, "--rounds", "0", "--faults", "0", "--migrations", "5",
                     ends_with="nothing was lost")
 
-    def test_a_closed_output(self):
+    def test_a_closed_output(self) -> None:
         self.expect(tool("closed_output"), PROGRAM)
 
-    def test_what_members_hear_through_others(self):
+    def test_what_members_hear_through_others(self) -> None:
         self.expect(tool("test_services"), "--program", PROGRAM, "--seconds", "300", "second-hand", ends_with="services lose no reset")
 
-    def test_the_search_of_the_members_rule(self):
+    def test_the_search_of_the_members_rule(self) -> None:
         """It ends with nothing left to try; and it finds the mix where a part of the rule is left out."""
         search = [tool("member_search"), "--seconds", "800", "--about"]
         self.expect(*search, "links", ends_with="links, 3 members: nothing is mixed after 20 events, 12580 states")
@@ -70,42 +70,42 @@ class Tools(Run):
         self.assertEqual(weaker.returncode, 1, weaker.stderr)
         self.assertIn("mixed after 10 events", weaker.stdout)
 
-    def test_a_member_in_bash_keeps_the_rule(self):
+    def test_a_member_in_bash_keeps_the_rule(self) -> None:
         self.expect(tool("try_member"), "--program", PROGRAM, "--seconds", "300", f"{ROOT}/examples/plain_member", "{node}", "{host}",
                     "{port}", "{folder}", ends_with="the member keeps the rule")
 
-    def test_the_demo(self):
+    def test_the_demo(self) -> None:
         printed = self.expect(tool("demo"), ends_with="nodes: 8, signals: ")
         self.assertIn("ends with status 0\n  resetd check store                      legal ", printed)
         self.assertRegex(printed, r"\n  mixed: [1-9]\d* messages, ")
         self.assertEqual(printed.count("mixed: 0 messages\n"), 2)
 
-    def test_the_example(self):
+    def test_the_example(self) -> None:
         self.expect("examples/run", ends_with="each of the 8 members was signalled once and started anew")
 
-    def test_one_for_all(self):
+    def test_one_for_all(self) -> None:
         printed = self.expect("examples/one_for_all", ends_with="after it: ")
         self.assertEqual(printed.count(", 300 in all\n"), 2)
 
-    def test_links_of_the_documents(self):
+    def test_links_of_the_documents(self) -> None:
         self.expect(tool("links"))
 
-    def test_wrong_bodies_fit_the_sources(self):
+    def test_wrong_bodies_fit_the_sources(self) -> None:
         """Each text that a wrong body exchanges stands in the sources, and each witness is a test."""
         self.expect(os.path.join(ROOT, "refusals", "gather"), "--check")
 
-    def test_what_the_documents_show(self):
+    def test_what_the_documents_show(self) -> None:
         self.expect(tool("test_documents"), "--quick", "--program", PROGRAM,
                     ends_with="what the documents show is what is printed")
 
-    def test_the_client_library(self):
+    def test_the_client_library(self) -> None:
         self.expect(sys.executable, "-m", "unittest", "discover", "-s", "client/tests", ends_with="OK")
 
 
 class ShortLives(Run):
     programs = ("RESETD_SHORT",)
 
-    def test_what_a_life_leaves_unanswered_is_asked_again(self):
+    def test_what_a_life_leaves_unanswered_is_asked_again(self) -> None:
         """A life that ends may end a connection without an answer: the tools and the tests then ask again."""
         process = subprocess.Popen(["sleep", "600"])
         self.addCleanup(process.wait)
@@ -119,36 +119,36 @@ class ShortLives(Run):
                 self.assertEqual(server.ask({"op": "show"}), {"settled": 1})
 
     @staticmethod
-    def answer_every_other(listener):
+    def answer_every_other(listener: socket.socket) -> None:
         for number in range(4):
             with listener.accept()[0] as connection, connection.makefile("rb") as lines:
                 lines.readline()
                 if number % 2:
                     connection.sendall(b'{"settled":1}\n')
 
-    def test_kills_between_lives(self):
+    def test_kills_between_lives(self) -> None:
         self.expect(tool("soak"), "--lives", "32", "--program", SHORT, "--rounds", "10", ends_with="nothing was lost")
 
 
 class Services(Run):
     """The trials of tools/test_services, some beside others."""
 
-    def trials(self, *names):
+    def trials(self, *names: str) -> None:
         self.expect(tool("test_services"), *names, ends_with="services lose no reset")
 
-    def test_restores_and_members_that_come_again(self):
+    def test_restores_and_members_that_come_again(self) -> None:
         self.trials("restore", "again", "plain")
 
-    def test_a_work_queue(self):
+    def test_a_work_queue(self) -> None:
         self.trials("starts", "queue")
 
-    def test_lines_that_do_not_come(self):
+    def test_lines_that_do_not_come(self) -> None:
         self.trials("torn", "lost", "unread", "doubled")
 
-    def test_many_members_and_messages(self):
+    def test_many_members_and_messages(self) -> None:
         self.trials("members", "messages")
 
-    def test_no_trial_is_left_out(self):
+    def test_no_trial_is_left_out(self) -> None:
         with open(tool("test_services"), encoding="utf-8") as file:
             known = set(re.findall(r'"(\w+)": \(', file.read()))
         with open(__file__, encoding="utf-8") as file:

@@ -5,7 +5,7 @@ import os
 from support.case import Case
 from support.program import faulted, ran
 
-WORD_LISTS = [
+WORD_LISTS: list[list[str]] = [
     [], ["help"], ["--help"], ["-h"], ["--version"], ["-V"], ["version"], [""], ["fly"], ["Drill"], ["drill", "store"],
     ["drill", "drill"], ["drill", "--"], ["drill", "--help"],
     ["init"], ["init", "store"], ["init", "store", "topology", "more"], ["init", "--", "store", "topology"],
@@ -23,18 +23,18 @@ NO_ADDRESSES = [
 
 
 class Words(Case):
-    def test_refused_words(self):
+    def test_refused_words(self) -> None:
         for words in WORD_LISTS:
             with self.subTest(words=words):
                 self.assertEqual(ran(*words, cwd=self.folder), faulted(2, "Usage"))
         self.assertEqual(os.listdir(self.folder), [])
 
-    def test_words_that_are_no_utf_8(self):
+    def test_words_that_are_no_utf_8(self) -> None:
         for words in ([b"\xff"], [b"check", b"\xff"], [b"serve", b"store", b"127.0.0.1:\xff"]):
             with self.subTest(words=words):
                 self.assertEqual(ran(*words, cwd=self.folder), faulted(2, "Usage"))
 
-    def test_no_address(self):
+    def test_no_address(self) -> None:
         for address in NO_ADDRESSES:
             with self.subTest(address=address):
                 self.assertEqual(ran("serve", "store", address, cwd=self.folder), faulted(2, "Usage"))

@@ -10,7 +10,7 @@ class Connection:
         self.address = address
         self.connect()
 
-    def connect(self):
+    def connect(self) -> None:
         host, port = self.address.rsplit(":", 1)
         self.socket = socket.create_connection((host, int(port)), timeout=30)
         self.socket.setsockopt(socket.IPPROTO_TCP, socket.TCP_NODELAY, 1)
@@ -37,7 +37,7 @@ class Connection:
             pass
         return replies
 
-    def close(self):
+    def close(self) -> None:
         self.replies.close()
         self.socket.close()
 

@@ -11,7 +11,7 @@ from served.clients import Lost  # noqa: E402
 from served.server import Server  # noqa: E402
 
 
-def main():
+def main() -> None:
     program, scratch, swift, shorter = sys.argv[1:]
     servers = [Server(program, f"{scratch}/lone"), Server(program, f"{scratch}/wide"), Server(program, f"{swift}/ring")]
     try:

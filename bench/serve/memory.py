@@ -37,7 +37,7 @@ class Memory:
         self.greatest, self.looked = max(self.greatest, now), time.monotonic()
         return now, peak
 
-    def look_again(self):
+    def look_again(self) -> None:
         if time.monotonic() - self.looked > EVERY:
             self.look()
 
@@ -101,7 +101,7 @@ def measure(server, steps, stays, least, most):
         raise Lost(f"{caller.number} orders were answered")
 
 
-def main():
+def main() -> None:
     program, folder, staying, leaving = sys.argv[1], sys.argv[2], int(sys.argv[3]), int(sys.argv[4])
     chosen = sys.argv[5:] or [way[0] for way in WAYS]
     for name, stays, least, most in (way for way in WAYS if way[0] in chosen):

@@ -38,7 +38,7 @@ class Pairs:
         self.file, self.growth, self.place = os.open(path, os.O_CREAT | os.O_RDWR, 0o600), growth, 0
         self.bytes = bytes(growth)
 
-    def make(self, *_):
+    def make(self, *_: object) -> None:
         os.pwrite(self.file, self.bytes, self.place + 1)
         os.fsync(self.file)
         os.pwrite(self.file, b"\1", self.place)
@@ -77,7 +77,7 @@ def by_another(work):
     os.close(asks)
     os.close(told)
 
-    def ask():
+    def ask() -> None:
         os.write(asked, b"1")
         os.read(tells, 1)
     return ask
@@ -89,7 +89,7 @@ class Confirmations:
     def __init__(self, connection, resets):
         self.connection, self.resets, self.number = connection, resets, 0
 
-    def ask(self):
+    def ask(self) -> None:
         self.number += 1
         reply, = self.connection.ask(b'{"op":"confirm","client":2,"number":%d,"node":1,"epoch":%d}\n'
                                      % (self.number, self.resets.number))
@@ -150,7 +150,7 @@ def measure(server, folder):
     tell(growth, spent)
 
 
-def main():
+def main() -> None:
     program, folder = sys.argv[1:]
     server = Server(program, f"{folder}/store")
     try:

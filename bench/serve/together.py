@@ -27,7 +27,7 @@ FINISHED = b'{"kind":"finished"'
 class Orders:
     """Resets, by so many clients in turn, each of its own node and numbered on from its last one."""
 
-    def __init__(self):
+    def __init__(self) -> None:
         self.numbers = {client: 0 for client in range(1, CLIENTS + 1)}
         self.numbers[CLIENTS] = CLIENTS  # which has added the nodes
 
@@ -70,7 +70,7 @@ class Measured:
             if not reply.startswith(FINISHED):
                 raise Lost(f"{self.name}: a reset was answered {reply}")
 
-    def close(self):
+    def close(self) -> None:
         self.connection.close()
         self.server.must_close()
 
@@ -87,7 +87,7 @@ def tell(disk, clients, at_once, measured):
               f"{statistics.median(syncs):8.3f} syncs each", flush=True)
 
 
-def main():
+def main() -> None:
     folder, library, *programs = sys.argv[1:]
     for disk in WAITS:
         measured = [Measured(*program.split("=", 1), folder, library, disk) for program in programs]

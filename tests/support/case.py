@@ -5,13 +5,16 @@ import shutil
 import tempfile
 import time
 import unittest
+from collections.abc import Callable
+from typing import Literal, TypeVar
 
 from .program import PROGRAM, ROOT, ran
 
+T = TypeVar("T")
 OPTIONAL = "optional: "  # how the reason begins of what may be skipped in CI too
 
 
-def until(what, holds, seconds=300.0):
+def until(what: str, holds: Callable[[], T | Literal[False] | None], seconds: float = 300.0) -> T:
     """Waits until a call gives something true, and answers that. It looks often, so nothing waits on a clock."""
     end = time.monotonic() + seconds
     while not (found := holds()):
@@ -28,37 +31,37 @@ class Case(unittest.TestCase):
     maxDiff = 2_000
     takes = 1
     most = 1_800
-    program = PROGRAM
-    programs = ("RESETD",)
+    program: str = PROGRAM
+    programs: tuple[str, ...] = ("RESETD",)
 
-    def setUp(self):
+    def setUp(self) -> None:
         self.folder = tempfile.mkdtemp(prefix="resetd-test-")
         self.addCleanup(shutil.rmtree, self.folder, ignore_errors=True)
 
-    def path(self, name):
+    def path(self, name: str) -> str:
         return os.path.join(self.folder, name)
 
-    def write(self, name, text):
+    def write(self, name: str, text: str | bytes) -> str:
         """Writes a file, and answers its path."""
         with open(self.path(name), "wb") as file:
             file.write(text if isinstance(text, bytes) else text.encode())
         return self.path(name)
 
-    def read(self, name):
+    def read(self, name: str) -> bytes:
         with open(self.path(name), "rb") as file:
             return file.read()
 
-    def made(self, topology, name="store"):
+    def made(self, topology: str, name: str = "store") -> str:
         """Makes a store of a topology, and answers its path."""
         ended = ran("init", self.path(name), self.write(f"{name}.toml", topology), program=self.program)
         self.assertEqual((ended.status, ended.told), (0, ""))
         return self.path(name)
 
-    def needs(self, what, has, is_optional=False):
+    def needs(self, what: str, has: bool, is_optional: bool = False) -> None:
         """What a test can't do without: without it the test is skipped, which fails in CI unless it is optional."""
         if not has:
             self.skipTest(f"{OPTIONAL if is_optional else ''}it needs {what}")
 
 
-def tool(name):
+def tool(name: str) -> str:
     return os.path.join(ROOT, "tools", name)

@@ -232,11 +232,11 @@ ssize_t recv(int socket, void *buffer, size_t count, int flags) {
 """
 
 
-def has_compiler():
+def has_compiler() -> bool:
     return shutil.which("cc") is not None
 
 
-def compiled(folder):
+def compiled(folder: str) -> str:
     """The library, in this folder, where it stands from the first time on."""
     if os.path.exists(f"{folder}/preloaded.so"):
         return f"{folder}/preloaded.so"
@@ -246,11 +246,11 @@ def compiled(folder):
     return f"{folder}/preloaded.so"
 
 
-def environment(folder, **settings):
+def environment(folder: str, **settings: str | int) -> dict[str, str]:
     """What a program's environment is to have, so that its calls are changed in this way."""
     return {"LD_PRELOAD": compiled(folder), **{name: str(value) for name, value in settings.items()}}
 
 
-def both(first, second):
+def both(first: dict[str, str], second: dict[str, str]) -> dict[str, str]:
     """What a program's environment is to have, so that two libraries stand ahead of the C library."""
     return {**first, **second, "LD_PRELOAD": f"{first['LD_PRELOAD']}:{second['LD_PRELOAD']}"}

@@ -2,7 +2,8 @@
 
 import os
 import subprocess
-from collections import namedtuple
+from collections.abc import Mapping
+from typing import NamedTuple
 
 ROOT = os.path.dirname(os.path.dirname(os.path.dirname(os.path.abspath(__file__))))
 # The program, and one whose lives have few steps. `tests/run` makes both, where they are not given.
@@ -11,15 +12,22 @@ SHORT = os.environ.get("RESETD_SHORT", "")
 SHORT_STEPS = 32
 PATIENCE = 600  # seconds within which a command has to end, on a busy machine too
 
-Ended = namedtuple("Ended", "status printed told")
+class Ended(NamedTuple):
+    """How a command ended: its exit status, what it printed, and what it told as a fault."""
+
+    status: int
+    printed: str
+    told: str
 
 
-def ran(*words, given=b"", program=None, seconds=PATIENCE, **how):
-    """Runs the program to its end: its exit status, what it printed, and what it told as a fault."""
-    done = subprocess.run([program or PROGRAM, *words], input=given, capture_output=True, timeout=seconds, **how)
+def ran(*words: str | bytes, given: bytes = b"", program: str | None = None, seconds: float = PATIENCE,
+        env: Mapping[str, str] | None = None, cwd: str | None = None, umask: int = -1) -> Ended:
+    """Runs the program to its end."""
+    done = subprocess.run([program or PROGRAM, *words], input=given, capture_output=True, timeout=seconds, env=env, cwd=cwd,
+                          umask=umask, check=False)
     return Ended(done.returncode, done.stdout.decode(), done.stderr.decode())
 
 
-def faulted(status, name):
+def faulted(status: int, name: str) -> Ended:
     """How a command ends with this fault: nothing is printed, and one line tells it."""
     return Ended(status, "", f"resetd: {name}\n")

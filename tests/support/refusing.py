@@ -11,7 +11,7 @@ import os
 import struct
 import subprocess
 
-from .program import ran
+from .program import Ended, ran
 
 ALL_THREADS = range(1_000)
 FIRST_THREAD, WORKERS = range(1), range(3, 11)  # of a server; its printer is 1, and its flusher 2
@@ -108,7 +108,7 @@ __attribute__((constructor)) static void begin(void) {
 """
 
 
-def places(program, names):
+def places(program: str, names: list[str]) -> list[int]:
     """Where these functions stand in a program, by the table of names in its file."""
     with open(program, "rb") as file:
         text = file.read()
@@ -128,14 +128,14 @@ def places(program, names):
 class Refusing:
     """The library, for one program, in this folder."""
 
-    def __init__(self, program, folder):
+    def __init__(self, program: str, folder: str) -> None:
         self.program, self.folder = program, folder
         self.alloc, self.realloc, self.dealloc = places(program, ["rattle_alloc", "rattle_realloc", "rattle_dealloc"])
         with open(f"{folder}/refusing.c", "w", encoding="ascii") as file:
             file.write(SOURCE)
         subprocess.run(["cc", "-O1", "-shared", "-fPIC", "-o", f"{folder}/refusing.so", f"{folder}/refusing.c"], check=True)
 
-    def environment(self, first=0, many=1, threads=ALL_THREADS):
+    def environment(self, first: int = 0, many: int = 1, threads: range = ALL_THREADS) -> dict[str, str]:
         """What a program's environment is to have, so that so many allocations are refused from this number on, of those of
         these threads."""
         settings = {"COUNTED_FROM": threads[0], "COUNTED_TO": threads[-1] + 1,
@@ -145,30 +145,30 @@ class Refusing:
             file.write(struct.pack("=5q", 0, 0, first, many, 0))
         return {name: str(value) for name, value in settings.items()}
 
-    def count(self):
+    def count(self) -> int:
         """How many allocations the program of that environment has asked for."""
         return self.counts()[0]
 
-    def kept(self):
+    def kept(self) -> int:
         """How many of them it has not given back."""
         return self.counts()[1]
 
-    def kept_bytes(self):
+    def kept_bytes(self) -> int:
         """How many bytes it has not given back."""
         return self.counts()[4]
 
-    def counts(self):
+    def counts(self) -> tuple[int, ...]:
         with open(f"{self.folder}/allocations", "rb") as file:
             return struct.unpack("=5q", file.read())
 
-    def refuse(self, first, many):
+    def refuse(self, first: int, many: int) -> None:
         """From now on refuses so many allocations from this number on to the program of that environment."""
         with open(f"{self.folder}/allocations", "r+b") as file:
             file.seek(16)
             file.write(struct.pack("=2q", first, many))
 
-    def ran(self, *words, first=0, many=1, **how):
+    def ran(self, *words: str, first: int = 0, many: int = 1, given: bytes = b"") -> tuple[Ended, int]:
         """Runs the program, so many of whose allocations are refused from this number on: how it ended, and how many
         allocations it asked for."""
         environment = {**os.environ, **self.environment(first, many)}
-        return ran(*words, program=self.program, env=environment, **how), self.count()
+        return ran(*words, program=self.program, env=environment, given=given), self.count()

@@ -4,15 +4,22 @@ import json
 import os
 import socket
 import subprocess
+from collections.abc import Callable, Mapping, Sequence
+from typing import Any, Self
 
 from .case import until
 from .program import PATIENCE, PROGRAM, SHORT, Ended
 
 
+# What goes over a connection: a line that is read as JSON, and one that is written so, or as it is.
+Answer = dict[str, Any]
+Request = Answer | bytes
+
+
 class Connection:
     """A connection of a client."""
 
-    def __init__(self, address, buffer=None):
+    def __init__(self, address: str, buffer: int | None = None) -> None:
         host, port = address.rsplit(":", 1)
         self.socket = socket.socket()
         if buffer:
@@ -21,10 +28,10 @@ class Connection:
         self.socket.connect((host, int(port)))
         self.came = b""
 
-    def send(self, *requests):
+    def send(self, *requests: Request) -> None:
         self.socket.sendall(b"".join(map(spelled, requests)))
 
-    def line(self):
+    def line(self) -> bytes:
         """The next line, as it came: nothing where the server has ended the connection."""
         while b"\n" not in self.came:
             if not (more := self.socket.recv(65_536)):
@@ -33,28 +40,29 @@ class Connection:
         line, self.came = self.came.split(b"\n", 1)
         return line + b"\n"
 
-    def reply(self):
-        return json.loads(self.line())
+    def reply(self) -> Answer:
+        answer: Answer = json.loads(self.line())
+        return answer
 
-    def rest(self):
+    def rest(self) -> list[bytes]:
         """All lines up to the end of the connection. One that is torn off raises ConnectionResetError."""
         lines = []
         while line := self.line():
             lines.append(line)
         return lines
 
-    def __enter__(self):
+    def __enter__(self) -> Self:
         return self
 
-    def __exit__(self, *_):
+    def __exit__(self, *_: object) -> None:
         self.socket.close()
 
 
-def spelled(request):
+def spelled(request: Request) -> bytes:
     return request if isinstance(request, bytes) else json.dumps(request).encode() + b"\n"
 
 
-def processor_seconds(process):
+def processor_seconds(process: int) -> float:
     """What a process has used of the processors."""
     with open(f"/proc/{process}/stat", encoding="ascii") as file:
         words = file.read().rsplit(")", 1)[1].split()
@@ -66,16 +74,20 @@ class Serving:
     lives are short may end a connection before a line is answered, since workers make a life old too: what is asked over a
     connection of its own is then asked again."""
 
-    def __init__(self, store, program=None, address="127.0.0.1:0", env=None, before=(), output=None, **how):
+    def __init__(self, store: str, program: str | None = None, address: str = "127.0.0.1:0",
+                 env: Mapping[str, str] | None = None, before: Sequence[str] = (), output: str | None = None,
+                 stdout: int | None = None, cwd: str | None = None, preexec_fn: Callable[[], object] | None = None,
+                 restore_signals: bool = True) -> None:
         self.store, self.output, self.errors = store, f"{output or store}.signals", f"{output or store}.errors"
         self.has_short_lives = bool(SHORT) and program == SHORT
-        with open(self.output, "ab") as output, open(self.errors, "wb") as errors:
-            self.begin = output.tell()
+        with open(self.output, "ab") as printed, open(self.errors, "wb") as errors:
+            self.begin = printed.tell()
             self.process = subprocess.Popen(
                 [*before, program or PROGRAM, "serve", store, address], stdin=subprocess.DEVNULL,
-                **{"stdout": output, "stderr": errors, "env": {**os.environ, **(env or {})}, **how})
+                stdout=printed if stdout is None else stdout, stderr=errors, env={**os.environ, **(env or {})}, cwd=cwd,
+                preexec_fn=preexec_fn, restore_signals=restore_signals)
 
-    def __enter__(self):
+    def __enter__(self) -> Self:
         try:
             self.address = until("a first line", self.first_line).removeprefix("listening ")
         except BaseException:
@@ -83,75 +95,82 @@ class Serving:
             raise
         return self
 
-    def __exit__(self, *_):
+    def __exit__(self, *_: object) -> None:
         self.kill()
 
-    def first_line(self):
+    def first_line(self) -> str | None:
         if not (lines := self.lines()) and self.process.poll() is not None:
             raise AssertionError(f"the server ended before its first line: {self.ended()}")
         return lines[0] if lines else None
 
-    def lines(self):
+    def lines(self) -> list[str]:
         """The whole lines that it has printed."""
         with open(self.output, "rb") as file:
             file.seek(self.begin)
             return file.read().decode().split("\n")[:-1]
 
-    def signals(self):
+    def signals(self) -> list[tuple[int, int]]:
         """The node and the epoch of each signal that it has printed."""
-        return [tuple(map(int, line.split()[1:])) for line in self.lines() if line.startswith("signal ")]
+        rows = [line.split() for line in self.lines() if line.startswith("signal ")]
+        return [(int(node), int(epoch)) for _, node, epoch in rows]
 
-    def await_signals(self, count):
+    def await_signals(self, count: int) -> list[tuple[int, int]]:
         """So many signals, or more, once they are printed."""
         return until(f"signal {count}", lambda: len(found := self.signals()) >= count and found)
 
-    def connect(self, buffer=None):
+    def connect(self, buffer: int | None = None) -> Connection:
         return Connection(self.address, buffer)
 
-    def ask(self, request):
+    def ask(self, request: Request) -> Answer:
         """The answer to one request, over a connection of its own."""
-        return until("an answer", lambda: self.answer(request)) if self.has_short_lives else self.answer(request)
+        return until("an answer", lambda: self.answer_in_life(request)) if self.has_short_lives else self.answer(request)
 
-    def answer(self, request):
+    def answer(self, request: Request) -> Answer:
+        with self.connect() as connection:
+            connection.send(request)
+            return connection.reply()
+
+    def answer_in_life(self, request: Request) -> Answer | None:
         """The same of one connection: None where a life that ended has ended it without an answer."""
         try:
             with self.connect() as connection:
                 connection.send(request)
                 line = connection.line()
         except ConnectionError:
-            if not self.has_short_lives or self.process.poll() is not None:
+            if self.process.poll() is not None:
                 raise
             return None
-        return json.loads(line) if line or not self.has_short_lives else None
+        answer: Answer | None = json.loads(line) if line else None
+        return answer
 
-    def order(self, number, op, client=1, **members):
+    def order(self, number: int, op: str, client: int = 1, **members: int) -> Answer:
         return self.ask({"op": op, "client": client, "number": number, **members})
 
-    def show(self):
+    def show(self) -> Answer:
         return self.ask({"op": "show"})
 
-    def await_quiet(self, epoch=None):
+    def await_quiet(self, epoch: int | None = None) -> None:
         """Waits until each node is ready, in this epoch where one is given, with nothing on its way."""
-        def quiet():
+        def quiet() -> bool:
             rows = self.show()["nodes"]
             return all(row[2] == "ready" and row[4] == (row[4] if epoch is None else epoch) for row in rows) and \
                 self.ask({"op": "resend"}) == {"count": 0, "kind": "resent"}
         until(f"the end of a reset, epoch {epoch}", quiet)
 
-    def close(self):
+    def close(self) -> Ended:
         """Ends it in order: how it ended."""
         answer = self.ask({"op": "close"})
         if answer != {"kind": "closed"}:
             raise AssertionError(f"a close was answered {answer}")
         return self.ended()
 
-    def ended(self, seconds=PATIENCE):
+    def ended(self, seconds: float = PATIENCE) -> Ended:
         """Waits for its end: its status, what it printed, and its fault."""
         status = self.process.wait(timeout=seconds)
         with open(self.errors, encoding="utf-8") as errors:
             return Ended(status, "".join(f"{line}\n" for line in self.lines()), errors.read())
 
-    def kill(self):
+    def kill(self) -> None:
         if self.process.poll() is None:
             self.process.kill()
         self.process.wait()

@@ -1,57 +1,62 @@
 """Stores and topologies as bytes, by docs/FORMATS.md."""
 
+from collections.abc import Callable, Iterable, Sequence
+
 HALF = 32_768
 MOST_STEPS = 1 << 40
 HEADER = 17
 READY, ABORT, CONVERGE = 0, 1, 2
-NO_LANE = (0, 0, ())
+# How much of a lane was cleared, how much of it was taken, and the messages on their way.
+Lane = tuple[int, int, Sequence[bytes]]
+NO_LANE: Lane = (0, 0, ())
 # Messages of a queue, in version 1 and as those of version 2 that carry no distance.
 ACK, IS_READY = b"\1", b"\2"
 
 
-def wide(number):
+def wide(number: int) -> bytes:
     return number.to_bytes(8, "big")
 
 
-def topology(nodes, links=(), half=None):
+def topology(nodes: Iterable[tuple[int, int]], links: Iterable[tuple[int, int]] = (), half: int | None = None) -> str:
     """The text of a topology: nodes as (id, group), links as (a, b)."""
     return "".join([f"half = {half}\n" if half else "",
                     *(f"[[node]]\nid = {node}\ngroup = {group}\n" for node, group in nodes),
                     *(f"[[link]]\na = {a}\nb = {b}\n" for a, b in links)])
 
 
-def ring(nodes, half=HALF):
+def ring(nodes: int, half: int = HALF) -> str:
     """The text of a ring of so many nodes of one group."""
     return topology([(node, 1) for node in range(1, nodes + 1)],
                     [(node, node % nodes + 1) for node in range(1, nodes + 1)], half)
 
 
-def node(number, mode=READY, parent=0, awaits=(), epoch=0, confirmed=0, distance=0, version=1):
+def node(number: int, mode: int = READY, parent: int = 0, awaits: Iterable[int] = (), epoch: int = 0,
+         confirmed: int = 0, distance: int = 0, version: int = 1) -> bytes:
     """The row of a node of group 1."""
     awaited = sum(1 << other - 1 for other in awaits)
     row = bytes([number, 1, mode, parent]) + wide(awaited) + wide(epoch) + wide(confirmed)
     return row + (wide(distance) if version == 2 else b"")
 
 
-def abort(distance=0, version=1):
+def abort(distance: int = 0, version: int = 1) -> bytes:
     return b"\0" + (wide(distance) if version == 2 else b"")
 
 
-def lane(base, got, queue):
+def lane(base: int, got: int, queue: Sequence[bytes]) -> bytes:
     return wide(base) + wide(got) + bytes([len(queue)]) + b"".join(queue)
 
 
-def link(a, b, incarnation, there=NO_LANE, back=NO_LANE):
+def link(a: int, b: int, incarnation: int, there: Lane = NO_LANE, back: Lane = NO_LANE) -> bytes:
     """The row of a link: its lane from a to b, and the one back, each as (base, got, queue)."""
     return bytes([a, b]) + wide(incarnation) + lane(*there) + lane(*back)
 
 
-def client(number, last, command, step, kind=0):
+def client(number: int, last: int, command: bytes, step: int, kind: int = 0) -> bytes:
     """The row of a client: the number of its last order, the bytes of its command, and its reply's step and kind."""
     return bytes([number]) + wide(last) + command + wide(step) + bytes([kind])
 
 
-def world(count, nodes, links=(), clients=()):
+def world(count: int, nodes: Sequence[bytes], links: Sequence[bytes] = (), clients: Sequence[bytes] = ()) -> bytes:
     """A world of so many steps."""
     return wide(count) + b"".join(bytes([len(rows)]) + b"".join(rows) for rows in (nodes, links, clients))
 
@@ -59,32 +64,32 @@ def world(count, nodes, links=(), clients=()):
 EMPTY_WORLD = world(0, [])
 
 
-def order(number, *command, client=1):
+def order(number: int, *command: int, client: int = 1) -> bytes:
     """An order of a client: the bytes of its command."""
     return b"\0" + bytes([client]) + wide(number) + bytes(command)
 
 
-def add(node, client=1, number=1):
+def add(node: int, client: int = 1, number: int = 1) -> bytes:
     """An order of a client that adds a node to group 1."""
     return order(number, 0, node, 1, client=client)
 
 
-def take(sender, taker, incarnation, number, message):
+def take(sender: int, taker: int, incarnation: int, number: int, message: bytes) -> bytes:
     """A data packet is taken."""
     return b"\1" + bytes([sender, taker]) + wide(incarnation) + wide(number) + message
 
 
-def clear(sender, taker, incarnation, number):
+def clear(sender: int, taker: int, incarnation: int, number: int) -> bytes:
     """A receipt clears a message."""
     return b"\2" + bytes([sender, taker]) + wide(incarnation) + wide(number)
 
 
-def batch(first, *steps):
+def batch(first: int, *steps: bytes) -> bytes:
     """The body of a batch."""
     return wide(first) + len(steps).to_bytes(2, "big") + b"".join(steps)
 
 
-def at_the_limits(version, nodes, queue):
+def at_the_limits(version: int, nodes: Sequence[bytes], queue: Callable[[int, int], Sequence[bytes]]) -> bytes:
     """A world of as many steps, nodes, links and clients as there can be: a ring of which each node is linked to the next and
     the next but one. What was taken of each lane is one more than its base."""
     links = []
@@ -98,7 +103,7 @@ def at_the_limits(version, nodes, queue):
     return world(MOST_STEPS, nodes, links, clients)
 
 
-def longest_world():
+def longest_world() -> bytes:
     """The longest legal world: all nodes are in a reset, and on each lane are an Abort that was taken, a Ready and an Abort."""
     rows = []
     for number in range(1, 65):
@@ -107,7 +112,7 @@ def longest_world():
     return at_the_limits(2, rows, lambda number, sender: [abort(number, 2), IS_READY, abort(sender + 1, 2)])
 
 
-def store(snapshot=EMPTY_WORLD, version=1, bodies=(), half=HALF):
+def store(snapshot: bytes = EMPTY_WORLD, version: int = 1, bodies: Iterable[bytes] = (), half: int = HALF) -> bytes:
     """A store whose first half has a snapshot and the bodies of batches."""
     text = bytes([version]) + len(snapshot).to_bytes(4, "big") + snapshot
     for body in bodies:
@@ -115,7 +120,7 @@ def store(snapshot=EMPTY_WORLD, version=1, bodies=(), half=HALF):
     return b"\0ACRRESET" + wide(half) + text + b"\0"
 
 
-def version_of(path):
+def version_of(path: str) -> int:
     """The version of the half that a store selects."""
     with open(path, "rb") as file:
         selector, half = file.read(1)[0], int.from_bytes(file.read(16)[8:], "big")

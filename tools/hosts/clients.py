@@ -100,7 +100,7 @@ class Client:
         if self.drops == 0 or order["number"] % self.drops:
             self.answered, self.reply = order, reply
 
-    def repeat(self):
+    def repeat(self) -> None:
         """The last answered order again: it gives the same answer."""
         if self.answered is None:
             return
@@ -117,7 +117,7 @@ class Load:
         self.clients, self.members, self.threads, self.fault = clients, members, [], None
         self.is_on = False
 
-    def start(self):
+    def start(self) -> None:
         self.is_on = True
         self.threads = [threading.Thread(target=self.run, args=(client,), daemon=True) for client in self.clients]
         for thread in self.threads:
@@ -133,7 +133,7 @@ class Load:
         except Exception as fault:  # told by `stop`
             self.fault = fault
 
-    def stop(self):
+    def stop(self) -> None:
         """No further order; one without an answer is sent again by `finish`."""
         self.is_on = False
         for thread in self.threads:
@@ -141,7 +141,7 @@ class Load:
         if self.fault:
             raise self.fault
 
-    def finish(self):
+    def finish(self) -> None:
         for client in self.clients:
             if client.unanswered:
                 client.order("")

@@ -63,7 +63,7 @@ class Machine(Host):
         run(["install", "-D", "-m", "755", program, f"{self.folder}/layer/upper/usr/local/bin/resetd"])
         self.group = f"{folder}/{GROUPS}/{os.path.basename(folder)}/{self.name}"
 
-    def boot(self):
+    def boot(self) -> None:
         os.makedirs(self.group, exist_ok=True)
         super().boot(BOOT, ROOT, group=self.group)
         try:

@@ -54,19 +54,19 @@ class Keeper:
             text = file.read()
         return text[:text.rfind("\n") + 1].splitlines()
 
-    def start(self):
+    def start(self) -> None:
         words = self.host.inside("sh", "-c", KEEP, "keeper", STORE, self.host.folder, str(AGAIN), *self.serve)
         self.process = subprocess.Popen(words, stdin=subprocess.DEVNULL)
 
-    def pause(self):
+    def pause(self) -> None:
         """No further start, until `go_on`."""
         with open(self.path("paused"), "w", encoding="utf-8"):
             pass
 
-    def go_on(self):
+    def go_on(self) -> None:
         os.remove(self.path("paused"))
 
-    def wait_over(self):
+    def wait_over(self) -> None:
         """After the end of its host."""
         self.process.wait()
 

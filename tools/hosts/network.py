@@ -104,7 +104,7 @@ class Host:
     def is_on(self):
         return self.first is not None
 
-    def kill(self):
+    def kill(self) -> None:
         """Signal 9 to the first process, and so to all: none can send a last word, since the link goes down first."""
         self.cut()
         os.kill(self.first, 9)
@@ -114,10 +114,10 @@ class Host:
         self.first = None
         run(["ip", "link", "delete", self.port], is_checked=False)
 
-    def cut(self):
+    def cut(self) -> None:
         set_link(self.port, False)
 
-    def link(self):
+    def link(self) -> None:
         set_link(self.port, True)
 
     def inside(self, *words):

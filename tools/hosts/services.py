@@ -18,7 +18,7 @@ class Service:
         self.is_on = True
         self.thread = threading.Thread(target=self.run, daemon=True)
 
-    def run(self):
+    def run(self) -> None:
         try:
             while self.is_on:
                 for place, keeper in enumerate(self.keepers):
@@ -38,7 +38,7 @@ class Service:
             elif words[:2] == ["signal", str(self.node)]:
                 self.begin(int(words[2]))
 
-    def look(self):
+    def look(self) -> None:
         met = self.client.site.ask({"op": "show"}, 120, lambda: self.is_on)
         if met:
             self.begin(next(row[4] for row in met[0]["nodes"] if row[0] == self.node))
@@ -57,7 +57,7 @@ class Service:
             if mine:
                 return
 
-    def stop(self):
+    def stop(self) -> None:
         self.is_on = False
         self.thread.join()
         if self.fault:

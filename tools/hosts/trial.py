@@ -43,7 +43,7 @@ class Trial:
         if planted == "dropped-answers":
             self.load.clients[0].drops = 5
 
-    def begin(self):
+    def begin(self) -> None:
         """Everything up to a coordinator on host 1 and a standby on host 2 that was refused."""
         make_switch(self.folder)
         for host in self.hosts:
@@ -111,7 +111,7 @@ class Trial:
             time.sleep(0.05)
         raise Lost(f"a reset has not come to its end within {seconds} s: {rows}")
 
-    def check(self):
+    def check(self) -> None:
         """All that was promised, with no order on its way."""
         keeper, view, epochs = self.wait_quiet()
         for client in self.clients:
@@ -195,7 +195,7 @@ class Trial:
                 raise Lost(f"{keeper.host.name} did not serve again")
             self.hand_over()
 
-    def tell_state(self):
+    def tell_state(self) -> None:
         """What stands where, at a loss."""
         print(f"orders: {[(client.answered, client.reply, client.unanswered) for client in self.clients]}")
         for keeper in self.keepers:

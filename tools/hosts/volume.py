@@ -45,7 +45,7 @@ class Volume:
     def gluster(self, host, *words, seconds=60, is_checked=True):
         return host.run("gluster", "--mode=script", *words, seconds=seconds, is_checked=is_checked)
 
-    def make(self):
+    def make(self) -> None:
         """On hosts that are on: glusterd on each, one pool, the volume with its options, mounted on each."""
         first = self.hosts[0]
         for host in self.hosts:

@@ -96,7 +96,7 @@ def another_store(desk):
 def a_file_of_signals_that_is_full(desk):
     store, most = desk.store(), 400_000
 
-    def limited():
+    def limited() -> None:
         signal.signal(signal.SIGXFSZ, signal.SIG_IGN)
         resource.setrlimit(resource.RLIMIT_FSIZE, (most, most))
 

@@ -58,7 +58,7 @@ def a_limit(desk):
     store = desk.store()
     most = os.path.getsize(store) + 2_000
 
-    def limited():
+    def limited() -> None:
         resource.setrlimit(resource.RLIMIT_FSIZE, (most, most))
 
     with Serving(store, preexec_fn=limited) as server:

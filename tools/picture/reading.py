@@ -163,12 +163,12 @@ class Wave:
         self.column.modes.pop(node, None)
         self.parents.pop(node, None)
 
-    def start(self):
+    def start(self) -> None:
         """The program begins on what its disk kept. The first start has nothing before it, and is not drawn."""
         if self.all_columns:
             self.begin(self.steps, "start")
 
-    def nothing(self):
+    def nothing(self) -> None:
         """A line that is known, and of which nothing is drawn."""
 
 

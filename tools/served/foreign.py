@@ -50,7 +50,7 @@ class Rule:
             self.expect(read(f"{self.folder}/run") == "", "it says that it talks while it confirms")
             self.kept = Kept(order["epoch"])
 
-    def looks_again(self):
+    def looks_again(self) -> None:
         """The member has done all that it does for the last answer."""
         self.looks += 1
         self.expect(set(self.orders) <= self.fit(), f"it orders {', '.join(map(str, dict.fromkeys(self.orders)))}")
@@ -78,7 +78,7 @@ class Between:
         self.listener = socket.create_server(("127.0.0.1", 0))
         threading.Thread(target=self.serve, daemon=True).start()
 
-    def serve(self):
+    def serve(self) -> None:
         while True:
             try:
                 connection, _ = self.listener.accept()
@@ -135,7 +135,7 @@ class Tried:
         self.between = Between(trial, self.rule)
         self.others = Slow(trial, (1, 2))
 
-    def start(self):
+    def start(self) -> None:
         host, port = self.between.listener.getsockname()
         words = {"node": NODE, "host": host, "port": port, "address": f"{host}:{port}", "folder": self.folder,
                  "signals": self.trial.server.signals}
@@ -144,7 +144,7 @@ class Tried:
             self.process = subprocess.Popen([word.format(**words) for word in self.command], stdin=subprocess.DEVNULL,
                                             stdout=lines, stderr=lines, start_new_session=True)
 
-    def kill(self):
+    def kill(self) -> None:
         os.killpg(self.process.pid, signal.SIGKILL)
         self.process.wait()
 
@@ -238,7 +238,7 @@ def of_confirms(tried):
     tried.all_talk("after somebody else confirmed for it")
     died = threading.Event()
 
-    def dies():
+    def dies() -> None:
         tried.between.on_confirm = None
         tried.kill()
         died.set()

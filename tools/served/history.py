@@ -4,7 +4,7 @@ from .clients import Lost
 
 
 class History:
-    def __init__(self):
+    def __init__(self) -> None:
         self.answered = {0}  # the steps of all replies
         self.epochs = {}  # the greatest epoch of each node that was printed or shown
         self.printed = set()
@@ -31,13 +31,13 @@ class History:
         return [(node, epoch) for node, last in self.epochs.items()
                 for epoch in range(self.accounted.get(node, 0) + 1, last + 1) if (node, epoch) not in self.printed]
 
-    def expect_printed(self):
+    def expect_printed(self) -> None:
         """Where nothing was killed and the device has not failed, each signal that was settled was printed."""
         if missing := self.unprinted():
             raise Lost(f"signal {missing[0][0]} {missing[0][1]} was settled and not printed, one of {len(missing)}")
         self.accounted = dict(self.epochs)
 
-    def note_taken(self):
+    def note_taken(self) -> None:
         """Signals that were settled may be taken by a kill, or by a fault of the device, before they are printed."""
         self.taken += len(self.unprinted())
         self.accounted = dict(self.epochs)

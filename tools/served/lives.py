@@ -38,7 +38,7 @@ class Watched(Server):
         except FileNotFoundError:
             return []
 
-    def note_life(self):
+    def note_life(self) -> None:
         threads = self.threads()
         if len(threads) == IN_A_LIFE and threads[OVER_ALL] != self.flusher:
             self.flusher = threads[OVER_ALL]
@@ -54,7 +54,7 @@ class Killer(threading.Thread):
         self.server, self.most, self.met, self.is_told = server, most, None, False
         self.start()
 
-    def run(self):
+    def run(self) -> None:
         for _ in range(MOST_LOOKS):
             count = len(self.server.threads())
             if count < OVER_ALL or self.is_told:
@@ -107,7 +107,7 @@ class Staying:
             self.connections += 1
         self.socket.sendall(text)
 
-    def close(self):
+    def close(self) -> None:
         if self.socket:
             self.replies.close()
             self.socket.close()

@@ -97,7 +97,7 @@ class Trial:
         self.found = {1: 0, 2: 0}  # how many were found in each version after a kill
         self.too_late = 0  # how many had ended before the kill
 
-    def copy(self):
+    def copy(self) -> None:
         shutil.copyfile(self.first, self.server.store)
 
     def usual(self):
@@ -110,7 +110,7 @@ class Trial:
             took.append(time.monotonic() - began)
         return max(took)
 
-    def migrate(self):
+    def migrate(self) -> None:
         """A migration to its end, and a second one, which writes nothing."""
         for _ in range(2):
             before = digest(self.server.store) if version(self.server.store) == 2 else None
@@ -178,7 +178,7 @@ class Trial:
         self.found[left] += 1
         return left
 
-    def finish(self):
+    def finish(self) -> None:
         """The same words once more make version 2 of whatever was left, with the same rows."""
         self.migrate()
         if self.server.command("show") != self.rows:
@@ -192,7 +192,7 @@ class Trial:
         if calls and 0 in self.found.values() and rounds > len(calls):
             raise Lost("a kill left one version only: the kills did not meet the migrations")
 
-    def go_on(self):
+    def go_on(self) -> None:
         """Resets go through what was migrated, and it stays version 2."""
         self.ring.server = self.server
         self.server.must_start()

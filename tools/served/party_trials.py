@@ -32,7 +32,7 @@ class Slow:
             self.trial.expect_quiet()
             self.talk()
 
-    def talk(self):
+    def talk(self) -> None:
         """Each member that talks sends what it has heard of, and hears what fits its run, until nobody learns more."""
         before = None
         while before != (before := ({node: set(heard) for node, heard in self.heard.items()}, len(self.sent))):
@@ -50,7 +50,7 @@ class Slow:
             except OutOfRun:
                 pass
 
-    def expect_unmixed(self):
+    def expect_unmixed(self) -> None:
         for node, heard in self.heard.items():
             if len({other for other, _ in heard}) < len(heard):
                 raise Failed(f"the start of member {node} has heard of two starts of one member: (member, start) {sorted(heard)}")

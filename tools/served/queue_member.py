@@ -67,10 +67,10 @@ class Alone:
         with self.lock:
             yield types.SimpleNamespace(tag=tag)
 
-    def follow(self, *_):
+    def follow(self, *_: object) -> None:
         signal.pause()
 
-    def stop(self):
+    def stop(self) -> None:
         sys.exit()
 
 
@@ -127,7 +127,7 @@ class Queue:
 def listen(port, member, queue):
     """Takes items from the member before. A connection begins with the tag of its run."""
     class Handler(socketserver.StreamRequestHandler):
-        def handle(self):
+        def handle(self) -> None:
             try:
                 tag = self.rfile.readline().decode().strip()
                 for line in self.rfile:
@@ -168,7 +168,7 @@ def hand_on(connection, tag, member, queue):
         time.sleep(PAUSE)
 
 
-def main():
+def main() -> None:
     node, address, folder, own, peer, signals, *without = sys.argv[1:]
     os.makedirs(folder, exist_ok=True)
     queue = Queue(int(node), folder)

@@ -43,7 +43,7 @@ class QueueRing:
         """How many lines of the members have a word."""
         return sum(read(f"{self.folder}/{node}.lines").count(f": {word}: ") for node in self.nodes)
 
-    def end(self):
+    def end(self) -> None:
         for process in self.processes.values():
             process.kill()
             process.wait()

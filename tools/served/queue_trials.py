@@ -28,7 +28,7 @@ class Queue(Trial):
         self.up = {}
         self.asked = 0
 
-    def begin(self):
+    def begin(self) -> None:
         """All members are up, one reset is through, and items go round."""
         self.goes_on("at first")
         self.reset_epochs(*self.nodes)
@@ -43,7 +43,7 @@ class Queue(Trial):
                  str(self.ports[node % len(self.ports)]), self.server.signals, *sorted(WEAKER & self.words.without)],
                 stdin=subprocess.DEVNULL, stdout=lines, stderr=lines)
 
-    def start_all(self):
+    def start_all(self) -> None:
         for node in self.nodes:
             self.start_member(node)
 
@@ -55,7 +55,7 @@ class Queue(Trial):
                 member.kill()
                 member.wait()
 
-    def stop_helpers(self):
+    def stop_helpers(self) -> None:
         self.down(*self.nodes)
         super().stop_helpers()
 

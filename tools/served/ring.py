@@ -29,7 +29,7 @@ class Ring:
         self.started = []
         self.counts = (0, 0)  # how many steps were shown as accepted and settled since the last start
 
-    def found(self):
+    def found(self) -> None:
         done = self.server.found(topology(HALF, 1))
         if done != (0, [f"created {2 * NODES}"]):
             raise Lost(f"resetd init: {done}")

@@ -8,7 +8,7 @@ import sys
 class Screen:
     """It moves where the output is a terminal and neither NO_COLOR nor CI is set; else it has lines alone."""
 
-    def __init__(self):
+    def __init__(self) -> None:
         self.moves = sys.stdout.isatty() and not os.environ.get("NO_COLOR") and not os.environ.get("CI")
         self.drawn = 0  # lines of the picture that stands there
 
@@ -25,7 +25,7 @@ class Screen:
             print(*(line[:width] for line in lines), sep="\n", flush=True)
             self.drawn = len(lines)
 
-    def wipe(self):
+    def wipe(self) -> None:
         if self.drawn:
             print(f"\x1b[{self.drawn}A\x1b[J", end="")
         self.drawn = 0

@@ -72,14 +72,14 @@ class Server:
                     raise
             time.sleep(0.005)
 
-    def kill(self):
+    def kill(self) -> None:
         """Signal 9, also to the server below a process that watches it."""
         below = subprocess.run(["ps", "-o", "pid=", "--ppid", str(self.process.pid)], capture_output=True, check=False)
         for process in [self.process.pid, *map(int, below.stdout.split())]:
             os.kill(process, signal.SIGKILL)
         self.process.wait()
 
-    def end(self):
+    def end(self) -> None:
         """Kills the server where it still runs."""
         if self.process and self.process.poll() is None:
             self.kill()
@@ -92,11 +92,11 @@ class Server:
             pass
         return self.ended()
 
-    def must_start(self):
+    def must_start(self) -> None:
         if not self.start():
             raise Lost(f"the coordinator did not start: {self.ended()}")
 
-    def must_close(self):
+    def must_close(self) -> None:
         ended = self.close()
         if ended != (0, ""):
             raise Lost(f"closed in order, the coordinator ended with {ended}")

@@ -38,17 +38,17 @@ class Trial:
         self.port = Port(self.server.address, 30)
         self.orders = Orders(self.port, OPERATOR, f"{folder}/operator", told=lambda _: None)
 
-    def start(self):
+    def start(self) -> None:
         if not self.server.start():
             raise Failed(f"the coordinator did not start: {self.server.ended()}")
         self.server.wanted = self.server.address  # the next start is at the same address
 
-    def kill(self):
+    def kill(self) -> None:
         """Signal 9, and a new start."""
         self.server.kill()
         self.start()
 
-    def close(self):
+    def close(self) -> None:
         if self.server.close() != (0, ""):
             raise Failed("the coordinator did not end in order")
 
@@ -59,7 +59,7 @@ class Trial:
                                                  stdin=stdin, stdout=lines, stderr=lines))
         return self.helpers[-1]
 
-    def services(self):
+    def services(self) -> None:
         """An example service for each node."""
         for node in self.nodes:
             self.service(node)
@@ -97,7 +97,7 @@ class Trial:
             time.sleep(random.uniform(0, 0.004))
             self.kill()
 
-    def expect_quiet(self):
+    def expect_quiet(self) -> None:
         self.expect("no reset is at any node", lambda: all(row.mode == "ready" for row in patiently(self.port.show, 20).nodes))
 
     def is_at_rest(self):
@@ -157,7 +157,7 @@ class Trial:
         self.start()
         self.orders.recover()
 
-    def renew(self):
+    def renew(self) -> None:
         """What the page says to do once a restored store is served."""
         if "restored" not in self.words.without:
             status, told = self.resetctl("restored")
@@ -170,7 +170,7 @@ class Trial:
                                "--state", f"{self.folder}/state", *words], capture_output=True, encoding="utf-8", check=False)
         return done.returncode, done.stdout + done.stderr
 
-    def end(self):
+    def end(self) -> None:
         self.stop_helpers()
         self.orders.close()
         if self.server.process and self.server.process.poll() is None:

@@ -41,7 +41,7 @@ def start_limited(trial):
     """Starts the server with a limit on the size of files: the last write is cut, and later ones fail."""
     server = trial.server
 
-    def limit():
+    def limit() -> None:
         signal.signal(signal.SIGXFSZ, signal.SIG_IGN)
         resource.setrlimit(resource.RLIMIT_FSIZE, (LIMIT, LIMIT))
     server.address = None
