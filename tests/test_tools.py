@@ -114,9 +114,10 @@ class ShortLives(Run):
             threading.Thread(target=self.answer_every_other, args=[listener], daemon=True).start()
             address = f"127.0.0.1:{listener.getsockname()[1]}"
             of_tools, of_tests = Server("", self.path("store")), Serving.__new__(Serving)
-            for server in (of_tools, of_tests):
-                server.address, server.process, server.has_short_lives = address, process, True
-                self.assertEqual(server.ask({"op": "show"}), {"settled": 1})
+            of_tools.address, of_tools.process = address, process
+            of_tests.address, of_tests.process, of_tests.has_short_lives = address, process, True
+            for server_ask in (of_tools.ask, of_tests.ask):
+                self.assertEqual(server_ask({"op": "show"}), {"settled": 1})
 
     @staticmethod
     def answer_every_other(listener: socket.socket) -> None:

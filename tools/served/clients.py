@@ -1,6 +1,16 @@
 """Clients that number their orders, and send one that was not answered again."""
 
+from typing import Any, Protocol
+
 STOPPED = 1
+# What is read of a line.
+Json = dict[str, Any]
+
+
+class Asked(Protocol):
+    """What answers requests."""
+
+    def ask(self, request: Json) -> Json: ...
 
 
 class Lost(Exception):
@@ -14,16 +24,20 @@ class Stopped(Lost):
 class Client:
     """One client: the last order that was answered, with its reply, and one that was not answered yet."""
 
-    def __init__(self, number):
-        self.client, self.answered, self.reply, self.unanswered = number, None, None, None
+    def __init__(self, number: int) -> None:
+        self.client = number
+        self.answered: Json | None = None
+        self.reply: Json | None = None
+        self.unanswered: Json | None = None
 
-    def order(self, server, op, **members):
+    def order(self, server: Asked, op: str, **members: int) -> Json:
         """Sends the next order. Without an answer it raises Away, and `settle` sends it again."""
         number = self.answered["number"] + 1 if self.answered else 1
         self.unanswered = {"op": op, "client": self.client, "number": number, **members}
         return self.settle(server)
 
-    def settle(self, server):
+    def settle(self, server: Asked) -> Json:
+        assert self.unanswered
         reply = server.ask(self.unanswered)
         if reply.get("refused") == STOPPED:
             raise Stopped(f"{self.unanswered} was answered {reply}")
@@ -32,7 +46,7 @@ class Client:
         self.answered, self.reply, self.unanswered = self.unanswered, reply, None
         return reply
 
-    def repeat(self, server, count):
+    def repeat(self, server: Asked, count: int) -> None:
         """Sends the answered order again to a server that was started on a store of `count` steps: it gives the same
         answer, unless a later order is on the disk, which was not answered and is settled now."""
         is_kept = False

@@ -6,18 +6,19 @@ import subprocess
 
 from . import kills
 from .clients import Lost, Stopped
+from .ring import Ring
 from .server import Away
 
 CALLS = {"fsync": ["EIO"], "fdatasync": ["EIO"], "pwrite64": ["EIO", "ENOSPC"]}
 STOPPED_BY_DEVICE = (3, "resetd: Device\n")
 
 
-def can_inject():
+def can_inject() -> bool:
     return shutil.which("strace") is not None and \
         subprocess.run(["strace", "-qq", "-o", os.devnull, "true"], capture_output=True, check=False).returncode == 0
 
 
-def run(ring, most):
+def run(ring: Ring, most: int) -> None:
     for call, errors in CALLS.items():
         places = 0
         while places < most and one_fault(ring, call, places + 1, errors[places % len(errors)]):
@@ -28,7 +29,7 @@ def run(ring, most):
             raise Lost(f"{call} never failed: strace made no fault")
 
 
-def one_fault(ring, call, place, error):
+def one_fault(ring: Ring, call: str, place: int, error: str) -> bool:
     """A start of which one call fails, and the next start, of which none does. Whether the run came to that call."""
     server, log = ring.server, f"{ring.server.store}.strace"
     count, _ = ring.history.look_into(server)
@@ -49,7 +50,7 @@ def one_fault(ring, call, place, error):
     return has_failed
 
 
-def serve_until_stopped(ring, count):
+def serve_until_stopped(ring: Ring, count: int) -> None:
     try:
         ring.repeat_orders(count)
         ring.follow()
@@ -59,7 +60,7 @@ def serve_until_stopped(ring, count):
         pass
 
 
-def expect_stopped(ring):
+def expect_stopped(ring: Ring) -> None:
     """Every further order is answered Stopped. Their numbers are sent again after the next start."""
     for client in ring.clients:
         try:
@@ -72,6 +73,6 @@ def expect_stopped(ring):
         raise Lost(f"after a fault of the device {client.answered} was answered {client.reply}")
 
 
-def was_injected(log):
+def was_injected(log: str) -> bool:
     with open(log, encoding="utf-8", errors="replace") as file:
         return "(INJECTED)" in file.read()

@@ -9,39 +9,45 @@ import socket
 import subprocess
 import threading
 import time
+from collections.abc import Callable
 
 from resetd_client import Due, View
 from resetd_client.party import is_same_run, tag_of
 from resetd_client.rule import Kept, judge, shown_to
 
+from .clients import Json
 from .party_trials import Slow
-from .services import Failed, patiently, read
+from .services import Failed, Trial, patiently, read
 
 NODE = 3
-ROWS = {Due.BEGIN: "begins", Due.WAIT: "waits", Due.TALK: "talks", Due.RESET: "asks for a reset", None: "is not shown"}
+# What a member orders: the kind, the node, and the epoch that it confirms.
+Order = tuple[str, int | None, int | None]
+ROWS: dict[Due | None, str] = {Due.BEGIN: "begins", Due.WAIT: "waits", Due.TALK: "talks", Due.RESET: "asks for a reset", None: "is not shown"}
 
 
 class Rule:
     """The rule beside the member: what it has to keep, and what is due by the last answer that it got."""
 
-    def __init__(self, folder):
-        self.folder, self.kept, self.history = folder, Kept(), set()
+    def __init__(self, folder: str) -> None:
+        self.folder, self.kept, self.history = folder, Kept(), set[str]()
         self.answered(None)
-        self.looks, self.talks, self.wrong = 0, 0, None
+        self.looks, self.talks, self.wrong = 0, 0, ""
 
-    def answered(self, view):
+    def answered(self, view: View | None) -> None:
         """The member is shown this, or it was started anew."""
-        self.view, self.orders, self.due, self.run = view, [], None, ""
+        self.view, self.orders, self.run = view, list[Order](), ""
+        self.due: Due | None = None
         row = view and view.node(NODE)
-        if not row:
+        if not view or not row:
             return
         judged = judge(self.kept, self.history, shown_to(view, row))
         self.due, self.kept = judged.due, judged.kept
         if judged.due is Due.TALK:
-            self.history |= {judged.digest} - {None}
+            self.history |= {judged.digest} if judged.digest else set()
+            assert self.kept.party is not None
             self.run = f"{row.epoch} {tag_of(self.kept.party, view.party(NODE)) or '-'}"
 
-    def ordered(self, order):
+    def ordered(self, order: Json) -> None:
         """The member orders something."""
         if order.get("op") == "confirm" and order.get("epoch") == 0:
             return  # it looks for its count
@@ -54,27 +60,33 @@ class Rule:
         """The member has done all that it does for the last answer."""
         self.looks += 1
         self.expect(set(self.orders) <= self.fit(), f"it orders {', '.join(map(str, dict.fromkeys(self.orders)))}")
-        self.expect(self.due not in (Due.BEGIN, Due.RESET) or self.orders, "it orders nothing")
+        self.expect(self.due not in (Due.BEGIN, Due.RESET) or bool(self.orders), "it orders nothing")
         run = read(f"{self.folder}/run").strip()
         self.expect(run == self.run, f"its file `run` has {run!r} and not {self.run!r}")
         self.talks = self.talks + 1 if self.due is Due.TALK else 0
         self.orders = []
 
-    def fit(self):
+    def fit(self) -> set[Order]:
         row = self.view and self.view.node(NODE)
-        return {Due.BEGIN: {("confirm", NODE, row and row.epoch)}, Due.RESET: {("reset", NODE, None)}}.get(self.due, set())
+        if self.due is Due.BEGIN:
+            return {("confirm", NODE, row.epoch if row else None)}
+        return {("reset", NODE, None)} if self.due is Due.RESET else set()
 
-    def expect(self, holds, what):
+    def expect(self, holds: bool, what: str) -> None:
         if not holds and not self.wrong:
             self.wrong = f"row `{ROWS[self.due]}`: {what}"
+
+
+# What becomes of a request: whether more is answered on its connection.
+Spoil = Callable[[socket.socket, bytes], bool]
 
 
 class Between:
     """A port in front of the coordinator's, for the member alone. `spoil` says what becomes of the next requests."""
 
-    def __init__(self, trial, rule):
-        self.trial, self.rule, self.spoil = trial, rule, []
-        self.on_confirm = None
+    def __init__(self, trial: Trial, rule: Rule) -> None:
+        self.trial, self.rule, self.spoil = trial, rule, list[Spoil]()
+        self.on_confirm: Callable[[], None] | None = None
         self.listener = socket.create_server(("127.0.0.1", 0))
         threading.Thread(target=self.serve, daemon=True).start()
 
@@ -93,7 +105,7 @@ class Between:
                 except OSError:
                     pass
 
-    def answer(self, connection, line):
+    def answer(self, connection: socket.socket, line: bytes) -> bool:
         """Whether more is answered on this connection."""
         request = json.loads(line)
         if request["op"] == "show":
@@ -112,15 +124,16 @@ class Between:
         connection.sendall(text + b"\n")
         return True
 
-    def direct(self, line):
-        return patiently(lambda: self.trial.port.raw(json.loads(line)), 20).encode()
+    def direct(self, line: bytes) -> bytes:
+        request: Json = json.loads(line)
+        return patiently(lambda: self.trial.port.raw(request), 20).encode()
 
 
-def away(connection, text):
+def away(connection: socket.socket, text: bytes) -> bool:
     return False
 
 
-def torn(connection, text):
+def torn(connection: socket.socket, text: bytes) -> bool:
     connection.sendall(text[:len(text) // 2])
     return False
 
@@ -128,8 +141,8 @@ def torn(connection, text):
 class Tried:
     """The member's process, and the group around it."""
 
-    def __init__(self, trial, command):
-        self.trial, self.command, self.process = trial, command, None
+    def __init__(self, trial: Trial, command: list[str]) -> None:
+        self.trial, self.command = trial, command
         self.folder = f"{trial.folder}/foreign"
         self.rule = Rule(self.folder)
         self.between = Between(trial, self.rule)
@@ -141,14 +154,15 @@ class Tried:
                  "signals": self.trial.server.signals}
         self.rule.answered(None)
         with open(f"{self.trial.folder}/foreign.lines", "ab") as lines:
-            self.process = subprocess.Popen([word.format(**words) for word in self.command], stdin=subprocess.DEVNULL,
-                                            stdout=lines, stderr=lines, start_new_session=True)
+            self.process: subprocess.Popen[bytes] = subprocess.Popen(
+                [word.format(**words) for word in self.command], stdin=subprocess.DEVNULL, stdout=lines, stderr=lines,
+                start_new_session=True)
 
     def kill(self) -> None:
         os.killpg(self.process.pid, signal.SIGKILL)
         self.process.wait()
 
-    def until(self, what, holds):
+    def until(self, what: str, holds: Callable[[], bool]) -> None:
         """Waits until something holds, while the member keeps the rule."""
         until = time.monotonic() + self.trial.words.seconds
         while True:
@@ -163,33 +177,33 @@ class Tried:
                 raise Failed(f"{what}, within {self.trial.words.seconds} s: {self.trial.told()}; due to it is {self.rule.due}")
             time.sleep(0.02)
 
-    def looks(self, what, times=2):
+    def looks(self, what: str, times: int = 2) -> None:
         """The member looks so often, and does each time what is due."""
         before = self.rule.looks
         self.until(what, lambda: self.rule.looks >= before + times)
 
-    def all_talk(self, what):
+    def all_talk(self, what: str) -> None:
         """All three come to one run, each with what is shown now."""
-        def holds():
+        def holds() -> bool:
             self.others.look(1, 2)
             view = self.trial.port.show()
             runs = [member.run for member in self.others.members.values()]
-            return (self.rule.talks > 1 and self.rule.view and self.rule.view.nodes == view.nodes and all(runs)
-                    and all(is_same_run(run.tag, self.rule.run.split(" ")[1]) for run in runs))
+            return (self.rule.talks > 1 and self.rule.view is not None and self.rule.view.nodes == view.nodes
+                    and all(run is not None and is_same_run(run.tag, self.rule.run.split(" ")[1]) for run in runs))
         self.until(what, holds)
 
 
-def unlink(trial):
+def unlink(trial: Trial) -> None:
     for other in (1, 2):
         trial.order("drop", a=NODE, b=other)
 
 
-def link(trial):
+def link(trial: Trial) -> None:
     for other in (1, 2):
         trial.order("join", a=NODE, b=other)
 
 
-def of_resets(tried):
+def of_resets(tried: Tried) -> None:
     trial = tried.trial
     tried.all_talk("at first")
     trial.reset(1)
@@ -199,7 +213,7 @@ def of_resets(tried):
     tried.looks("the coordinator is away, and its answers are torn", 6)
 
 
-def of_links(tried):
+def of_links(tried: Tried) -> None:
     trial = tried.trial
     trial.order("drop", a=1, b=2)
     trial.order("drop", a=1, b=NODE)
@@ -216,7 +230,7 @@ def of_links(tried):
     tried.all_talk("after it came back")
 
 
-def of_nodes(tried):
+def of_nodes(tried: Tried) -> None:
     trial = tried.trial
     for _ in range(2):
         unlink(trial)
@@ -227,13 +241,13 @@ def of_nodes(tried):
         tried.all_talk("after its node was added again")
 
 
-def of_confirms(tried):
+def of_confirms(tried: Tried) -> None:
     """A confirm by hand; a kill where it is about to confirm, once with the confirm lost."""
     trial = tried.trial
     tried.kill()
     trial.reset(1)
     trial.expect_quiet()
-    trial.order("confirm", node=NODE, epoch=trial.port.show().node(NODE).epoch)
+    trial.order("confirm", node=NODE, epoch=trial.epoch(NODE))
     tried.start()
     tried.all_talk("after somebody else confirmed for it")
     died = threading.Event()
@@ -250,7 +264,7 @@ def of_confirms(tried):
     tried.all_talk("after it died before its confirm")
 
 
-def of_restores(tried):
+def of_restores(tried: Tried) -> None:
     """A store is put back, with its node unconfirmed, to where it has talked in the epoch that it is to begin."""
     trial = tried.trial
     tried.kill()
@@ -266,7 +280,7 @@ def of_restores(tried):
     tried.all_talk("after a store was put back")
 
 
-def of_files(tried):
+def of_files(tried: Tried) -> None:
     tried.kill()
     shutil.rmtree(tried.folder)
     tried.rule.kept, tried.rule.history = Kept(), set()
@@ -277,7 +291,7 @@ def of_files(tried):
 EVENTS = (of_resets, of_links, of_nodes, of_confirms, of_restores, of_files)
 
 
-def lead(trial, command):
+def lead(trial: Trial, command: list[str]) -> str:
     """Leads a member through the events. Raises Failed where it does not keep the rule."""
     tried = Tried(trial, command)
     tried.start()

@@ -1,32 +1,33 @@
 """All that was answered and printed over the starts of one store, and what has to hold of the store after each."""
 
 from .clients import Lost
+from .server import Server
 
 
 class History:
     def __init__(self) -> None:
         self.answered = {0}  # the steps of all replies
-        self.epochs = {}  # the greatest epoch of each node that was printed or shown
-        self.printed = set()
+        self.epochs: dict[int, int] = {}  # the greatest epoch of each node that was printed or shown
+        self.printed = set[tuple[int, int]]()
         self.count = 0  # how many steps the store had when it was last looked into
-        self.accounted = {}  # up to which epoch of each node every signal was printed, or taken by a kill
+        self.accounted: dict[int, int] = {}  # up to which epoch of each node every signal was printed, or taken by a kill
         self.taken = 0  # how many signals were taken by a kill
 
-    def note_signals(self, signals):
+    def note_signals(self, signals: list[tuple[int, int]]) -> None:
         for node, epoch in signals:
             if (node, epoch) in self.printed:
                 raise Lost(f"signal {node} {epoch} was printed twice")
             self.printed.add((node, epoch))
             self.epochs[node] = max(epoch, self.epochs.get(node, 0))
 
-    def note_epochs(self, epochs):
+    def note_epochs(self, epochs: dict[int, int]) -> None:
         """Epochs that were shown; none is below one that was printed or shown before."""
         for node, epoch in self.epochs.items():
             if epochs.get(node, 0) < epoch:
                 raise Lost(f"node {node} was seen in epoch {epoch}, and is in epoch {epochs.get(node)}")
         self.epochs = dict(epochs)
 
-    def unprinted(self):
+    def unprinted(self) -> list[tuple[int, int]]:
         """The signals of epochs that were shown, which were neither printed nor taken by a kill before."""
         return [(node, epoch) for node, last in self.epochs.items()
                 for epoch in range(self.accounted.get(node, 0) + 1, last + 1) if (node, epoch) not in self.printed]
@@ -42,7 +43,7 @@ class History:
         self.taken += len(self.unprinted())
         self.accounted = dict(self.epochs)
 
-    def look_into(self, server):
+    def look_into(self, server: Server) -> tuple[int, bool]:
         """Checks and shows a store that no process serves: how many steps it has, and whether a reset is on its way."""
         status, lines = server.command("check")
         if status != 0 or not lines[0].startswith("legal "):

@@ -4,12 +4,13 @@ import threading
 import time
 
 from .clients import Lost
-from .server import Away
+from .ring import Ring
+from .server import Away, Server
 
 KILLED = -9
 
 
-def run(ring, rounds):
+def run(ring: Ring, rounds: int) -> None:
     usual = first_reset(ring)
     kinds = {"before it listened": 0, "in a reset": 0, "between resets": 0}
     for done in range(1, rounds + 1):
@@ -19,7 +20,7 @@ def run(ring, rounds):
     finish(ring)
 
 
-def first_reset(ring):
+def first_reset(ring: Ring) -> tuple[float, float]:
     """How long a start and a reset usually take, for choosing moments."""
     begun = time.monotonic()
     start_again(ring)
@@ -32,7 +33,7 @@ def first_reset(ring):
     return started - begun, ended - started
 
 
-def one_round(ring, usual_start, usual_reset):
+def one_round(ring: Ring, usual_start: float, usual_reset: float) -> str:
     """A start, what has to hold after it, further resets, and a kill: while it starts, at the very moment of an
     answer, or at a random one. Where the kill was met."""
     server, killer = ring.server, None
@@ -59,13 +60,13 @@ def one_round(ring, usual_start, usual_reset):
     return after_kill(ring, listens)
 
 
-def kill_later(server, seconds):
+def kill_later(server: Server, seconds: float) -> threading.Timer:
     killer = threading.Timer(seconds, server.process.kill)
     killer.start()
     return killer
 
 
-def after_kill(ring, listened):
+def after_kill(ring: Ring, listened: bool) -> str:
     status, told = ring.server.ended()
     if status != KILLED:
         raise Lost(f"the coordinator ended by itself with status {status}: {told}")
@@ -75,7 +76,7 @@ def after_kill(ring, listened):
     return "before it listened" if not listened else "in a reset" if is_going else "between resets"
 
 
-def start_again(ring):
+def start_again(ring: Ring) -> None:
     """A start that nobody kills: what was answered is there, and a reset that was cut goes on to its end."""
     count, _ = ring.history.look_into(ring.server)
     ring.server.must_start()
@@ -83,7 +84,7 @@ def start_again(ring):
     ring.follow()
 
 
-def finish(ring):
+def finish(ring: Ring) -> None:
     """Closes the coordinator in order, and looks into its store."""
     if ring.server.process.poll() is not None:
         start_again(ring)
@@ -93,7 +94,7 @@ def finish(ring):
     ring.history.expect_printed()
 
 
-def tell(ring, done, kinds):
+def tell(ring: Ring, done: int, kinds: dict[str, int]) -> None:
     history = ring.history
     where = ", ".join(f"{number} {kind}" for kind, number in kinds.items())
     print(f"{done} kills ({where}): {history.count} steps, {len(history.printed)} signals printed, each once; "

@@ -4,13 +4,16 @@ A kill is meant for a change of life: it comes once the server is seen with fewe
 threads of one end or those of the next one start, or between the two, where the engine is taken apart.
 """
 
+import io
 import json
 import os
 import socket
 import threading
+from typing import BinaryIO
 
 from . import kills
-from .clients import Lost
+from .clients import Client, Json, Lost
+from .ring import Ring
 from .server import PATIENCE, Away, Server
 
 WORKERS = 8
@@ -24,14 +27,15 @@ class Watched(Server):
     """A server whose lives are counted by the number of its flusher's thread, as it is seen after each answer. That
     is the least number that there can have been: some lives end unseen."""
 
-    lives, flusher = 0, None
+    lives = 0
+    flusher: int | None = None
 
-    def ask(self, request):
+    def ask(self, request: Json) -> Json:
         reply = super().ask(request)
         self.note_life()
         return reply
 
-    def threads(self):
+    def threads(self) -> list[int]:
         """The numbers of its threads, in the order in which they were started."""
         try:
             return sorted(map(int, os.listdir(f"/proc/{self.process.pid}/task")))
@@ -49,9 +53,10 @@ class Killer(threading.Thread):
     """Kills the server within a change of life: once it is seen with no more than so many threads, fewer than a life
     has. `met` is with how many it was seen then."""
 
-    def __init__(self, server, most):
+    def __init__(self, server: Watched, most: int) -> None:
         super().__init__()
-        self.server, self.most, self.met, self.is_told = server, most, None, False
+        self.server, self.most, self.is_told = server, most, False
+        self.met: int | None = None
         self.start()
 
     def run(self) -> None:
@@ -64,7 +69,7 @@ class Killer(threading.Thread):
                 self.met = count
                 return
 
-    def end(self):
+    def end(self) -> int | None:
         """It looks no more. With how many threads it has met the server, if it has."""
         self.is_told = True
         self.join()
@@ -75,15 +80,17 @@ class Staying:
     """A connection that its client never closes: the server does, once its life is too old, behind a reply. What has no
     reply then is sent again over the next one."""
 
-    def __init__(self, server):
-        self.server, self.socket, self.replies, self.connections = server, None, None, 0
+    def __init__(self, server: Watched) -> None:
+        self.server, self.connections = server, 0
+        self.socket: socket.socket | None = None
+        self.replies: BinaryIO = io.BytesIO()
 
-    def ask(self, request):
+    def ask(self, request: Json) -> Json:
         return self.ask_all([request])[0]
 
-    def ask_all(self, requests):
+    def ask_all(self, requests: list[Json]) -> list[Json]:
         """The replies to requests, all of which are sent before the first reply is read."""
-        lines, replies = [json.dumps(request).encode() + b"\n" for request in requests], []
+        lines, replies = [json.dumps(request).encode() + b"\n" for request in requests], list[Json]()
         for _ in range(10 + len(lines)):
             try:
                 self.send(b"".join(lines[len(replies):]))
@@ -99,7 +106,7 @@ class Staying:
                 break
         raise Away("no line is answered any more")
 
-    def send(self, text):
+    def send(self, text: bytes) -> None:
         if self.socket is None:
             host, port = self.server.address.rsplit(":", 1)
             self.socket = socket.create_connection((host, int(port)), timeout=PATIENCE)
@@ -114,10 +121,15 @@ class Staying:
         self.socket = None
 
 
-def run(ring, rounds):
+def watched(ring: Ring) -> Watched:
+    assert isinstance(ring.server, Watched)
+    return ring.server
+
+
+def run(ring: Ring, rounds: int) -> None:
     kills.first_reset(ring)
     live_unkilled(ring)
-    met = {}
+    met: dict[int | None, int] = {}
     for done in range(1, rounds + 1):
         count = one_round(ring)
         met[count] = met.get(count, 0) + 1
@@ -128,10 +140,10 @@ def run(ring, rounds):
         raise Lost("no kill has met a change of life")
 
 
-def live_unkilled(ring):
+def live_unkilled(ring: Ring) -> None:
     """Resets over many lives. Nothing is lost between them: each signal is printed, and each client's last order is
     answered as before."""
-    server = ring.server
+    server = watched(ring)
     kills.start_again(ring)
     for _ in range(UNKILLED):
         ring.ask_resets(ring.choice.randint(1, 3))
@@ -150,9 +162,9 @@ def live_unkilled(ring):
     kills.finish(ring)
 
 
-def stay(ring, orders, at_once):
+def stay(ring: Ring, orders: int, at_once: int) -> int:
     """Resets by one client whose connection stays. Over how many connections they went."""
-    staying, client = Staying(ring.server), ring.choice.choice(ring.clients)
+    staying, client = Staying(watched(ring)), ring.choice.choice(ring.clients)
     try:
         for _ in range(orders // at_once):
             if at_once == 1:
@@ -165,7 +177,7 @@ def stay(ring, orders, at_once):
     return staying.connections
 
 
-def order_at_once(ring, staying, client, count):
+def order_at_once(ring: Ring, staying: Staying, client: Client, count: int) -> None:
     first = client.answered["number"] + 1 if client.answered else 1
     sent = [{"op": "reset", "client": client.client, "number": first + place, "node": ring.choice.randint(1, 64)}
             for place in range(count)]
@@ -176,10 +188,10 @@ def order_at_once(ring, staying, client, count):
         ring.note(client)
 
 
-def one_round(ring):
+def one_round(ring: Ring) -> int | None:
     """A start, what has to hold after it, resets by clients that stay or do not, and a kill within a change of life.
     With how many threads the server was met, if it was."""
-    server = ring.server
+    server = watched(ring)
     count, _ = ring.history.look_into(server)
     server.must_start()
     ring.repeat_orders(count)
@@ -200,10 +212,10 @@ def one_round(ring):
     return met
 
 
-def tell(ring, done, met):
+def tell(ring: Ring, done: int, met: dict[int | None, int]) -> None:
     history, between = ring.history, met.get(OVER_ALL, 0)
     within = sum(met.values()) - between - met.get(None, 0)
     print(f"{done} kills ({between} between two lives, {within} while the threads of one ended or started, "
-          f"{met.get(None, 0)} elsewhere), at least {ring.server.lives} lives: {history.count} steps, "
+          f"{met.get(None, 0)} elsewhere), at least {watched(ring).lives} lives: {history.count} steps, "
           f"{len(history.printed)} signals printed, each once; {history.taken} settled and taken by a kill, so told by "
           f"epochs alone", flush=True)

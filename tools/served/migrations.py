@@ -2,6 +2,7 @@
 
 import hashlib
 import os
+import random
 import re
 import shutil
 import subprocess
@@ -27,7 +28,7 @@ KILLED = -9
 WRITE, SYNCS = "pwrite64", ("fsync", "fdatasync")
 
 
-def run(program, folder, choice, rounds):
+def run(program: str, folder: str, choice: random.Random, rounds: int) -> None:
     """Kills so many migrations, at a random moment and at each call of the device in turn."""
     first, copy = Server(program, f"{folder}/first"), Server(program, f"{folder}/copy")
     ring = Ring(first, choice)
@@ -38,7 +39,7 @@ def run(program, folder, choice, rounds):
         copy.end()
 
 
-def kill_all(trial, choice, rounds):
+def kill_all(trial: Trial, choice: random.Random, rounds: int) -> None:
     usual = trial.usual()
     calls = trial.calls() if faults.can_inject() else []
     print(f"a store of version 1 with {trial.count} steps, migrated in {usual:.3f} s", flush=True)
@@ -53,7 +54,7 @@ def kill_all(trial, choice, rounds):
     trial.go_on()
 
 
-def fill(ring):
+def fill(ring: Ring) -> int:
     """Makes the store from its bytes, gives it a ring and resets through a server. How many steps it has then."""
     with open(ring.server.store, "wb") as file:
         file.write(EMPTY)
@@ -73,7 +74,7 @@ def fill(ring):
     return ring.history.look_into(ring.server)[0]
 
 
-def version(store):
+def version(store: str) -> int:
     """The version byte of the half that the first byte selects (docs/FORMATS.md, "Device")."""
     with open(store, "rb") as file:
         header = file.read(17)
@@ -81,7 +82,7 @@ def version(store):
         return file.read(1)[0]
 
 
-def digest(path):
+def digest(path: str) -> bytes:
     with open(path, "rb") as file:
         return hashlib.sha256(file.read()).digest()
 
@@ -89,18 +90,18 @@ def digest(path):
 class Trial:
     """A copy of the store, which is made anew for each migration."""
 
-    def __init__(self, ring, server, count):
+    def __init__(self, ring: Ring, server: Server, count: int) -> None:
         self.ring, self.server, self.count = ring, server, count
         self.first = ring.server.store
         self.words = [server.program, "migrate", server.store]
-        self.rows = ring.server.command("show")
+        self.rows: tuple[int, list[str]] = ring.server.command("show")
         self.found = {1: 0, 2: 0}  # how many were found in each version after a kill
         self.too_late = 0  # how many had ended before the kill
 
     def copy(self) -> None:
         shutil.copyfile(self.first, self.server.store)
 
-    def usual(self):
+    def usual(self) -> float:
         """How long a migration takes that nobody kills, for choosing moments."""
         took = []
         for _ in range(5):
@@ -120,7 +121,7 @@ class Trial:
             if before not in (None, digest(self.server.store)):
                 raise Lost("resetd migrate has written to a store of version 2")
 
-    def calls(self):
+    def calls(self) -> list[tuple[str, int]]:
         """The four device calls of a migration: of each its name, and which one of that name it is in the run."""
         self.copy()
         log = f"{self.server.store}.strace"
@@ -134,7 +135,7 @@ class Trial:
             raise Lost(f"a migration made these calls of its device: {' '.join(made)}")
         return [(name, made[:place].count(name)) for place, name in enumerate(made, 1)][-4:]
 
-    def kill_after(self, seconds):
+    def kill_after(self, seconds: float) -> None:
         """Kills a migration some time after its start."""
         self.copy()
         process = subprocess.Popen(self.words, stdout=subprocess.PIPE, stderr=subprocess.STDOUT)
@@ -149,7 +150,7 @@ class Trial:
         else:
             raise Lost(f"resetd migrate ended by itself with status {process.returncode}: {printed}")
 
-    def kill_at_call(self, place, name, when):
+    def kill_at_call(self, place: int, name: str, when: int) -> None:
         """Kills a migration as it makes a call of the device, the first to the fourth."""
         self.copy()
         status = subprocess.run(["strace", "-f", "-qq", "-o", os.devnull, "-e", f"trace={name}",
@@ -162,7 +163,7 @@ class Trial:
         if (place < 3 and left != 1) or (place == 4 and left != 2):
             raise Lost(f"a migration that was killed at its call {place} ({name}) left version {left}")
 
-    def look(self, where):
+    def look(self, where: str) -> int:
         """What a kill left is legal, has the same rows, and answers each client's last order as before. Its version."""
         left = version(self.server.store)
         legal = self.server.command("check")
@@ -184,7 +185,7 @@ class Trial:
         if self.server.command("show") != self.rows:
             raise Lost("a store that was migrated shows other rows")
 
-    def tell(self, rounds, calls):
+    def tell(self, rounds: int, calls: list[tuple[str, int]]) -> None:
         where = f"at a random moment and at {', '.join(name for name, _ in calls)}" if calls else \
             "at a random moment (strace is not installed, or may not trace here)"
         print(f"{rounds} migrations killed {where}: {self.found[1]} left version 1, {self.found[2]} version 2, "

@@ -1,7 +1,11 @@
 """Trials of who talks with whom: through others, and after a member was removed and added again."""
 
-from .services import Failed, Member, Orders, OutOfRun, Port, patiently
+from collections.abc import Callable, Iterable
 
+from .services import Failed, Member, Orders, OutOfRun, Port, Trial, patiently
+
+# A start of a member: its node, and which one it is of all.
+Start = tuple[int, int]
 READDS = 30
 MOST_RESETS = 3
 
@@ -10,13 +14,15 @@ class Slow:
     """The members of a group in one process, of which each looks when it is told to. What a start has heard of, at
     first or at second hand, goes with each message that it sends; messages may come late."""
 
-    def __init__(self, trial, nodes):
-        self.trial, self.heard, self.starts, self.sent = trial, {}, 0, []
-        self.while_it_begins = []  # what happens while the next member begins
+    def __init__(self, trial: Trial, nodes: Iterable[int]) -> None:
+        self.trial, self.starts = trial, 0
+        self.heard: dict[int, set[Start]] = {}
+        self.sent: list[tuple[str, frozenset[Start]]] = []
+        self.while_it_begins: list[Callable[[Trial], None]] = []  # what happens while the next member begins
         self.members = {node: self.member(node) for node in nodes}
 
-    def member(self, node):
-        def begin(epoch):
+    def member(self, node: int) -> Member:
+        def begin(epoch: int) -> None:
             self.starts += 1
             self.heard[node] = {(node, self.starts)}
             while self.while_it_begins:
@@ -25,7 +31,7 @@ class Slow:
                         told=lambda _: None)
         return Member(orders.port, orders, node, None, begin, told=lambda _: None)
 
-    def look(self, *nodes):
+    def look(self, *nodes: int) -> None:
         """Members look until they have done what is due, and then all that was ever said is heard by whom it may be."""
         for node in nodes:
             patiently(self.members[node].look, 20)
@@ -42,7 +48,7 @@ class Slow:
                 self.hear(node, member)
         self.expect_unmixed()
 
-    def hear(self, node, member):
+    def hear(self, node: int, member: Member) -> None:
         for tag, heard in self.sent:
             try:
                 with member.in_run(tag):
@@ -56,17 +62,17 @@ class Slow:
                 raise Failed(f"the start of member {node} has heard of two starts of one member: (member, start) {sorted(heard)}")
 
 
-def unlink(trial):
+def unlink(trial: Trial) -> None:
     for other in (1, 2):
         trial.order("drop", a=3, b=other)
 
 
-def link(trial):
+def link(trial: Trial) -> None:
     for other in (1, 2):
         trial.order("join", a=3, b=other)
 
 
-def second_hand(trial):
+def second_hand(trial: Trial) -> str:
     """Member 1 is slow, then member 2, while 3 is taken off its links, reset alone, and linked again while it begins. Members
     1 and 2 have then talked with two starts of 3, and are shown the same."""
     slow = Slow(trial, trial.nodes)
@@ -90,14 +96,14 @@ def second_hand(trial):
     return f"{slow.starts} starts, {len(slow.sent)} messages"
 
 
-def readd(trial):
+def readd(trial: Trial) -> str:
     """Members keep their files, and are there all the time."""
     trial.services()
     trial.expect_begun("the services began")
     most = 0
     for turn in range(READDS):
         node, stays = turn % 3 + 1, (turn + 1) % 3 + 1
-        before, epoch = trial.times(), trial.port.show().node(stays).epoch
+        before, epoch = trial.times(), trial.epoch(stays)
         others = [other for other in trial.nodes if other != node]
         for other in others:
             trial.order("drop", a=node, b=other)
@@ -107,7 +113,7 @@ def readd(trial):
             trial.order("join", a=node, b=other)
         trial.expect_begun(f"re-add {turn + 1}, of member {node}", before)
         trial.expect(f"all are through after re-add {turn + 1}", lambda: trial.is_at_rest())
-        resets = trial.port.show().node(stays).epoch - epoch
+        resets = trial.epoch(stays) - epoch
         most = max(most, resets)
         if resets > MOST_RESETS:
             raise Failed(f"re-add {turn + 1} took {resets} resets")

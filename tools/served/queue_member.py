@@ -14,6 +14,8 @@ usage: queue_member NODE ADDR FOLDER OWN PEER SIGNALS [WITHOUT..]
     coordinator a member begins once, as it starts, and talks with whoever is connected; ADDR and SIGNALS are not looked at
 """
 
+from __future__ import annotations
+
 import contextlib
 import json
 import os
@@ -25,11 +27,15 @@ import sys
 import threading
 import time
 import types
+from collections.abc import Container, Iterator
+from typing import Any
 
 sys.dont_write_bytecode = True
 sys.path.insert(0, os.path.join(os.path.dirname(os.path.abspath(__file__)), "..", "..", "client"))
-from resetd_client import Due, Follower, Member, Orders, OutOfRun, Port, Starts, keep  # noqa: E402
+from resetd_client import Due, Follower, Member, Node, Orders, OutOfRun, Port, Starts, View, keep  # noqa: E402
 from resetd_client.rule import Judged, Kept, judge, shown_to  # noqa: E402
+
+Json = dict[str, Any]
 
 AHEAD = 5  # items that are on their way round
 PAUSE = 0.01
@@ -39,12 +45,12 @@ LOOK_SECONDS = 0.3
 class Weaker(Starts):
     """The rule of a member without a part of it."""
 
-    without = frozenset()
+    without = frozenset[str]()
 
-    def _judged(self, view, row):
+    def _judged(self, view: View, row: Node) -> Judged:
         shown = shown_to(view, row)
-        history = () if "history" in self.without else self._shelf.history
-        judged = judge(Kept(self.begun, self._kept.party), history, shown)
+        history: Container[str] = self._shelf.history
+        judged = judge(Kept(self.begun, self._kept.party), set() if "history" in self.without else history, shown)
         if judged.due is not Due.RESET:
             return judged
         if row.epoch != self.begun and "reset" in self.without:
@@ -57,13 +63,13 @@ class Weaker(Starts):
 class Alone:
     """A member without a coordinator: all its life is one run."""
 
-    def __init__(self, queue):
+    def __init__(self, queue: Queue) -> None:
         self.lock = threading.Lock()
-        if queue.work is None:
+        if not queue.work:
             queue.begin(1)
 
     @contextlib.contextmanager
-    def in_run(self, tag="alone", wait=0):
+    def in_run(self, tag: str = "alone", wait: float = 0) -> Iterator[types.SimpleNamespace]:
         with self.lock:
             yield types.SimpleNamespace(tag=tag)
 
@@ -77,27 +83,27 @@ class Alone:
 class Queue:
     """The work: how many items were taken from the member before, and how many the next one has taken."""
 
-    def __init__(self, node, folder):
+    def __init__(self, node: int, folder: str) -> None:
         self.node, self.path = node, os.path.join(folder, "work")
-        self.work = None
+        self.work: Json = {}  # empty where there is none
         if os.path.exists(self.path):
             with open(self.path, encoding="utf-8") as file:
                 self.work = json.load(file)
 
-    def begin(self, epoch):
+    def begin(self, epoch: int) -> None:
         """Drops the work in hand, and loads the common start: no item was made."""
         name = secrets.token_hex(4)
         self.keep({"epoch": epoch, "taken": 0, "handed": 0, "starts": {str(self.node): name}})
         self.tell(f"starts anew, epoch {epoch}")
 
-    def next(self):
+    def next(self) -> Json | None:
         """The next message, None where there is no item to hand on."""
         item = self.work["handed"] + 1
         if item > self.work["taken"] + (AHEAD if self.node == 1 else 0):
             return None
         return {"from": self.node, "item": item, "starts": self.work["starts"]}
 
-    def take(self, message):
+    def take(self, message: Json) -> Json:
         """Takes an item, and answers how many were taken. One that comes again was taken before."""
         starts, item = self.joined(message["starts"]), message["item"]
         if item > self.work["taken"] + 1:
@@ -105,10 +111,10 @@ class Queue:
         self.keep({**self.work, "starts": starts, "taken": max(item, self.work["taken"])})
         return {"taken": item, "starts": starts}
 
-    def note_handed(self, answer):
+    def note_handed(self, answer: Json) -> None:
         self.keep({**self.work, "starts": self.joined(answer["starts"]), "handed": answer["taken"]})
 
-    def joined(self, starts):
+    def joined(self, starts: dict[str, str]) -> dict[str, str]:
         mine = self.work["starts"]
         for node, name in starts.items():
             if mine.get(node, name) != name:
@@ -116,15 +122,15 @@ class Queue:
                           f"{self.work['epoch']}")
         return {**starts, **mine}
 
-    def keep(self, work):
+    def keep(self, work: Json) -> None:
         keep(self.path, json.dumps(work) + "\n")
         self.work = work
 
-    def tell(self, text):
+    def tell(self, text: str) -> None:
         print(f"queue {self.node}: {text}", flush=True)
 
 
-def listen(port, member, queue):
+def listen(port: int, member: Member | Alone, queue: Queue) -> None:
     """Takes items from the member before. A connection begins with the tag of its run."""
     class Handler(socketserver.StreamRequestHandler):
         def handle(self) -> None:
@@ -142,7 +148,7 @@ def listen(port, member, queue):
     Listener(("127.0.0.1", port), Handler).serve_forever()
 
 
-def send(port, member, queue):
+def send(port: int, member: Member | Alone, queue: Queue) -> None:
     """Hands items to the next member, as long as there is a run."""
     while True:
         try:
@@ -154,7 +160,7 @@ def send(port, member, queue):
             time.sleep(PAUSE)
 
 
-def hand_on(connection, tag, member, queue):
+def hand_on(connection: socket.socket, tag: str, member: Member | Alone, queue: Queue) -> None:
     answers = connection.makefile("r", encoding="utf-8")
     connection.sendall(f"{tag}\n".encode())
     while True:
@@ -172,15 +178,16 @@ def main() -> None:
     node, address, folder, own, peer, signals, *without = sys.argv[1:]
     os.makedirs(folder, exist_ok=True)
     queue = Queue(int(node), folder)
+    member: Member | Alone
     if "coordinator" in without:
         member = Alone(queue)
     else:
         port = Port(address, 30)
         orders = Orders(port, int(node), folder, recovers=True, held_seconds=5)
         member = Member(port, orders, int(node), queue.work["epoch"] if queue.work else None, queue.begin)
-    if {*without} - {"coordinator"}:
-        Weaker.without = frozenset(without)
-        member._starts.__class__ = Weaker
+        if without:
+            Weaker.without = frozenset(without)
+            member._starts.__class__ = Weaker
     for call, place in ((listen, own), (send, peer)):
         threading.Thread(target=call, args=(int(place), member, queue), daemon=True).start()
     signal.signal(signal.SIGTERM, lambda *_: member.stop())

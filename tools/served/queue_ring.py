@@ -15,12 +15,12 @@ class QueueRing:
     """So many members, who hand items round. `words` are what each is started with: an address and a file of signals, and
     what it is without."""
 
-    def __init__(self, folder, nodes, address, signals, *without):
+    def __init__(self, folder: str, nodes: int, address: str, signals: str, *without: str) -> None:
         self.folder, self.nodes, self.address, self.signals, self.without = folder, range(1, nodes + 1), address, signals, without
-        self.ports, self.processes = free_ports(nodes), {}
+        self.ports, self.processes = free_ports(nodes), dict[int, subprocess.Popen[bytes]]()
         os.makedirs(folder)
 
-    def start(self, *nodes):
+    def start(self, *nodes: int) -> None:
         for node in nodes or self.nodes:
             words = [str(node), self.address, f"{self.folder}/{node}", str(self.ports[node - 1]),
                      str(self.ports[node % len(self.ports)]), self.signals, *self.without]
@@ -28,18 +28,18 @@ class QueueRing:
                 self.processes[node] = subprocess.Popen([sys.executable, MEMBER, *words], stdin=subprocess.DEVNULL,
                                                         stdout=lines, stderr=lines)
 
-    def start_anew(self, node):
+    def start_anew(self, node: int) -> None:
         """What a service manager does with a member whose work is spoilt: signal 9, and a start without that work."""
         self.processes[node].kill()
         self.processes[node].wait()
         shutil.rmtree(f"{self.folder}/{node}")
         self.start(node)
 
-    def handed(self):
+    def handed(self) -> list[int]:
         """How many items each member has taken in its present start."""
         return [json.loads(read(f"{self.folder}/{node}/work") or '{"taken": 0}')["taken"] for node in self.nodes]
 
-    def told(self, word):
+    def told(self, word: str) -> int:
         """How many lines of the members have a word."""
         return sum(read(f"{self.folder}/{node}.lines").count(f": {word}: ") for node in self.nodes)
 

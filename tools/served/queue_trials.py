@@ -12,8 +12,10 @@ import signal
 import subprocess
 import sys
 import time
+from collections.abc import Callable
+from typing import Any
 
-from .services import ROOT, Away, Failed, Trial, free_ports, read
+from .services import ROOT, Away, Failed, Trial, Words, free_ports, read
 
 MEMBER = f"{ROOT}/tools/served/queue_member.py"
 WEAKER = {"history", "party", "reset"}
@@ -22,11 +24,11 @@ WEAKER = {"history", "party", "reset"}
 class Queue(Trial):
     """A coordinator and the three members of a work queue, each of which can be down."""
 
-    def __init__(self, words, folder, nodes):
+    def __init__(self, words: Words, folder: str, nodes: int) -> None:
         super().__init__(words, folder, nodes)
         self.ports = free_ports(nodes)
-        self.up = {}
-        self.asked = 0
+        self.up: dict[int, subprocess.Popen[bytes]] = {}
+        self.choice = random.Random()
 
     def begin(self) -> None:
         """All members are up, one reset is through, and items go round."""
@@ -34,7 +36,7 @@ class Queue(Trial):
         self.reset_epochs(*self.nodes)
         self.goes_on("after the first reset")
 
-    def start_member(self, node):
+    def start_member(self, node: int) -> None:
         if node in self.up:
             return
         with open(f"{self.folder}/{node}.lines", "ab") as lines:
@@ -47,7 +49,7 @@ class Queue(Trial):
         for node in self.nodes:
             self.start_member(node)
 
-    def down(self, *nodes):
+    def down(self, *nodes: int) -> None:
         """Signal 9 to members."""
         for node in nodes:
             member = self.up.pop(node, None)
@@ -55,24 +57,26 @@ class Queue(Trial):
                 member.kill()
                 member.wait()
 
-    def stop_helpers(self) -> None:
-        self.down(*self.nodes)
-        super().stop_helpers()
+    def stop_helpers(self, *some: subprocess.Popen[bytes]) -> None:
+        if not some:
+            self.down(*self.nodes)
+        super().stop_helpers(*some)
 
-    def work(self, node):
-        return json.loads(read(f"{self.folder}/{node}/work") or '{"taken": 0, "epoch": null, "starts": {}}')
+    def work(self, node: int) -> dict[str, Any]:
+        work: dict[str, Any] = json.loads(read(f"{self.folder}/{node}/work") or '{"taken": 0, "epoch": null, "starts": {}}')
+        return work
 
-    def starts(self):
+    def starts(self) -> dict[int, str | None]:
         """The name of each member's start, where it has one."""
         return {node: self.work(node)["starts"].get(str(node)) for node in self.nodes}
 
-    def goes_on(self, what, since=None):
+    def goes_on(self, what: str, since: dict[int, str | None] | None = None) -> None:
         """All members are up, items go round, and no member mixed two runs. Where `since` has the starts of an earlier
         moment, each member has another one."""
         self.start_all()
-        seen = {}
+        seen: dict[int, dict[str | None, int]] = {}
 
-        def holds():
+        def holds() -> bool:
             starts = self.starts()
             for node in self.nodes:
                 work = self.work(node)
@@ -85,7 +89,7 @@ class Queue(Trial):
         finally:
             self.expect_whole(what)
 
-    def expect_whole(self, what):
+    def expect_whole(self, what: str) -> None:
         """No member has told of a fault."""
         for node in self.nodes:
             faults = [line for line in read(f"{self.folder}/{node}.lines").splitlines() if "MIXED" in line or "GAP" in line]
@@ -95,35 +99,35 @@ class Queue(Trial):
             if member.poll() is not None:
                 raise Failed(f"{what}: member {node} has ended: {read(f'{self.folder}/{node}.lines').splitlines()[-3:]}")
 
-    def copy(self, name="copy"):
+    def copy(self, name: str = "copy") -> str:
         """A copy of the store, by the words of the page: it is closed meanwhile."""
         self.close()
         shutil.copy(self.server.store, f"{self.folder}/{name}")
         self.start()
         return f"{self.folder}/{name}"
 
-    def reset_epochs(self, *nodes):
+    def reset_epochs(self, *nodes: int) -> None:
         """A reset of some members that are up: each of them has begun and confirmed it."""
         self.expect("no reset is under way", lambda: all(row.mode == "ready" for row in self.shown().nodes))
         before = {row.node: row.epoch for row in self.shown().nodes}
         self.reset(nodes[0])
 
-        def holds():
+        def holds() -> bool:
             rows = {row.node: row for row in self.shown().nodes}
             return all(rows[node].epoch > before[node] and rows[node].is_begun for node in nodes)
         self.expect(f"members {nodes} have begun", holds)
 
-    def unlink(self, node):
+    def unlink(self, node: int) -> None:
         for other in self.nodes:
             if other != node:
                 self.order("drop", a=node, b=other)
 
-    def link(self, node):
+    def link(self, node: int) -> None:
         for other in self.nodes:
             if other != node:
                 self.order("join", a=node, b=other)
 
-    def add_again(self, node, resets=0):
+    def add_again(self, node: int, resets: int = 0) -> None:
         """A node without links is removed and added again, so often reset alone, and linked as it was."""
         self.order("remove", node=node)
         self.order("add", node=node, group=1)
@@ -131,14 +135,13 @@ class Queue(Trial):
             self.order("reset", node=node)
         self.link(node)
 
-    def epoch(self, node):
-        return self.shown().node(node).epoch
+
 
 
 # The ways in which a node may show, confirmed, the epoch that its service has begun, though its start is another one
 # than that which the others talked with. Each leaves the network whole; what has to hold then is looked for after it.
 
-def with_one_down(trial):
+def with_one_down(trial: Queue) -> None:
     """The store is put back while a member is down that has not begun what was forgotten."""
     copy = trial.copy()
     trial.down(3)
@@ -146,7 +149,7 @@ def with_one_down(trial):
     trial.put_back(copy)
 
 
-def between_confirms(trial):
+def between_confirms(trial: Queue) -> None:
     """The copy was taken when one member had not confirmed yet."""
     trial.down(3)
     trial.reset_epochs(1, 2)
@@ -155,7 +158,7 @@ def between_confirms(trial):
     trial.put_back(copy)
 
 
-def twice(trial):
+def twice(trial: Queue) -> None:
     """The wrong copy is put back at first, while a member is down, and then the right one."""
     old = trial.copy("old")
     trial.reset_epochs(1, 2, 3)
@@ -167,7 +170,7 @@ def twice(trial):
     trial.put_back(new)
 
 
-def while_served(trial):
+def while_served(trial: Queue) -> None:
     """A copy of a store that is served is put back, if it reads, while a member is down that has not begun what was
     forgotten."""
     served = f"{trial.folder}/served"
@@ -178,7 +181,7 @@ def while_served(trial):
         trial.put_back(served)
 
 
-def added_again_down(trial):
+def added_again_down(trial: Queue) -> None:
     """A member is removed while it is down, the others are reset, and it is added again and reset to the epoch that
     it has begun."""
     trial.down(3)
@@ -189,19 +192,19 @@ def added_again_down(trial):
     trial.order("confirm", node=3, epoch=epoch)
 
 
-def added_again_up(trial):
+def added_again_up(trial: Queue) -> None:
     """A member is removed and added again while it is up."""
     trial.unlink(2)
     trial.add_again(2)
 
 
-def moved(trial):
+def moved(trial: Queue) -> None:
     """A member goes on on another host, without its work."""
     trial.down(2)
     shutil.rmtree(f"{trial.folder}/2")
 
 
-def moved_and_added_again(trial):
+def moved_and_added_again(trial: Queue) -> None:
     """A member is removed and added again, reset alone to the epoch that it had, and goes on without its work."""
     trial.down(2)
     epoch = trial.epoch(2)
@@ -210,13 +213,13 @@ def moved_and_added_again(trial):
     shutil.rmtree(f"{trial.folder}/2")
 
 
-def work_lost(trial):
+def work_lost(trial: Queue) -> None:
     """A member's work is lost, and its other files are not."""
     trial.down(2)
     os.remove(f"{trial.folder}/2/work")
 
 
-def own_copy(trial):
+def own_copy(trial: Queue) -> None:
     """A member's own folder is put back from a copy."""
     trial.down(3)
     shutil.copytree(f"{trial.folder}/3", f"{trial.folder}/of3", dirs_exist_ok=True)
@@ -228,7 +231,7 @@ def own_copy(trial):
     shutil.copytree(f"{trial.folder}/of3", f"{trial.folder}/3")
 
 
-def new_store(trial):
+def new_store(trial: Queue) -> None:
     """A store is made anew under the same services, and reset to the epoch that they have begun, while one is down."""
     trial.down(3)
     epoch = trial.epoch(3)
@@ -243,7 +246,7 @@ def new_store(trial):
         trial.order("reset", node=1)
 
 
-def old_host(trial):
+def old_host(trial: Queue) -> None:
     """Another host takes over with an old copy, no service is stopped, and one was down since before."""
     copy = trial.copy()
     trial.down(2)
@@ -254,7 +257,7 @@ def old_host(trial):
     trial.orders.recover()
 
 
-def confirmed_for(trial):
+def confirmed_for(trial: Queue) -> None:
     """The person on call confirms for a member that is down, and it comes back with its work."""
     trial.down(3)
     trial.reset_epochs(1, 2)
@@ -262,20 +265,20 @@ def confirmed_for(trial):
     time.sleep(0.5)
 
 
-def parted(trial):
+def parted(trial: Queue) -> None:
     """A member's links are dropped, it is reset alone, and linked again."""
     trial.unlink(3)
     trial.reset_epochs(3)
     trial.link(3)
 
 
-def plain_reset(trial):
+def plain_reset(trial: Queue) -> None:
     """A reset while a member is down, and a kill of the server in it."""
     trial.down(trial.choice.choice(list(trial.nodes)))
     trial.reset(trial.choice.choice(list(trial.nodes)), is_killed=True)
 
 
-def by_the_page(trial):
+def by_the_page(trial: Queue) -> None:
     """A reset is forgotten that no member has begun. By the words of the page: services stopped, the copy put back,
     `resetctl restored`, services started."""
     copy = trial.copy()
@@ -285,7 +288,7 @@ def by_the_page(trial):
     trial.renew()
 
 
-def between_confirms_without_files(trial):
+def between_confirms_without_files(trial: Queue) -> None:
     """The copy was taken when one member had not confirmed yet, and that member has lost all its files since."""
     trial.down(3)
     trial.reset_epochs(1, 2)
@@ -303,7 +306,7 @@ WAYS = (new_store, added_again_down, added_again_up, moved_and_added_again, with
 RENEWING = (plain_reset, by_the_page)
 
 
-def happen(trial, way, when):
+def happen(trial: Queue, way: Callable[[Queue], None], when: str) -> None:
     """One of the ways, and what has to hold after it."""
     since = trial.starts() if way in RENEWING else None
     try:
@@ -313,7 +316,7 @@ def happen(trial, way, when):
     trial.goes_on(f"after {way.__name__} {when}", since)
 
 
-def starts(trial):
+def starts(trial: Queue) -> str:
     """Each way once, one after the other."""
     trial.choice = random.Random(1)
     trial.begin()
@@ -322,7 +325,7 @@ def starts(trial):
     return f"{len(WAYS) + len(RENEWING)} ways"
 
 
-def queue(trial):
+def queue(trial: Queue) -> str:
     """Random ways, one after the other."""
     seed = trial.words.seed if trial.words.seed is not None else random.randrange(1 << 32)
     trial.choice = random.Random(seed)

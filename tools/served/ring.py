@@ -1,16 +1,17 @@
 """A ring of nodes whose resets are asked for by several clients, and followed to their end."""
 
+import random
 import time
 
 from .clients import Client, Lost
 from .history import History
-from .server import Away
+from .server import Away, Server
 
 NODES, CLIENTS, HALF = 64, 8, 32_768
 PATIENCE = 300  # seconds within which a reset has to end, on a busy machine too
 
 
-def topology(half, reach):
+def topology(half: int, reach: int) -> str:
     """A ring in which each node is linked to so many that follow it."""
     nodes = "".join(f"[[node]]\nid = {node}\ngroup = 1\n" for node in range(1, NODES + 1))
     links = "".join(f"[[link]]\na = {node}\nb = {(node + far) % NODES + 1}\n"
@@ -22,11 +23,11 @@ class Ring:
     """What the clients know. `quiet` are the epochs when all nodes were last ready with nothing on its way, and
     `started` are the nodes of the resets that were started since."""
 
-    def __init__(self, server, choice):
+    def __init__(self, server: Server, choice: random.Random) -> None:
         self.server, self.choice, self.history = server, choice, History()
         self.clients = [Client(number) for number in range(1, CLIENTS + 1)]
         self.quiet = dict.fromkeys(range(1, NODES + 1), 0)
-        self.started = []
+        self.started = list[int]()
         self.counts = (0, 0)  # how many steps were shown as accepted and settled since the last start
 
     def found(self) -> None:
@@ -34,20 +35,21 @@ class Ring:
         if done != (0, [f"created {2 * NODES}"]):
             raise Lost(f"resetd init: {done}")
 
-    def ask_resets(self, resets):
+    def ask_resets(self, resets: int) -> None:
         """That many clients, one after the other, each over a connection of its own."""
         for client in self.choice.sample(self.clients, resets):
             client.order(self.server, "reset", node=self.choice.randint(1, NODES))
             self.note(client)
 
-    def note(self, client):
+    def note(self, client: Client) -> None:
         """Notes a reply, where it is new."""
+        assert client.answered and client.reply
         step = client.reply["step"]
         if step not in self.history.answered and client.reply["kind"] == "started":
             self.started.append(client.answered["node"])
         self.history.answered.add(step)
 
-    def repeat_orders(self, count):
+    def repeat_orders(self, count: int) -> None:
         """After a start on a store of `count` steps: what was answered is answered the same again, and what was not
         answered is sent again."""
         self.note_counts(count, count, is_start=True)
@@ -56,13 +58,13 @@ class Ring:
             if client.answered:
                 self.note(client)
 
-    def follow(self):
+    def follow(self) -> None:
         """Waits until each reset has come to its end, and compares the epochs."""
         until = time.monotonic() + PATIENCE
         while time.monotonic() < until:
             view = self.server.ask({"op": "show"})
             if "nodes" not in view:
-                raise Away(view)
+                raise Away(str(view))
             self.note_counts(view["accepted"], view["settled"])
             epochs = {row[0]: row[4] for row in view["nodes"]}
             self.history.note_epochs(epochs)
@@ -73,13 +75,13 @@ class Ring:
             time.sleep(0.005)
         raise Lost(f"a reset has not come to its end within {PATIENCE} seconds")
 
-    def note_counts(self, accepted, settled, is_start=False):
+    def note_counts(self, accepted: int, settled: int, is_start: bool = False) -> None:
         """While a server runs, over all its lives, neither count falls."""
         if not is_start and (accepted < self.counts[0] or settled < self.counts[1]):
             raise Lost(f"{self.counts} steps were accepted and settled, and then {accepted} and {settled}")
         self.counts = accepted, settled
 
-    def await_signals(self, until):
+    def await_signals(self, until: float) -> None:
         """Waits until each signal that was settled is printed: that comes behind the answers."""
         while self.history.unprinted() and time.monotonic() < until:
             if self.server.process.poll() is not None:
@@ -88,7 +90,7 @@ class Ring:
             time.sleep(0.005)
         self.history.expect_printed()
 
-    def compare(self, epochs):
+    def compare(self, epochs: dict[int, int]) -> None:
         """Where no reset was started, no epoch rose; one alone raised each by one; of several, each node that
         started some was signalled as often at least."""
         for node, before in self.quiet.items():

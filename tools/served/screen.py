@@ -12,12 +12,12 @@ class Screen:
         self.moves = sys.stdout.isatty() and not os.environ.get("NO_COLOR") and not os.environ.get("CI")
         self.drawn = 0  # lines of the picture that stands there
 
-    def say(self, *lines):
+    def say(self, *lines: str) -> None:
         """Prints lines that stay."""
         self.wipe()
         print(*lines or ("",), sep="\n", flush=True)
 
-    def draw(self, lines):
+    def draw(self, lines: list[str]) -> None:
         """Draws a picture over the one before. What a terminal would break into two can't be drawn over."""
         if self.moves:
             width = shutil.get_terminal_size().columns - 1

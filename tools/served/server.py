@@ -1,54 +1,79 @@
 """A coordinator over a file: a process that can be killed and started again."""
 
+import json
 import os
 import signal
 import subprocess
 import sys
 import time
 
-sys.path.insert(0, os.path.join(os.path.dirname(__file__), "..", "..", "examples"))
-from coordinator import Away, ask  # noqa: E402
+sys.path.insert(0, os.path.join(os.path.dirname(os.path.abspath(__file__)), "..", "..", "client"))
+from resetd_client import Away, Port  # noqa: E402
 
-from .clients import Lost  # noqa: E402
+from .clients import Json, Lost  # noqa: E402
+
+__all__ = ["PATIENCE", "Away", "Server", "ask"]
 
 PATIENCE = 300  # seconds within which a server answers and ends, on a busy machine too
+
+
+def ask(address: str, request: Json, seconds: float) -> Json:
+    """One request and its answer, whatever it says. Raises Away if none came."""
+    try:
+        answer: Json = json.loads(Port(address, seconds).raw(request))
+    except ValueError as fault:
+        raise Away(str(fault)) from fault
+    return answer
 
 
 class Server:
     """`resetd serve` over a store. All its starts add their lines to one file, as those of a service manager do."""
 
-    def __init__(self, program, store, address="127.0.0.1:0"):
-        self.program, self.store, self.wanted, self.address = program, store, address, None
+    def __init__(self, program: str, store: str, address: str = "127.0.0.1:0") -> None:
+        self.program, self.store, self.wanted = program, store, address
+        self.address = ""  # at which it listens, while it does
         self.signals, self.errors = f"{store}.signals", f"{store}.errors"
-        self.process, self.size_before, self.size_read = None, 0, 0
+        self.size_before, self.size_read = 0, 0
+        self._process: subprocess.Popen[bytes] | None = None
 
-    def command(self, word, *words):
+    @property
+    def process(self) -> subprocess.Popen[bytes]:
+        """The process that was started last."""
+        if self._process is None:
+            raise Lost("the coordinator was never started")
+        return self._process
+
+    @process.setter
+    def process(self, process: subprocess.Popen[bytes]) -> None:
+        self._process = process
+
+    def command(self, word: str, *words: str) -> tuple[int, list[str]]:
         """Another command of the program on the store: its status, and the lines that it printed, faults last."""
         done = subprocess.run([self.program, word, self.store, *words], capture_output=True, encoding="utf-8")
         return done.returncode, (done.stdout + done.stderr).splitlines()
 
-    def found(self, topology):
+    def found(self, topology: str) -> tuple[int, list[str]]:
         """Makes the store with the nodes and links of a topology, and answers what was printed."""
         with open(f"{self.store}.toml", "w", encoding="utf-8") as file:
             file.write(topology)
         return self.command("init", f"{self.store}.toml")
 
-    def start(self, *before):
+    def start(self, *before: str) -> bool:
         """Starts the server, and answers whether it came to listen."""
         self.launch(*before)
         return self.listen()
 
-    def launch(self, *before):
+    def launch(self, *before: str) -> None:
         """Starts the process, by the words before it where there are some."""
-        self.address = None
+        self.address = ""
         with open(self.signals, "ab") as signals, open(self.errors, "wb") as errors:
             self.size_before = signals.tell()
             self.process = subprocess.Popen([*before, self.program, "serve", self.store, self.wanted],
                                             stdin=subprocess.DEVNULL, stdout=signals, stderr=errors)
 
-    def listen(self):
+    def listen(self) -> bool:
         """Waits until the process listens, or is over. Whether it listens."""
-        while self.address is None:
+        while not self.address:
             is_over = self.process.poll() is not None
             for line in self.lines_from(self.size_before)[0]:
                 if line.startswith("listening "):
@@ -56,12 +81,12 @@ class Server:
             if is_over:
                 break
             time.sleep(0.001)
-        return self.address is not None
+        return bool(self.address)
 
-    def ask(self, request):
+    def ask(self, request: Json) -> Json:
         """The answer to a request, which is sent again while the process runs: a life that ends may end a connection
         without one, and whoever asks a server sends again what had no reply. Raises Away once the process has ended."""
-        if self.address is None:
+        if not self.address:
             raise Away("it does not listen")
         until = time.monotonic() + PATIENCE
         while True:
@@ -81,10 +106,10 @@ class Server:
 
     def end(self) -> None:
         """Kills the server where it still runs."""
-        if self.process and self.process.poll() is None:
+        if self._process and self._process.poll() is None:
             self.kill()
 
-    def close(self):
+    def close(self) -> tuple[int, str]:
         """Ends the server in order: its exit status, and its faults."""
         try:
             self.ask({"op": "close"})
@@ -101,18 +126,19 @@ class Server:
         if ended != (0, ""):
             raise Lost(f"closed in order, the coordinator ended with {ended}")
 
-    def ended(self):
+    def ended(self) -> tuple[int, str]:
         """Waits for the end of the process: its exit status, and its faults."""
         status = self.process.wait(timeout=PATIENCE)
         with open(self.errors, encoding="utf-8") as errors:
             return status, errors.read()
 
-    def new_signals(self):
+    def new_signals(self) -> list[tuple[int, int]]:
         """The node and the epoch of each signal that was printed since the last call."""
         lines, self.size_read = self.lines_from(self.size_read)
-        return [tuple(map(int, line.split()[1:])) for line in lines if line.startswith("signal ")]
+        rows = [line.split() for line in lines if line.startswith("signal ")]
+        return [(int(node), int(epoch)) for _, node, epoch in rows]
 
-    def lines_from(self, place):
+    def lines_from(self, place: int) -> tuple[list[str], int]:
         """The whole lines behind a place of the file of signals, and the place behind them."""
         with open(self.signals, "rb") as file:
             file.seek(place)

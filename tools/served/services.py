@@ -1,5 +1,6 @@
 """A coordinator, and services around it that can be stopped and started again."""
 
+import argparse
 import os
 import random
 import shutil
@@ -7,12 +8,17 @@ import socket
 import subprocess
 import sys
 import time
+from collections.abc import Callable, Sequence
+from typing import IO
 
 from .server import PATIENCE, Server
 
 ROOT = os.path.dirname(os.path.dirname(os.path.dirname(os.path.abspath(__file__))))
 sys.path.insert(0, os.path.join(ROOT, "client"))
-from resetd_client import Away, Member, Orders, OutOfRun, Port, patiently  # noqa: E402, F401
+from resetd_client import Away, Member, Orders, OutOfRun, Port, Reply, View, patiently  # noqa: E402
+
+__all__ = ["ROOT", "Away", "Failed", "Member", "Orders", "OutOfRun", "Port", "Trial", "View", "Words", "free_ports", "patiently",
+           "read", "tag_in"]
 
 OPERATOR = 16
 
@@ -21,13 +27,23 @@ class Failed(Exception):
     """A trial did not do what it has to."""
 
 
+class Words(argparse.Namespace):
+    """What the command line says of trials. Some have no seed and no events."""
+
+    program: str
+    seconds: float
+    without: set[str]
+    seed: int | None
+    events: int
+
+
 class Trial:
     """A coordinator, what it needs, and the helpers that were started; all end with it."""
 
-    def __init__(self, words, folder, nodes, is_ring=True):
+    def __init__(self, words: Words, folder: str, nodes: int, is_ring: bool = True) -> None:
         self.words, self.folder, self.nodes = words, folder, range(1, nodes + 1)
         self.server = Server(words.program, f"{folder}/store")
-        self.helpers = []
+        self.helpers = list[subprocess.Popen[bytes]]()
         links = [(node, node % nodes + 1) for node in self.nodes][:nodes if is_ring and nodes > 2 else nodes - 1]
         done = self.server.found(
             "".join(f"[[node]]\nid = {node}\ngroup = 1\n" for node in self.nodes) +
@@ -52,7 +68,8 @@ class Trial:
         if self.server.close() != (0, ""):
             raise Failed("the coordinator did not end in order")
 
-    def run(self, program, *words, name, stdin=subprocess.DEVNULL):
+    def run(self, program: str, *words: str | float, name: str | int,
+            stdin: int | IO[bytes] = subprocess.DEVNULL) -> subprocess.Popen[bytes]:
         """Starts one of the examples, whose lines go to a file of this name."""
         with open(f"{self.folder}/{name}.lines", "ab") as lines:
             self.helpers.append(subprocess.Popen([f"{ROOT}/examples/{program}", *map(str, words)],
@@ -64,17 +81,18 @@ class Trial:
         for node in self.nodes:
             self.service(node)
 
-    def service(self, node):
+    def service(self, node: int) -> tuple[subprocess.Popen[bytes], subprocess.Popen[bytes]]:
         """An example service, which reads the file of signals from its start: the processes that it is."""
         tail = subprocess.Popen(["tail", "-n", "+1", "-F", self.server.signals], stdout=subprocess.PIPE,
                                 stderr=subprocess.DEVNULL)
+        assert tail.stdout
         self.helpers.append(tail)
         service = self.run("service", node, self.server.address, f"{self.folder}/{node}", "--look", 1, name=node,
                            stdin=tail.stdout)
         tail.stdout.close()
         return tail, service
 
-    def stop_helpers(self, *some):
+    def stop_helpers(self, *some: subprocess.Popen[bytes]) -> None:
         """Signal 9 to some helpers, or to all."""
         stopped = some or tuple(self.helpers)
         for helper in stopped:
@@ -83,14 +101,21 @@ class Trial:
             helper.wait()
             self.helpers.remove(helper)
 
-    def order(self, op, **members):
+    def order(self, op: str, **members: int) -> Reply:
         return patiently(lambda: self.orders.order(op, **members), PATIENCE)
 
-    def shown(self):
+    def shown(self) -> View:
         """The view, which a server that has just been started gives a little later."""
         return patiently(self.port.show, PATIENCE)
 
-    def reset(self, node=1, is_killed=False):
+    def epoch(self, node: int) -> int:
+        """The epoch that a node is shown in."""
+        row = self.shown().node(node)
+        if row is None:
+            raise Failed(f"node {node} is not shown")
+        return row.epoch
+
+    def reset(self, node: int = 1, is_killed: bool = False) -> None:
         """Asks for a reset. Where the server is killed, that is somewhere in it."""
         self.order("reset", node=node)
         if is_killed:
@@ -100,13 +125,13 @@ class Trial:
     def expect_quiet(self) -> None:
         self.expect("no reset is at any node", lambda: all(row.mode == "ready" for row in patiently(self.port.show, 20).nodes))
 
-    def is_at_rest(self):
+    def is_at_rest(self) -> bool:
         """Whether nobody has anything to do: each node is confirmed, and stays so for a while."""
         rows = self.port.show().nodes
         time.sleep(0.3)
         return all(row.is_begun for row in rows) and self.port.show().nodes == rows
 
-    def begun(self, node):
+    def begun(self, node: int) -> tuple[int, int | None]:
         """How often a service has begun anew, and the epoch of the last time."""
         if not os.path.exists(f"{self.folder}/{node}.lines"):
             return 0, None
@@ -114,7 +139,7 @@ class Trial:
             epochs = [int(line.split()[-1]) for line in lines if "starts anew" in line]
         return len(epochs), epochs[-1] if epochs else None
 
-    def expect(self, what, holds, seconds=None):
+    def expect(self, what: str, holds: Callable[[], bool], seconds: float | None = None) -> None:
         """Waits until something holds."""
         until = time.monotonic() + (seconds or self.words.seconds)
         while not holds():
@@ -122,7 +147,7 @@ class Trial:
                 raise Failed(f"{what}, within {seconds or self.words.seconds} s: {self.told()}")
             time.sleep(0.05)
 
-    def told(self):
+    def told(self) -> str:
         rows = self.shown().nodes
         return "shown (node, epoch, confirmed) " + \
             " ".join(f"{row.node}:{row.epoch}/{row.confirmed}" for row in rows if row.node < 20) + \
@@ -130,27 +155,27 @@ class Trial:
                 f"{node}:{last}/{times}" for node in self.nodes if node < 20
                 for times, last in [self.begun(node)])
 
-    def expect_begun(self, what, before=None, nodes=None):
+    def expect_begun(self, what: str, before: dict[int, int] | None = None, nodes: Sequence[int] | None = None) -> None:
         """Every service has begun anew, after as many times as it had begun before, the epoch that its node has, and
         confirmed it."""
-        before = before or {}
+        earlier = before or {}
 
-        def holds():
+        def holds() -> bool:
             rows = {row.node: row for row in self.shown().nodes}
-            return all(self.begun(node)[0] > before.get(node, 0) and rows[node].is_begun
+            return all(self.begun(node)[0] > earlier.get(node, 0) and rows[node].is_begun
                        and self.begun(node)[1] == rows[node].epoch for node in nodes or self.nodes)
         self.expect(what, holds)
 
-    def times(self):
+    def times(self) -> dict[int, int]:
         return {node: self.begun(node)[0] for node in self.nodes}
 
-    def reset_all(self, what, node=1, is_killed=False):
+    def reset_all(self, what: str, node: int = 1, is_killed: bool = False) -> None:
         """A reset, after which every service begins anew."""
         before = self.times()
         self.reset(node, is_killed)
         self.expect_begun(what, before)
 
-    def put_back(self, copy):
+    def put_back(self, copy: str) -> None:
         """The store is what it was when the copy was taken."""
         self.close()
         shutil.copy(copy, self.server.store)
@@ -164,7 +189,7 @@ class Trial:
             if status != 0 or "have a new epoch" not in told:
                 raise Failed(f"resetctl restored: status {status}, {told}")
 
-    def resetctl(self, *words):
+    def resetctl(self, *words: str) -> tuple[int, str]:
         """A command of the person on call, with a client of its own. Its status and what it printed."""
         done = subprocess.run([f"{ROOT}/client/resetctl", "--address", self.server.address, "--client", str(OPERATOR - 1),
                                "--state", f"{self.folder}/state", *words], capture_output=True, encoding="utf-8", check=False)
@@ -173,11 +198,10 @@ class Trial:
     def end(self) -> None:
         self.stop_helpers()
         self.orders.close()
-        if self.server.process and self.server.process.poll() is None:
-            self.server.kill()
+        self.server.end()
 
 
-def free_ports(count):
+def free_ports(count: int) -> list[int]:
     sockets = [socket.create_server(("127.0.0.1", 0)) for _ in range(count)]
     ports = [each.getsockname()[1] for each in sockets]
     for each in sockets:
@@ -185,14 +209,14 @@ def free_ports(count):
     return ports
 
 
-def read(path):
+def read(path: str) -> str:
     if not os.path.exists(path):
         return ""
     with open(path, encoding="utf-8") as file:
         return file.read()
 
 
-def tag_in(path):
+def tag_in(path: str) -> str:
     """The tag of a member's run, by its file; empty where there is none."""
     fields = read(path).split()
     return fields[1] if len(fields) > 1 else ""

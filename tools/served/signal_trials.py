@@ -6,20 +6,20 @@ import signal
 import subprocess
 import time
 
-from .services import Failed, free_ports, patiently, read, tag_in
+from .services import Failed, Trial, free_ports, patiently, read, tag_in
 
 LIMIT = 400_000  # bytes of the file of signals, where a line is to be torn
 PATIENCE = 300  # seconds within which a server answers and ends, on a busy machine too
 
 
-def begin_first(trial):
+def begin_first(trial: Trial) -> None:
     """Services are there, and one reset is through."""
     trial.services()
     trial.expect_begun("the services began")
     trial.reset_all("the first reset")
 
 
-def torn(trial):
+def torn(trial: Trial) -> None:
     begin_first(trial)
     trial.close()
     with open(trial.server.signals, "a", encoding="utf-8") as file:
@@ -37,14 +37,14 @@ def torn(trial):
     trial.expect_begun(f"the reset whose line was torn ({last.split()[0]!r})", before)
 
 
-def start_limited(trial):
+def start_limited(trial: Trial) -> None:
     """Starts the server with a limit on the size of files: the last write is cut, and later ones fail."""
     server = trial.server
 
     def limit() -> None:
         signal.signal(signal.SIGXFSZ, signal.SIG_IGN)
         resource.setrlimit(resource.RLIMIT_FSIZE, (LIMIT, LIMIT))
-    server.address = None
+    server.address = ""
     with open(server.signals, "ab") as signals, open(server.errors, "wb") as errors:
         server.size_before = signals.tell()
         server.process = subprocess.Popen([server.program, "serve", server.store, server.wanted], stdout=signals,
@@ -53,7 +53,7 @@ def start_limited(trial):
         raise Failed(f"the coordinator did not start: {server.ended()}")
 
 
-def lost(trial):
+def lost(trial: Trial) -> None:
     begin_first(trial)
     os.rename(trial.server.signals, f"{trial.folder}/moved")
     with open(trial.server.signals, "w", encoding="utf-8"):
@@ -62,7 +62,7 @@ def lost(trial):
     trial.reset_all("the reset in which the server was killed", is_killed=True)
 
 
-def unread(trial):
+def unread(trial: Trial) -> None:
     """The server's lines go to a pipe whose reader hangs, and services look by themselves. Orders are answered; after a
     close the process stays, with the store locked, until the reader leaves."""
     trial.services()
@@ -76,6 +76,7 @@ def unread(trial):
                                           stdout=reader.stdin, stderr=errors)
     server.address = server.wanted
     patiently(trial.port.show, PATIENCE)
+    assert reader.stdin
     fill(reader.stdin.fileno())
     reader.stdin.close()
     trial.reset_all("a reset whose lines nobody reads")
@@ -94,7 +95,7 @@ def unread(trial):
     trial.reset_all("a reset after it")
 
 
-def fill(descriptor):
+def fill(descriptor: int) -> None:
     """Fills a pipe, so that the next line that is written to it waits."""
     os.set_blocking(descriptor, False)
     try:
@@ -109,7 +110,7 @@ def fill(descriptor):
         os.set_blocking(descriptor, True)
 
 
-def doubled(trial):
+def doubled(trial: Trial) -> None:
     begin_first(trial)
     trial.reset_all("the second reset", is_killed=True)
     before = trial.times()
@@ -121,7 +122,7 @@ def doubled(trial):
         raise Failed(f"a doubled line began a service anew: {before} and then {trial.times()}")
 
 
-def members(trial):
+def members(trial: Trial) -> None:
     nodes = len(trial.nodes)
     trial.run("gateway", f"1-{nodes}", 1, trial.server.address, f"{trial.folder}/gateway", "--signals",
               trial.server.signals, "--look", 5, name="gateway")
@@ -134,7 +135,7 @@ def members(trial):
                  for node in trial.nodes}) == 1 and tag_in(f"{trial.folder}/gateway/1/run") != "")
 
 
-def messages(trial):
+def messages(trial: Trial) -> str:
     """Member 1 only looks by itself, so it learns late: after a reset it goes on for a while in the old run."""
     places = free_ports(2)
     tag = ["--without-tag"] if "tag" in trial.words.without else []
@@ -153,7 +154,7 @@ def messages(trial):
     return f"{counts[1]} at member 1, {counts[2]} at member 2"
 
 
-def talk_goes_on(trial):
+def talk_goes_on(trial: Trial) -> bool:
     taken = [int((read(f"{trial.folder}/{node}/counts") or "0").split()[0]) for node in trial.nodes]
     time.sleep(0.5)
     now = [int((read(f"{trial.folder}/{node}/counts") or "0").split()[0]) for node in trial.nodes]

@@ -1,12 +1,13 @@
 """Trials of stores that go back and of members that come again, with the example services."""
 
 import shutil
+from collections.abc import Sequence
 
-from .services import tag_in
+from .services import Trial, tag_in
 from .signal_trials import begin_first
 
 
-def restore(trial):
+def restore(trial: Trial) -> None:
     """A store is put back that was copied before two resets: one while service 3 was down, one while all were, which
     nobody has begun. Every service begins anew, and later resets go through as before."""
     trial.services()
@@ -31,7 +32,7 @@ def restore(trial):
     trial.reset_all("the second reset after a restore")
 
 
-def put_back(trial, before, up):
+def put_back(trial: Trial, before: dict[int, int], up: Sequence[int]) -> None:
     """By the words of the page, with services that are up and others that are started behind it; then a close."""
     trial.put_back(f"{trial.folder}/copy")
     trial.renew()
@@ -42,7 +43,7 @@ def put_back(trial, before, up):
     trial.close()
 
 
-def again(trial):
+def again(trial: Trial) -> None:
     """A member is removed, added again and reset: it begins anew, though it had begun that epoch before."""
     begin_first(trial)
     before = trial.times()
@@ -56,7 +57,7 @@ def again(trial):
     trial.expect_begun("the reset after node 3 was removed and added again", before)
 
 
-def plain(trial):
+def plain(trial: Trial) -> None:
     """A member in plain bash beside two behind a gateway: they begin together, and come to one tag."""
     def up() -> None:
         trial.run("gateway", "1-2", 1, trial.server.address, f"{trial.folder}/gateway", "--signals",
@@ -65,7 +66,7 @@ def plain(trial):
             trial.run("member", f"{trial.folder}/gateway/{node}", name=node)
         trial.run("plain_member", 3, *trial.server.address.split(":"), f"{trial.folder}/3", name=3)
 
-    def goes_on(what, before=None):
+    def goes_on(what: str, before: dict[int, int] | None = None) -> None:
         trial.expect_begun(what, before)
         trial.expect(f"one run {what}", lambda: len(tags := {
             tag_in(f"{trial.folder}/{name}/run") for name in ("gateway/1", "gateway/2", "3")}) == 1 and tags != {""})
