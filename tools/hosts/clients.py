@@ -1,11 +1,22 @@
 """Clients of a coordinator that is to be found on one of several hosts: they try the addresses in turn."""
 
+from __future__ import annotations
+
 import json
 import random
 import socket
 import threading
 import time
+from collections.abc import Callable
+from typing import TYPE_CHECKING, Any
 
+if TYPE_CHECKING:
+    from .keeper import Keeper
+    from .network import Host
+    from .records import Records
+
+# What is read of a line.
+Json = dict[str, Any]
 STOPPED, OLD_EPOCH = 1, 15
 PATIENCE = 2  # seconds for one answer, before the next address is tried
 
@@ -18,7 +29,7 @@ class Away(Exception):
     """No answer came from this address."""
 
 
-def ask(host, address, request, seconds=PATIENCE):
+def ask(host: Host, address: str, request: Json, seconds: float = PATIENCE) -> Json:
     """One request to an address, from the network of a host, and its reply."""
     name, port = address.rsplit(":", 1)
     try:
@@ -31,27 +42,33 @@ def ask(host, address, request, seconds=PATIENCE):
             with connection.makefile("rb") as lines:
                 line = lines.readline()
     except OSError as fault:
-        raise Away(fault) from fault
+        raise Away(str(fault)) from fault
     if not line.endswith(b"\n"):
         raise Away("no answer came")
-    return json.loads(line)
+    reply: Json = json.loads(line)
+    return reply
 
 
 class Site:
     """Where the clients are, and the addresses that they try; the last one that served is tried first. A coordinator
     that says Stopped is sent a close: it serves nobody, and keeps the lock of the file as long as it runs."""
 
-    def __init__(self, host, keepers):
+    def __init__(self, host: Host, keepers: list[Keeper]) -> None:
         self.host, self.keepers, self.present = host, keepers, keepers[0]
 
-    def next_after(self, keeper):
+    def next_after(self, keeper: Keeper) -> None:
         """To the next address, unless another client went there already."""
         if self.present is keeper:
             self.present = self.keepers[(self.keepers.index(keeper) + 1) % len(self.keepers)]
 
-    def ask(self, request, seconds, is_wanted=lambda: True):
-        """Sends a request until somebody carries it out: the reply and who gave it. None where it is not wanted any
-        more."""
+    def ask(self, request: Json, seconds: float) -> tuple[Json, Keeper]:
+        """Sends a request until somebody carries it out: the reply and who gave it."""
+        met = self.ask_while(lambda: True, request, seconds)
+        assert met
+        return met
+
+    def ask_while(self, is_wanted: Callable[[], bool], request: Json, seconds: float) -> tuple[Json, Keeper] | None:
+        """The same of a request that may be wanted no more: None then."""
         until = time.monotonic() + seconds
         while time.monotonic() < until and is_wanted():
             keeper = self.present
@@ -72,18 +89,21 @@ class Site:
 class Client:
     """One client's orders: the last one that was answered with its reply, and one that waits for its answer."""
 
-    def __init__(self, number, site, records):
+    def __init__(self, number: int, site: Site, records: Records) -> None:
         self.number, self.site, self.records = number, site, records
-        self.answered, self.reply, self.unanswered = None, None, None
-        self.refused = None
+        self.answered: Json | None = None
+        self.reply: Json | None = None
+        self.unanswered: Json | None = None
+        self.refused = ""
         self.drops = 0  # every so many answers are dropped, to see that it is found
 
-    def order(self, op, seconds=120, is_wanted=lambda: True, **members):
+    def order(self, op: str, seconds: float = 120, is_wanted: Callable[[], bool] = lambda: True,
+              **members: int) -> Json | None:
         """Carries out an order; where one still waits for its answer, that one. Its reply or its refusal."""
         if self.unanswered is None:
             number = self.answered["number"] + 1 if self.answered else 1
             self.unanswered = {"op": op, "client": self.number, "number": number, **members}
-        met = self.site.ask(self.unanswered, seconds, is_wanted)
+        met = self.site.ask_while(is_wanted, self.unanswered, seconds)
         if met is None:
             return None
         reply, keeper = met
@@ -95,7 +115,7 @@ class Client:
         self.unanswered = None  # the last thing: without one, what was answered is noted
         return reply
 
-    def note(self, order, reply, keeper):
+    def note(self, order: Json, reply: Json, keeper: Keeper) -> None:
         self.records.note_answer(order, reply, keeper)
         if self.drops == 0 or order["number"] % self.drops:
             self.answered, self.reply = order, reply
@@ -113,8 +133,10 @@ class Client:
 class Load:
     """Clients that ask for resets of members at random, each as soon as it has its answer."""
 
-    def __init__(self, clients, members):
-        self.clients, self.members, self.threads, self.fault = clients, members, [], None
+    def __init__(self, clients: list[Client], members: list[int]) -> None:
+        self.clients, self.members = clients, members
+        self.threads: list[threading.Thread] = []
+        self.fault: Exception | None = None
         self.is_on = False
 
     def start(self) -> None:
@@ -123,7 +145,7 @@ class Load:
         for thread in self.threads:
             thread.start()
 
-    def run(self, client):
+    def run(self, client: Client) -> None:
         choice = random.Random()
         try:
             while self.is_on:

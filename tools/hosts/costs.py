@@ -1,8 +1,10 @@
 """What an order costs on the volume, beside a raw write and sync on it."""
 
 import time
+from collections.abc import Iterable
 
-from .trial import tell
+from .clients import Client
+from .trial import Trial, tell
 from .volume import MOUNT
 
 COUNT = 200
@@ -30,12 +32,12 @@ rm "$1"
 """
 
 
-def half_and_most(seconds):
+def half_and_most(seconds: Iterable[float]) -> tuple[float, float]:
     ordered = sorted(seconds)
     return ordered[len(ordered) // 2] * 1000, ordered[len(ordered) * 99 // 100] * 1000
 
 
-def measure(trial):
+def measure(trial: Trial) -> None:
     """Resets of a member without links, of which each is one step: from the coordinator's own host and from another
     one; beside them pairs of a write of 512 bytes and a sync by a program on the coordinator's host."""
     print(f"What an order costs, {COUNT} of each, one after the other:", flush=True)
@@ -60,7 +62,7 @@ def measure(trial):
     print()
 
 
-def timed(client):
+def timed(client: Client) -> float:
     begun = time.monotonic()
     client.order("reset", node=60)
     return time.monotonic() - begun

@@ -8,7 +8,7 @@ import os
 import re
 import time
 
-from .clients import Away, Lost, ask
+from .clients import Away, Json, Lost, ask
 from .network import Failed, Host, make_switch, run, wait_for
 from .trial import QUICK, tell
 
@@ -56,7 +56,7 @@ container=other exec /lib/systemd/systemd --system --unit=multi-user.target > /d
 
 
 class Machine(Host):
-    def __init__(self, number, folder, program):
+    def __init__(self, number: int, folder: str, program: str) -> None:
         super().__init__(number, folder)
         os.makedirs(f"{self.folder}/layer")
         run(["mount", "-t", "tmpfs", "layer", f"{self.folder}/layer"])
@@ -65,36 +65,36 @@ class Machine(Host):
 
     def boot(self) -> None:
         os.makedirs(self.group, exist_ok=True)
-        super().boot(BOOT, ROOT, group=self.group)
+        self.boot_by(BOOT, ROOT, group=self.group)
         try:
             wait_for(f"systemd of {self.name}", 60, self.is_up, 0.5)
         except Failed as late:
             _, jobs = self.run("systemctl", "list-jobs", "--no-pager", is_checked=False)
             raise Failed(f"{late}:\n{jobs}") from late
 
-    def is_up(self):
+    def is_up(self) -> bool:
         _, told = self.run("systemctl", "is-system-running", is_checked=False)
         return told.strip() in ("running", "degraded")
 
-    def unit(self, property_):
+    def unit(self, property_: str) -> str:
         """What systemd says of the coordinator's unit."""
         return self.run("systemctl", "show", "--value", "-p", property_, "resetd", is_checked=False)[1].strip()
 
-    def listens(self):
+    def listens(self) -> bool:
         try:
             return "nodes" in ask(self, PORT, {"op": "show"})
         except Away:
             return False
 
 
-def blocks():
+def blocks() -> list[tuple[tuple[int, ...], str]]:
     """The hosts and the words of each block, in order."""
     with open(f"{ROOT}/docs/TAKEOVER.md", encoding="utf-8") as file:
         section = file.read().split(SECTION + "\n")[1].split("\n## ")[0]
     return [(ON[met["hosts"]], met["words"]) for met in TYPED.finditer(section)]
 
 
-def try_words(program, folder):
+def try_words(program: str, folder: str) -> None:
     """Types the words, and then loses the host that serves."""
     make_switch(folder)
     os.makedirs(f"{folder}/{GROUPS}")
@@ -112,7 +112,7 @@ def try_words(program, folder):
     lose_one(machines[:2])
 
 
-def wait_standby(machine):
+def wait_standby(machine: Machine) -> float:
     """Until the unit tried, and was refused by the lock."""
     try:
         return wait_for("a refused try", 60, lambda: machine.unit("ExecMainStatus") == "3", 0.5)
@@ -122,7 +122,7 @@ def wait_standby(machine):
         raise Failed(f"{late}; on {machine.name}:\n{told}") from late
 
 
-def check_held_in(machine):
+def check_held_in(machine: Machine) -> None:
     """Looks whether what the unit denies its process is denied: the kernel tells."""
     _, told = machine.run("sh", "-c", "cat /proc/$(systemctl show --value -p MainPID resetd)/status")
     status = dict(line.split(":\t", 1) for line in told.splitlines() if ":\t" in line)
@@ -130,13 +130,13 @@ def check_held_in(machine):
         raise Lost(f"the unit of {machine.name} does not hold its process in: {told}")
 
 
-def lose_one(machines):
+def lose_one(machines: list[Machine]) -> None:
     wait_for("a coordinator", 30, lambda: any(machine.listens() for machine in machines))
     first = next(machine for machine in machines if machine.listens())
     second = next(machine for machine in machines if machine is not first)
     check_held_in(first)
     wait_standby(second)
-    order = {"op": "reset", "client": 1, "number": 1, "node": 3}
+    order: Json = {"op": "reset", "client": 1, "number": 1, "node": 3}
     reply = ask(first, PORT, order)
     tell(f"{first.name} serves: {reply}; the unit of {second.name} was refused, status 3")
     first.kill()
@@ -155,7 +155,7 @@ def lose_one(machines):
     tell(f"a close to {second.name}: {next(m for m in machines if m.listens()).name} serves")
 
 
-def late_mount(machine):
+def late_mount(machine: Machine) -> None:
     """A standby whose volume is not there, and comes late: nothing is made in its place."""
     machine.run("sh", "-c", "systemctl mask --runtime --now srv-resetd.mount; mountpoint /srv/resetd", is_checked=False)
     before = int(machine.unit("NRestarts"))

@@ -4,9 +4,10 @@ import json
 import subprocess
 import time
 
-from .keeper import STORE
-from .network import Failed, wait_for
-from .trial import tell
+from .clients import Json
+from .keeper import STORE, Keeper
+from .network import Failed, Host, wait_for
+from .trial import Trial, tell
 
 LOAD = 2  # seconds of orders upon the byte
 
@@ -36,7 +37,7 @@ os.fdatasync(file)
 """
 
 
-def half_written(trial):
+def half_written(trial: Trial) -> None:
     keeper = trial.present
     print(f"6. The last byte of an order reaches the brick of {keeper.host.name} alone, and the next start reads it "
           "there.", flush=True)
@@ -64,7 +65,7 @@ def half_written(trial):
     trial.check()
 
 
-def end_all(trial, keeper):
+def end_all(trial: Trial, keeper: Keeper) -> None:
     """No coordinator and no standby runs."""
     for each in trial.keepers:
         each.pause()
@@ -73,11 +74,12 @@ def end_all(trial, keeper):
     wait_for("the end", 30, lambda: len(keeper.ends()) > before)
 
 
-def append_half(trial, host, order):
+def append_half(trial: Trial, host: Host, order: Json) -> list[str]:
     """The other two bricks stop just before the gate is opened, and come again: the gate in each brick."""
     volume, others = trial.volume, [other for other in trial.hosts if other is not host]
     writer = subprocess.Popen(host.inside("python3", "-c", APPEND, STORE, json.dumps(order)), encoding="utf-8",
                               stdin=subprocess.PIPE, stdout=subprocess.PIPE, stderr=subprocess.DEVNULL)
+    assert writer.stdin and writer.stdout
     gate = int(writer.stdout.readline() or -1)
     for other in others:
         volume.freeze_brick(other)

@@ -4,7 +4,7 @@ import os
 import subprocess
 
 from .clients import Lost
-from .network import run, wait_for
+from .network import Host, run, wait_for
 from .volume import MOUNT
 
 PORT, STORE, TURN, AGAIN = 4170, f"{MOUNT}/store", f"{MOUNT}/turn", 1
@@ -37,8 +37,10 @@ exec "$0" serve "$1" "$2"
 class Keeper:
     """What it printed stands in files of its host, one list of lines over all its starts."""
 
-    def __init__(self, program, host, rewrites=True):
-        self.program, self.host, self.process = program, host, None
+    process: subprocess.Popen[bytes]
+
+    def __init__(self, program: str, host: Host, rewrites: bool = True) -> None:
+        self.program, self.host = program, host
         self.address = f"{host.address}:{PORT}"
         self.serve = [*TAKE_TURN, "sh", "-c", REWRITE_AND_SERVE, program, STORE, self.address] if rewrites else \
             [program, "serve", STORE, self.address]
@@ -46,10 +48,10 @@ class Keeper:
             with open(self.path(name), "w", encoding="utf-8"):
                 pass
 
-    def path(self, name):
+    def path(self, name: str) -> str:
         return f"{self.host.folder}/{name}"
 
-    def lines(self, name):
+    def lines(self, name: str) -> list[str]:
         with open(self.path(name), encoding="utf-8") as file:
             text = file.read()
         return text[:text.rfind("\n") + 1].splitlines()
@@ -70,19 +72,19 @@ class Keeper:
         """After the end of its host."""
         self.process.wait()
 
-    def starts(self):
+    def starts(self) -> int:
         """How often it came to listen."""
         return sum(line.startswith("listening ") for line in self.lines("signals"))
 
-    def ends(self):
+    def ends(self) -> list[str]:
         """The status and the words of each end."""
         return [line.strip() for line in self.lines("ended")]
 
-    def gave_up(self):
+    def gave_up(self) -> str | None:
         """The end after which there is no further start, if there was one: the store was refused."""
         return next((end for end in self.ends() if end.split()[0] in ("1", "2")), None)
 
-    def wait_refused(self):
+    def wait_refused(self) -> int:
         """A standby tries, and is refused by a lock: its status."""
         before = len(self.ends())
         wait_for(f"a try of the standby on {self.host.name}", 30, lambda: len(self.ends()) > before)
@@ -90,19 +92,19 @@ class Keeper:
             raise Lost(f"the standby on {self.host.name} ended with {self.ends()[-1]}")
         return 3
 
-    def serve_by_hand(self):
+    def serve_by_hand(self) -> str:
         """`serve` typed where another host has the file: it is refused by the lock of the file."""
         status, printed = self.command("serve", self.address)
         if f"{status} {printed.strip()}" != REFUSED:
             raise Lost(f"beside another coordinator, serve on {self.host.name} ended with {status}: {printed}")
         return REFUSED
 
-    def command(self, word, *words):
+    def command(self, word: str, *words: str) -> tuple[int, str]:
         """Another command of the program on the volume's file, on this host."""
         return self.host.run(self.program, word, STORE, *words, is_checked=False)
 
 
-def look_into(program, held, folder):
+def look_into(program: str, held: bytes, folder: str) -> tuple[int, str, list[list[str]]]:
     """What `check` and `show` say of the bytes of a brick, on a copy."""
     path = os.path.join(folder, "copy")
     with open(path, "wb") as file:

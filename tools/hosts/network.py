@@ -14,6 +14,8 @@ import subprocess
 import sys
 import threading
 import time
+from collections.abc import Callable, Iterator
+from typing import IO
 
 LIBC = ctypes.CDLL(None, use_errno=True)
 NEW_NETWORK = 0x40000000
@@ -46,7 +48,7 @@ class Failed(Exception):
     """A step of the trial's own setting could not be made; it says nothing of the coordinator."""
 
 
-def run(words, seconds=60, is_checked=True):
+def run(words: list[str], seconds: float = 60, is_checked: bool = True) -> tuple[int, str]:
     """Runs a command to its end: its status, and what it printed."""
     try:
         done = subprocess.run(words, stdin=subprocess.DEVNULL, stdout=subprocess.PIPE, stderr=subprocess.STDOUT,
@@ -58,7 +60,7 @@ def run(words, seconds=60, is_checked=True):
     return done.returncode, done.stdout
 
 
-def make_switch(folder):
+def make_switch(folder: str) -> None:
     """What joins the hosts, and the file that has their names."""
     with open(f"{folder}/names", "w", encoding="utf-8") as names:
         names.write("127.0.0.1 localhost\n" + "".join(f"10.77.0.{n} host{n}\n" for n in (1, 2, 3)))
@@ -70,19 +72,24 @@ def make_switch(folder):
 class Host:
     """One machine, on or off. Its folder is its disk and outlives it; its processes and its mounts don't."""
 
-    def __init__(self, number, folder):
+    process: subprocess.Popen[str]
+
+    def __init__(self, number: int, folder: str) -> None:
         self.number, self.name, self.address = number, f"host{number}", f"10.77.0.{number}"
         self.folder, self.port = f"{folder}/host{number}", f"port{number}"
-        self.first, self.process = None, None
+        self.first: int | None = None  # the number of its first process, while it is on
         for part in ("glusterd", "log", "srv/brick", "srv/resetd"):
             os.makedirs(f"{self.folder}/{part}")
 
-    def boot(self, script=BOOT, *more, group=None):
+    def boot(self) -> None:
+        self.boot_by(BOOT)
+
+    def boot_by(self, script: str, *more: str, group: str | None = None) -> None:
         """In a control group of its own, where one is named: systemd wants to be the only one in its group."""
         words = ["sh", "-c", 'echo $$ > "$0/cgroup.procs"; exec "$@"', group] if group else []
         words += ["unshare", "--net", "--mount", "--pid", "--uts", "--ipc", "--cgroup", "--fork", "--kill-child",
-                 "--mount-proc", "sh", "-c", script, "boot", self.name, self.folder, self.address,
-                 os.path.realpath(sys.executable), *more]
+                  "--mount-proc", "sh", "-c", script, "boot", self.name, self.folder, self.address,
+                  os.path.realpath(sys.executable), *more]
         with open(f"{self.folder}/boot", "ab") as faults:
             self.process = subprocess.Popen(words, stdin=subprocess.PIPE, stdout=subprocess.PIPE, stderr=faults,
                                             encoding="utf-8")
@@ -91,21 +98,24 @@ class Host:
             self.first = int(children.read().split()[0])
         run(["ip", "link", "add", self.port, "type", "veth", "peer", "name", "eth0", "netns", str(self.first)])
         run(["ip", "link", "set", self.port, "master", SWITCH, "up"])
+        assert self.process.stdin
         self.process.stdin.write("linked\n")
         self.process.stdin.flush()
         self.expect("linked")
 
-    def expect(self, word):
+    def expect(self, word: str) -> None:
+        assert self.process.stdout
         line = self.process.stdout.readline().strip()
         if line != word:
             raise Failed(f"{self.name} did not start: {line or self.process.wait()}")
 
     @property
-    def is_on(self):
+    def is_on(self) -> bool:
         return self.first is not None
 
     def kill(self) -> None:
         """Signal 9 to the first process, and so to all: none can send a last word, since the link goes down first."""
+        assert self.first and self.process.stdin and self.process.stdout
         self.cut()
         os.kill(self.first, 9)
         self.process.wait()
@@ -120,16 +130,16 @@ class Host:
     def link(self) -> None:
         set_link(self.port, True)
 
-    def inside(self, *words):
+    def inside(self, *words: str) -> list[str]:
         """The words that run a command on this host."""
         return ["nsenter", f"--target={self.first}", "--mount", "--net", "--pid", "--uts", "--ipc", "--cgroup",
                 "--wd=/", *words]
 
-    def run(self, *words, seconds=60, is_checked=True):
+    def run(self, *words: str, seconds: float = 60, is_checked: bool = True) -> tuple[int, str]:
         return run(self.inside(*words), seconds, is_checked)
 
     @contextlib.contextmanager
-    def network(self):
+    def network(self) -> Iterator[None]:
         """Within it the thread that calls has this host's network: what it connects to, the host connects to."""
         with open(f"/proc/{self.first}/ns/net", "rb") as there, \
                 open(f"/proc/self/task/{threading.get_native_id()}/ns/net", "rb") as back:
@@ -140,7 +150,7 @@ class Host:
                 enter(back)
 
 
-def set_link(name, is_up):
+def set_link(name: str, is_up: bool) -> None:
     """At once, without a command that would first have to start."""
     with socket.socket(socket.AF_INET, socket.SOCK_DGRAM) as any_socket:
         asked = fcntl.ioctl(any_socket, GET_FLAGS, struct.pack("16sh22x", name.encode(), 0))
@@ -148,12 +158,12 @@ def set_link(name, is_up):
         fcntl.ioctl(any_socket, SET_FLAGS, struct.pack("16sh22x", name.encode(), flags))
 
 
-def enter(namespace):
+def enter(namespace: IO[bytes]) -> None:
     if LIBC.setns(namespace.fileno(), NEW_NETWORK) != 0:
         raise Failed(f"no way into a network namespace: {os.strerror(ctypes.get_errno())}")
 
 
-def wait_for(what, seconds, is_so, pause=0.05):
+def wait_for(what: str, seconds: float, is_so: Callable[[], object], pause: float = 0.05) -> float:
     """Waits until something is so, and answers how long that took."""
     begun = time.monotonic()
     while not is_so():

@@ -1,19 +1,20 @@
 """The parts of the trial: what is lost in each, and who goes on."""
 
 import time
+from collections.abc import Callable
 
 from . import half
 from .clients import Lost, ask
-from .keeper import look_into
-from .network import wait_for
-from .trial import QUICK, tell
+from .keeper import Keeper, look_into
+from .network import Host, wait_for
+from .trial import QUICK, Trial, tell
 
 LATER = 2  # seconds of load before and after what is done to a host
 RECONNECTED = 6  # seconds after which all hosts have found a brick again
 AWAY = 9  # seconds for which the host without a coordinator, or the majority, is away
 
 
-def killed_in_wave(trial):
+def killed_in_wave(trial: Trial) -> float:
     print("1. A reset is asked for, and in the middle of it host 1, on which the coordinator is, is killed whole.",
           flush=True)
     old, new = trial.present, trial.other(trial.present)
@@ -54,7 +55,7 @@ def killed_in_wave(trial):
     return took
 
 
-def cut_in_load(trial):
+def cut_in_load(trial: Trial) -> float:
     old, new = trial.present, trial.other(trial.present)
     print(f"2. {old.host.name}, on which the coordinator is, is cut off from the network in the middle of load.",
           flush=True)
@@ -76,13 +77,13 @@ def cut_in_load(trial):
     return took
 
 
-def linked_old_is_asked(trial, old, ends):
+def linked_old_is_asked(trial: Trial, old: Keeper, ends: int) -> None:
     """The old coordinator, over a new connection, with an order of a client that nobody else is."""
     request = {"op": "reset", "client": 15, "number": 1, "node": 1}
     tell(f"the old coordinator on {old.host.name} {trial.end_old(old, ends, request)}")
 
 
-def cut_while_idle(trial):
+def cut_while_idle(trial: Trial) -> float:
     old, new = trial.present, trial.other(trial.present)
     print(f"3. {old.host.name} is cut off while its coordinator is idle.", flush=True)
     trial.wait_quiet()
@@ -110,7 +111,7 @@ def cut_while_idle(trial):
     return took
 
 
-def bricks_in_turn(trial):
+def bricks_in_turn(trial: Trial) -> float:
     print("4. One brick is killed and comes back under load; then another one; then a whole host is away.", flush=True)
     trial.load.start()
     begun = time.monotonic()
@@ -137,7 +138,7 @@ def bricks_in_turn(trial):
     return gap
 
 
-def one_brick(trial, host):
+def one_brick(trial: Trial, host: Host) -> float:
     """Kills a brick and starts it again: the longest time without an answer."""
     killed = time.monotonic()
     trial.volume.kill_brick(host)
@@ -147,7 +148,7 @@ def one_brick(trial, host):
     return trial.records.longest_gap(killed)
 
 
-def third_host_away(trial):
+def third_host_away(trial: Trial) -> float:
     """The host without a coordinator: the longest time without an answer, to clients on the coordinator's host."""
     away, trial.site.host = trial.site.host, trial.present.host
     starts = trial.starts()
@@ -164,7 +165,7 @@ def third_host_away(trial):
     return gap
 
 
-def majority_lost(trial):
+def majority_lost(trial: Trial) -> float:
     keeper = trial.present
     away = [host for host in trial.hosts if host is not keeper.host]
     print(f"5. Two of the three bricks are cut off, those of {away[0].name} and {away[1].name}: no majority.",
@@ -199,11 +200,11 @@ def majority_lost(trial):
     return took
 
 
-def what_it_answers(keeper):
+def what_it_answers(keeper: Keeper) -> str:
     try:
-        return ask(keeper.host, keeper.address, {"op": "show"}, 5).get("name", "show alone")
+        return str(ask(keeper.host, keeper.address, {"op": "show"}, 5).get("name", "show alone"))
     except Exception:
         return "nothing"
 
 
-PARTS = [killed_in_wave, cut_in_load, cut_while_idle, bricks_in_turn, majority_lost, half.half_written]
+PARTS: list[Callable[[Trial], object]] = [killed_in_wave, cut_in_load, cut_while_idle, bricks_in_turn, majority_lost, half.half_written]

@@ -3,15 +3,18 @@
 import threading
 import time
 
-from .clients import Lost
+from .clients import Json, Lost
+from .keeper import Keeper
 
 
 class Records:
-    def __init__(self, keepers):
+    def __init__(self, keepers: list[Keeper]) -> None:
         self.keepers, self.lock = keepers, threading.Lock()
-        self.steps, self.answers, self.epochs = {}, [], {}
+        self.steps: dict[int, Json] = {}
+        self.answers: list[tuple[float, Keeper]] = []
+        self.epochs: dict[int, int] = {}
 
-    def note_answer(self, order, reply, keeper):
+    def note_answer(self, order: Json, reply: Json, keeper: Keeper) -> None:
         """A reply that came. No two orders have one step."""
         with self.lock:
             other = self.steps.setdefault(reply["step"], order)
@@ -19,38 +22,38 @@ class Records:
             if other != order:
                 raise Lost(f"{other} and {order} were both answered as step {reply['step']}")
 
-    def signals(self):
+    def signals(self) -> list[tuple[int, int]]:
         """Each signal that was printed, as its node and its epoch, over all hosts. None twice."""
-        seen = {}
+        seen: dict[str, str] = {}
         for keeper in self.keepers:
             for line in keeper.lines("signals"):
                 if line.startswith("signal "):
                     if line in seen:
                         raise Lost(f"{line} was printed on {seen[line]} and on {keeper.host.name}")
                     seen[line] = keeper.host.name
-        return [tuple(map(int, line.split()[1:])) for line in seen]
+        return [(int(node), int(epoch)) for _, node, epoch in map(str.split, seen)]
 
-    def note_epochs(self, epochs):
+    def note_epochs(self, epochs: dict[int, int]) -> None:
         """Epochs that were shown: none is below one that was signalled or shown before."""
         for node, epoch in [*self.signals(), *self.epochs.items()]:
             if epochs.get(node, 0) < epoch:
                 raise Lost(f"node {node} was in epoch {epoch}, and is in epoch {epochs.get(node)}")
         self.epochs = dict(epochs)
 
-    def last_step(self):
+    def last_step(self) -> int:
         return max(self.steps, default=0)
 
-    def first_answer(self, keeper, since):
+    def first_answer(self, keeper: Keeper, since: float) -> float | None:
         """When this keeper first answered an order after a moment; none where it did not."""
         with self.lock:
             return next((when for when, who in self.answers if who is keeper and when >= since), None)
 
-    def longest_gap(self, since):
+    def longest_gap(self, since: float) -> float:
         """The longest time without an answer from a moment until now."""
         with self.lock:
             moments = [since, *(when for when, _ in self.answers if when >= since), time.monotonic()]
         return max(later - sooner for sooner, later in zip(moments, moments[1:]))
 
-    def count(self, since=0.0):
+    def count(self, since: float = 0.0) -> int:
         with self.lock:
             return sum(when >= since for when, _ in self.answers)

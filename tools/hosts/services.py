@@ -3,7 +3,8 @@
 import threading
 import time
 
-from .clients import OLD_EPOCH, Lost
+from .clients import OLD_EPOCH, Client, Lost
+from .keeper import Keeper
 
 LOOK = 2  # seconds between two looks at `show`
 
@@ -12,9 +13,10 @@ class Service:
     """Follows the lines that the coordinators of all hosts print, and looks at `show` after each `listening`, and
     every few seconds, since a signal can go with a host."""
 
-    def __init__(self, node, client, keepers):
+    def __init__(self, node: int, client: Client, keepers: list[Keeper]) -> None:
         self.node, self.client, self.keepers = node, client, keepers
-        self.begun, self.read, self.looked, self.fault = 0, [0] * len(keepers), 0, None
+        self.begun, self.read, self.looked = 0, [0] * len(keepers), 0.0
+        self.fault: Exception | None = None
         self.is_on = True
         self.thread = threading.Thread(target=self.run, daemon=True)
 
@@ -29,7 +31,7 @@ class Service:
         except Exception as fault:  # told by `stop`
             self.fault = fault
 
-    def follow(self, place, lines):
+    def follow(self, place: int, lines: list[str]) -> None:
         new, self.read[place] = lines[self.read[place]:], len(lines)
         for line in new:
             words = line.split()
@@ -39,12 +41,12 @@ class Service:
                 self.begin(int(words[2]))
 
     def look(self) -> None:
-        met = self.client.site.ask({"op": "show"}, 120, lambda: self.is_on)
+        met = self.client.site.ask_while(lambda: self.is_on, {"op": "show"}, 120)
         if met:
             self.begin(next(row[4] for row in met[0]["nodes"] if row[0] == self.node))
         self.looked = time.monotonic()
 
-    def begin(self, epoch):
+    def begin(self, epoch: int) -> None:
         """An epoch that was begun before is not begun again."""
         if epoch <= self.begun:
             return

@@ -2,7 +2,7 @@
 
 import time
 
-from .clients import Away, Client, Load, Lost, Site, ask
+from .clients import Away, Client, Json, Load, Lost, Site, ask
 from .keeper import REFUSED, STORE, Keeper, look_into
 from .network import Host, make_switch, wait_for
 from .records import Records
@@ -17,11 +17,11 @@ PLANTED = ("no-strict-locks", "page-cache", "other-brick", "dropped-answers", "o
            "not-rewritten")
 
 
-def tell(text):
+def tell(text: str) -> None:
     print(f"  {text}", flush=True)
 
 
-def topology():
+def topology() -> str:
     """A ring: each member is linked to the next one."""
     nodes = "".join(f"[[node]]\nid = {node}\ngroup = 1\n" for node in MEMBERS)
     links = "".join(f"[[link]]\na = {node}\nb = {node % len(MEMBERS) + 1}\n" for node in MEMBERS)
@@ -29,7 +29,7 @@ def topology():
 
 
 class Trial:
-    def __init__(self, program, folder, planted):
+    def __init__(self, program: str, folder: str, planted: str | None) -> None:
         self.program, self.folder, self.planted = program, folder, planted
         self.hosts = [Host(number, folder) for number in (1, 2, 3)]
         options = {**OPTIONS, STRICT_LOCKS: "off"} if planted == "no-strict-locks" else OPTIONS
@@ -38,7 +38,7 @@ class Trial:
         self.records = Records(self.keepers)
         self.site = Site(self.hosts[2], self.keepers)
         self.clients = [Client(number, self.site, self.records) for number in (*MEMBERS, *LOAD_CLIENTS)]
-        self.services = []
+        self.services = list[Service]()
         self.load = Load(self.clients[len(MEMBERS):], list(MEMBERS))
         if planted == "dropped-answers":
             self.load.clients[0].drops = 5
@@ -71,19 +71,19 @@ class Trial:
             service.thread.start()
 
     @property
-    def present(self):
+    def present(self) -> Keeper:
         return self.site.present
 
-    def other(self, keeper):
+    def other(self, keeper: Keeper) -> Keeper:
         return next(other for other in self.keepers if other is not keeper)
 
-    def restart(self, keeper):
+    def restart(self, keeper: Keeper) -> None:
         """The host of a keeper is switched on again, with its brick, the volume and a standby."""
         keeper.host.boot()
         self.volume.join(keeper.host)
         keeper.start()
 
-    def wait_takeover(self, keeper, since):
+    def wait_takeover(self, keeper: Keeper, since: float) -> float:
         """Waits until another host's coordinator has answered an order of the load: what it took."""
         wait_for(f"an answer of {keeper.host.name}", 90,
                  lambda: self.load.fault or keeper.gave_up() or self.records.first_answer(keeper, since), 0.01)
@@ -94,7 +94,7 @@ class Trial:
             raise Lost(f"{keeper.host.name} took over after {answered - since:.1f} s, and was to within {QUICK} s")
         return answered - since
 
-    def wait_quiet(self, seconds=60):
+    def wait_quiet(self, seconds: float = 60) -> tuple[Keeper, Json, dict[int, int]]:
         """Until no reset is on its way, each member has confirmed, and each order has its answer: the epochs. (A
         settled order is in `show` before its answer has come, and then the one before it is out of turn.)"""
         keeper, until = self.present, time.monotonic() + seconds
@@ -131,7 +131,7 @@ class Trial:
         tell(f"handed over by a close, so that the file is open on all three: {self.present.host.name} answers after "
              f"{took:.1f} s\n")
 
-    def plant(self, keeper):
+    def plant(self, keeper: Keeper) -> None:
         """What is wrong on purpose, to see that it is found."""
         if self.planted == "other-brick":
             with open(f"{self.hosts[2].folder}/srv/brick/resetd/store", "r+b") as file:
@@ -143,14 +143,14 @@ class Trial:
             with open(keeper.path("signals"), "a", encoding="utf-8") as file:
                 file.write(f"{self.keepers[0].lines('signals')[-1]}\n")
 
-    def check_file(self, held, steps):
+    def check_file(self, held: bytes, steps: int) -> None:
         """The bytes are a legal store of just these steps, whose epochs are those that were shown."""
         status, printed, rows = look_into(self.program, held, self.folder)
         if status != 0 or printed != f"legal {steps}":
             raise Lost(f"resetd check ended with status {status}: {printed}, and {steps} steps were shown")
         self.records.note_epochs({int(row[1]): int(row[5]) for row in rows})
 
-    def end_old(self, keeper, before, request):
+    def end_old(self, keeper: Keeper, before: int, request: Json) -> str:
         """An old coordinator, whose end is the one after so many, is asked: it has to refuse, and ends by `close` with
         the fault of its device. Where a client of the load came to it first, and closed it, its end alone is seen."""
         try:
@@ -170,10 +170,10 @@ class Trial:
             raise Lost(f"the old coordinator on {keeper.host.name} ended with {ended}")
         return f"{told}, and ends by close: status {ended}"
 
-    def starts(self):
+    def starts(self) -> int:
         return sum(keeper.starts() for keeper in self.keepers)
 
-    def hand_over(self):
+    def hand_over(self) -> float:
         """Ends the present coordinator in order, and waits for the next start, here or there: what it took. A
         coordinator has the file open on the bricks that its host had when it opened it, so each has to have all."""
         for keeper in self.keepers:
@@ -187,7 +187,7 @@ class Trial:
             raise Lost(f"closed in order, the coordinator on {keeper.host.name} ended with {keeper.ends()[ended]}")
         return time.monotonic() - begun
 
-    def hand_over_to(self, keeper):
+    def hand_over_to(self, keeper: Keeper) -> None:
         """Closes until this one serves."""
         until = time.monotonic() + 60
         while self.present is not keeper:
@@ -208,7 +208,7 @@ class Trial:
             status, printed, _ = look_into(self.program, held, self.folder)
             print(f"brick of {host.name}: {len(held)} bytes; resetd check: {status} {printed}")
 
-    def stop(self):
+    def stop(self) -> tuple[Keeper, str]:
         for service in self.services:
             service.stop()
         keeper = self.present

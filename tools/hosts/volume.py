@@ -3,7 +3,7 @@
 import hashlib
 
 from .clients import Lost
-from .network import Failed, wait_for
+from .network import Failed, Host, wait_for
 
 NAME, BRICK, MOUNT = "resetd", "/srv/brick/resetd", "/srv/resetd"
 # Without direct I/O a host that served before reads what its own memory still has of the file, not what it is now.
@@ -39,10 +39,10 @@ OPTIONS = {
 
 
 class Volume:
-    def __init__(self, hosts, options, mount_options):
+    def __init__(self, hosts: list[Host], options: dict[str, str], mount_options: str) -> None:
         self.hosts, self.options, self.mount_options = hosts, dict(options), mount_options
 
-    def gluster(self, host, *words, seconds=60, is_checked=True):
+    def gluster(self, host: Host, *words: str, seconds: float = 60, is_checked: bool = True) -> tuple[int, str]:
         return host.run("gluster", "--mode=script", *words, seconds=seconds, is_checked=is_checked)
 
     def make(self) -> None:
@@ -62,67 +62,74 @@ class Volume:
         for host in self.hosts:
             self.mount(host)
 
-    def manage(self, host):
+    def manage(self, host: Host) -> None:
         host.run("glusterd")
         wait_for(f"glusterd of {host.name}", 30,
                  lambda: self.gluster(host, "--timeout=5", "pool", "list", is_checked=False)[0] == 0)
 
-    def wait_peers(self, host):
+    def wait_peers(self, host: Host) -> None:
         wait_for("the hosts of the pool", 30,
                  lambda: self.gluster(host, "pool", "list", is_checked=False)[1].count("Connected") == len(self.hosts))
 
-    def mount(self, host, is_checked=True):
+    def mount(self, host: Host, is_checked: bool = True) -> bool:
         """Whether the volume is mounted now."""
         words = ["mount", "-t", "glusterfs", "-o", self.mount_options, f"{host.name}:/{NAME}", MOUNT]
         return host.run(*words, is_checked=is_checked)[0] == 0
 
-    def join(self, host):
+    def join(self, host: Host) -> None:
         """A host that was switched on again: its glusterd starts its brick, and the volume is mounted."""
         self.manage(host)
         wait_for(f"the brick of {host.name}", 30, lambda: self.brick_process(host) is not None)
         wait_for(f"the volume on {host.name}", 30, lambda: self.mount(host, is_checked=False), 0.5)
 
-    def brick_process(self, host):
+    def brick_process(self, host: Host) -> str | None:
         """The number of the brick's process on its host, if there is one."""
         _, printed = host.run("sh", "-c", "cat /run/gluster/vols/*/*.pid", is_checked=False)
         number = printed.strip()
         is_there = number.isdigit() and host.run("kill", "-0", number, is_checked=False)[0] == 0
         return number if is_there else None
 
-    def kill_brick(self, host):
-        host.run("kill", "-9", self.brick_process(host))
+    def present_brick(self, host: Host) -> str:
+        """The same of a brick that is there."""
+        number = self.brick_process(host)
+        if number is None:
+            raise Failed(f"{host.name} has no brick")
+        return number
 
-    def freeze_brick(self, host):
+    def kill_brick(self, host: Host) -> None:
+        host.run("kill", "-9", self.present_brick(host))
+
+    def freeze_brick(self, host: Host) -> None:
         """What comes to it is not looked at any more. Its threads stop once the first of them has got the signal, on
         a busy machine some time later, so that is waited for."""
-        number = self.brick_process(host)
+        number = self.present_brick(host)
         host.run("kill", "-STOP", number)
         wait_for(f"the brick of {host.name} to stop", 10, lambda: self.is_frozen(host, number), 0.01)
 
-    def is_frozen(self, host, number):
+    def is_frozen(self, host: Host, number: str) -> bool:
         """Whether each thread of a process has stopped."""
         _, printed = host.run("sh", "-c", f"cat /proc/{number}/task/*/stat", is_checked=False)
         return {line.rsplit(") ", 1)[-1][:1] for line in printed.splitlines()} == {"T"}
 
-    def set_healing(self, is_on):
+    def set_healing(self, is_on: bool) -> None:
         """Whether a brick that owes another one something is looked at."""
         self.gluster(self.hosts[0], "volume", "set", NAME, "cluster.self-heal-daemon", "on" if is_on else "off")
 
-    def start_brick(self, host):
+    def start_brick(self, host: Host) -> None:
         self.gluster(host, "volume", "start", NAME, "force")
         wait_for(f"the brick of {host.name}", 30, lambda: self.brick_process(host) is not None)
 
-    def is_connected(self, host):
+    def is_connected(self, host: Host) -> bool:
         """Whether the volume's client on a host has all three bricks. After a loss it looks for them every 3 s."""
         _, printed = host.run("sh", "-c", f"cat {MOUNT}/.meta/graphs/active/{NAME}-client-*/private", is_checked=False)
         return printed.count("connected = 1") == len(self.hosts)
 
-    def is_healed(self, host):
+    def is_healed(self, host: Host) -> bool:
         """Whether all three bricks are there and none owes another one anything."""
         status, printed = self.gluster(host, "volume", "heal", NAME, "info", seconds=120, is_checked=False)
         return status == 0 and printed.count("Number of entries: 0") == len(self.hosts)
 
-    def wait_healed(self, host, seconds=60):
+    def wait_healed(self, host: Host, seconds: float = 60) -> tuple[bytes, float]:
         """Until no brick owes another one anything and all have the same bytes: these bytes, and what it took. The
         bytes count too, since a write of the last second may not stand in the bricks' lists yet."""
         try:
@@ -133,7 +140,7 @@ class Volume:
             raise Lost(f"the bricks differ, or owe one another something after {seconds} s: {told}") from late
         return self.bytes()[0], took
 
-    def bytes(self, name="store"):
+    def bytes(self, name: str = "store") -> list[bytes]:
         """What each brick holds as a file of the volume, read below it on its host's disk."""
         held = []
         for host in self.hosts:

@@ -3,7 +3,8 @@
 import os
 import subprocess
 import sys
-from collections import namedtuple
+from collections.abc import Callable
+from typing import NamedTuple
 
 from support.case import until
 from support.preloaded import environment
@@ -13,25 +14,38 @@ from support.stores import HALF, topology
 
 LONG = 120  # seconds within which what is typed has to end on a busy machine
 
-Typed = namedtuple("Typed", "status text")
-TRIALS = {}  # by the words with which a row begins
-LEFT_OUT = {}
+
+class Typed(NamedTuple):
+    """What came of what was typed: its exit status, and what it printed."""
+
+    status: int
+    text: str
+
+
+class Trial(NamedTuple):
+    """A trial of a row, and whether it waits for minutes."""
+
+    call: Callable[[Desk], None]
+    is_slow: bool
+
+
+TRIALS: dict[str, Trial] = {}  # by the words with which a row begins
+LEFT_OUT: dict[str, str] = {}  # why a row has none
 
 
 class NotSeen(AssertionError):
     """The row's line was not seen, or what it says to type did not help."""
 
 
-def row(beginning, is_slow=False):
+def row(beginning: str, is_slow: bool = False) -> Callable[[Callable[[Desk], None]], Callable[[Desk], None]]:
     """The trial of the row whose first cell begins so."""
-    def take(trial):
-        trial.is_slow = is_slow
-        TRIALS[beginning] = trial
-        return trial
+    def take(call: Callable[[Desk], None]) -> Callable[[Desk], None]:
+        TRIALS[beginning] = Trial(call, is_slow)
+        return call
     return take
 
 
-def see(where, *wanted):
+def see(where: str, *wanted: str) -> None:
     for text in wanted:
         if text not in where:
             raise NotSeen(f"not seen: {text}\nin: {where[-2_000:]}")
@@ -40,53 +54,55 @@ def see(where, *wanted):
 class Desk:
     """One trial's own."""
 
-    def __init__(self, folder):
+    def __init__(self, folder: str) -> None:
         self.folder = folder
 
-    def path(self, name):
+    def path(self, name: str) -> str:
         return os.path.join(self.folder, name)
 
-    def write(self, name, data):
+    def write(self, name: str, data: bytes) -> str:
         with open(self.path(name), "wb") as file:
             file.write(data)
         return self.path(name)
 
-    def store(self, nodes=2, name="store"):
+    def store(self, nodes: int = 2, name: str = "store") -> str:
         """A store of a row of linked nodes."""
         text = topology([(node, 1) for node in range(1, nodes + 1)], [(node, node + 1) for node in range(1, nodes)], HALF)
         see(ran("init", self.path(name), self.write(f"{name}.toml", text.encode())).printed, "created")
         return self.path(name)
 
-    def serve(self, store, **settings):
+    def serve(self, store: str, **settings: str | int) -> Serving:
         """A server, some of whose calls are changed."""
         return Serving(store, env=environment(self.folder, **settings) if settings else None)
 
-    def start_ends(self, store, status, name, address="127.0.0.1:0", **settings):
+    def start_ends(self, store: str, status: int, name: str, address: str = "127.0.0.1:0",
+                   **settings: str | int) -> None:
         """A start ends with this status and this fault."""
         ended = ran("serve", store, address, env={**os.environ, **environment(self.folder, **settings)} if settings else None)
         if (ended.status, ended.told) != (status, f"resetd: {name}\n"):
             raise NotSeen(f"a start ended with {ended}, and not with {name}")
 
-    def resetctl(self, *words, server=None, address=None, patience=LONG, seconds=LONG):
+    def resetctl(self, *words: str, server: Serving | None = None, address: str | None = None, patience: float = LONG,
+                 seconds: float = LONG) -> Typed:
         """What `resetctl` prints for these words, with its status."""
         at = address or (server.address if server else "127.0.0.1:1")
         return self.typed(sys.executable, "-B", f"{ROOT}/client/resetctl", "--state", self.path("state"), "--address", at,
                           "--patience", str(patience), "--seconds", str(seconds), *words)
 
-    def typed(self, *words, **how):
+    def typed(self, *words: str) -> Typed:
         done = subprocess.run(words, stdin=subprocess.DEVNULL, stdout=subprocess.PIPE, stderr=subprocess.STDOUT, text=True,
-                              timeout=5 * LONG, check=False, **how)
+                              timeout=5 * LONG, check=False)
         return Typed(done.returncode, done.stdout)
 
-    def health(self, server, *words, **how):
+    def health(self, server: Serving | None, *words: str, patience: float = LONG, seconds: float = LONG) -> Typed:
         """What the monitoring check prints; an epoch may be unconfirmed meanwhile."""
-        return self.resetctl("health", *(words or ("--unconfirmed", "1000000")), server=server, **how)
+        return self.resetctl("health", *(words or ("--unconfirmed", "1000000")), server=server, patience=patience, seconds=seconds)
 
-    def await_health(self, server, wanted, *words):
+    def await_health(self, server: Serving, wanted: str, *words: str) -> Typed:
         """Looks until the check tells something."""
         return until(wanted, lambda: wanted in (told := self.health(server, *words)).text and told)
 
-    def expect_served(self, store, *wanted):
+    def expect_served(self, store: str, *wanted: str) -> None:
         """A start goes well, and the check finds all well; the network shows this."""
         with Serving(store) as server:
             see(self.health(server, "--store", store, "--unconfirmed", "1000000").text, "resetd OK: well")
@@ -94,6 +110,6 @@ class Desk:
             if server.close().status:
                 raise NotSeen("the server did not end in order")
 
-    def why(self, store, server=None, *words):
+    def why(self, store: str, server: Serving | None = None, *words: str) -> str:
         """What `why` prints; it waits 2 s for an answer."""
         return self.resetctl("why", *words, store, *([server.address] if server else []), patience=0, seconds=2).text

@@ -9,6 +9,7 @@ import socket
 import subprocess
 import sys
 import time
+from collections.abc import Callable, Iterator
 
 from support.case import until
 from support.piped import Piped
@@ -20,21 +21,22 @@ from resetd_client import Port
 from resetd_client.health import Bounds, check
 from resetd_client.since import Since, boot_clock
 
-from .desk import LEFT_OUT, LONG, NotSeen, row, see
+from .desk import LEFT_OUT, LONG, Desk, NotSeen, row, see
 
 LEFT_OUT["`20 PendingFull`"] = ("no client reaches it, since a server posts no more orders at a time than one flight has; "
                                 "client/tests has it of a coordinator in memory")
 
 
 @row("`resetctl health`: `no answer`")
-def no_answer(desk):
+def no_answer(desk: Desk) -> None:
     store = desk.store()
     see(desk.health(None, patience=0, seconds=2).text, "resetd CRITICAL: no answer: ")
     with Serving(store) as server:
         with stopped(server):
             see(desk.health(server, patience=0, seconds=2).text, "resetd CRITICAL: no answer: ")
             see(desk.why(store, server), f"is stopped by a signal (SIGSTOP or a debugger): kill -CONT {server.process.pid}")
-        with socket.create_connection(server.address.split(":"), LONG) as client:
+        host, port_number = server.address.split(":")
+        with socket.create_connection((host, int(port_number)), LONG) as client:
             client.sendall(spelled({"op": "show"}))
             client.recv(1)
             see(desk.health(server, patience=0, seconds=2).text, "resetd CRITICAL: no answer: ")
@@ -43,7 +45,7 @@ def no_answer(desk):
 
 
 @contextlib.contextmanager
-def stopped(server):
+def stopped(server: Serving) -> Iterator[None]:
     server.process.send_signal(signal.SIGSTOP)
     try:
         yield
@@ -52,7 +54,7 @@ def stopped(server):
 
 
 @row("`the server answers Stopped`")
-def a_device_that_fails(desk):
+def a_device_that_fails(desk: Desk) -> None:
     store = desk.store()
     with desk.serve(store, SYNC_FAILS=8) as server:
         number, step = 1, 0
@@ -70,7 +72,7 @@ def a_device_that_fails(desk):
 
 
 @row("`that is not the store on this file`")
-def another_store(desk):
+def another_store(desk: Desk) -> None:
     store = desk.store()
     shutil.copy(store, desk.path("old"))
     with Serving(store) as server:
@@ -93,7 +95,7 @@ def another_store(desk):
 
 @row("`resetd: Write`")
 @row("``the file of signals lacks `signal N E` ``")
-def a_file_of_signals_that_is_full(desk):
+def a_file_of_signals_that_is_full(desk: Desk) -> None:
     store, most = desk.store(), 400_000
 
     def limited() -> None:
@@ -116,7 +118,7 @@ def a_file_of_signals_that_is_full(desk):
 
 
 @row("`N steps have waited for the disk`", is_slow=True)
-def a_slow_disk(desk):
+def a_slow_disk(desk: Desk) -> None:
     """At 2, 4 and 7 seconds a sync, of which a flight has two. A flight that takes longer than 5 s is told, and no wave as
     one that stands still, since it moves with its flights."""
     for seconds in (2, 4, 7):
@@ -130,9 +132,9 @@ def a_slow_disk(desk):
             raise NotSeen(f"at {seconds} s a sync the check told: {sorted(told)}")
 
 
-def told_of_a_wave(server, memory):
+def told_of_a_wave(server: Serving, memory: str) -> set[str]:
     """What the check tells from the begin of a wave to its end, by looks that follow each other closely: words of it."""
-    port, told, words = Port(server.address, LONG), set(), {"stood still", "have waited for the disk"}
+    port, told, words = Port(server.address, LONG), set[str](), {"stood still", "have waited for the disk"}
     while True:
         view = port.show()
         if view.settled == view.accepted > 4 and all(node.mode == "ready" for node in view.nodes):
@@ -143,7 +145,7 @@ def told_of_a_wave(server, memory):
 
 
 @row("`a wave has stood still at node N`")
-def a_lost_packet(desk):
+def a_lost_packet(desk: Desk) -> None:
     """Those that take packets find no memory, and so lose one."""
     store, refusing = desk.store(), Refusing(PROGRAM, desk.folder)
     with Serving(store, env=refusing.environment(threads=WORKERS)) as server:
@@ -157,20 +159,20 @@ def a_lost_packet(desk):
 
 
 @row("`epoch E of node N is unconfirmed`")
-def a_service_that_is_down(desk):
+def a_service_that_is_down(desk: Desk) -> None:
     store = desk.store(1)
     with Serving(store) as server:
         server.order(1, "reset", client=9, node=1)
         server.await_quiet()
         desk.await_health(server, "epoch 1 of node 1 is unconfirmed for ", "--unconfirmed", "1")
         with service(desk, server) as words:
-            until("its start", lambda: server.show()["nodes"][0][4] == server.show()["nodes"][0][5] > 0)
+            until("its start", lambda: bool(server.show()["nodes"][0][4] == server.show()["nodes"][0][5] > 0))
             see(words(), "service 1: starts anew, epoch ")
         see(desk.health(server, "--unconfirmed", "1").text, "resetd OK: well")
 
 
 @row("a service says `a reset is asked for`")
-def a_new_service(desk):
+def a_new_service(desk: Desk) -> None:
     store = desk.store(1)
     with Serving(store) as server, service(desk, server) as words:
         until("what it says", lambda: "a reset is asked for" in words())
@@ -178,7 +180,7 @@ def a_new_service(desk):
 
 
 @contextlib.contextmanager
-def service(desk, server):
+def service(desk: Desk, server: Serving) -> Iterator[Callable[[], str]]:
     """The example, as member 1; and what it has printed."""
     said = desk.path("service.txt")
     with open(said, "wb") as out:
@@ -192,7 +194,7 @@ def service(desk, server):
 
 
 @row("`4 OutOfTurn`, `5 NumberReused`")
-def a_lost_count(desk):
+def a_lost_count(desk: Desk) -> None:
     store = desk.store()
     with Serving(store) as server:
         server.order(1, "reset", client=9, node=1)
@@ -203,7 +205,7 @@ def a_lost_count(desk):
 
 
 @row("no answer to an order")
-def no_answer_to_an_order(desk):
+def no_answer_to_an_order(desk: Desk) -> None:
     """Killed with an order on its way: it is carried out once, however often it is sent."""
     store = desk.store(1)
     order = {"op": "reset", "client": 9, "number": 1, "node": 1}
@@ -218,7 +220,7 @@ def no_answer_to_an_order(desk):
 
 
 @row("the power failed, or the process was killed")
-def a_kill(desk):
+def a_kill(desk: Desk) -> None:
     """In the midst of a reset."""
     store = desk.store(8)
     with desk.serve(store, SYNC_MILLIS=100) as server:
@@ -230,7 +232,7 @@ def a_kill(desk):
 
 
 @row("no signals come, and the output is a pipe")
-def a_reader_that_hangs(desk):
+def a_reader_that_hangs(desk: Desk) -> None:
     store = desk.store(1)
     with Piped(store) as server:
         for number in range(1, 401):
@@ -250,6 +252,6 @@ def a_reader_that_hangs(desk):
         raise NotSeen("the store is not legal")
 
 
-def server_errors(server):
+def server_errors(server: Serving) -> str:
     with open(server.errors, encoding="utf-8") as file:
         return file.read()

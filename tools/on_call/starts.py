@@ -11,18 +11,18 @@ from support.case import until
 from support.program import ROOT, faulted, ran
 from support.serving import Serving
 
-from .desk import LEFT_OUT, LONG, NotSeen, row, see
+from .desk import LEFT_OUT, LONG, Desk, NotSeen, row, see
 
 LEFT_OUT["`FlightOut`, `SharesMissing`, `NotNamed`"] = "the program is at fault then: no run is known that has one"
 
 
-def expect(ended, wanted):
+def expect(ended: object, wanted: object) -> None:
     if ended != wanted:
         raise NotSeen(f"a command ended with {ended}, and not with {wanted}")
 
 
 @row("`resetd: Device` at a start")
-def device_at_a_start(desk):
+def device_at_a_start(desk: Desk) -> None:
     store = desk.store()
     with Serving(store) as server:
         desk.start_ends(store, 3, "Device")
@@ -37,7 +37,7 @@ def device_at_a_start(desk):
 
 
 @row("`resetd: Device` from each command, at once")
-def no_regular_file(desk):
+def no_regular_file(desk: Desk) -> None:
     os.mkfifo(desk.path("store"))
     for command in ("check", "show"):
         expect(ran(command, desk.path("store")), faulted(3, "Device"))
@@ -45,7 +45,7 @@ def no_regular_file(desk):
 
 
 @row("any fault at a start, and you don't know why")
-def any_fault(desk):
+def any_fault(desk: Desk) -> None:
     store = desk.store()
     os.truncate(store, 60)
     see(desk.why(store), "a start now would end with BadRecord: store: does not read: BadRecord: at byte ")
@@ -54,7 +54,7 @@ def any_fault(desk):
 
 
 @row("status 153, `signal XFSZ`")
-def a_limit(desk):
+def a_limit(desk: Desk) -> None:
     store = desk.store()
     most = os.path.getsize(store) + 2_000
 
@@ -76,7 +76,7 @@ def a_limit(desk):
 
 
 @row("`resetd: NoMagic`")
-def no_store(desk):
+def no_store(desk: Desk) -> None:
     copy = desk.store(name="copy")
     store = desk.write("store", b"")
     desk.start_ends(store, 1, "NoMagic")
@@ -87,7 +87,7 @@ def no_store(desk):
 
 
 @row("`BadRecord`, `BadSnapshot`")
-def damaged(desk):
+def damaged(desk: Desk) -> None:
     store = desk.store()
     shutil.copy(store, desk.path("copy"))
     with open(store, "rb") as file:
@@ -106,7 +106,7 @@ def damaged(desk):
 
 
 @row("`resetd: Socket`")
-def a_taken_address(desk):
+def a_taken_address(desk: Desk) -> None:
     store = desk.store()
     with socket.create_server(("127.0.0.1", 0)) as other:
         address = f"127.0.0.1:{other.getsockname()[1]}"
@@ -117,21 +117,21 @@ def a_taken_address(desk):
 
 
 @row("`resetd: OutOfMemory`")
-def no_thread(desk):
+def no_thread(desk: Desk) -> None:
     store = desk.store()
     desk.start_ends(store, 4, "OutOfMemory", THREAD_FAILS=5)
     desk.expect_served(store)
 
 
 @row("`resetd: Usage`")
-def wrong_words(_):
+def wrong_words(_: Desk) -> None:
     expect(ran("srve"), faulted(2, "Usage"))
     with open(f"{ROOT}/docs/resetd.8", encoding="utf-8") as page:
         see(page.read(), "serve")
 
 
 @row("`resetd: NotQuiet 1`")
-def not_quiet(desk):
+def not_quiet(desk: Desk) -> None:
     store = desk.write("store", migrations.IN_A_RESET)
     expect(ran("migrate", store), faulted(1, "NotQuiet 1"))
     with Serving(store) as server:
@@ -142,7 +142,7 @@ def not_quiet(desk):
 
 
 @row("the machine is lost")
-def a_lost_machine(desk):
+def a_lost_machine(desk: Desk) -> None:
     store = desk.store()
     with Serving(store) as server:
         see(desk.resetctl("backup", store, desk.path("copy")).text, "copied ")
@@ -153,7 +153,7 @@ def a_lost_machine(desk):
 
 
 @row("who asked for a reset?")
-def who_asked(desk):
+def who_asked(desk: Desk) -> None:
     store = desk.store()
     with Serving(store) as server:
         server.order(1, "reset", client=9, node=2)
@@ -172,7 +172,7 @@ def who_asked(desk):
         see(desk.resetctl("steps", "--before", store).text, "client 10 order 1: reset 1\n")
 
 
-def selector_of(store):
+def selector_of(store: str) -> int:
     """Which half is selected: each checkpoint changes it."""
     with open(store, "rb") as file:
         return file.read(1)[0] % 2

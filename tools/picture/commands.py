@@ -21,10 +21,10 @@ class OtherRun(Exception):
     """The input is not the one that this output answers."""
 
 
-def commands_by_step(asked, printed):
+def commands_by_step(asked: list[str], printed: list[str]) -> dict[int, list[str]]:
     """The words of the command of each step, from the lines of a drill's input and of its output."""
     answers = deque(line for line in printed if line.split(" ")[0] not in FOLLOWS)
-    commands = {}
+    commands: dict[int, list[str]] = {}
     for number, line in enumerate(asked, 1):
         words = line.split(" ")
         if answers and answers[0] == f"bad line {number}":
@@ -38,13 +38,13 @@ def commands_by_step(asked, printed):
     return commands
 
 
-def skip_flight(answers):
+def skip_flight(answers: deque[str]) -> None:
     """The replies of a flush, up to the line that ends it: their steps were pending, and are known by then."""
     while answers and not answers.popleft().startswith(("settled ", "commit ")):
         pass
 
 
-def note(commands, number, words, answer):
+def note(commands: dict[int, list[str]], number: int, words: list[str], answer: str) -> None:
     """Notes the step that line `number` of the input made, where it made one."""
     kind, _, step = answer.partition(" ")
     if kind not in ANSWERED or not step.isdigit():

@@ -1,7 +1,10 @@
 """What a run printed, as a wave to draw: a column for each step in which something is seen."""
 
+from __future__ import annotations
+
 import re
 from collections import defaultdict
+from collections.abc import Callable
 from dataclasses import dataclass, field, replace
 
 
@@ -15,7 +18,7 @@ class Cell:
     asked: bool = False
     dropped: bool = False
     taken: str = ""
-    sent: list = field(default_factory=list)
+    sent: list[str] = field(default_factory=list)
     epoch: int | None = None
 
 
@@ -27,9 +30,9 @@ class Column:
     step: int
     kind: str
     label: str = ""
-    modes: dict = field(default_factory=dict)
-    cells: dict = field(default_factory=lambda: defaultdict(Cell))
-    taken: "Message | None" = None
+    modes: dict[int, str] = field(default_factory=dict)
+    cells: dict[int, Cell] = field(default_factory=lambda: defaultdict(Cell))
+    taken: Message | None = None
 
 
 @dataclass
@@ -49,32 +52,32 @@ class Wave:
     """Grows by one printed line after the other. A node is `reached` from the reset that it asks for, or the
     first abort that it takes, and `acknowledged` once its ack went out to where that abort came from."""
 
-    def __init__(self, commands=None):
+    def __init__(self, commands: dict[int, list[str]] | None = None) -> None:
         self.commands = commands or {}
-        self.nodes = set()
+        self.nodes = set[int]()
         self.steps = 0
-        self.all_columns = []
-        self.messages = []
-        self.lanes = {}
-        self.parents = {}
+        self.all_columns: list[Column] = []
+        self.messages: list[Message] = []
+        self.lanes: dict[tuple[int, int], Message] = {}
+        self.parents: dict[int, int] = {}
 
     @property
-    def column(self):
+    def column(self) -> Column:
         if not self.all_columns:
             raise Unknown("no step was printed before it")
         return self.all_columns[-1]
 
     @property
-    def columns(self):
+    def columns(self) -> list[Column]:
         """The columns in which something is seen."""
         return [column for column in self.all_columns if column.cells or column.kind == "start"]
 
-    def signals(self):
+    def signals(self) -> list[tuple[int, int]]:
         """Each signal as its node and epoch, in the order in which they were printed."""
         return [(node, cell.epoch) for column in self.columns for node, cell in column.cells.items()
                 if cell.epoch is not None]
 
-    def read(self, line):
+    def read(self, line: str) -> None:
         for pattern, act in LINES:
             match = pattern.fullmatch(line)
             if match:
@@ -82,12 +85,12 @@ class Wave:
                 return
         raise Unknown("no line of the drill or of the server")
 
-    def begin(self, step, kind):
+    def begin(self, step: int, kind: str) -> None:
         modes = dict(self.all_columns[-1].modes) if self.all_columns else {}
         self.all_columns.append(Column(len(self.all_columns), step, kind, modes=modes))
         self.steps = step
 
-    def reply(self, kind, step):
+    def reply(self, kind: str, step: int) -> None:
         if step <= self.steps:
             return  # the kept reply to a repeated order is no step
         self.begin(step, kind)
@@ -100,18 +103,18 @@ class Wave:
         elif words[0] == "drop":
             self.drop(int(words[1]), int(words[2]))
 
-    def ask(self, node):
+    def ask(self, node: int) -> None:
         self.nodes.add(node)
         self.column.cells[node].asked = True
         if self.column.kind == "started":
             self.column.modes[node] = "reached"
 
-    def ask_unless_known(self, kind, node):
+    def ask_unless_known(self, kind: str, node: int) -> None:
         """Without the input, the one who asked is the first to send or to be signalled."""
         if self.column.kind == kind and not any(cell.asked for cell in self.column.cells.values()):
             self.ask(node)
 
-    def drop(self, a, b):
+    def drop(self, a: int, b: int) -> None:
         self.nodes.update((a, b))
         for sender, receiver in ((a, b), (b, a)):
             self.column.cells[sender].dropped = True
@@ -119,11 +122,11 @@ class Wave:
             if self.parents.get(sender) == receiver:
                 del self.parents[sender]
 
-    def lose(self, message):
+    def lose(self, message: Message | None) -> None:
         if message and not message.taken:
             message.end = self.column
 
-    def data(self, sender, receiver, number, kind):
+    def data(self, sender: int, receiver: int, number: int, kind: str) -> None:
         self.nodes.update((sender, receiver))
         last = self.lanes.get((sender, receiver))
         if last and (last.number, last.kind) == (number, kind):
@@ -139,7 +142,7 @@ class Wave:
         if kind == "ack" and self.parents.get(sender) == receiver:
             self.column.modes[sender] = "acknowledged"
 
-    def receipt(self, sender, receiver, number):
+    def receipt(self, sender: int, receiver: int, number: int) -> None:
         if self.column.kind != "taken" or self.column.taken:
             return  # sent again
         message = self.lanes.get((sender, receiver))
@@ -154,7 +157,7 @@ class Wave:
             self.column.modes[receiver] = "reached"
             self.parents[receiver] = sender
 
-    def signal(self, node, epoch):
+    def signal(self, node: int, epoch: int) -> None:
         if not self.all_columns or self.column.kind in ("signal", "start"):
             self.begin(self.steps + 1, "signal")  # the server prints no replies
         self.ask_unless_known("finished", node)
@@ -172,7 +175,7 @@ class Wave:
         """A line that is known, and of which nothing is drawn."""
 
 
-LINES = [(re.compile(pattern), act) for pattern, act in (
+ACTS: tuple[tuple[str, Callable[..., None]], ...] = (
     (r"(done|started|finished|joined|taken|cleared) (\d+)", Wave.reply),
     (r"receipt (\d+) (\d+) (\d+)", Wave.receipt),
     (r"data (\d+) (\d+) (\d+) (abort|ack|ready)(?: \d+)?", Wave.data),
@@ -181,4 +184,5 @@ LINES = [(re.compile(pattern), act) for pattern, act in (
     (r"pending \d+|settled \d+|commit \d+ \w+|view \d+ \d+", Wave.nothing),
     (r"node \d+ \d+ (?:ready|abort|converge) \d+ \d+ \d+|link \d+ \d+ \d+", Wave.nothing),
     (r"opened \d+|listening [\d.]+:\d+", Wave.start),
-)]
+)
+LINES = [(re.compile(pattern), act) for pattern, act in ACTS]

@@ -1,8 +1,11 @@
 """A wave as an SVG picture: a line for each node, an arrow for each message, a green mark for each signal."""
 
 from bisect import bisect_right
+from collections.abc import Iterator
 from html import escape
 from math import hypot
+
+from .reading import Column, Message, Wave
 
 COLOURS = {"abort": "#b3261e", "ack": "#7a5c00", "ready": "#146c2e"}
 BARS = {"reached": "#b3261e", "acknowledged": "#e0ab00"}
@@ -24,7 +27,7 @@ MARKER = ('<marker id="{kind}" viewBox="0 0 10 10" refX="9" refY="5" markerWidth
 class Layout:
     """Where columns and nodes stand."""
 
-    def __init__(self, wave):
+    def __init__(self, wave: Wave) -> None:
         self.columns = [column.index for column in wave.columns]
         self.rows = {node: row for row, node in enumerate(sorted(wave.nodes))}
         labels = max((len(column.label) for column in wave.columns), default=0)
@@ -39,14 +42,14 @@ class Layout:
         self.width = round(max(LEAST_WIDTH, self.end + right))
         self.height = self.bottom + 76
 
-    def x(self, column):
+    def x(self, column: Column) -> float:
         return LEFT + self.gap * max(0, bisect_right(self.columns, column.index) - 1)
 
-    def y(self, node):
+    def y(self, node: int) -> float:
         return self.top + ROW * (self.rows[node] + 0.5)
 
 
-def draw(wave):
+def draw(wave: Wave) -> str:
     at = Layout(wave)
     markers = "\n".join(MARKER.format(kind=kind, colour=colour) for kind, colour in COLOURS.items())
     parts = [HEAD.format(width=at.width, height=at.height, markers=markers)]
@@ -58,15 +61,15 @@ def draw(wave):
     return "\n".join(parts + legend(at) + ["</svg>"]) + "\n"
 
 
-def line(x1, y1, x2, y2, style):
+def line(x1: float, y1: float, x2: float, y2: float, style: str) -> str:
     return f'<line x1="{x1:.1f}" y1="{y1:.1f}" x2="{x2:.1f}" y2="{y2:.1f}" {style}/>'
 
 
-def label(x, y, text, style=""):
+def label(x: float, y: float, text: str, style: str = "") -> str:
     return f'<text x="{x:.1f}" y="{y:.1f}" fill="#222"{style}>{escape(text)}</text>'
 
 
-def heading(column, at):
+def heading(column: Column, at: Layout) -> str:
     """The step's number, and its command where that is known; or a line across all nodes, for a start."""
     x = at.x(column)
     if column.kind == "start":
@@ -79,15 +82,15 @@ def heading(column, at):
     return number + "\n" + label(x, at.top - 22, column.label, turned)
 
 
-def lifeline(node, at):
+def lifeline(node: int, at: Layout) -> str:
     y = at.y(node)
     return (label(20, y + 4, f"node {node}", ' font-weight="bold"') + "\n"
             + line(LEFT - 14, y, at.end, y, 'stroke="#c8c8c8" stroke-width="4"'))
 
 
-def bars(wave, node, at):
+def bars(wave: Wave, node: int, at: Layout) -> Iterator[str]:
     """The stretches in which a node is in a reset."""
-    mode, begin = "", 0
+    mode, begin = "", 0.0
     for column in wave.columns:
         now = column.modes.get(node, "")
         if now != mode:
@@ -98,11 +101,11 @@ def bars(wave, node, at):
         yield bar(begin, at.end, at.y(node), mode)
 
 
-def bar(begin, end, y, mode):
+def bar(begin: float, end: float, y: float, mode: str) -> str:
     return line(begin, y, end, y, f'stroke="{BARS[mode]}" stroke-width="10"')
 
 
-def arrow(message, at):
+def arrow(message: Message, at: Layout) -> str:
     """From where a message went out to where it was taken; dashed into the gap between where it never was."""
     x1, y1, y2 = at.x(message.sent), at.y(message.sender), at.y(message.receiver)
     x2 = at.x(message.end) if message.end else at.end
@@ -114,7 +117,7 @@ def arrow(message, at):
     return line(x1 + 6 * dx, y1 + 6 * dy, x2 - 8 * dx, y2 - 8 * dy, f'{style} marker-end="url(#{message.kind})"')
 
 
-def marks(column, at):
+def marks(column: Column, at: Layout) -> Iterator[str]:
     """Who asked for a reset, and who was signalled."""
     for node, cell in column.cells.items():
         x, y = at.x(column), at.y(node)
@@ -124,22 +127,22 @@ def marks(column, at):
             yield pill(x, y, cell.epoch)
 
 
-def ring(x, y):
+def ring(x: float, y: float) -> str:
     return f'<circle cx="{x:.1f}" cy="{y:.1f}" r="7" fill="#ffffff" stroke="#b3261e" stroke-width="3"/>'
 
 
-def pill_width(epoch):
+def pill_width(epoch: int | str) -> int:
     return 12 + 7 * len(str(epoch))
 
 
-def pill(x, y, epoch):
+def pill(x: float, y: float, epoch: int | str) -> str:
     width = pill_width(epoch)
     return (f'<rect class="signal" x="{x - width / 2:.1f}" y="{y - 9:.1f}" width="{width}" height="18" rx="9" '
             f'fill="{COLOURS["ready"]}"/><text x="{x:.1f}" y="{y + 4:.1f}" text-anchor="middle" font-size="11" '
             f'font-weight="bold" fill="#ffffff">{epoch}</text>')
 
 
-def legend(at):
+def legend(at: Layout) -> list[str]:
     """What the marks mean, in two rows."""
     upper, lower = at.bottom + 30, at.bottom + 58
     parts = []

@@ -1,12 +1,16 @@
 """A wave as text: letters where messages are taken and go out, and a line for each node that shows its part."""
 
+from .reading import Cell, Column, Wave
+
+# What is printed of something, and its kind, by which it is coloured.
+Mark = tuple[str, str]
 LETTERS = {"abort": "a", "ack": "k", "ready": "r"}
 COLOURS = {"abort": "31", "ack": "33", "ready": "32", "reached": "31", "acknowledged": "33", "signal": "1;32"}
 START = "┊"
 FILLS = {"": "─", "reached": "━", "acknowledged": "═"}
 
 
-def draw(wave, width, coloured):
+def draw(wave: Wave, width: int, coloured: bool) -> str:
     """The picture, in blocks of at most `width` characters a line, and what its marks mean."""
     if not wave.columns or not wave.nodes:
         return "nothing to draw: no message and no signal\n"
@@ -24,17 +28,17 @@ def draw(wave, width, coloured):
     return "\n".join(lines + legend(wave, coloured)) + "\n"
 
 
-def place_width(wave):
+def place_width(wave: Wave) -> int:
     """How many characters a column takes: those of its longest entry and one."""
     entries = [sum(len(text) for text, _ in marks(cell)) for column in wave.columns for cell in column.cells.values()]
     return 1 + max(entries + [len(heading(column)) for column in wave.columns])
 
 
-def heading(column):
+def heading(column: Column) -> str:
     return START if column.kind == "start" else str(column.step)
 
 
-def cell(column, node, place, coloured):
+def cell(column: Column, node: int, place: int, coloured: bool) -> str:
     """What a node does in a column, and after it the line of its mode."""
     entry = marks(column.cells[node]) if node in column.cells else passing(column, node)
     mode = column.modes.get(node, "")
@@ -42,7 +46,7 @@ def cell(column, node, place, coloured):
     return "".join(paint(text, kind, coloured) for text, kind in entry + [(FILLS[mode] * rest, mode)])
 
 
-def marks(cell):
+def marks(cell: Cell) -> list[Mark]:
     """The marks of what a node does, each with its kind."""
     found = [("x", "")] if cell.dropped else []
     found += [("!", "abort")] if cell.asked else []
@@ -51,7 +55,7 @@ def marks(cell):
     return found + ([(f"●{cell.epoch}", "signal")] if cell.epoch is not None else [])
 
 
-def passing(column, node):
+def passing(column: Column, node: int) -> list[Mark]:
     """The line that a taken message makes from its sender's row to its receiver's, or a start through all rows."""
     if column.kind == "start":
         return [(START, "")]
@@ -63,12 +67,12 @@ def passing(column, node):
     return [("┬" if message.sender < message.receiver else "┴", message.kind)]
 
 
-def paint(text, kind, coloured):
+def paint(text: str, kind: str, coloured: bool) -> str:
     return f"\x1b[{COLOURS[kind]}m{text}\x1b[0m" if coloured and kind in COLOURS else text
 
 
-def legend(wave, coloured):
-    def shown(text, kind):
+def legend(wave: Wave, coloured: bool) -> list[str]:
+    def shown(text: str, kind: str) -> str:
         return paint(text, kind, coloured)
     letters = ", ".join(f"{shown(letter, kind)} {kind}" for kind, letter in LETTERS.items())
     taken = sum(message.taken for message in wave.messages)

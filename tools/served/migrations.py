@@ -1,5 +1,7 @@
 """Copies of a store of version 1 that are migrated and killed on the way, and what is found in them."""
 
+from __future__ import annotations
+
 import hashlib
 import os
 import random
