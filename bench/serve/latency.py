@@ -2,16 +2,18 @@
 
 import os
 import time
+from collections.abc import Callable
 
 from connection import Connection, Resets
 from served.ring import HALF, topology
+from served.server import Server
 
 ROUNDS, IN_A_ROUND, AT_ONCE = 50, 100, 16
 LONE_NODE = "half = 16777216\n[[node]]\nid = 1\ngroup = 1\n"
 SHOW = b'{"op":"show"}\n'
 
 
-def measure(server):
+def measure(server: Server) -> None:
     server.found(LONE_NODE)
     server.must_start()
     connection, resets = Connection(server.address), Resets("finished")
@@ -23,7 +25,7 @@ def measure(server):
     server.must_close()
 
 
-def measure_view(server):
+def measure_view(server: Server) -> None:
     """`show` of as many nodes and links as there may be."""
     server.found(topology(HALF, 2))
     server.must_start()
@@ -34,16 +36,17 @@ def measure_view(server):
     server.must_close()
 
 
-def growth_of(server, connection, resets):
+def growth_of(server: Server, connection: Connection, resets: Resets) -> int:
     """By how many bytes the log grows in a reset."""
     before = os.path.getsize(server.store)
     resets.ask(connection, IN_A_ROUND)
     return (os.path.getsize(server.store) - before) // IN_A_ROUND
 
 
-def times(connection, resets, path, growth):
+def times(connection: Connection, resets: Resets, path: str,
+          growth: int) -> tuple[list[float], list[float], list[float]]:
     """Of raw pairs, resets and `show`, round by round, so that all meet the same noise."""
-    paired, ordered, shown = [], [], []
+    paired, ordered, shown = list[float](), list[float](), list[float]()
     file = os.open(path, os.O_CREAT | os.O_WRONLY, 0o600)
     for _ in range(ROUNDS):
         paired += a_round(lambda place: raw_pair(file, (len(paired) + place) * growth, growth))
@@ -53,7 +56,7 @@ def times(connection, resets, path, growth):
     return paired, ordered, shown
 
 
-def a_round(call):
+def a_round(call: Callable[[int], object]) -> list[float]:
     """The seconds of each call of a round."""
     spent = []
     for place in range(IN_A_ROUND):
@@ -63,12 +66,12 @@ def a_round(call):
     return spent
 
 
-def raw_pair(file, place, count):
+def raw_pair(file: int, place: int, count: int) -> None:
     os.pwrite(file, bytes(count), place)
     os.fdatasync(file)
 
 
-def tell_times(growth, *spent):
+def tell_times(growth: int, *spent: list[float]) -> None:
     print(f"{'of ' + str(len(spent[0])) + ' each':30}{'p50':>12}{'p99':>12}    in raw pairs")
     pair = quantiles(spent[0])
     for name, told in zip((f"pwrite of {growth}, fdatasync", "reset, to its answer", "show"), map(quantiles, spent)):
@@ -77,12 +80,12 @@ def tell_times(growth, *spent):
         print(f"{name:30}{parts}{pairs}", flush=True)
 
 
-def quantiles(spent):
+def quantiles(spent: list[float]) -> list[float]:
     """The 50th and the 99th percentile."""
     return [sorted(spent)[len(spent) * percent // 100] for percent in (50, 99)]
 
 
-def tell_rate(connection, resets, at_once):
+def tell_rate(connection: Connection, resets: Resets, at_once: int) -> None:
     calls = ROUNDS * IN_A_ROUND // at_once
     begun = time.perf_counter()
     for _ in range(calls):

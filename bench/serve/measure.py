@@ -22,8 +22,7 @@ def main() -> None:
         sys.exit(f"LOST: {lost}")
     finally:
         for server in servers:
-            if server.process and server.process.poll() is None:
-                server.kill()
+            server.end()
 
 
 main()

@@ -10,6 +10,7 @@ import os
 import random
 import sys
 import time
+from collections.abc import Iterator
 
 sys.path.insert(0, os.path.join(os.path.dirname(os.path.abspath(__file__)), "..", "..", "tools"))
 from connection import Connection  # noqa: E402
@@ -26,10 +27,10 @@ EVERY = 0.05  # seconds between two looks at the memory
 class Memory:
     """What the system says of a process, and the greatest that was seen."""
 
-    def __init__(self, process):
-        self.process, self.greatest, self.looked = process, 0, 0.0
+    def __init__(self, process: int) -> None:
+        self.process, self.greatest, self.looked = process, 0.0, 0.0
 
-    def look(self):
+    def look(self) -> tuple[float, float]:
         """Looks where it has not just looked. What is resident, and the peak that the system noted, both in MB."""
         with open(f"/proc/{self.process}/status", encoding="ascii") as file:
             rows = dict(line.split(":", 1) for line in file)
@@ -45,39 +46,41 @@ class Memory:
 class Caller:
     """Client 1, which resets node 1 again and again. An order that has no reply is sent again."""
 
-    def __init__(self, server):
-        self.server, self.connection, self.number, self.connections = server, None, 0, 0
+    def __init__(self, server: Server) -> None:
+        self.server, self.number, self.connections = server, 0, 0
+        self.connection: Connection | None = None
 
-    def order(self, count, stays):
+    def order(self, count: int, stays: bool) -> None:
         """So many orders, all sent before the first reply is read."""
         lines = [b'{"op":"reset","client":1,"number":%d,"node":1}\n' % (self.number + place + 1) for place in range(count)]
         done = 0
         while done < count:
             if self.connection is None:
                 self.connection, self.connections = Connection(self.server.address), self.connections + 1
-            for reply in self.replies(lines[done:]):
+            for reply in replies(self.connection, lines[done:]):
                 if not reply.startswith(b'{"kind":"finished"'):
-                    raise Lost(f"a reset was answered {reply}")
+                    raise Lost(f"a reset was answered {reply!r}")
                 done += 1
             if done < count or not stays:
                 self.connection.close()
                 self.connection = None
         self.number += count
 
-    def replies(self, lines):
-        """The replies that come before the connection is over."""
-        try:
-            self.connection.socket.sendall(b"".join(lines))
-            for _ in lines:
-                reply = self.connection.replies.readline()
-                if not reply.endswith(b"\n"):
-                    return
-                yield reply
-        except ConnectionError:
-            return
+
+def replies(connection: Connection, lines: list[bytes]) -> Iterator[bytes]:
+    """The replies that come before the connection is over."""
+    try:
+        connection.socket.sendall(b"".join(lines))
+        for _ in lines:
+            reply = connection.replies.readline()
+            if not reply.endswith(b"\n"):
+                return
+            yield reply
+    except ConnectionError:
+        return
 
 
-def measure(server, steps, stays, least, most):
+def measure(server: Server, steps: int, stays: bool, least: int, most: int) -> None:
     orders = f"{most} orders" if least == most else f"{least} to {most} orders"
     print(f"one client {'whose connection stays' if stays else 'that connects anew each time'}, {orders} sent at once", flush=True)
     choose = random.Random(most)

@@ -3,6 +3,7 @@
 import os
 import shutil
 import time
+from collections.abc import Callable
 
 from connection import Connection, Resets
 from served.clients import Lost
@@ -18,7 +19,7 @@ ROUNDS = 5
 SIZES = {1: MIB, 4: 4 * MIB, 16: HALF - ONE_RESET}  # of a log, by the MiB that it is named by
 
 
-def measure(growing, scratch, shorter):
+def measure(growing: Server, scratch: str, shorter: int) -> None:
     """Grows one store, and copies it at each size into the folder; each size is divided by `shorter`."""
     growing.found(topology(HALF, 2))
     resets = Resets("started")
@@ -29,7 +30,7 @@ def measure(growing, scratch, shorter):
         tell(store, name)
 
 
-def grow(server, resets, size):
+def grow(server: Server, resets: Resets, size: int) -> None:
     """Resets the ring until the file has that many bytes and nothing is on its way any more."""
     server.must_start()
     connection = Connection(server.address)
@@ -41,7 +42,7 @@ def grow(server, resets, size):
     server.must_close()
 
 
-def wait_for(count, come):
+def wait_for(count: int, come: Callable[[], int]) -> None:
     """Waits until so many have come."""
     until = time.monotonic() + PATIENCE
     while time.monotonic() < until:
@@ -52,7 +53,7 @@ def wait_for(count, come):
     raise Lost(f"a reset has not come to its end within {PATIENCE} seconds")
 
 
-def tell(server, name):
+def tell(server: Server, name: int) -> None:
     """The least times of several rounds."""
     rounds = [(start(server), check(server), read(server.store)) for _ in range(ROUNDS)]
     started, checked, plain = (min(spent) * 1e3 for spent in zip(*rounds))
@@ -61,7 +62,7 @@ def tell(server, name):
           f"check {checked:5.0f} ms; a plain read {plain:4.1f} ms", flush=True)
 
 
-def start(server):
+def start(server: Server) -> float:
     begun = time.perf_counter()
     server.must_start()
     spent = time.perf_counter() - begun
@@ -69,13 +70,13 @@ def start(server):
     return spent
 
 
-def check(server):
+def check(server: Server) -> float:
     begun = time.perf_counter()
     server.command("check")
     return time.perf_counter() - begun
 
 
-def read(path):
+def read(path: str) -> float:
     begun = time.perf_counter()
     with open(path, "rb", buffering=0) as file:
         while file.read(MIB):

@@ -14,10 +14,12 @@ socket as the server does, and answers each line that one client sends:
 All are taken by turns, one call of each, so that they meet the same noise. The rows that are printed sum to the order.
 """
 
+import functools
 import os
 import socket
 import sys
 import time
+from collections.abc import Callable
 
 sys.path.insert(0, os.path.join(os.path.dirname(os.path.abspath(__file__)), "..", "..", "tools"))
 from connection import Connection, Resets  # noqa: E402
@@ -25,6 +27,8 @@ from latency import LONE_NODE, growth_of, quantiles  # noqa: E402
 from served.clients import Lost  # noqa: E402
 from served.server import Server  # noqa: E402
 
+# What is done before a call that is timed, and the call.
+Timed = tuple[Callable[[], object], Callable[[], object]]
 NAMES = ("pairs", "echo", "lone", "two", "refusal", "quiet", "order")
 ROUNDS, IN_A_ROUND, REPLY = 5000, 1, b'{"kind":"finished","step":1000000}\n'
 UNREADABLE = b'{"op":"none","client":1,"number":1000000,"node":1}\n'
@@ -34,7 +38,7 @@ class Pairs:
     """The writes and syncs of orders, one behind the other: what is appended, with a sync of the length too, and a byte
     that says so."""
 
-    def __init__(self, path, growth):
+    def __init__(self, path: str, growth: int) -> None:
         self.file, self.growth, self.place = os.open(path, os.O_CREAT | os.O_RDWR, 0o600), growth, 0
         self.bytes = bytes(growth)
 
@@ -46,7 +50,7 @@ class Pairs:
         self.place += self.growth
 
 
-def stand_in(make_work):
+def stand_in(make_work: Callable[[], Callable[[], object]]) -> Connection:
     """A process that answers each line over one connection, behind some work that it prepares itself. A connection to
     it."""
     listener = socket.create_server(("127.0.0.1", 0))
@@ -63,7 +67,7 @@ def stand_in(make_work):
     return Connection(f"{host}:{port}")
 
 
-def by_another(work):
+def by_another(work: Callable[[], object]) -> Callable[[], None]:
     """The same work, made by another process each time that this one asks for it, which waits meanwhile."""
     asks, asked = os.pipe()
     tells, told = os.pipe()
@@ -86,7 +90,7 @@ def by_another(work):
 class Confirmations:
     """Orders of client 2, each of which confirms the epoch that the last reset began."""
 
-    def __init__(self, connection, resets):
+    def __init__(self, connection: Connection, resets: Resets) -> None:
         self.connection, self.resets, self.number = connection, resets, 0
 
     def ask(self) -> None:
@@ -94,22 +98,27 @@ class Confirmations:
         reply, = self.connection.ask(b'{"op":"confirm","client":2,"number":%d,"node":1,"epoch":%d}\n'
                                      % (self.number, self.resets.number))
         if not reply.startswith(b'{"kind":"done"'):
-            raise Lost(f"a confirmation was answered {reply}")
+            raise Lost(f"a confirmation was answered {reply!r}")
 
 
-def calls(server, folder):
+def calls(server: Server, folder: str) -> tuple[int, dict[str, Timed]]:
     """What is timed, by its name, each behind what is done before. The server is lent a client, which stays."""
     connection, resets = Connection(server.address), Resets("finished")
     growth = growth_of(server, connection, resets)
     own, lone, two = (Pairs(f"{folder}/{name}", growth) for name in ("pairs", "lone", "two"))
-    stand_ins = [stand_in(lambda: lambda: None), stand_in(lambda: lone.make), stand_in(lambda: by_another(two.make))]
-    asks = [lambda it=it: it.ask(UNREADABLE) for it in (*stand_ins, connection)]
-    reset, confirm = lambda: resets.ask(connection), Confirmations(connection, resets).ask
-    timed = dict(zip(NAMES, [own.make, *asks, confirm, reset]))
-    return growth, {name: (reset if name == "quiet" else lambda: None, call) for name, call in timed.items()}
+    stand_ins = [stand_in(lambda: nothing), stand_in(lambda: lone.make), stand_in(lambda: by_another(two.make))]
+    asks = [functools.partial(it.ask, UNREADABLE) for it in (*stand_ins, connection)]
+    reset: Callable[[], object] = functools.partial(resets.ask, connection)
+    confirm = Confirmations(connection, resets).ask
+    timed: dict[str, Callable[[], object]] = dict(zip(NAMES, [own.make, *asks, confirm, reset]))
+    return growth, {name: (reset if name == "quiet" else nothing, call) for name, call in timed.items()}
 
 
-def a_round(prepare, call):
+def nothing() -> None:
+    pass
+
+
+def a_round(prepare: Callable[[], object], call: Callable[[], object]) -> list[float]:
     spent = []
     for _ in range(IN_A_ROUND):
         prepare()
@@ -119,7 +128,7 @@ def a_round(prepare, call):
     return spent
 
 
-def tell(growth, spent):
+def tell(growth: int, spent: dict[str, list[float]]) -> None:
     """The halves of all, what lies between one and the next, and the whole in pairs."""
     half = {name: quantiles(times) for name, times in spent.items()}
     for name, (most, rare) in half.items():
@@ -139,11 +148,11 @@ def tell(growth, spent):
     print(f"{'an order, to its reply':60}{p50['order']:9.3f} ms{p50['order'] / p50['pairs']:8.2f}", flush=True)
 
 
-def measure(server, folder):
+def measure(server: Server, folder: str) -> None:
     server.found(LONE_NODE)
     server.must_start()
     growth, timed = calls(server, folder)
-    spent = {name: [] for name in timed}
+    spent: dict[str, list[float]] = {name: [] for name in timed}
     for _ in range(ROUNDS):
         for name, call in timed.items():
             spent[name] += a_round(*call)

@@ -8,9 +8,9 @@ each program by turns, so that all meet the same noise. An order resets a node w
 
 import os
 import statistics
-import struct
 import sys
 import time
+from collections.abc import Iterator
 
 sys.path.insert(0, os.path.join(os.path.dirname(os.path.abspath(__file__)), "..", "..", "tools"))
 from connection import Connection  # noqa: E402
@@ -31,7 +31,7 @@ class Orders:
         self.numbers = {client: 0 for client in range(1, CLIENTS + 1)}
         self.numbers[CLIENTS] = CLIENTS  # which has added the nodes
 
-    def lines(self, clients, count):
+    def lines(self, clients: int, count: int) -> Iterator[bytes]:
         for place in range(count):
             client = place % clients + 1
             self.numbers[client] += 1
@@ -41,7 +41,7 @@ class Orders:
 class Measured:
     """A program that serves a store of its own."""
 
-    def __init__(self, name, program, folder, library, disk):
+    def __init__(self, name: str, program: str, folder: str, library: str, disk: str) -> None:
         self.name, self.counter = name, f"{folder}/{name}-{WAITS[disk]}.count"
         with open(self.counter, "wb") as file:
             file.write(bytes(8))
@@ -52,11 +52,11 @@ class Measured:
             raise Lost(f"{name} did not start: {self.server.ended()}")
         self.connection, self.orders = Connection(self.server.address), Orders()
 
-    def syncs(self):
+    def syncs(self) -> int:
         with open(self.counter, "rb") as file:
-            return struct.unpack("=Q", file.read(8))[0]
+            return int.from_bytes(file.read(8), sys.byteorder)
 
-    def measure(self, clients, at_once):
+    def measure(self, clients: int, at_once: int) -> tuple[float, float]:
         """Orders a second, and syncs an order."""
         self.ask(clients, at_once)
         begun, before, count = time.perf_counter(), self.syncs(), 0
@@ -65,18 +65,18 @@ class Measured:
             count += at_once
         return count / spent, (self.syncs() - before) / count
 
-    def ask(self, clients, count):
+    def ask(self, clients: int, count: int) -> None:
         for reply in self.connection.ask(*self.orders.lines(clients, count)):
             if not reply.startswith(FINISHED):
-                raise Lost(f"{self.name}: a reset was answered {reply}")
+                raise Lost(f"{self.name}: a reset was answered {reply!r}")
 
     def close(self) -> None:
         self.connection.close()
         self.server.must_close()
 
 
-def tell(disk, clients, at_once, measured):
-    rows = {one.name: [] for one in measured}
+def tell(disk: str, clients: int, at_once: int, measured: list[Measured]) -> None:
+    rows: dict[str, list[tuple[float, float]]] = {one.name: [] for one in measured}
     for _ in range(ROUNDS):
         for one in measured:
             rows[one.name].append(one.measure(clients, at_once))
@@ -90,7 +90,7 @@ def tell(disk, clients, at_once, measured):
 def main() -> None:
     folder, library, *programs = sys.argv[1:]
     for disk in WAITS:
-        measured = [Measured(*program.split("=", 1), folder, library, disk) for program in programs]
+        measured = [Measured(name, path, folder, library, disk) for name, path in (word.split("=", 1) for word in programs)]
         try:
             for clients in (CLIENTS, 1):
                 for at_once in AT_ONCE:

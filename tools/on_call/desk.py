@@ -1,5 +1,7 @@
 """What a trial of a row works with: a scratch folder, stores, servers, and what a person types."""
 
+from __future__ import annotations
+
 import os
 import subprocess
 import sys
