@@ -3,6 +3,7 @@
 import contextlib
 import os
 import re
+import shutil
 import signal
 import socket
 import subprocess
@@ -93,6 +94,12 @@ class Tools(Run):
     def test_wrong_bodies_fit_the_sources(self) -> None:
         """Each text that a wrong body exchanges stands in the sources, and each witness is a test."""
         self.expect(os.path.join(ROOT, "refusals", "gather"), "--check")
+
+    def test_types_of_all_programs(self) -> None:
+        """By mypy --strict, in each folder."""
+        self.needs("mypy (apt-get install mypy)", shutil.which("mypy") is not None, is_optional=True)
+        printed = self.expect(tool("check_types"), ends_with="bench: Success: ")
+        self.assertEqual(printed.count(": Success: no issues found in "), 5)
 
     def test_what_the_documents_show(self) -> None:
         self.expect(tool("test_documents"), "--quick", "--program", PROGRAM,
