@@ -100,7 +100,8 @@ impl<'a, S: Read + Write, L: OpenListener<Stream = S>, T: Clock> Callers
     def setUp(self) -> None:
         super().setUp()
         loader = importlib.machinery.SourceFileLoader("refusals_run", f"{ROOT}/refusals/run")
-        spec = importlib.machinery.ModuleSpec("refusals_run", loader, origin=loader.path)
+        spec = importlib.util.spec_from_loader("refusals_run", loader)
+        assert spec
         self.run_of_refusals = importlib.util.module_from_spec(spec)
         loader.exec_module(self.run_of_refusals)
 
