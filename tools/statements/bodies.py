@@ -1,0 +1,140 @@
+"""Which wrong bodies break which clause: the lines `%` of the catalogues of refusals/, beside the rows of docs/PROMISES.md.
+
+A line `%` names a clause as a row does: a function, the name of what it ensures in brackets where that has a name, and
+before it the crate where it is another one than the catalogue's:
+
+    % World::judge (value)
+    % coord_world World::apply (outputs)
+
+The function is named by the end of its path, by as much of it as tells it apart.
+"""
+
+from __future__ import annotations
+
+import collections
+import pathlib
+import re
+import sys
+from typing import NamedTuple
+
+from .repository import Repository
+from .sources import Function
+from .table import Row
+
+sys.path.insert(0, str(pathlib.Path(__file__).resolve().parent.parent.parent / "refusals"))
+import catalogue  # noqa: E402
+
+# The functions that rows cite and that no wrong body breaks: one a line, with its crate.
+NOT_TRIED = "refusals/not-tried.txt"
+NAMED = re.compile(r"(?:(coord_[a-z]+|resetd) )?([\w:]+(?: as \w+::\w+)?)(?: \((\w+)\))?")
+CALL = re.compile(r"\b(\w+)\s*(?:::<[^>]*>)?\(")
+Key = tuple[str, str]
+
+
+class Clause(NamedTuple):
+    """What a function ensures, by name."""
+
+    function: Key
+    name: str
+
+
+class Bodies:
+    """The wrong bodies that name what they break, and what is wrong with these names."""
+
+    def __init__(self, repository: Repository):
+        self.repository = repository
+        self.functions = {function.key: function for function in repository.functions}
+        self.of_name: dict[Key, list[Function]] = collections.defaultdict(list)
+        for function in repository.functions:
+            self.of_name[function.crate, function.name].append(function)
+        self.crates = set(catalogue.crates())
+        self.breaking: dict[Clause, list[str]] = collections.defaultdict(list)
+        self.wrong: list[str] = []
+        for crate in sorted(self.crates):
+            for body in [*catalogue.read(crate), *catalogue.of_gate(crate)]:
+                for text in body.clauses:
+                    self.take(body, text)
+
+    def take(self, body: catalogue.Body, text: str) -> None:
+        """Takes what a body says that it breaks."""
+        match = NAMED.fullmatch(text)
+        if match is None:
+            self.wrong.append(f"{body.id}: not the name of a clause: {text}")
+            return
+        crate, path, name = match.group(1) or body.crate, match.group(2), match.group(3) or ""
+        found = [it for it in self.of_name[crate, path.rpartition("::")[2]] if f"::{it.path}".endswith(f"::{path}")]
+        if len(found) != 1:
+            self.wrong.append(f"{body.id}: {len(found)} functions of {crate} are named so: {text}")
+        elif name not in found[0].ensured:
+            self.wrong.append(f"{body.id}: {found[0].path} ensures no such clause: {text}")
+        else:
+            self.breaking[Clause(found[0].key, name)].append(body.id)
+
+    def of(self, key: Key) -> dict[str, list[str]]:
+        """The bodies that break what a function ensures, by clause."""
+        return {name: self.breaking[clause] for name in self.functions[key].ensured
+                if (clause := Clause(key, name)) in self.breaking}
+
+    def called(self, key: Key) -> set[Key]:
+        """The functions of its crate on which a function stands: those that it calls, and those that they call, as far as their
+        names tell which they are."""
+        found, left = set[Key](), [key]
+        while left:
+            function = self.functions[left.pop()]
+            for name in set(CALL.findall(function.body)):
+                others = self.of_name[function.crate, name] if (function.crate, name) in self.of_name else []
+                near = [it for it in others if it.module == function.module]
+                known = others if len(others) == 1 else near if len(near) == 1 else []
+                left += [it.key for it in known if it.key not in found and it.key != key]
+                found |= {it.key for it in known} - {key}
+        return found
+
+    def below(self, key: Key) -> dict[Key, dict[str, list[str]]]:
+        """The bodies that break what a function stands on, by function and clause."""
+        return {it: bodies for it in sorted(self.called(key)) if (bodies := self.of(it))}
+
+    def is_tried(self, key: Key) -> bool:
+        return bool(self.of(key)) or bool(self.below(key))
+
+    def cited(self, rows: list[Row]) -> list[Key]:
+        """The functions that rows cite, of crates with a catalogue, which have a body and ensure something."""
+        every = dict.fromkeys(key for row in rows for key in row.cites)
+        return [key for key in every if key[0] in self.crates and self.functions[key].is_public
+                and self.functions[key].ensured and not self.functions[key].is_law]
+
+    def faults(self, rows: list[Row]) -> list[str]:
+        """What does not fit: names of clauses that are none; functions that rows cite and nobody tried; and such as are listed so,
+        and were tried, or are cited by no row."""
+        path = self.repository.root / NOT_TRIED
+        lines = [line.split(" ", 1) for line in path.read_text().splitlines() if line and not line.startswith("#")]
+        listed, cited = {(crate, name) for crate, name in lines}, self.cited(rows)
+        told = [*self.wrong]
+        told += [f"{NOT_TRIED}: {' '.join(key)}: {self.why(key, cited)}" for key in sorted(listed)
+                 if key not in cited or self.is_tried(key)]
+        return told + [f"no wrong body of refusals/ breaks {' '.join(key)}, which a row cites: write one, or list it in {NOT_TRIED}"
+                       for key in cited if key not in listed and not self.is_tried(key)]
+
+    def why(self, key: Key, cited: list[Key]) -> str:
+        return "a wrong body breaks it now" if key in cited else "no row cites such a function"
+
+
+def answers(bodies: Bodies, rows: list[Row], word: str) -> list[str]:
+    """What breaks the promises of these rows that have this word, or cite a function of this name: lines to print."""
+    told: list[str] = []
+    for row in rows:
+        keys = [key for key in row.cites if key in bodies.cited([row])]
+        named = [key for key in keys if f"::{key[1]}".endswith(f"::{word}")]
+        if named or word.lower() in row.title.lower():
+            told += [f"{row.title}: {row.words}"]
+            for key in named or keys:
+                told += lines_of(bodies, key, row.cites[key])
+    return told
+
+
+def lines_of(bodies: Bodies, key: Key, clauses: set[str]) -> list[str]:
+    """What breaks a function that a row cites, of the clauses that it names."""
+    told = [f"  {' '.join(key)}" + (f" ({', '.join(sorted(clauses))})" if clauses else "")]
+    told += [f"    {name or 'its clause'}: {', '.join(ids)}" for name, ids in bodies.of(key).items() if not clauses or name in clauses]
+    told += [f"    by {other[1]}{f' ({name})' if name else ''}: {', '.join(ids)}"
+             for other, found in bodies.below(key).items() for name, ids in found.items()]
+    return told if len(told) > 1 else [*told, "    no wrong body yet"]
