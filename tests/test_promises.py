@@ -1,4 +1,4 @@
-"""The list of what is promised, and how `refusals/run` finds the function of a wrong body."""
+"""The list of what is promised, what breaks it, and how `refusals/run` finds the function of a wrong body."""
 
 import importlib.machinery
 import importlib.util
@@ -13,7 +13,7 @@ from support.program import ROOT
 CONNECTIONS = "crates/coord_admin/specs/Connections.antt"
 
 
-class Promises(Case):
+class Copied(Case):
     takes = 20
 
     def copy(self) -> pathlib.Path:
@@ -22,6 +22,8 @@ class Promises(Case):
         for part in ("crates.txt", "docs/PROMISES.md", "docs/promises.lock", "tools/promises"):
             (copy / part).parent.mkdir(parents=True, exist_ok=True)
             shutil.copy(f"{ROOT}/{part}", copy / part)
+        for part in ("refusals", "tools/statements"):
+            shutil.copytree(f"{ROOT}/{part}", copy / part)
         for crate in sorted(os.listdir(f"{ROOT}/crates")):
             for part in ("src", "specs"):
                 if os.path.isdir(f"{ROOT}/crates/{crate}/{part}"):
@@ -31,7 +33,7 @@ class Promises(Case):
     def compared(self, copy: pathlib.Path) -> tuple[int, str]:
         """The status and the lines of the comparison."""
         ran = subprocess.run([copy / "tools/promises"], capture_output=True, text=True, check=False)
-        return ran.returncode, ran.stdout
+        return ran.returncode, ran.stdout + ran.stderr
 
     def changed(self, copy: pathlib.Path, file: str, old: str, new: str) -> None:
         path = copy / file
@@ -39,6 +41,8 @@ class Promises(Case):
         self.assertEqual(text.count(old), 1, file)
         path.write_text(text.replace(old, new))
 
+
+class Promises(Copied):
     def test_the_list_is_of_these_sources(self) -> None:
         ran = subprocess.run([tool("promises")], capture_output=True, text=True, check=False)
         self.assertEqual(ran.returncode, 0, ran.stdout[-3_000:])
@@ -80,6 +84,57 @@ class Promises(Case):
         self.changed(copy, CONNECTIONS, "  AllServed d [] e = e ≡ d", "  -- none\n  AllServed d [] e =   e ≡ d  -- so")
         status, said = self.compared(copy)
         self.assertEqual(status, 0, said)
+
+
+class Broken(Copied):
+    """From a row to the wrong bodies that break what it cites, and back."""
+
+    EDITS = "refusals/coord_check.edits"
+
+    def test_what_breaks_a_row(self) -> None:
+        ran = subprocess.run([tool("promises"), "--breaks", "Exact checker"], capture_output=True, text=True, check=False)
+        self.assertEqual((ran.returncode, ran.stderr), (0, ""))
+        self.assertIn("\n  coord_check search::check (first, legal, named)\n", ran.stdout)
+        self.assertIn("\n    first: coord_check/h_before_a, coord_check/links_before_nodes\n", ran.stdout)
+        self.assertIn("\n    by letters::has_front_taken_at_most: coord_check/any_front_taken\n", ran.stdout)
+
+    def test_what_breaks_a_function(self) -> None:
+        ran = subprocess.run([tool("promises"), "--breaks", "Lane::judge_clear"], capture_output=True, text=True, check=False)
+        self.assertIn("\n    its clause: coord_link/early_before_old, coord_link/repeated_clear, coord_link/clear_before_take",
+                      ran.stdout)
+        self.assertNotIn("judge_take", ran.stdout)
+
+    def test_a_body_that_names_no_clause(self) -> None:
+        copy = self.copy()
+        self.changed(copy, self.EDITS, "% check (legal)", "% check (lawful)")
+        status, said = self.compared(copy)
+        self.assertEqual(status, 1, said)
+        self.assertIn("coord_check/letter_g_skipped: search::check ensures no such clause: check (lawful)", said)
+
+    def test_a_body_that_names_several_functions(self) -> None:
+        copy = self.copy()
+        self.changed(copy, "refusals/coord_config.edits", "% values::each (bad)", "% of (bad)")
+        status, said = self.compared(copy)
+        self.assertEqual(status, 1, said)
+        self.assertRegex(said, r"coord_config/wrong_value_as_bad_key: \d+ functions of coord_config are named so: of \(bad\)")
+
+    def test_a_function_that_no_body_breaks_any_more(self) -> None:
+        copy = self.copy()
+        edits = copy / "refusals/coord_orders.edits"
+        edits.write_text("".join(line for line in edits.read_text().splitlines(keepends=True) if not line.startswith("% ")))
+        status, said = self.compared(copy)
+        self.assertEqual(status, 1, said)
+        self.assertIn("no wrong body of refusals/ breaks coord_orders book::OrderBook::hear, which a row cites", said)
+
+    def test_a_function_that_is_listed_as_not_tried(self) -> None:
+        """And was tried, or is in no row."""
+        copy = self.copy()
+        with open(copy / "refusals/not-tried.txt", "a", encoding="utf-8") as file:
+            file.write("coord_check search::check\ncoord_check search::nothing\n")
+        status, said = self.compared(copy)
+        self.assertEqual(status, 1, said)
+        self.assertIn("not-tried.txt: coord_check search::check: a wrong body breaks it now", said)
+        self.assertIn("not-tried.txt: coord_check search::nothing: no row cites such a function", said)
 
 
 class Heads(Case):

@@ -27,7 +27,7 @@ import catalogue  # noqa: E402
 # The functions that rows cite and that no wrong body breaks: one a line, with its crate.
 NOT_TRIED = "refusals/not-tried.txt"
 NAMED = re.compile(r"(?:(coord_[a-z]+|resetd) )?([\w:]+(?: as \w+::\w+)?)(?: \((\w+)\))?")
-CALL = re.compile(r"\b(\w+)\s*(?:::<[^>]*>)?\(")
+CALL = re.compile(r"(?:\b(\w+)::)?\b(\w+)\s*(?:::<[^>]*>)?\(")
 Key = tuple[str, str]
 
 
@@ -78,16 +78,23 @@ class Bodies:
     def called(self, key: Key) -> set[Key]:
         """The functions of its crate on which a function stands: those that it calls, and those that they call, as far as their
         names tell which they are."""
-        found, left = set[Key](), [key]
+        found, left = {key}, [key]
         while left:
             function = self.functions[left.pop()]
-            for name in set(CALL.findall(function.body)):
-                others = self.of_name[function.crate, name] if (function.crate, name) in self.of_name else []
-                near = [it for it in others if it.module == function.module]
-                known = others if len(others) == 1 else near if len(near) == 1 else []
-                left += [it.key for it in known if it.key not in found and it.key != key]
-                found |= {it.key for it in known} - {key}
-        return found
+            for owner, name in set(CALL.findall(function.body)):
+                known = self.meant(function, owner, name)
+                if known and known.key not in found:
+                    found.add(known.key)
+                    left.append(known.key)
+        return found - {key}
+
+    def meant(self, caller: Function, owner: str, name: str) -> Function | None:
+        """The function that a call means: the only one of this name that is not the caller, of this type where it is named, or
+        the only one in its module."""
+        others = [it for it in self.of_name.get((caller.crate, name), []) if it.key != caller.key]
+        of_owner = [it for it in others if owner and owner in (it.owner, it.module.rpartition("::")[2])]
+        near = [it for it in others if it.module == caller.module]
+        return next((few[0] for few in (of_owner, others, near) if len(few) == 1), None)
 
     def below(self, key: Key) -> dict[Key, dict[str, list[str]]]:
         """The bodies that break what a function stands on, by function and clause."""
