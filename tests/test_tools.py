@@ -1,6 +1,7 @@
 """The trials of tools/, the client library's tests, the demo and the documents, each as it is run by hand."""
 
 import contextlib
+import json
 import os
 import re
 import shutil
@@ -14,7 +15,9 @@ from support.case import Case, tool
 from support.program import PROGRAM, ROOT, SHORT
 from support.serving import Serving
 
-sys.path.insert(0, f"{ROOT}/tools")
+sys.path[:0] = [f"{ROOT}/tools", f"{ROOT}/client"]
+from resetd_client import View  # noqa: E402
+from resetd_client.party import digest_of, tag_of  # noqa: E402
 from served import faults  # noqa: E402
 from served.server import Server  # noqa: E402
 
@@ -104,6 +107,16 @@ class Tools(Run):
     def test_what_the_documents_show(self) -> None:
         self.expect(tool("test_documents"), "--quick", "--program", PROGRAM,
                     ends_with="what the documents show is what is printed")
+
+    def test_the_digest_that_a_page_shows(self) -> None:
+        """The worked answer of docs/SERVICES.md has the party, the digest and the tag that the library makes of it."""
+        with open(f"{ROOT}/docs/SERVICES.md", encoding="utf-8") as file:
+            page = file.read()
+        answer = re.search(r'^ *(\{"accepted":.*\})$', page, re.MULTILINE)
+        assert answer
+        party = View.of(json.loads(answer[1])).party(1)
+        for text in (*party, digest_of(party), tag_of(party, party)):
+            self.assertIn(f"`{text}`", page)
 
     def test_the_client_library(self) -> None:
         self.expect(sys.executable, "-m", "unittest", "discover", "-s", "client/tests", ends_with="OK")
