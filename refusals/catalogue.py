@@ -156,7 +156,7 @@ def find(word: str) -> Body:
     raise BadCatalogue(f"{word}: no such wrong body")
 
 
-def written(bodies: list[Body]) -> str:
+def text_of(bodies: list[Body]) -> str:
     """The text of a catalogue that has these bodies of one crate, in the order of its sources and of their names."""
     lines: list[str] = []
     file = ""
@@ -170,14 +170,14 @@ def written(bodies: list[Body]) -> str:
             if exchange.file != file:
                 lines.append(f"@ {exchange.file}")
                 file = exchange.file
-            lines += marked("-", exchange.old) + marked("+", exchange.new)
+            lines += mark_lines("-", exchange.old) + mark_lines("+", exchange.new)
         lines += [f"% {clause}" for clause in body.clauses]
         lines += [f"! {body.witness}"] if body.witness else []
         lines.append("")
     return "\n".join(lines)
 
 
-def marked(mark: str, text: str) -> list[str]:
+def mark_lines(mark: str, text: str) -> list[str]:
     return [f"{mark} {line}".rstrip() if not line else f"{mark} {line}" for line in text.split("\n")]
 
 

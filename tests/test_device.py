@@ -78,7 +78,7 @@ class Moments(Case):
         super().setUp()
         self.needs("a C compiler", preloaded.has_compiler())
 
-    def followed(self, before: bytes, calls: Iterable[Call]) -> Iterator[tuple[str, int, bytes, Device]]:
+    def follow(self, before: bytes, calls: Iterable[Call]) -> Iterator[tuple[str, int, bytes, Device]]:
         """After each call: the device, and what the call was."""
         device, store = Device(before), None
         for name, descriptor, place, text in calls:
@@ -92,7 +92,7 @@ class Moments(Case):
     def moments(self, before: bytes, calls: Iterable[Call]) -> Iterator[tuple[str, int, Device, int]]:
         """After each call: the device, and the greatest step that was answered so far."""
         answered = 1
-        for name, place, text, device in self.followed(before, calls):
+        for name, place, text, device in self.follow(before, calls):
             if name == "out":
                 steps = [int(step) for step in STEP.findall(text)] + [int(epoch) + 1 for epoch in SIGNAL.findall(text)]
                 answered = max([answered, *steps])
@@ -104,7 +104,7 @@ class Moments(Case):
         self.assertEqual((ended.status, ended.told), (0, ""), ended.printed)
         self.assertGreaterEqual(int(ended.printed.split()[1]), answered)
 
-    def served(self, first: int, orders: Sequence[Order]) -> tuple[bytes, list[Call]]:
+    def serve(self, first: int, orders: Sequence[Order]) -> tuple[bytes, list[Call]]:
         """Serves orders, from one number to another: the store before, and the calls."""
         store, calls = self.made(topology([(1, 1)], half=stores.HALF)), self.path("calls")
         self.order(store, orders[:first - 1])
@@ -122,7 +122,7 @@ class Moments(Case):
             self.assertEqual(server.close().status, 0)
 
     def test_each_moment_of_a_few_orders(self) -> None:
-        before, calls = self.served(1, EACH_KIND)
+        before, calls = self.serve(1, EACH_KIND)
         seen = set()
         for name, _, device, answered in self.moments(before, calls):
             for image in device.images():
@@ -139,7 +139,7 @@ class Moments(Case):
             self.assertEqual(server.order(1, "reset", node=1)["kind"], "started")
             server.await_signals(4)
             self.assertEqual(server.close().status, 0)
-        for name, _, text, device in self.followed(before, calls_of(calls)):
+        for name, _, text, device in self.follow(before, calls_of(calls)):
             if name == "out":
                 printed.update(node.decode() for node in ANY_SIGNAL.findall(text))
             for image in device.images() if printed else []:
@@ -149,7 +149,7 @@ class Moments(Case):
     def test_moments_of_many_orders_and_checkpoints(self) -> None:
         """All moments of two checkpoints, which move the journal to the other half and back, and some of the others."""
         choice, selectors, near = random.Random(1), [], 0
-        before, calls = self.served(1_150, [RESET] * 2_450)
+        before, calls = self.serve(1_150, [RESET] * 2_450)
         last = 0
         for name, place, device, answered in self.moments(before, calls):
             if answered > last:

@@ -21,7 +21,7 @@ BAD_LINES = (
 )
 
 
-def drilled(text: str) -> Ended:
+def drill_text(text: str) -> Ended:
     return ran("drill", given=text.encode())
 
 
@@ -75,7 +75,7 @@ class LongRuns(Case):
             wanted = "done 1\n" + "".join(f"finished {step}\nsignal 1 {step - 1}\n" for step in range(2, count + 1))
             wanted += f"opened {count}\nfinished {count + 1}\nsignal 1 {count}\nlegal\n"
             wanted += f"view {count + 1} {count + 1}\nnode 1 1 ready 0 {count} 0\n"
-            self.assertEqual(drilled(text), Ended(0, wanted, ""))
+            self.assertEqual(drill_text(text), Ended(0, wanted, ""))
 
     def test_a_second_epoch_and_a_second_crash(self) -> None:
         text = "add 1 1\nadd 2 1\njoin 1 2\n"
@@ -93,7 +93,7 @@ class LongRuns(Case):
             wanted += f"taken {step + 6}\nreceipt 1 2 {there + 1}\nsignal 2 {epoch}\n"
             wanted += f"cleared {step + 7}\nopened {step + 7}\n"
             step, number = step + 7, number + 1
-        self.assertEqual(drilled(text), Ended(0, wanted, ""))
+        self.assertEqual(drill_text(text), Ended(0, wanted, ""))
 
     def test_packets_of_a_second_link(self) -> None:
         """Both its lanes have the number of the step that joined it."""
@@ -101,16 +101,16 @@ class LongRuns(Case):
         wanted = "".join(f"done {step}\n" for step in range(1, 6)) + "started 6\ndata 2 1 1 abort\ndata 2 3 1 abort\n"
         text += "data 2 3 4 1 abort\ndata 2 3 5 1 abort\ndata 3 2 4 1 ack\ndata 3 2 5 1 ack\n"
         wanted += "no 12 NoLink\ntaken 7\nreceipt 2 3 1\ndata 3 2 1 ack\nno 12 NoLink\ntaken 8\nreceipt 3 2 1\n"
-        self.assertEqual(drilled(text), Ended(0, wanted, ""))
+        self.assertEqual(drill_text(text), Ended(0, wanted, ""))
 
     def test_a_last_line_without_its_end(self) -> None:
-        self.assertEqual(drilled("add 1 1\nadd 2 1"), Ended(0, "done 1\ndone 2\n", ""))
+        self.assertEqual(drill_text("add 1 1\nadd 2 1"), Ended(0, "done 1\ndone 2\n", ""))
 
     def test_lines_that_are_bad(self) -> None:
         """They are counted from 1, skipped ones too."""
         bad = ["add 1", "add  1 1", " add 1 1", "add 1 1 ", "add 1 1\r", "fly", "add 65 1", "#" * 513]
         text = "".join(f"{line}\n" for line in ["# a comment", "", *bad]) + "#" * 512
-        self.assertEqual(drilled(text), Ended(0, "".join(f"bad line {line}\n" for line in range(3, 11)), ""))
+        self.assertEqual(drill_text(text), Ended(0, "".join(f"bad line {line}\n" for line in range(3, 11)), ""))
         self.assertEqual(ran("drill", given=b"\xff\nadd 1 1\n"), Ended(0, "bad line 1\ndone 1\n", ""))
         self.assertEqual(ran("drill", given=b"\xff\n#\xff\n\n\xff"), Ended(0, "bad line 1\nbad line 4\n", ""))
 
@@ -120,11 +120,11 @@ class LongRuns(Case):
         lines += ["add " + "0" * (length - 7) + "1 1" for length in (512, 513)]
         self.assertEqual([len(line) for line in lines], [512, 513, 1_500, 512, 513])
         text = "".join(f"{line}\n" for line in lines)
-        self.assertEqual(drilled(text), Ended(0, "bad line 2\nbad line 3\ndone 1\nbad line 5\n", ""))
+        self.assertEqual(drill_text(text), Ended(0, "bad line 2\nbad line 3\ndone 1\nbad line 5\n", ""))
 
     def test_more_bytes_than_reads(self) -> None:
         """The bound of 1,048,576 is one of reads, and a read asks for 512 bytes."""
-        self.assertEqual(drilled(("#".ljust(511, "a") + "\n") * 2_400 + "add 1 1\n"), Ended(0, "done 1\n", ""))
+        self.assertEqual(drill_text(("#".ljust(511, "a") + "\n") * 2_400 + "add 1 1\n"), Ended(0, "done 1\n", ""))
 
     def test_as_many_are_held_again(self) -> None:
         """No more than 1,024 steps are held, and as many again once these are settled."""
@@ -134,13 +134,13 @@ class LongRuns(Case):
             wanted += "".join(f"finished {step}\nsignal 1 {step - 1}\n" for step in range(last - 255, last + 1))
             wanted += f"settled {last}\n"
         wanted += "".join(f"pending {step}\n" for step in range(1_026, 2_050))
-        self.assertEqual(drilled(text), Ended(0, wanted, ""))
+        self.assertEqual(drill_text(text), Ended(0, wanted, ""))
 
     def test_each_line_that_is_bad(self) -> None:
         """Alone, and with no line feed behind it."""
         for line in BAD_LINES:
             with self.subTest(line=line):
-                self.assertEqual(drilled(line), Ended(0, "bad line 1\n", ""))
+                self.assertEqual(drill_text(line), Ended(0, "bad line 1\n", ""))
 
     def test_no_input(self) -> None:
         """Standard input that is closed can't be read."""

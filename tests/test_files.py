@@ -112,16 +112,16 @@ class Looked(Case):
             reader = subprocess.Popen([PROGRAM, command, store], env=environment, stdout=subprocess.DEVNULL)
             self.addCleanup(reader.wait)
             self.addCleanup(reader.kill)
-            until("a look", lambda: store in self.opened(reader.pid))
+            until("a look", lambda: store in self.open_files(reader.pid))
             with open(store, "rb") as file:
                 for _ in range(20):
                     fcntl.flock(file, fcntl.LOCK_EX | fcntl.LOCK_NB)  # which fails where somebody has it
                     fcntl.flock(file, fcntl.LOCK_UN)
                     time.sleep(0.02)
-            self.assertIn(store, self.opened(reader.pid))
+            self.assertIn(store, self.open_files(reader.pid))
 
     @staticmethod
-    def opened(process: int) -> set[str]:
+    def open_files(process: int) -> set[str]:
         """The files that a process has open."""
         names = set()
         for number in os.listdir(f"/proc/{process}/fd"):

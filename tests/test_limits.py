@@ -22,13 +22,13 @@ class Descriptors(Case):
             used = max(map(int, os.listdir(f"/proc/{server.process.pid}/fd"))) + 1
             for _ in range(2):
                 resource.prlimit(server.process.pid, resource.RLIMIT_NOFILE, (used, usual[1]))
-                with self.unanswered(server) as connection:
+                with self.waiting_client(server) as connection:
                     resource.prlimit(server.process.pid, resource.RLIMIT_NOFILE, usual)
                     connection.socket.settimeout(PATIENCE)
                     self.assertEqual(connection.reply(), {"count": 0, "kind": "resent"})
             self.assertEqual(server.close().status, 0)
 
-    def unanswered(self, server: Serving) -> Connection:
+    def waiting_client(self, server: Serving) -> Connection:
         """A client that waits: the second one at the latest, since a call that waits for a client has its descriptor."""
         for _ in range(2):
             connection = server.connect()

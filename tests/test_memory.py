@@ -212,9 +212,9 @@ class Kept(Case):
         with Serving(store, program=program, env=self.environment(refusing)) as server:
             for number in range(5 * times):
                 if number == 4 * times:
-                    kept = self.kept(server, refusing.kept)
+                    kept = self.count_kept(server, refusing.kept)
                 work(server, number)
-            self.assertLess(self.kept(server, refusing.kept) - kept, times // 2)
+            self.assertLess(self.count_kept(server, refusing.kept) - kept, times // 2)
             self.assertEqual(server.close().status, 0)
 
     def environment(self, refusing: Refusing) -> dict[str, str]:
@@ -222,7 +222,7 @@ class Kept(Case):
         return preloaded.both(preloaded.environment(self.folder, SYNCS_LEFT_OUT=1), refusing.environment())
 
     @staticmethod
-    def kept(server: Serving, count: Callable[[], int]) -> int:
+    def count_kept(server: Serving, count: Callable[[], int]) -> int:
         """What is kept once a server waits for the next client: once it has stayed the same for half a second."""
         server.ask({"op": "resend"})
         now, same = count(), 0
@@ -282,7 +282,7 @@ class Kept(Case):
                     connection.send(*({"op": "reset", "client": 1, "number": each, "node": 1} for each in numbers))
                     self.assertEqual([connection.reply() for _ in numbers], [answered(FINISHED, 1 + each) for each in numbers])
                 if first // SHORT_STEPS in (7, 39):
-                    kept.append(self.kept(server, refusing.kept_bytes))
+                    kept.append(self.count_kept(server, refusing.kept_bytes))
             self.assertEqual(server.close().status, 3)
         # the signals between the two are some 16 bytes each
         self.assertLess(kept[1] - kept[0], 32 * SHORT_STEPS * 8, kept)

@@ -40,7 +40,7 @@ class Printed(Case):
             self.assertEqual(server.order(1, "reset", node=1)["kind"], "started")
             server.await_signals(64)
             printed = server.close().printed
-        lines = [text for text in self.written() if not text.startswith("{")]
+        lines = [text for text in self.writes() if not text.startswith("{")]
         self.assertEqual(lines, printed.splitlines(keepends=True))
 
     def test_writes_that_are_interrupted_very_often(self) -> None:
@@ -70,9 +70,9 @@ class Printed(Case):
     def expect_writes(self, words: list[str], given: bytes, wanted: list[str]) -> None:
         environment = preloaded.environment(self.folder, CALLS=self.path("calls"))
         self.assertEqual(ran(*words, given=given, env={**os.environ, **environment}).told, "")
-        self.assertEqual(self.written(), wanted)
+        self.assertEqual(self.writes(), wanted)
 
-    def written(self) -> list[str]:
+    def writes(self) -> list[str]:
         """What each write has printed."""
         rows = [line.split(" ") for line in self.read("calls").decode().splitlines()]
         os.remove(self.path("calls"))

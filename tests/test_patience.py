@@ -34,7 +34,7 @@ def ends_of(connection: Connection) -> tuple[int, int]:
     return connection.socket.getsockname()[1], connection.socket.getpeername()[1]
 
 
-def untaken(client: int, server: int) -> int | None:
+def backlog(client: int, server: int) -> int | None:
     """How many bytes the system keeps of what the server has sent to a client that does not read, by their ports; None
     where the connection is over."""
     with open("/proc/net/tcp", encoding="ascii") as rows:
@@ -141,12 +141,12 @@ class Patience(Case):
 
     def expect_times(self, log: str, wanted: list[int]) -> None:
         """Just these are told next, in seconds, a write's as a negative number."""
-        def told() -> tuple[list[tuple[str, float]], int] | None:
+        def find_times() -> tuple[list[tuple[str, float]], int] | None:
             with open(log, encoding="ascii") as calls:
                 rows = [line.split(" ") for line in calls.readlines()[self.told:]]
             times = [(name, int(millis) / 1_000) for name, _, millis, _ in rows if name.endswith("-within")]
             return (times, len(rows)) if len(times) >= len(wanted) else None
-        times, rows = until(f"times to wait {wanted}", told)
+        times, rows = until(f"times to wait {wanted}", find_times)
         self.told += rows
         self.assertEqual(times, [("read-within" if each > 0 else "write-within", abs(each)) for each in wanted])
 
@@ -181,7 +181,7 @@ class Patience(Case):
             size = 0
             while time.monotonic() < began + 120:
                 before, looked = looked, time.monotonic()
-                if (now := untaken(*ends)) is not None and now != size:
+                if (now := backlog(*ends)) is not None and now != size:
                     size, moved = now, before
                 try:
                     self.assertEqual(second.reply(), {"count": 0, "kind": "resent"})

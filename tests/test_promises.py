@@ -30,12 +30,12 @@ class Copied(Case):
                     shutil.copytree(f"{ROOT}/crates/{crate}/{part}", copy / "crates" / crate / part)
         return copy
 
-    def compared(self, copy: pathlib.Path) -> tuple[int, str]:
+    def compare(self, copy: pathlib.Path) -> tuple[int, str]:
         """The status and the lines of the comparison."""
         ran = subprocess.run([copy / "tools/promises"], capture_output=True, text=True, check=False)
         return ran.returncode, ran.stdout + ran.stderr
 
-    def changed(self, copy: pathlib.Path, file: str, old: str, new: str) -> None:
+    def change(self, copy: pathlib.Path, file: str, old: str, new: str) -> None:
         path = copy / file
         text = path.read_text()
         self.assertEqual(text.count(old), 1, file)
@@ -49,16 +49,16 @@ class Promises(Copied):
 
     def test_a_weakened_statement_is_told_by_its_name(self) -> None:
         copy = self.copy()
-        self.changed(copy, CONNECTIONS, "AllServed d [] e = e ≡ d", "AllServed d [] e = Unit {0}")
-        status, said = self.compared(copy)
+        self.change(copy, CONNECTIONS, "AllServed d [] e = e ≡ d", "AllServed d [] e = Unit {0}")
+        status, said = self.compare(copy)
         self.assertEqual(status, 1, said)
         self.assertIn("coord_admin.specs.Connections.AllServed is changed", said)
 
     def test_a_clause_that_is_gone_is_told_by_its_name(self) -> None:
         copy = self.copy()
-        self.changed(copy, "crates/coord_admin/src/connections.rt",
+        self.change(copy, "crates/coord_admin/src/connections.rt",
                      "    ensures failed { OnErr result ((last", "    ensures broken { OnErr result ((last")
-        status, said = self.compared(copy)
+        status, said = self.compare(copy)
         self.assertEqual(status, 1, said)
         self.assertIn("connections::serve_connections ensures failed is gone", said)
         self.assertIn("connections::serve_connections ensures broken is new", said)
@@ -67,7 +67,7 @@ class Promises(Copied):
         copy = self.copy()
         table = copy / "docs/PROMISES.md"
         table.write_text(table.read_text() + "\n| Nothing | nothing | coord_admin `serve_everybody` (`always`) |\n")
-        status, said = self.compared(copy)
+        status, said = self.compare(copy)
         self.assertEqual(status, 1, said)
         self.assertIn("a row names `serve_everybody`, which is not in coord_admin or below", said)
 
@@ -75,14 +75,14 @@ class Promises(Copied):
         copy = self.copy()
         table = copy / "docs/PROMISES.md"
         table.write_text(table.read_text() + "\n| Nothing | nothing | coord_admin `serve_connections` (`whole`) |\n")
-        status, said = self.compared(copy)
+        status, said = self.compare(copy)
         self.assertEqual(status, 1, said)
         self.assertIn("a row names `whole`, which is no clause of connections::serve_connections", said)
 
     def test_comments_and_layout_are_no_change(self) -> None:
         copy = self.copy()
-        self.changed(copy, CONNECTIONS, "  AllServed d [] e = e ≡ d", "  -- none\n  AllServed d [] e =   e ≡ d  -- so")
-        status, said = self.compared(copy)
+        self.change(copy, CONNECTIONS, "  AllServed d [] e = e ≡ d", "  -- none\n  AllServed d [] e =   e ≡ d  -- so")
+        status, said = self.compare(copy)
         self.assertEqual(status, 0, said)
 
 
@@ -106,15 +106,15 @@ class Broken(Copied):
 
     def test_a_body_that_names_no_clause(self) -> None:
         copy = self.copy()
-        self.changed(copy, self.EDITS, "% check (legal)", "% check (lawful)")
-        status, said = self.compared(copy)
+        self.change(copy, self.EDITS, "% check (legal)", "% check (lawful)")
+        status, said = self.compare(copy)
         self.assertEqual(status, 1, said)
         self.assertIn("coord_check/letter_g_skipped: search::check ensures no such clause: check (lawful)", said)
 
     def test_a_body_that_names_several_functions(self) -> None:
         copy = self.copy()
-        self.changed(copy, "refusals/coord_config.edits", "% values::each (bad)", "% of (bad)")
-        status, said = self.compared(copy)
+        self.change(copy, "refusals/coord_config.edits", "% values::each (bad)", "% of (bad)")
+        status, said = self.compare(copy)
         self.assertEqual(status, 1, said)
         self.assertRegex(said, r"coord_config/wrong_value_as_bad_key: \d+ functions of coord_config are named so: of \(bad\)")
 
@@ -122,7 +122,7 @@ class Broken(Copied):
         copy = self.copy()
         edits = copy / "refusals/coord_orders.edits"
         edits.write_text("".join(line for line in edits.read_text().splitlines(keepends=True) if not line.startswith("% ")))
-        status, said = self.compared(copy)
+        status, said = self.compare(copy)
         self.assertEqual(status, 1, said)
         self.assertIn("no wrong body of refusals/ breaks coord_orders book::OrderBook::hear, which a row cites", said)
 
@@ -131,7 +131,7 @@ class Broken(Copied):
         copy = self.copy()
         with open(copy / "refusals/not-tried.txt", "a", encoding="utf-8") as file:
             file.write("coord_check search::check\ncoord_check search::nothing\n")
-        status, said = self.compared(copy)
+        status, said = self.compare(copy)
         self.assertEqual(status, 1, said)
         self.assertIn("not-tried.txt: coord_check search::check: a wrong body breaks it now", said)
         self.assertIn("not-tried.txt: coord_check search::nothing: no row cites such a function", said)
@@ -161,11 +161,11 @@ impl<'a, S: Read + Write, L: OpenListener<Stream = S>, T: Clock> Callers
         loader.exec_module(self.run_of_refusals)
 
     def test_a_head_on_two_lines(self) -> None:
-        pattern, body = self.run_of_refusals.enclosing("src/callers.rt", self.TEXT, self.TEXT.index("self.discard"))
+        pattern, body = self.run_of_refusals.function_at("src/callers.rt", self.TEXT, self.TEXT.index("self.discard"))
         self.assertEqual(pattern, ("callers", "AcceptedCallers", "end"))
         self.assertTrue(self.run_of_refusals.is_of_trait(self.TEXT, body))
 
     def test_a_head_on_one_line(self) -> None:
-        pattern, body = self.run_of_refusals.enclosing("src/callers.rt", self.TEXT, self.TEXT.index("&self"))
+        pattern, body = self.run_of_refusals.function_at("src/callers.rt", self.TEXT, self.TEXT.index("&self"))
         self.assertEqual(pattern, ("callers", "Kept", "end"))
         self.assertFalse(self.run_of_refusals.is_of_trait(self.TEXT, body))

@@ -66,7 +66,7 @@ class SlowDevice(Case):
         with self.serving(topology([(1, 1), (2, 1)], [(1, 2)]), seconds) as server:
             self.assertEqual(server.order(1, "reset", node=1), {"kind": "started", "step": 4})
             with server.connect() as connection:
-                until("the second step", lambda: self.accepted(connection) > 4)
+                until("the second step", lambda: self.count_accepted(connection) > 4)
                 connection.send({"op": "show"}, {"op": "resend"}, {"op": "show"})
                 shown, resent, again = connection.reply(), connection.reply(), connection.reply()
             server.await_quiet(1)
@@ -74,7 +74,7 @@ class SlowDevice(Case):
         return (shown, resent) if shown == again and (shown["accepted"], shown["settled"]) == (5, 4) else None
 
     @staticmethod
-    def accepted(connection: Connection) -> int:
+    def count_accepted(connection: Connection) -> int:
         connection.send({"op": "show"})
         accepted: int = connection.reply()["accepted"]
         return accepted

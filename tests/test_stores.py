@@ -33,7 +33,7 @@ REFUSED = [
 UNAWAITED = world(3, PAIR, [link(1, 2, 3, back=(0, 0, [ACK]))])
 
 
-def linked(low: bytes, high: bytes, there: stores.Lane = stores.NO_LANE, back: stores.Lane = stores.NO_LANE) -> bytes:
+def world_of_two(low: bytes, high: bytes, there: stores.Lane = stores.NO_LANE, back: stores.Lane = stores.NO_LANE) -> bytes:
     """A world of version 1 with the nodes 2 and 64, after 4 steps."""
     return world(4, [low, high], [link(2, 64, 3, there, back)])
 
@@ -43,17 +43,17 @@ WAITS_2, WAITS_64 = node(2, ABORT, awaits=[64]), node(64, ABORT, awaits=[2])
 # The first fault of each world, as `check` prints it.
 VIOLATED = [
     ("64 64 N", world(4, [node(64, ABORT)])),
-    ("2 2 N", linked(node(2, CONVERGE), QUIET_64, (0, 1, []))),
-    ("2 64 A", linked(QUIET_2, QUIET_64, (0, 1, []))),
-    ("64 2 A", linked(QUIET_2, QUIET_64, back=(1, 0, []))),
-    ("2 64 B", linked(QUIET_2, QUIET_64, back=(0, 0, [ACK]))),
-    ("64 2 B", linked(QUIET_2, WAITS_64)),
-    ("2 64 C", linked(QUIET_2, QUIET_64, (0, 0, [IS_READY, IS_READY]))),
-    ("2 64 D", linked(WAITS_2, QUIET_64, (0, 0, [abort(), IS_READY]))),
-    ("2 64 E", linked(QUIET_2, node(64, CONVERGE, 2))),
-    ("64 2 E", linked(node(2, CONVERGE, 64), QUIET_64)),
-    ("2 64 F", linked(node(2, CONVERGE, 64), node(64, CONVERGE, 2))),
-    ("2 64 G", linked(WAITS_2, QUIET_64, (0, 0, [IS_READY]), (0, 0, [ACK]))),
+    ("2 2 N", world_of_two(node(2, CONVERGE), QUIET_64, (0, 1, []))),
+    ("2 64 A", world_of_two(QUIET_2, QUIET_64, (0, 1, []))),
+    ("64 2 A", world_of_two(QUIET_2, QUIET_64, back=(1, 0, []))),
+    ("2 64 B", world_of_two(QUIET_2, QUIET_64, back=(0, 0, [ACK]))),
+    ("64 2 B", world_of_two(QUIET_2, WAITS_64)),
+    ("2 64 C", world_of_two(QUIET_2, QUIET_64, (0, 0, [IS_READY, IS_READY]))),
+    ("2 64 D", world_of_two(WAITS_2, QUIET_64, (0, 0, [abort(), IS_READY]))),
+    ("2 64 E", world_of_two(QUIET_2, node(64, CONVERGE, 2))),
+    ("64 2 E", world_of_two(node(2, CONVERGE, 64), QUIET_64)),
+    ("2 64 F", world_of_two(node(2, CONVERGE, 64), node(64, CONVERGE, 2))),
+    ("2 64 G", world_of_two(WAITS_2, QUIET_64, (0, 0, [IS_READY]), (0, 0, [ACK]))),
 ]
 # The same of worlds of version 1, beside each the legal one that is nearest to it.
 TOLD = [
@@ -275,8 +275,8 @@ class Migrated(Case):
         """It has one batch a step: two nodes, their link, the reset, and the steps of its wave."""
         started = [add(1), add(2, number=2), order(3, 2, 1, 2), order(4, 4, 1)]
         ended = [take(1, 2, 3, 1, abort()), take(2, 1, 3, 1, ACK), clear(1, 2, 3, 1), take(1, 2, 3, 2, IS_READY)]
-        self.assertEqual(ran("migrate", self.stored(started)), faulted(1, "NotQuiet 1"))
-        path = self.stored(started + ended)
+        self.assertEqual(ran("migrate", self.store_of(started)), faulted(1, "NotQuiet 1"))
+        path = self.store_of(started + ended)
         self.assertEqual(ran("migrate", path), Ended(0, "migrated 8\n", ""))
         raised = self.read("store")
         self.assertEqual((raised[0], stores.version_of(path)), (1, 2))
@@ -284,7 +284,7 @@ class Migrated(Case):
         self.assertEqual((ran("check", path), ran("show", path)), (Ended(0, "legal 8\n", ""), Ended(0, shown, "")))
         self.assertEqual((ran("migrate", path), self.read("store")), (Ended(0, "migrated 8\n", ""), raised))
 
-    def stored(self, steps: Sequence[bytes], snapshot: bytes = stores.EMPTY_WORLD, count: int = 0) -> str:
+    def store_of(self, steps: Sequence[bytes], snapshot: bytes = stores.EMPTY_WORLD, count: int = 0) -> str:
         """A store of version 1 whose snapshot, after so many steps, is followed by these."""
         bodies = [batch(number, step) for number, step in enumerate(steps, count + 1)]
         return self.write("store", stores.store(snapshot, bodies=bodies))
@@ -293,12 +293,12 @@ class Migrated(Case):
         """Three nodes are each the parent of the next, and each await the next one: no wave ends there but by a drop."""
         rows = [node(1, ABORT, 3, awaits=[2]), node(2, ABORT, 1, awaits=[3]), node(3, ABORT, 2, awaits=[1])]
         circle = world(6, rows, [link(1, 2, 4), link(1, 3, 5), link(2, 3, 6)])
-        path = self.stored([], circle, 6)
+        path = self.store_of([], circle, 6)
         self.assertEqual(ran("check", path), Ended(0, "legal 6\n", ""))
         self.assertEqual(ran("migrate", path), faulted(1, "NotQuiet 1"))
         opened = [order(1, 3, 1, 2), take(1, 3, 5, 1, ACK), take(3, 2, 6, 1, ACK), take(2, 3, 6, 1, IS_READY),
                   take(3, 1, 5, 1, IS_READY)]
-        path = self.stored(opened, circle, 6)
+        path = self.store_of(opened, circle, 6)
         self.assertEqual(ran("migrate", path), Ended(0, "migrated 11\n", ""))
         self.assertEqual(ran("check", path), Ended(0, "legal 11\n", ""))
 

@@ -55,14 +55,14 @@ def measure(trial: Trial) -> None:
     usual = trial.site.host
     for name, asker in (("the same host", host), ("another host", usual)):
         trial.site.host = asker
-        half, most = half_and_most([timed(client) for _ in range(COUNT)])
+        half, most = half_and_most([time_order(client) for _ in range(COUNT)])
         tell(f"an order, from {name:31s}half {half:.2f} ms, 99 of 100 {most:.2f} ms; {half / raw[0]:.1f} raw pairs")
     trial.site.host = usual
     client.order("remove", node=60)
     print()
 
 
-def timed(client: Client) -> float:
+def time_order(client: Client) -> float:
     begun = time.monotonic()
     client.order("reset", node=60)
     return time.monotonic() - begun

@@ -37,7 +37,7 @@ os.fdatasync(file)
 """
 
 
-def half_written(trial: Trial) -> None:
+def write_half(trial: Trial) -> None:
     keeper = trial.present
     print(f"6. The last byte of an order reaches the brick of {keeper.host.name} alone, and the next start reads it "
           "there.", flush=True)

@@ -14,7 +14,7 @@ RECONNECTED = 6  # seconds after which all hosts have found a brick again
 AWAY = 9  # seconds for which the host without a coordinator, or the majority, is away
 
 
-def killed_in_wave(trial: Trial) -> float:
+def kill_in_wave(trial: Trial) -> float:
     print("1. A reset is asked for, and in the middle of it host 1, on which the coordinator is, is killed whole.",
           flush=True)
     old, new = trial.present, trial.other(trial.present)
@@ -70,14 +70,14 @@ def cut_in_load(trial: Trial) -> float:
     old.host.link()
     tell(f"{old.host.name} is linked again; orders go on")
     time.sleep(LATER)
-    linked_old_is_asked(trial, old, ends)
+    ask_linked_old(trial, old, ends)
     trial.load.stop()
     trial.load.finish()
     trial.check()
     return took
 
 
-def linked_old_is_asked(trial: Trial, old: Keeper, ends: int) -> None:
+def ask_linked_old(trial: Trial, old: Keeper, ends: int) -> None:
     """The old coordinator, over a new connection, with an order of a client that nobody else is."""
     request = {"op": "reset", "client": 15, "number": 1, "node": 1}
     tell(f"the old coordinator on {old.host.name} {trial.end_old(old, ends, request)}")
@@ -102,7 +102,7 @@ def cut_while_idle(trial: Trial) -> float:
     tell(f"{old.host.name} is linked again, and all three bricks have the same {len(before)} bytes")
     if "accepted" in shown:
         tell(f"the old coordinator, asked for show, tells its own past: {shown['accepted']} steps")
-    linked_old_is_asked(trial, old, ends)
+    ask_linked_old(trial, old, ends)
     refused = old.wait_refused()
     if trial.volume.wait_healed(new.host)[0] != before:
         raise Lost(f"the old coordinator on {old.host.name} has written")
@@ -165,7 +165,7 @@ def third_host_away(trial: Trial) -> float:
     return gap
 
 
-def majority_lost(trial: Trial) -> float:
+def lose_majority(trial: Trial) -> float:
     keeper = trial.present
     away = [host for host in trial.hosts if host is not keeper.host]
     print(f"5. Two of the three bricks are cut off, those of {away[0].name} and {away[1].name}: no majority.",
@@ -207,4 +207,4 @@ def what_it_answers(keeper: Keeper) -> str:
         return "nothing"
 
 
-PARTS: list[Callable[[Trial], object]] = [killed_in_wave, cut_in_load, cut_while_idle, bricks_in_turn, majority_lost, half.half_written]
+PARTS: list[Callable[[Trial], object]] = [kill_in_wave, cut_in_load, cut_while_idle, bricks_in_turn, lose_majority, half.write_half]

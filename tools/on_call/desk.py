@@ -88,10 +88,10 @@ class Desk:
                  seconds: float = LONG) -> Typed:
         """What `resetctl` prints for these words, with its status."""
         at = address or (server.address if server else "127.0.0.1:1")
-        return self.typed(sys.executable, "-B", f"{ROOT}/client/resetctl", "--state", self.path("state"), "--address", at,
+        return self.type_words(sys.executable, "-B", f"{ROOT}/client/resetctl", "--state", self.path("state"), "--address", at,
                           "--patience", str(patience), "--seconds", str(seconds), *words)
 
-    def typed(self, *words: str) -> Typed:
+    def type_words(self, *words: str) -> Typed:
         done = subprocess.run(words, stdin=subprocess.DEVNULL, stdout=subprocess.PIPE, stderr=subprocess.STDOUT, text=True,
                               timeout=5 * LONG, check=False)
         return Typed(done.returncode, done.stdout)

@@ -32,7 +32,7 @@ def no_answer(desk: Desk) -> None:
     store = desk.store()
     see(desk.health(None, patience=0, seconds=2).text, "resetd CRITICAL: no answer: ")
     with Serving(store) as server:
-        with stopped(server):
+        with stop_meanwhile(server):
             see(desk.health(server, patience=0, seconds=2).text, "resetd CRITICAL: no answer: ")
             see(desk.why(store, server), f"is stopped by a signal (SIGSTOP or a debugger): kill -CONT {server.process.pid}")
         host, port_number = server.address.split(":")
@@ -45,7 +45,7 @@ def no_answer(desk: Desk) -> None:
 
 
 @contextlib.contextmanager
-def stopped(server: Serving) -> Iterator[None]:
+def stop_meanwhile(server: Serving) -> Iterator[None]:
     server.process.send_signal(signal.SIGSTOP)
     try:
         yield

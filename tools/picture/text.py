@@ -40,7 +40,7 @@ def heading(column: Column) -> str:
 
 def cell(column: Column, node: int, place: int, coloured: bool) -> str:
     """What a node does in a column, and after it the line of its mode."""
-    entry = marks(column.cells[node]) if node in column.cells else passing(column, node)
+    entry = marks(column.cells[node]) if node in column.cells else marks_between(column, node)
     mode = column.modes.get(node, "")
     rest = place - sum(len(text) for text, _ in entry)
     return "".join(paint(text, kind, coloured) for text, kind in entry + [(FILLS[mode] * rest, mode)])
@@ -55,7 +55,7 @@ def marks(cell: Cell) -> list[Mark]:
     return found + ([(f"●{cell.epoch}", "signal")] if cell.epoch is not None else [])
 
 
-def passing(column: Column, node: int) -> list[Mark]:
+def marks_between(column: Column, node: int) -> list[Mark]:
     """The line that a taken message makes from its sender's row to its receiver's, or a start through all rows."""
     if column.kind == "start":
         return [(START, "")]
@@ -72,15 +72,15 @@ def paint(text: str, kind: str, coloured: bool) -> str:
 
 
 def legend(wave: Wave, coloured: bool) -> list[str]:
-    def shown(text: str, kind: str) -> str:
+    def show(text: str, kind: str) -> str:
         return paint(text, kind, coloured)
-    letters = ", ".join(f"{shown(letter, kind)} {kind}" for kind, letter in LETTERS.items())
+    letters = ", ".join(f"{show(letter, kind)} {kind}" for kind, letter in LETTERS.items())
     taken = sum(message.taken for message in wave.messages)
     return [
         f"{letters} goes out; as a capital letter it is taken, from where the line begins",
-        f"{shown('!', 'abort')} a reset is asked for   {shown('●N', 'signal')} signalled, enters epoch N   "
+        f"{show('!', 'abort')} a reset is asked for   {show('●N', 'signal')} signalled, enters epoch N   "
         f"x a link is dropped   {START} the program starts",
-        f"{shown(FILLS['reached'], 'reached')} reached by a reset   "
-        f"{shown(FILLS['acknowledged'], 'acknowledged')} has acknowledged it   {FILLS['']} ready",
+        f"{show(FILLS['reached'], 'reached')} reached by a reset   "
+        f"{show(FILLS['acknowledged'], 'acknowledged')} has acknowledged it   {FILLS['']} ready",
         f"nodes: {len(wave.nodes)}, signals: {len(wave.signals())}, messages taken: {taken} of {len(wave.messages)}",
     ]

@@ -30,10 +30,10 @@ class Rule:
 
     def __init__(self, folder: str) -> None:
         self.folder, self.kept, self.history = folder, Kept(), set[str]()
-        self.answered(None)
+        self.note_answer(None)
         self.looks, self.talks, self.wrong = 0, 0, ""
 
-    def answered(self, view: View | None) -> None:
+    def note_answer(self, view: View | None) -> None:
         """The member is shown this, or it was started anew."""
         self.view, self.orders, self.run = view, list[Order](), ""
         self.due: Due | None = None
@@ -47,7 +47,7 @@ class Rule:
             assert self.kept.party is not None
             self.run = f"{row.epoch} {tag_of(self.kept.party, view.party(NODE)) or '-'}"
 
-    def ordered(self, order: Json) -> None:
+    def note_order(self, order: Json) -> None:
         """The member orders something."""
         if order.get("op") == "confirm" and order.get("epoch") == 0:
             return  # it looks for its count
@@ -114,13 +114,13 @@ class Between:
             if spoiled:
                 return spoiled(connection, self.direct(line))
         else:
-            self.rule.ordered(request)
+            self.rule.note_order(request)
             if request["op"] == "confirm" and self.on_confirm:
                 self.on_confirm()
                 return False
         text = self.direct(line)
         if request["op"] == "show":
-            self.rule.answered(View.of(json.loads(text)))
+            self.rule.note_answer(View.of(json.loads(text)))
         connection.sendall(text + b"\n")
         return True
 
@@ -133,7 +133,7 @@ def away(connection: socket.socket, text: bytes) -> bool:
     return False
 
 
-def torn(connection: socket.socket, text: bytes) -> bool:
+def tear(connection: socket.socket, text: bytes) -> bool:
     connection.sendall(text[:len(text) // 2])
     return False
 
@@ -152,7 +152,7 @@ class Tried:
         host, port = self.between.listener.getsockname()
         words = {"node": NODE, "host": host, "port": port, "address": f"{host}:{port}", "folder": self.folder,
                  "signals": self.trial.server.signals}
-        self.rule.answered(None)
+        self.rule.note_answer(None)
         with open(f"{self.trial.folder}/foreign.lines", "ab") as lines:
             self.process: subprocess.Popen[bytes] = subprocess.Popen(
                 [word.format(**words) for word in self.command], stdin=subprocess.DEVNULL, stdout=lines, stderr=lines,
@@ -209,7 +209,7 @@ def of_resets(tried: Tried) -> None:
     trial.reset(1)
     tried.looks("a reset, after which the others look late", 4)
     tried.all_talk("after a reset")
-    tried.between.spoil += [torn, away, away, torn]
+    tried.between.spoil += [tear, away, away, tear]
     tried.looks("the coordinator is away, and its answers are torn", 6)
 
 

@@ -27,20 +27,20 @@ class History:
                 raise Lost(f"node {node} was seen in epoch {epoch}, and is in epoch {epochs.get(node)}")
         self.epochs = dict(epochs)
 
-    def unprinted(self) -> list[tuple[int, int]]:
+    def find_unprinted(self) -> list[tuple[int, int]]:
         """The signals of epochs that were shown, which were neither printed nor taken by a kill before."""
         return [(node, epoch) for node, last in self.epochs.items()
                 for epoch in range(self.accounted.get(node, 0) + 1, last + 1) if (node, epoch) not in self.printed]
 
     def expect_printed(self) -> None:
         """Where nothing was killed and the device has not failed, each signal that was settled was printed."""
-        if missing := self.unprinted():
+        if missing := self.find_unprinted():
             raise Lost(f"signal {missing[0][0]} {missing[0][1]} was settled and not printed, one of {len(missing)}")
         self.accounted = dict(self.epochs)
 
     def note_taken(self) -> None:
         """Signals that were settled may be taken by a kill, or by a fault of the device, before they are printed."""
-        self.taken += len(self.unprinted())
+        self.taken += len(self.find_unprinted())
         self.accounted = dict(self.epochs)
 
     def look_into(self, server: Server) -> tuple[int, bool]:

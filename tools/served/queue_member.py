@@ -105,16 +105,16 @@ class Queue:
 
     def take(self, message: Json) -> Json:
         """Takes an item, and answers how many were taken. One that comes again was taken before."""
-        starts, item = self.joined(message["starts"]), message["item"]
+        starts, item = self.join(message["starts"]), message["item"]
         if item > self.work["taken"] + 1:
             self.tell(f"GAP: item {item} came after {self.work['taken']}")
         self.keep({**self.work, "starts": starts, "taken": max(item, self.work["taken"])})
         return {"taken": item, "starts": starts}
 
     def note_handed(self, answer: Json) -> None:
-        self.keep({**self.work, "starts": self.joined(answer["starts"]), "handed": answer["taken"]})
+        self.keep({**self.work, "starts": self.join(answer["starts"]), "handed": answer["taken"]})
 
-    def joined(self, starts: dict[str, str]) -> dict[str, str]:
+    def join(self, starts: dict[str, str]) -> dict[str, str]:
         mine = self.work["starts"]
         for node, name in starts.items():
             if mine.get(node, name) != name:

@@ -35,11 +35,11 @@ class QueueRing:
         shutil.rmtree(f"{self.folder}/{node}")
         self.start(node)
 
-    def handed(self) -> list[int]:
+    def count_handed(self) -> list[int]:
         """How many items each member has taken in its present start."""
         return [json.loads(read(f"{self.folder}/{node}/work") or '{"taken": 0}')["taken"] for node in self.nodes]
 
-    def told(self, word: str) -> int:
+    def count_told(self, word: str) -> int:
         """How many lines of the members have a word."""
         return sum(read(f"{self.folder}/{node}.lines").count(f": {word}: ") for node in self.nodes)
 

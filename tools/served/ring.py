@@ -83,7 +83,7 @@ class Ring:
 
     def await_signals(self, until: float) -> None:
         """Waits until each signal that was settled is printed: that comes behind the answers."""
-        while self.history.unprinted() and time.monotonic() < until:
+        while self.history.find_unprinted() and time.monotonic() < until:
             if self.server.process.poll() is not None:
                 raise Away("the coordinator is gone")
             self.history.note_signals(self.server.new_signals())

@@ -34,7 +34,7 @@ class Repository:
             self.specs[source.dotted] = source
             self.definitions.update({(source.dotted, name): text for name, text in definitions_of(source).items()})
 
-    def found(self, module: str, name: str) -> tuple[str, str] | None:
+    def find(self, module: str, name: str) -> tuple[str, str] | None:
         """Where what an import names is defined."""
         for _ in range(9):
             if ".specs.declared." in module:
@@ -55,9 +55,9 @@ class Repository:
         for word in set(WORD.findall(text)):
             first, *rest = word.split(".")
             if first in source.names:
-                reached.add(self.found(*source.names[first]))
+                reached.add(self.find(*source.names[first]))
             elif first in source.modules and rest:
-                reached.add(self.found(source.modules[first], rest[0]))
+                reached.add(self.find(source.modules[first], rest[0]))
             elif (source.dotted, first) in self.definitions:
                 reached.add((source.dotted, first))
         return {it for it in reached if it}
