@@ -4,7 +4,7 @@ ghost use Rattle.std.specs.Prelude.{◌≡◌, ◌⊎◌, ◌+◌, ◌≤◌, []
 ghost use Rattle.std.specs.Thread.{IsSend, IsSync};
 ghost use Rattle.coord_engine.specs.State.{based_on};
 ghost use Rattle.coord_server.specs.EngineDesk.{HandsAgain};
-ghost use Rattle.coord_server.specs.Ending.{AddsWorkers, HasRun, IsOfStart, ServesLife, new_desk};
+ghost use Rattle.coord_server.specs.Ending.{AddsWorkers, HasRun, IsOfStart, Local, ServesLife, new_desk};
 
 use crate::life_end::LifeEnd;
 use crate::printing::Opening;
@@ -44,11 +44,13 @@ pub struct Completed<L: Count, C> {
     pub left: LifeEnd,
 }
 
-/// The threads of a life: its flusher, and a worker for each channel.
+/// The threads of a life: its flusher, and a worker for each of the eight channels. Who serves is
+/// given one, so nobody is served before all of them were started.
 #[derive(Drop)]
 struct Crew<L: Count> {
     flushing: JoinHandle<()>,
     workers: Vec<JoinHandle<PacketShare<L>>>,
+    ghost eight: { vec_len workers ≡ 8 },
 }
 
 /// Starts a flusher, and a worker on each channel. Once all of them run, it opens the output, sends
@@ -118,8 +120,8 @@ fn run_in<
         setting.port.hang_up();
         return Err(ServerFault::OutOfMemory);
     };
+    let (own, left) = serve_over(setting, &*engine, &crew, own, &mut callers, opening);
     let Crew { flushing, workers } = crew;
-    let (own, left) = serve_over(setting, &*engine, own, &mut callers, opening);
     engine.finish(rt);
     flushing.join(rt);
     setting.port.hang_up();
@@ -137,7 +139,7 @@ fn start<'s, 'r: 's, 'e: 's, E, D: Disk + Send, L: Origin + Send + Sync, R: Wait
     engine: &'e Engine<D, L>,
     packets: Vec<Receiver<Packet>>,
 ) -> Option<Crew<L>>
-    ensures { IfSome result (λ crew. vec_len crew.workers ≡ vec_len packets) }
+    requires { vec_len packets ≡ 8 }
 {
     let (rt, port) = (setting.rt, setting.port);
     let flushing = scope
@@ -184,19 +186,20 @@ fn start_worker<'s, 'r: 's, 'e: 's, E, D: Disk + Send, L: Origin + Send + Sync, 
         .ok()
 }
 
-/// Opens the output, and serves those who call by a desk with this share. What ended that, and the
-/// share.
+/// Opens the output, and serves those who call by a desk with this share, while a crew is at work.
+/// What ended that, and the share.
 fn serve_over<D: Disk, L: Origin, C: Callers, W: Write + Drop, R: Wait>(
     setting: &Setting<'_, R>,
     engine: &Engine<D, L>,
+    _crew: &Crew<L>,
     own: Share<L>,
     callers: &mut C,
     opening: Option<Opening<W>>,
 ) -> (Share<L>, LifeEnd)
     requires { own ≡ [] }
-    ensures { (seen : ℕ) × ServesLife
-        (based_on D.model.keeps_model D.model.present L.base L.before) C.talked C.failed setting.now.life_steps callers.old
-        callers.new (record { notes = result.0; seen = seen }) result.1 }
+    ensures { (seen : ℕ) × (port : Local) × (later : Local) × ServesLife
+        (based_on D.model.keeps_model D.model.present L.base L.before) C.talked C.failed setting.now.life_steps port
+        callers.old callers.new (record { notes = result.0; seen = seen; port = later }) result.1 }
 {
     let opened = open(setting.rt, &*callers, opening);
     let mut desk = EngineDesk::new(setting.rt, engine, setting.port, own);
@@ -227,14 +230,16 @@ fn serve_clients<D: Disk, L: Origin, C: Callers, P: Port, R: Wait>(
     desk: &mut EngineDesk<'_, D, L, P, R>,
 ) -> LifeEnd
     requires start { IfErr opened IsOfStart }
-    requires new { desk.old ≡ new_desk }
+    requires new { desk.old ≡ new_desk desk.old.port }
     ensures told { IfErr opened (λ fault. result ≡ LifeEnd.Ended (Some fault)) }
     ensures resent { IfOk opened (λ _.
-        (result ≡ LifeEnd.Ended (Some ServerFault.OutOfMemory)) ⊎ ((count : ℕ) × (port : P) ×
-        (later : P) × HandsAgain (based_on D.model.keeps_model D.model.present L.base L.before) P.carried
-        P.signalled count port later)) }
-    ensures served { ServesLife (based_on D.model.keeps_model D.model.present L.base L.before) C.talked C.failed
-        setting.now.life_steps callers.old callers.new desk.new result }
+        (result ≡ LifeEnd.Ended (Some ServerFault.OutOfMemory)) ⊎ ((count : ℕ) × (later : P) ×
+        HandsAgain (based_on D.model.keeps_model D.model.present L.base L.before) P.carried P.signalled count
+        desk.old.port later × ServesLife (based_on D.model.keeps_model D.model.present L.base L.before)
+        C.talked C.failed setting.now.life_steps later callers.old callers.new desk.new result)) }
+    ensures served { (port : P) × ServesLife
+        (based_on D.model.keeps_model D.model.present L.base L.before) C.talked C.failed setting.now.life_steps port
+        callers.old callers.new desk.new result }
 {
     if let Err(fault) = opened {
         return LifeEnd::Ended(Some(fault));
