@@ -55,7 +55,8 @@ struct Crew<L: Count> {
 
 /// Starts a flusher, and a worker on each channel. Once all of them run, it opens the output, sends
 /// again what may have been lost, and serves those who call until the life is old. An error says
-/// that a thread could not be started: then nothing was printed, and nobody was served.
+/// that a thread could not be started: then nothing was printed and nobody was served, so callers and
+/// opening come back as they were.
 pub fn run<
     D: Disk + Send,
     L: Origin + Send + Sync,
@@ -68,21 +69,21 @@ pub fn run<
     begun: Begun<L>,
     callers: C,
     opening: Option<Opening<W>>,
-) -> Result<Completed<L, C>, ServerFault>
+) -> Result<Completed<L, C>, (C, Option<Opening<W>>)>
     ensures completed { IfOk result (λ completed.
         HasRun (based_on D.model.keeps_model D.model.present L.base L.before) C.talked C.failed setting.now.life_steps
         callers completed.callers completed.left completed.shares.items) }
-    ensures nothing { IfErr result (λ fault. fault ≡ ServerFault.OutOfMemory) }
+    ensures unserved { IfErr result (λ back. (back.0 ≡ callers) × (back.1 ≡ opening)) }
 {
     thread::scope(
         thread::scope_env(),
         setting.rt,
-        |scope| -> Result<Completed<L, C>, ServerFault>
+        |scope| -> Result<Completed<L, C>, (C, Option<Opening<W>>)>
             requires { IsSend D.row × IsSend L.row × IsSync L.row × IsSync R.row }
             ensures completed { IfOk result (λ completed.
                 HasRun (based_on D.model.keeps_model D.model.present L.base L.before) C.talked C.failed
                 setting.entry.now.life_steps callers completed.callers completed.left completed.shares.items) }
-            ensures nothing { IfErr result (λ fault. fault ≡ ServerFault.OutOfMemory) }
+            ensures unserved { IfErr result (λ back. (back.0 ≡ callers) × (back.1 ≡ opening)) }
         { run_in(scope, setting, engine, begun, callers, opening) },
     )
 }
@@ -106,20 +107,20 @@ fn run_in<
     begun: Begun<L>,
     callers: C,
     opening: Option<Opening<W>>,
-) -> Result<Completed<L, C>, ServerFault>
+) -> Result<Completed<L, C>, (C, Option<Opening<W>>)>
     ensures completed { IfOk result (λ completed.
         HasRun (based_on D.model.keeps_model D.model.present L.base L.before) C.talked C.failed setting.now.life_steps
         callers completed.callers completed.left completed.shares.items) }
-    ensures nothing { IfErr result (λ fault. fault ≡ ServerFault.OutOfMemory) }
+    ensures unserved { IfErr result (λ back. (back.0 ≡ callers) × (back.1 ≡ opening)) }
 {
     let rt = setting.rt;
-    let mut callers = callers;
     let Begun { own, room, packets } = begun;
     let Some(crew) = start(scope, setting, engine, packets) else {
         engine.finish(rt);
         setting.port.hang_up();
-        return Err(ServerFault::OutOfMemory);
+        return Err((callers, opening));
     };
+    let mut callers = callers;
     let (own, left) = serve_over(setting, &*engine, &crew, own, &mut callers, opening);
     let Crew { flushing, workers } = crew;
     engine.finish(rt);
@@ -247,6 +248,20 @@ fn serve_clients<D: Disk, L: Origin, C: Callers, P: Port, R: Wait>(
     let Ok(_) = desk.resend() else {
         return LifeEnd::Ended(Some(ServerFault::OutOfMemory));
     };
+    serve_until_old(setting, callers, desk)
+}
+
+/// Serves those who call by a desk that has noted nothing, until a line closes it or the life is old.
+/// What ended it.
+fn serve_until_old<D: Disk, L: Origin, C: Callers, P: Port, R: Wait>(
+    setting: &Setting<'_, R>,
+    callers: &mut C,
+    desk: &mut EngineDesk<'_, D, L, P, R>,
+) -> LifeEnd
+    requires { desk.old ≡ new_desk desk.old.port }
+    ensures { ServesLife (based_on D.model.keeps_model D.model.present L.base L.before) C.talked C.failed
+        setting.now.life_steps desk.old.port callers.old callers.new desk.new result }
+{
     match serve_connections(setting.rt, setting.alloc, setting.life_steps, callers, desk) {
         Ok(Stop::Closed) => LifeEnd::Ended(None),
         Ok(Stop::Old) => LifeEnd::Resting,
