@@ -1,4 +1,4 @@
-use Rattle.std.proofs.Common.{◌≡◌, IfErr, ap, ◌∙◌, subst}
+use Rattle.std.proofs.Common.{IfErr, ap, ◌∙◌, subst}
 use Rattle.coord_engine.specs.State.{based_on}
 use Rattle.coord_server.specs.Ending.{IsOfStart}
 use Rattle.coord_server.proofs.Begins.{begins, ends_at_start}
