@@ -4,8 +4,12 @@ use Rattle.std.proofs.lemmas.Bool.Decides.{nat_tests}
 use Rattle.coord_disk.specs.Model.DiskModel.{DiskModel}
 use Rattle.coord_disk.specs.Model.Present.{Present, whole}
 use Rattle.coord_engine.specs.declared.closed.Closed.{Closed}
-use Rattle.coord_server.specs.Lives.{EndsWith, HasLivedToClose}
+use Rattle.coord_admin.specs.declared.patience.Patience.{Patience}
+use Rattle.coord_server.specs.Ending.{LeavesNothing, fault_at_end}
+use Rattle.coord_server.specs.Lives.{HasLivedToClose, HasServed}
+use Rattle.coord_server.specs.declared.server_end.ServerEnd.{ServerEnd}
 use Rattle.coord_store.specs.Facade.{Kept, Recovered}
+use Rattle.coord_store.specs.Kept.{has_stopped}
 use Rattle.coord_store.specs.Refused.{failed_in}
 use Rattle.coord_store.specs.declared.faults.StoreFault.{StoreFault}
 use Rattle.coord_store.specs.declared.faults.StoreFault.TheVariants.{Device}
@@ -77,9 +81,18 @@ module _ {D : Type 0} (model : DiskModel D) where
       let failures : model.failures back ≡ model.failures is.taken + 0 = omega (arith, ap model.failures same, is.failures) in
       inr (inl (refl, gives_some (reads before) store.world is.world, put_back 0 before after is.taken back is.was put failures (λ _ keeps. ap (λ d. (model.present d).read) same ∙ is.same keeps)))
 
-  -- a server over it has ended
-  pub ended : (before after : Option Present) (store : Kept D) (fault : ServerFault) → IsOpened model before store → EndsWith model.keeps_model model.present store.world fault → EndsServing model before after (fault_of_server fault)
-  ended before after store fault is ends = inr (inr (record { began = store.world; opened = is.world; fault = fault; ends = ends; named = refl }))
+  -- a server over it has ended, and nothing is left
+  pub lost : (before after : Option Present) (store : Kept D) (fault : ServerFault) → IsOpened model before store → LeavesNothing model.keeps_model model.present fault → EndsServing model before after (fault_of_server fault)
+  lost before after store fault is nothing = inr (inr (record { began = store.world; opened = is.world; fault = fault; ends = inl nothing; named = refl }))
+
+  -- a server over it has ended, and its disk is put back
+  pub ended : (before after : Option Present) (store : Kept D) (end : ServerEnd D Patience) (closed : Closed D) (fault : ServerFault) (back : D) → IsOpened model before store → HasServed model.keeps_model model.present store.world end
+      → closed ≡ end.closed → fault_at_end (has_stopped end.closed.store) end.served end.output.is_broken ≡ Some fault → back ≡ closed.store.disk → IfSome after (λ known. known_of model.keeps_model model.present back ≡ Some known)
+      → EndsServing model before after (fault_of_server fault)
+  ended before after store end closed fault back is served same tells disk put =
+      let home = disk ∙ ap (λ (c : Closed D). c.store.disk) same in
+      let there = subst (λ d. IfSome after (λ known. known_of model.keeps_model model.present d ≡ Some known)) home put in
+      inr (inr (record { began = store.world; opened = is.world; fault = fault; ends = inr (end, served, tells, there); named = refl }))
 
   of_unopened : (before after : Option Present) (fault : StoreFault) → ((fault ≡ Device) × (after ≡ before)) ⊎ (IsOfOpening (reads before) (Store fault) × IsPutBack model (failed_in fault) before after) → IsOfServing (reads before) (Store fault)
   of_unopened before after fault (inl none) = inl none.0

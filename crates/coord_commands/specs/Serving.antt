@@ -7,9 +7,13 @@ use Rattle.coord_disk.specs.Model.DiskModel.{DiskModel}
 use Rattle.coord_disk.specs.Model.Present.{Present}
 use Rattle.coord_drill.specs.Drilled.{WritesFirstPart}
 use Rattle.coord_engine.specs.declared.closed.Closed.{Closed}
-use Rattle.coord_server.specs.Lives.{EndsWith, HasLivedToClose}
+use Rattle.coord_admin.specs.declared.patience.Patience.{Patience}
+use Rattle.coord_server.specs.Ending.{LeavesNothing, fault_at_end}
+use Rattle.coord_server.specs.Lives.{HasLivedToClose, HasServed}
 use Rattle.coord_server.specs.declared.fault.ServerFault.{ServerFault}
+use Rattle.coord_server.specs.declared.server_end.ServerEnd.{ServerEnd}
 use Rattle.coord_store.specs.Facade.{Kept, Recovered}
+use Rattle.coord_store.specs.Kept.{has_stopped}
 use Rattle.coord_store.specs.Refused.{failed_in}
 use Rattle.coord_store.specs.declared.faults.StoreFault.{StoreFault}
 use Rattle.coord_store.specs.declared.faults.StoreFault.TheVariants.{Device}
@@ -67,17 +71,25 @@ module _ {D : Type 0} (model : DiskModel D) where
   abbrev pub IsNotBound : Option Present → Option Present → Fault → Type 0
   IsNotBound before after told = (told ≡ Socket) × GivesWorld (reads before) × IsPutBack 0 before after
 
+  -- The fault that a server tells, by lives from this world: nothing is left; or there were lives, they ended with this fault, and the disk that they left is put back.
+  abbrev pub EndsWith : World → ServerFault → Option Present → Type 0
+  EndsWith began fault after =
+      LeavesNothing model.keeps_model model.present fault
+      ⊎ ((ended : ServerEnd D Patience) × HasServed model.keeps_model model.present began ended
+      × (fault_at_end (has_stopped ended.closed.store) ended.served ended.output.is_broken ≡ Some fault)
+      × IfSome after (λ known. known_of model.keeps_model model.present ended.closed.store.disk ≡ Some known))
+
   -- a server over the world of the disk has ended, and tells this
-  pub record HasEnded (before : Option Present) (told : Fault) : Type 0 where
+  pub record HasEnded (before after : Option Present) (told : Fault) : Type 0 where
     pub began : World
     pub opened : IfSome (reads before) (λ known. Recovered known began)
     pub fault : ServerFault
-    pub ends : EndsWith model.keeps_model model.present began fault
+    pub ends : EndsWith began fault after
     pub named : told ≡ fault_of_server fault
 
-  -- The faults of `serve` at an address. Where a server has ended with one, its disk is not put back.
+  -- the faults of `serve` at an address
   abbrev pub EndsServing : Option Present → Option Present → Fault → Type 0
-  EndsServing before after told = IsNotOpened before after told ⊎ (IsNotBound before after told ⊎ HasEnded before told)
+  EndsServing before after told = IsNotOpened before after told ⊎ (IsNotBound before after told ⊎ HasEnded before after told)
 
 -- A store on a disk was served until a line closed it: these bytes gave its world, from which there were lives one behind the other, of which a line closed the last, and the bytes that are put back give the world that they left.
 pub record IsServedToEnd {D : Type 0} (keeps_model : D → Bool) (present : D → Present) (bytes after : Option (List ℕ)) : Type 0 where

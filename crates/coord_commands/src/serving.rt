@@ -43,8 +43,8 @@ pub fn serve<
 
 /// Serves the store on the disk of a name to the connections that come to an address, until one of
 /// them closes it, and answers the exit status. The address is judged before the disk is opened,
-/// and the socket is bound once the store is open. Where it was closed, the disk is put back; so is
-/// one that is refused, or whose socket can't be bound.
+/// and the socket is bound once the store is open. Where a server has ended, the disk is put back; so
+/// is one that is refused, or whose socket can't be bound.
 pub fn serve_in<
     S: Net + Threads + Wait + Clock + Sync + AllocGlobal,
     F: Folder,
@@ -82,11 +82,19 @@ fn serve_at<S: Net + Threads + Wait + Clock + Sync + AllocGlobal, F: Folder, W: 
     let store = opened(rt.alloc(), folder, file)?;
     match TcpListener::bind(rt, SocketAddr::V4(address)) {
         Ok(listener) => {
-            let served = serve_store(rt, rt.alloc(), store, &listener, output);
+            let ended = serve_store(rt, rt.alloc(), store, &listener, output)?;
+            let served = ended.into_closed();
             drop(listener);
-            let closed = served?;
-            folder.close(file, left(closed));
-            Ok(())
+            match served {
+                Ok(closed) => {
+                    folder.close(file, left(closed));
+                    Ok(())
+                }
+                Err((fault, closed)) => {
+                    folder.close(file, left(closed));
+                    Err(fault.into())
+                }
+            }
         }
         Err(_) => {
             folder.close(file, store.into_disk());
@@ -112,11 +120,11 @@ fn opened<F: Folder>(alloc: Global, folder: &mut F, file: &str) -> Result<Store<
     }
 }
 
-/// The disk of a store that was served and has not stopped.
+/// The disk of a store that was served.
 fn left<D: Disk>(closed: Closed<D>) -> D
-    requires { has_stopped closed.store ≡ false }
-    ensures { IfSome (bytes_of D.model.keeps_model D.model.present result) (λ known.
-        Recovered known closed.store.world) }
+    ensures disk { result ≡ closed.store.disk }
+    ensures bytes { has_stopped closed.store ≡ false → IfSome
+        (bytes_of D.model.keeps_model D.model.present result) (λ known. Recovered known closed.store.world) }
 {
     closed.store.into_disk()
 }

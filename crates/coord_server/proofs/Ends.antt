@@ -1,20 +1,16 @@
 -- A server of which no fault is told was closed by a line.
-use Rattle.std.proofs.Common.{◌≡◌, ℕ, zero, suc, ◌+◌, List, [], ◌∷◌, ◌++◌, All, length, Bool, true, false, Option, None, refl, sym, ap, ◌∙◌, subst, append_assoc, arith, drop, inl, inr, is_some}
-use Rattle.std.proofs.lemmas.Bool.{false≢true}
+use Rattle.std.proofs.Common.{◌≡◌, ℕ, zero, suc, ◌+◌, ◌≤◌, List, [], ◌∷◌, ◌++◌, All, length, Bool, true, false, Option, None, refl, sym, ap, ◌∙◌, subst, append_assoc, arith, drop, inl, inr, is_some}
 use Rattle.std.proofs.lemmas.List.Elements.{All-push}
 use Rattle.coord_engine.specs.Facade.{AtSomeMoment, Basis, Closes, IsNamed, IsOfPacket, IsSince, based_on}
 use Rattle.coord_engine.specs.declared.closed.Closed.{Closed}
 use Rattle.coord_types.specs.declared.steps.Step.{Step}
 use Rattle.coord_ledger.specs.declared.ticket.Note.{Note}
-use Rattle.coord_store.specs.Kept.{GivesKept, ImagesGive, Kept, has_stopped}
-use Rattle.coord_store.specs.Recovered.{Recovered}
-use Rattle.coord_disk.specs.Model.DiskModel.{DiskModel}
-use Rattle.coord_disk.specs.Model.Present.{IsImage, Present}
+use Rattle.coord_store.specs.Kept.{Kept, has_stopped}
+use Rattle.coord_disk.specs.Model.Present.{Present}
 use Rattle.coord_world.specs.protocol.NumberedWorld.{World}
 use Rattle.coord_admin.specs.Connections.{Talk}
-use Rattle.coord_admin.specs.LifeLimit.{HasKept as KeepsSteps}
-use Rattle.coord_server.specs.EngineDesk.{DeskKeeps, DeskState}
-use Rattle.coord_server.specs.Ending.{AddsWorkers, HasKept, HasRun, IsLife, IsNotClosed, IsOneHistory, IsServedToClose, LeavesNothing, Serves, ServesLife, fault_at_end}
+use Rattle.coord_server.specs.EngineDesk.{DeskState}
+use Rattle.coord_server.specs.Ending.{AddsWorkers, HasRun, IsLife, IsNotClosed, IsOneHistory, IsServedToClose, LeavesNothing, Local, Serves, ServesLife, fault_at_end}
 use Rattle.coord_server.specs.Lives.{EndsLives, HasLived, HasLivedToClose, IsOver, Lives, Rests, life_steps, talked_any}
 use Rattle.coord_server.specs.declared.fault.ServerFault.{ServerFault}
 use Rattle.coord_server.specs.declared.fault.ServerFault.TheVariants as fault
@@ -43,22 +39,19 @@ nothing_left keeps_model present world before shares fault.Device none all is = 
 nothing_left keeps_model present world before shares fault.Write none all is = absurd is
 nothing_left keeps_model present world before shares (fault.NotClosed why) none all is = (world, shares, all, rw (sym none) is)
 
--- an engine of which a desk tells so many steps has kept them
-pub kept_most : {D : Type 0} (b : Basis D) (desk : DeskState) (most : ℕ) → KeepsSteps (DeskKeeps b) desk most → HasKept b most
-kept_most b desk most (kept, moment, enough) = record { state = moment.state; held = moment.held; so = omega (arith, moment.so, enough) }
-
 module _ {D : Type 0} (b : Basis D) {V : Type 0} (talked : V → List Talk → V → Type 0) (failed : V → V → Type 0) (most : ℕ) where
-  closed_if_none : (stopped : Bool) (served : Option ServerFault) (is_broken : Bool) (v w : V) (desk : DeskState) → fault_at_end stopped served is_broken ≡ None → Serves b talked failed most v w desk served → IsServedToClose b most desk
-  closed_if_none stopped served is_broken v w desk h1 h2 = grind arith
+  closed_if_none : (stopped : Bool) (served : Option ServerFault) (is_broken : Bool) (port : Local) (v w : V) (desk : DeskState Local) → fault_at_end stopped served is_broken ≡ None → Serves b talked failed most port v w desk served → IsServedToClose b most port desk
+  closed_if_none stopped served is_broken port v w desk h1 h2 = grind arith
 
   -- the desk's notes, in the share that it gave back
-  pub serves_with : (v w : V) (desk : DeskState) (left : LifeEnd) (notes : List Note) → ServesLife b talked failed most v w desk left → notes ≡ desk.notes → (seen : ℕ) × ServesLife b talked failed most v w (record { notes = notes; seen = seen }) left
-  serves_with v w desk left notes s same = (desk.seen, rw same s)
+  pub serves_with : (v w : V) (desk : DeskState Local) (left : LifeEnd) (notes : List Note) → (port : Local) × ServesLife b talked failed most port v w desk left → notes ≡ desk.notes
+      → (seen : ℕ) × (port : Local) × (later : Local) × ServesLife b talked failed most port v w (record { notes = notes; seen = seen; port = later }) left
+  serves_with v w desk left notes s same = (desk.seen, s.0, desk.port, rw same s.1)
 
   -- the shares of the desk and of the workers, once all are back
-  pub has_run : (v w : V) (left : LifeEnd) (own : List Note) (shares : List (List Note)) → (seen : ℕ) × ServesLife b talked failed most v w (record { notes = own; seen = seen }) left
+  pub has_run : (v w : V) (left : LifeEnd) (own : List Note) (shares : List (List Note)) → (seen : ℕ) × (port : Local) × (later : Local) × ServesLife b talked failed most port v w (record { notes = own; seen = seen; port = later }) left
       → AddsWorkers (own ∷ []) shares → length shares ≡ 9 → HasRun b talked failed most v w left shares
-  has_run v w left own shares s added all = record { desk = record { notes = own; seen = s.0 }; served = s.1; added = added; all = all }
+  has_run v w left own shares s added all = record { port = s.1; desk = record { notes = own; seen = s.0; port = s.2 }; served = s.3; added = added; all = all }
 
   -- one life: how the desk went on, and what is left of the engine, which was taken apart with all shares
   pub lived : (v u : V) (ran : LifeEnd) (shares : List (List Note)) (life : Life D V) → b.before ≡ [] → HasRun b talked failed most v u ran shares
@@ -67,12 +60,12 @@ module _ {D : Type 0} (b : Basis D) {V : Type 0} (talked : V → List Talk → V
   lived v u ran shares life none is since closed same_w same = grind (arith, one_history)
 
   -- a last life that ended so
-  served_so : (v w : V) (desk : DeskState) (served : Option ServerFault) → ServesLife b talked failed most v w desk (Ended served) → Serves b talked failed most v w desk served
-  served_so v w desk served h1 = grind arith
+  served_so : (port : Local) (v w : V) (desk : DeskState Local) (served : Option ServerFault) → ServesLife b talked failed most port v w desk (Ended served) → Serves b talked failed most port v w desk served
+  served_so port v w desk served h1 = grind arith
 
-  served_at_last : (v w : V) (desk : DeskState) (left : LifeEnd) (served : Option ServerFault) → ServesLife b talked failed most v w desk left → IsOver left served → Serves b talked failed most v w desk served
-  served_at_last v w desk Resting served s over = subst (Serves b talked failed most v w desk) (sym over) s
-  served_at_last v w desk (Ended why) served s over = subst (Serves b talked failed most v w desk) (sym over) (served_so v w desk why s)
+  served_at_last : (port : Local) (v w : V) (desk : DeskState Local) (left : LifeEnd) (served : Option ServerFault) → ServesLife b talked failed most port v w desk left → IsOver left served → Serves b talked failed most port v w desk served
+  served_at_last port v w desk Resting served s over = subst (Serves b talked failed most port v w desk) (sym over) s
+  served_at_last port v w desk (Ended why) served s over = subst (Serves b talked failed most port v w desk) (sym over) (served_so port v w desk why s)
 
 -- ---- lives
 
@@ -80,18 +73,18 @@ module _ {D : Type 0} (keeps_model : D → Bool) (present : D → Present) {V : 
   abbrev b : World → Basis D
   b world = based_on keeps_model present world []
 
-  rests : (world : World) (v : V) (life : Life D V) → life.left ≡ Resting → IsLife (b world) talked failed most v life → has_stopped life.closed.store ≡ false → life.closed.settled ≡ life.closed.base.count + length life.closed.trail.items
+  rests : (world : World) (v : V) (life : Life D V) → life.left ≡ Resting → IsLife (b world) talked failed most v life → most ≤ length life.closed.trail.items → has_stopped life.closed.store ≡ false → life.closed.settled ≡ life.closed.base.count + length life.closed.trail.items
       → Rests keeps_model present talked most world v life.callers life.closed.store.world
-  rests world v life is so going all =
-      let rested = subst (ServesLife (b world) talked failed most v life.callers so.desk) is so.served in
-      record { desk = so.desk; left = life.closed; served = rested.0; old = rested.1; history = so.history; all_settled = all; going = going; goes_on = refl }
+  rests world v life is so kept going all =
+      let rested = subst (ServesLife (b world) talked failed most so.port v life.callers so.desk) is so.served in
+      record { port = so.port; desk = so.desk; left = life.closed; served = rested.0; old = kept; history = so.history; all_settled = all; going = going; goes_on = refl }
 
   -- one more life has rested, and the next one begins with this
   pub lives_next : (began world : World) (v u others : V) (life : Life D V) (next : Kept D) → (n : ℕ) × Lives keeps_model present talked most n began v world u → IsLife (b world) talked failed most u life
-      → life.left ≡ Resting → next ≡ life.closed.store → others ≡ life.callers → has_stopped life.closed.store ≡ false → life.closed.settled ≡ life.closed.base.count + length life.closed.trail.items
+      → most ≤ length life.closed.trail.items → life.left ≡ Resting → next ≡ life.closed.store → others ≡ life.callers → has_stopped life.closed.store ≡ false → life.closed.settled ≡ life.closed.base.count + length life.closed.trail.items
       → ((n : ℕ) × Lives keeps_model present talked most n began v next.world others) × (has_stopped next ≡ false)
-  lives_next began world v u others life next lives so is same same_w going all =
-      let on : (n : ℕ) × Lives keeps_model present talked most n began v life.closed.store.world life.callers = (suc lives.0, (world, u, lives.1, rests world u life is so going all)) in (
+  lives_next began world v u others life next lives so kept is same same_w going all =
+      let on : (n : ℕ) × Lives keeps_model present talked most n began v life.closed.store.world life.callers = (suc lives.0, (world, u, lives.1, rests world u life is so kept going all)) in (
         rw same_w (rw same on),
         rw same going,
       )
@@ -105,8 +98,9 @@ module _ {D : Type 0} (keeps_model : D → Bool) (present : D → Present) {V : 
     u,
     lives,
     (
+      so.port,
       so.desk,
-      rw same_w (served_at_last (b world) talked failed most u life.callers so.desk life.left ended.served so.served over),
+      rw same_w (served_at_last (b world) talked failed most so.port u life.callers so.desk life.left ended.served so.served over),
       subst (IsOneHistory (b world) so.desk.notes) (sym same) so.history,
     ),
   )
@@ -115,6 +109,7 @@ module _ {D : Type 0} (keeps_model : D → Bool) (present : D → Present) {V : 
   -- whoever called
   rested_any : (world next : World) (v w : V) → Rests keeps_model present talked most world v w next → Rests keeps_model present talked_any most world tt tt next
   rested_any world next v w r = record {
+    port = r.port;
     desk = r.desk;
     left = r.left;
     served = (r.served.0, tt, r.served.2);
@@ -137,16 +132,8 @@ closed_lives keeps_model present talked failed began v ended none is =
       is.0,
       is.1,
       lives_any keeps_model present talked life_steps is.0 began is.1 v is.2 is.3,
-      (is.4.0, closed_if_none b talked failed life_steps (has_stopped ended.closed.store) ended.served ended.output.is_broken is.2 ended.callers is.4.0 none is.4.1, is.4.2),
+      (is.4.0, is.4.1, closed_if_none b talked failed life_steps (has_stopped ended.closed.store) ended.served ended.output.is_broken is.4.0 is.2 ended.callers is.4.1 none is.4.2, is.4.3),
     )
-
--- a store that has not stopped: each image of its disk gives its world
-pub only_world : {D : Type 0} (model : DiskModel D) (store : Kept D) → has_stopped store ≡ false → ImagesGive model store → (image : List ℕ) → IsImage (model.present store.disk) image → Recovered image store.world
-only_world model store going all image is = by (all image is)
-  where
-    by : GivesKept store image → Recovered image store.world
-    by (inl gives) = gives
-    by (inr torn) = absurd (false≢true (sym going ∙ ap is_some torn.1))
 
 -- of a store that has stopped a fault is told
 pub not_stopped : (stopped : Bool) (served : Option ServerFault) (is_broken : Bool) → fault_at_end stopped served is_broken ≡ None → stopped ≡ false

@@ -1,3 +1,4 @@
+pub mod Begins
 pub mod Ends
 pub mod OneHistory
 pub mod Starts

@@ -137,7 +137,7 @@ module _ {D : Type 0} (keeps_model : D → Bool) (present : D → Present) {V : 
 module _ {D : Type 0} (keeps_model : D → Bool) (present : D → Present) {V : Type 0} (talked : V → List Talk → V → Type 0) (failed : V → V → Type 0) (most : ℕ) where
   pub lives_are_one : LivesAreOne keeps_model present talked failed most
   lives_are_one began v ended lived =
-      one_history began lived.1 (steps_of keeps_model present talked most lived.0 began v lived.1 lived.2 lived.3) ended.closed (lives_go_on keeps_model present talked most lived.0 began lived.1 v lived.2 lived.3) (tells (based_on keeps_model present lived.1 []) lived.4.0.notes ended.closed lived.4.2)
+      one_history began lived.1 (steps_of keeps_model present talked most lived.0 began v lived.1 lived.2 lived.3) ended.closed (lives_go_on keeps_model present talked most lived.0 began lived.1 v lived.2 lived.3) (tells (based_on keeps_model present lived.1 []) lived.4.1.notes ended.closed lived.4.3)
 
   -- so is what they leave
   pub ends : (began : World) (v : V) (ended : ServerEnd D V) → HasLived keeps_model present talked failed most began v ended → EndsOneHistory began ended.closed
@@ -145,4 +145,4 @@ module _ {D : Type 0} (keeps_model : D → Bool) (present : D → Present) {V : 
 
 pub closed_lives_are_one : {D : Type 0} (keeps_model : D → Bool) (present : D → Present) → ClosedLivesAreOne keeps_model present
 closed_lives_are_one {D} keeps_model present began left lived =
-    one_history began lived.1 (steps_of keeps_model present talked_any life_steps lived.0 began tt lived.1 tt lived.2) left (lives_go_on keeps_model present talked_any life_steps lived.0 began lived.1 tt tt lived.2) (tells (based_on keeps_model present lived.1 []) lived.3.0.notes left lived.3.2)
+    one_history began lived.1 (steps_of keeps_model present talked_any life_steps lived.0 began tt lived.1 tt lived.2) left (lives_go_on keeps_model present talked_any life_steps lived.0 began lived.1 tt tt lived.2) (tells (based_on keeps_model present lived.1 []) lived.3.1.notes left lived.3.3)

@@ -11,7 +11,7 @@ use Rattle.coord_ledger.specs.declared.ticket.Note.{Note}
 use Rattle.coord_ledger.specs.Facade.{Claim, IsCollectable, LedgerGives, Log, GivesSettled as LogGives, reply_of, settled_world}
 use Rattle.coord_engine.specs.declared.closed.Closed.{Closed}
 use Rattle.coord_engine.specs.Facade.{AnswersStep, AtSomeMoment, Basis, LedgerAndNotes, engine_verdict, note_of}
-use Rattle.coord_server.specs.Told.{GivesSettled, LivesLeaveSteps, NamesItsStep, RepliesNameSteps}
+use Rattle.coord_server.specs.Told.{GivesSettled, LivesLeaveSteps, NamesItsStep, NotesEndALife, RepliesNameSteps}
 
 -- ---- replies
 
@@ -65,3 +65,8 @@ lives_leave_steps D b desk left history keeps image is =
     let held = history.closed.held in
     let images : LedgerGives b.present g.ledger left.store.disk = of_disk g.ledger.disk left.store.disk (λ disk. b.keeps_model disk ≡ true → LedgerGives b.present g.ledger disk) so.4 held.images keeps in
     gives left g.ledger.log g.ledger.log.doubt image refl so.1 so.2 so.3 so.5 so.6 (fits_of g.ledger.log g.ledger.log.doubt (λ _. g.ledger.out ≡ None) held.doubt) (images image is)
+
+-- ---- how long a life is
+
+pub notes_end_a_life : (D P : Type 0) → NotesEndALife D P
+notes_end_a_life D P b desk most long (kept, (trail, moment, is), fewer) = omega (arith, long, is, fewer)

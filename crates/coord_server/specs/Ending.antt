@@ -1,4 +1,5 @@
 -- How a server ends, and what it leaves of its engine.
+use Rattle.std.specs.Borrow.{Bor}
 use Rattle.std.specs.Prelude.{◌≡◌, ◌⊎◌, ℕ, ◌≤◌, List, [], ◌∷◌, ◌++◌, All, Bool, true, false, Option, Some, None, length}
 use Rattle.coord_ledger.specs.declared.ticket.Note.{Note}
 use Rattle.coord_disk.specs.Model.Present.{Present}
@@ -6,6 +7,7 @@ use Rattle.coord_world.specs.Facade.{World}
 use Rattle.coord_engine.specs.Facade.{AtSomeMoment, Basis, Closes, IsNamed, IsOfPacket, RefusesClosing, based_on}
 use Rattle.coord_engine.specs.declared.closed.Closed.{Closed}
 use Rattle.coord_admin.specs.Connections.{Talk, ServedOpen, ServedToClose}
+use Rattle.coord_admin.specs.LifeLimit.{HasKept}
 use Rattle.coord_server.specs.EngineDesk.{DeskState, DeskAnswers, DeskKeeps}
 use Rattle.coord_server.specs.declared.fault.ServerFault.{ServerFault}
 use Rattle.coord_server.specs.declared.fault.ServerFault.TheVariants as fault
@@ -13,9 +15,13 @@ use Rattle.coord_server.specs.declared.life.Life.{Life}
 use Rattle.coord_server.specs.declared.life_end.LifeEnd.{LifeEnd}
 use Rattle.coord_server.specs.declared.life_end.LifeEnd.TheVariants as end
 
--- a desk that has noted nothing and seen nothing
-abbrev pub new_desk : DeskState
-new_desk = record { notes = []; seen = 0 }
+-- a desk over this port that has noted nothing and seen nothing
+abbrev pub new_desk : {P : Type 0} → P → DeskState P
+new_desk port = record { notes = []; seen = 0; port = port }
+
+-- the port of a server, within its process: contracts see nothing of it
+abbrev pub Local : Type 0
+Local = Bor (Unit {0})
 
 -- One history: what the desk and the workers noted are the steps that were accepted since the store was opened, each once and each one's own in order. What workers noted are steps of packets. The store has the world after those that are settled.
 pub record IsOneHistory {D : Type 0} (b : Basis D) (desk : List Note) (left : Closed D) : Type 0 where
@@ -29,52 +35,50 @@ pub record IsOneHistory {D : Type 0} (b : Basis D) (desk : List Note) (left : Cl
 abbrev pub AddsWorkers : List (List Note) → List (List Note) → Type 0
 AddsWorkers first all = (workers : List (List Note)) × (all ≡ first ++ workers) × All (All IsOfPacket) workers
 
--- an engine has kept so many steps
-abbrev pub HasKept : {D : Type 0} → Basis D → ℕ → Type 0
-HasKept b most = AtSomeMoment b (λ g. most ≤ length g.ledger.log.trail)
-
 -- `talked v talks w`: those who call were v, had these talks, and then are w
 module _ {D : Type 0} (b : Basis D) {V : Type 0} (talked : V → List Talk → V → Type 0) where
-  -- those who called were served by a desk that began with nothing, in a life of so many steps, until one of them closed it
-  abbrev pub IsClosed : ℕ → V → V → DeskState → Type 0
-  IsClosed most v w desk = ServedToClose (DeskAnswers b) (DeskKeeps b) most talked v new_desk w desk
+  -- those who called were served by a desk that began with nothing over this port, in a life of so many steps, until one of them closed it
+  abbrev pub IsClosed : {P : Type 0} → ℕ → P → V → V → DeskState P → Type 0
+  IsClosed most port v w desk = ServedToClose (DeskAnswers b) (DeskKeeps b) most talked v (new_desk port) w desk
 
   -- or until no one came any more
-  abbrev pub IsLeft : ℕ → V → V → DeskState → Type 0
-  IsLeft most v w desk = ServedOpen (DeskAnswers b) (DeskKeeps b) most talked v new_desk w desk
+  abbrev pub IsLeft : {P : Type 0} → ℕ → P → V → V → DeskState P → Type 0
+  IsLeft most port v w desk = ServedOpen (DeskAnswers b) (DeskKeeps b) most talked v (new_desk port) w desk
 
   -- `failed v w`: those who call were v, and have failed
   module _ (failed : V → V → Type 0) (most : ℕ) where
-    -- How the desk went on in a life of so many steps. It rests only once its engine has kept them; and it ends by a close, by a fault before anyone was served, or because those who call have failed.
-    abbrev pub ServesLife : V → V → DeskState → LifeEnd → Type 0
-    ServesLife v w desk end.Resting = IsLeft most v w desk × HasKept b most
-    ServesLife v w desk (end.Ended None) = IsClosed most v w desk
-    ServesLife v w desk (end.Ended (Some fault.OutOfMemory)) = talked v [] w × (desk ≡ new_desk)
-    ServesLife v w desk (end.Ended (Some fault.Write)) = talked v [] w × (desk ≡ new_desk)
-    ServesLife v w desk (end.Ended (Some fault.Socket)) = (talked v [] w × (desk ≡ new_desk)) ⊎ ((last : V) × IsLeft most v last desk × failed last w)
-    ServesLife v w desk (end.Ended (Some other)) = ⊥
+    -- How the desk went on in a life of so many steps, from this port. It rests only once it keeps them; and it ends by a close, by a fault before anyone was served, or because those who call have failed.
+    abbrev pub ServesLife : {P : Type 0} → P → V → V → DeskState P → LifeEnd → Type 0
+    ServesLife port v w desk end.Resting = IsLeft most port v w desk × HasKept (DeskKeeps b) desk most
+    ServesLife port v w desk (end.Ended None) = IsClosed most port v w desk
+    ServesLife port v w desk (end.Ended (Some fault.OutOfMemory)) = talked v [] w × (desk ≡ new_desk port)
+    ServesLife port v w desk (end.Ended (Some fault.Write)) = talked v [] w × (desk ≡ new_desk port)
+    ServesLife port v w desk (end.Ended (Some fault.Socket)) = (talked v [] w × (desk ≡ new_desk port)) ⊎ ((last : V) × IsLeft most port v last desk × failed last w)
+    ServesLife port v w desk (end.Ended (Some other)) = ⊥
 
     -- and in the last life of a server that ends so: a store that has stopped is met where a life rests
-    abbrev pub Serves : V → V → DeskState → Option ServerFault → Type 0
-    Serves v w desk (Some fault.Device) = ServesLife v w desk end.Resting
-    Serves v w desk served = ServesLife v w desk (end.Ended served)
+    abbrev pub Serves : {P : Type 0} → P → V → V → DeskState P → Option ServerFault → Type 0
+    Serves port v w desk (Some fault.Device) = ServesLife port v w desk end.Resting
+    Serves port v w desk served = ServesLife port v w desk (end.Ended served)
 
     -- the threads of a life have run: the desk served until this end, and with its share all nine are back, the desk's and those of eight workers
     pub record HasRun (v w : V) (left : LifeEnd) (shares : List (List Note)) : Type 0 where
-      pub desk : DeskState
-      pub served : ServesLife v w desk left
+      pub port : Local
+      pub desk : DeskState Local
+      pub served : ServesLife port v w desk left
       pub added : AddsWorkers (desk.notes ∷ []) shares
       pub all : length shares ≡ 9
 
     -- one life: the desk served until this end, and what is left is one history
     pub record IsLife (v : V) (life : Life D V) : Type 0 where
-      pub desk : DeskState
-      pub served : ServesLife v life.callers desk life.left
+      pub port : Local
+      pub desk : DeskState Local
+      pub served : ServesLife port v life.callers desk life.left
       pub history : IsOneHistory b desk.notes life.closed
 
 -- a desk that began with nothing was served over some connections, the last of which closed it
-abbrev pub IsServedToClose : {D : Type 0} → Basis D → ℕ → DeskState → Type 0
-IsServedToClose b most desk = ServedToClose (DeskAnswers b) (DeskKeeps b) most (λ (v : Unit {0}) (talks : List Talk) (w : Unit {0}). Unit {0}) tt new_desk tt desk
+abbrev pub IsServedToClose : {D P : Type 0} → Basis D → ℕ → P → DeskState P → Type 0
+IsServedToClose b most port desk = ServedToClose (DeskAnswers b) (DeskKeeps b) most (λ (v : Unit {0}) (talks : List Talk) (w : Unit {0}). Unit {0}) tt (new_desk port) tt desk
 
 -- what may be met before anyone is served
 abbrev pub IsOfStart : ServerFault → Type 0

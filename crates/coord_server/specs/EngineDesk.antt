@@ -19,10 +19,11 @@ use Rattle.coord_admin.specs.declared.answer.Answer.TheVariants.{Closed}
 use Rattle.coord_admin.specs.declared.request.Request.{Request}
 use Rattle.coord_admin.specs.declared.request.Request.TheVariants as request
 
--- the notes of the steps that were accepted for the desk, and the greatest step that it knows to be settled
-pub record DeskState : Type 0 where
+-- the notes of the steps that were accepted for the desk, the greatest step that it knows to be settled, and the port to which it hands what is sent again
+pub record DeskState (P : Type 0) : Type 0 where
   pub notes : List Note
   pub seen : ℕ
+  pub port : P
 
 -- a step was submitted, and its ticket is this claim
 abbrev pub IsAccepted : {D : Type 0} → Basis D → Step → Claim → List Note → List Note → Type 0
@@ -56,23 +57,23 @@ abbrev pub HandsAgain : {D P : Type 0} → Basis D → (P → ℕ → Packet →
 HandsAgain {D} b carried signalled count port later =
     (released : List Release) × AtSomeMoment b (SendsAgain {D = D} released) × (count ≡ length released) × AreAsked carried signalled port (deliveries_of released) later
 
-abbrev pub DeskAnswers : {D : Type 0} → Basis D → DeskState → Request → Answer → DeskState → Type 0
+abbrev pub DeskAnswers : {D P : Type 0} → Basis D → DeskState P → Request → Answer → DeskState P → Type 0
 DeskAnswers {D} b d (request.Order client number command) answer e =
-    (result : Result Reply Refusal) × (answer ≡ order_answer result) × Orders b (step.Order client number command) result d.notes e.notes × (e.seen ≡ seen_after result d.seen)
+    (result : Result Reply Refusal) × (answer ≡ order_answer result) × Orders b (step.Order client number command) result d.notes e.notes × (e.seen ≡ seen_after result d.seen) × (e.port ≡ d.port)
 DeskAnswers {D} b d request.Show answer e =
-    (result : Result shown.Shown Refusal) × (answer ≡ show_answer result) × AnswersShow b result d.seen e.seen × (e.notes ≡ d.notes)
-DeskAnswers {D} b d request.Resend answer e = (result : Result ℕ Refusal) × (answer ≡ resend_answer result) × Resends b result × (e ≡ d)
+    (result : Result shown.Shown Refusal) × (answer ≡ show_answer result) × AnswersShow b result d.seen e.seen × (e.notes ≡ d.notes) × (e.port ≡ d.port)
+DeskAnswers {D} b d request.Resend answer e = (result : Result ℕ Refusal) × (answer ≡ resend_answer result) × Resends b result × (e.notes ≡ d.notes) × (e.seen ≡ d.seen)
 DeskAnswers {D} b d request.Close answer e = (answer ≡ Closed) × (e ≡ d)
 
 -- an order is submitted, and nothing more of the settled world is known; nothing else is posted
-abbrev pub DeskPosts : {D : Type 0} → Basis D → DeskState → Request → Result Claim Refusal → DeskState → Type 0
-DeskPosts {D} b d (request.Order client number command) posted e = AtSomeMoment b (Submits {D = D} (step.Order client number command) posted d.notes e.notes) × (e.seen ≡ d.seen)
+abbrev pub DeskPosts : {D P : Type 0} → Basis D → DeskState P → Request → Result Claim Refusal → DeskState P → Type 0
+DeskPosts {D} b d (request.Order client number command) posted e = AtSomeMoment b (Submits {D = D} (step.Order client number command) posted d.notes e.notes) × (e.seen ≡ d.seen) × (e.port ≡ d.port)
 DeskPosts {D} b d request posted e = ⊥
 
 -- then its reply is waited for, and nothing more is noted
-abbrev pub DeskReplies : {D : Type 0} → Basis D → DeskState → Result Claim Refusal → Result Reply Refusal → DeskState → Type 0
-DeskReplies {D} b d posted reply e = Replies b posted reply × (e.notes ≡ d.notes) × (e.seen ≡ seen_after reply d.seen)
+abbrev pub DeskReplies : {D P : Type 0} → Basis D → DeskState P → Result Claim Refusal → Result Reply Refusal → DeskState P → Type 0
+DeskReplies {D} b d posted reply e = Replies b posted reply × (e.notes ≡ d.notes) × (e.seen ≡ seen_after reply d.seen) × (e.port ≡ d.port)
 
--- how many steps its engine has kept
-abbrev pub DeskKeeps : {D : Type 0} → Basis D → DeskState → ℕ → Type 0
-DeskKeeps {D} b d kept = AtSomeMoment {D = D} b (λ g. kept ≡ length g.ledger.log.trail)
+-- how many steps its engine has kept at some moment, and no fewer than the desk has noted itself
+abbrev pub DeskKeeps : {D P : Type 0} → Basis D → DeskState P → ℕ → Type 0
+DeskKeeps {D} b d kept = (trail : ℕ) × AtSomeMoment {D = D} b (λ g. trail ≡ length g.ledger.log.trail) × (kept ≡ max trail (length d.notes))

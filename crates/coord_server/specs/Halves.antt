@@ -1,5 +1,5 @@
 -- What holds of the two halves of an order.
-use Rattle.std.proofs.Common.{List, Result, Ok, Err, inl, inr, refl, sym, ap, ◌∙◌, subst}
+use Rattle.std.proofs.Common.{◌≡◌, ℕ, List, length, max, Result, Ok, Err, inl, inr, refl, sym, ap, ◌∙◌, subst}
 use Rattle.coord_types.specs.declared.refusals.Refusal.{Refusal}
 use Rattle.coord_types.specs.declared.steps.Reply.{Reply}
 use Rattle.coord_types.specs.declared.steps.Step.{Step}
@@ -11,7 +11,7 @@ use Rattle.coord_admin.specs.declared.request.Request.{Request}
 use Rattle.coord_admin.specs.declared.request.Request.TheVariants as request
 use Rattle.coord_engine.specs.Facade.{Basis}
 use Rattle.coord_engine.specs.Threads.{AtSomeMoment, Submits}
-use Rattle.coord_server.specs.EngineDesk.{DeskAnswers, DeskPosts, DeskReplies, DeskState, Orders, Replies, seen_after}
+use Rattle.coord_server.specs.EngineDesk.{DeskAnswers, DeskKeeps, DeskPosts, DeskReplies, DeskState, Orders, Replies, seen_after}
 
 both : {D : Type 0} (b : Basis D) (s : Step) (posted : Result Claim Refusal) (reply : Result Reply Refusal) (before after : List Note) → AtSomeMoment b (Submits {D = D} s posted before after) → Replies b posted reply → Orders b s reply before after
 both b s (Ok claim) (Ok reply) before after put told = (claim, put, told)
@@ -20,25 +20,30 @@ both b s (Err why) (Ok reply) before after put told = absurd told
 both {D} b s (Err why) (Err refusal) before after put told = inl (subst (λ r. AtSomeMoment b (Submits {D = D} s (Err r) before after)) (sym told) put)
 
 -- an order that was posted and replied was answered
-pub desk_answered : {D : Type 0} (b : Basis D) (d e f : DeskState) (r : Request) (posted : Result Claim Refusal) (reply : Result Reply Refusal) → DeskPosts b d r posted e → DeskReplies b e posted reply f → DeskAnswers b d r (order_answer reply) f
+pub desk_answered : {D P : Type 0} (b : Basis D) (d e f : DeskState P) (r : Request) (posted : Result Claim Refusal) (reply : Result Reply Refusal) → DeskPosts b d r posted e → DeskReplies b e posted reply f → DeskAnswers b d r (order_answer reply) f
 desk_answered {D} b d e f (request.Order client number command) posted reply put told =
     let s = step.Order client number command in (
       reply,
       refl,
       both b s posted reply d.notes f.notes (subst (λ notes. AtSomeMoment b (Submits {D = D} s posted d.notes notes)) (sym told.1) put.0) told.0,
       told.2 ∙ ap (seen_after reply) put.1,
+      told.3 ∙ put.2,
     )
 desk_answered b d e f request.Show posted reply put told = absurd put
 desk_answered b d e f request.Resend posted reply put told = absurd put
 desk_answered b d e f request.Close posted reply put told = absurd put
 
 -- a reply is the same before an order is posted and behind that
-pub desk_apart : {D : Type 0} (b : Basis D) (d e f : DeskState) (r : Request) (p q : Result Claim Refusal) (reply : Result Reply Refusal) → DeskPosts b d r q e → DeskReplies b e p reply f → (m : DeskState) × DeskReplies b d p reply m × DeskPosts b m r q f
+pub desk_apart : {D P : Type 0} (b : Basis D) (d e f : DeskState P) (r : Request) (p q : Result Claim Refusal) (reply : Result Reply Refusal) → DeskPosts b d r q e → DeskReplies b e p reply f → (m : DeskState P) × DeskReplies b d p reply m × DeskPosts b m r q f
 desk_apart {D} b d e f (request.Order client number command) p q reply put told = (
-  record { notes = d.notes; seen = f.seen },
-  (told.0, refl, told.2 ∙ ap (seen_after reply) put.1),
-  (subst (λ notes. AtSomeMoment b (Submits {D = D} (step.Order client number command) q d.notes notes)) (sym told.1) put.0, refl),
+  record { notes = d.notes; seen = f.seen; port = d.port },
+  (told.0, refl, told.2 ∙ ap (seen_after reply) put.1, refl),
+  (subst (λ notes. AtSomeMoment b (Submits {D = D} (step.Order client number command) q d.notes notes)) (sym told.1) put.0, refl, told.3 ∙ put.2),
 )
 desk_apart b d e f request.Show p q reply put told = absurd put
 desk_apart b d e f request.Resend p q reply put told = absurd put
 desk_apart b d e f request.Close p q reply put told = absurd put
+
+-- where a reply is waited for nothing is noted, and no step is lost
+pub desk_loses_none : {D P : Type 0} (b : Basis D) (d e : DeskState P) (posted : Result Claim Refusal) (reply : Result Reply Refusal) (kept : ℕ) → DeskReplies b d posted reply e → DeskKeeps b d kept → DeskKeeps b e kept
+desk_loses_none b d e posted reply kept told is = (is.0, is.1, subst (λ notes. kept ≡ max is.0 (length notes)) (sym told.1) is.2)

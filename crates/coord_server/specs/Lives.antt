@@ -12,7 +12,7 @@ use Rattle.coord_admin.specs.declared.patience.Patience.{Patience}
 use Rattle.coord_engine.specs.State.{Basis, based_on}
 use Rattle.coord_engine.specs.declared.closed.Closed.{Closed}
 use Rattle.coord_server.specs.EngineDesk.{DeskState}
-use Rattle.coord_server.specs.Ending.{HasKept, IsLeft, IsLife, IsOneHistory, IsServedToClose, LeavesNothing, Serves, fault_at_end}
+use Rattle.coord_server.specs.Ending.{IsLeft, IsLife, IsOneHistory, IsServedToClose, Local, Serves}
 use Rattle.coord_server.specs.declared.fault.ServerFault.{ServerFault}
 use Rattle.coord_server.specs.declared.fault.ServerFault.TheVariants as fault
 use Rattle.coord_server.specs.declared.life.Life.{Life}
@@ -41,10 +41,11 @@ module _ {D : Type 0} (keeps_model : D → Bool) (present : D → Present) {V : 
 
   -- A life that rests: no line has closed it, it has kept the steps of a life, it is one history, all that was accepted is settled, and its store has not stopped. The next one begins over the world of that store.
   pub record Rests (began : World) (v w : V) (next : World) : Type 0 where
-    pub desk : DeskState
+    pub port : Local
+    pub desk : DeskState Local
     pub left : Closed D
-    pub served : IsLeft (begun_over began) talked most v w desk
-    pub old : HasKept (begun_over began) most
+    pub served : IsLeft (begun_over began) talked most port v w desk
+    pub old : most ≤ length left.trail.items
     pub history : IsOneHistory (begun_over began) desk.notes left
     pub all_settled : left.settled ≡ left.base.count + length left.trail.items
     pub going : has_stopped left.store ≡ false
@@ -65,20 +66,18 @@ EndsLives {D} keeps_model present {V} talked failed most began v last =
 abbrev pub HasLived : {D : Type 0} → (D → Bool) → (D → Present) → {V : Type 0} → (V → List Talk → V → Type 0) → (V → V → Type 0) → ℕ → World → V → ServerEnd D V → Type 0
 HasLived {D} keeps_model present {V} talked failed most began v ended =
     (n : ℕ) × (world : World) × (u : V) × Lives keeps_model present talked most n began v world u
-    × ((desk : DeskState) × Serves (based_on keeps_model present world []) talked failed most u ended.callers desk ended.served × IsOneHistory (based_on keeps_model present world []) desk.notes ended.closed)
+    × ((port : Local) × (desk : DeskState Local) × Serves (based_on keeps_model present world []) talked failed most port u ended.callers desk ended.served × IsOneHistory (based_on keeps_model present world []) desk.notes ended.closed)
 
 -- the same where a line has closed the last one, and each life has the steps of a server's
 abbrev pub HasLivedToClose : {D : Type 0} → (D → Bool) → (D → Present) → World → Closed D → Type 0
 HasLivedToClose {D} keeps_model present began left =
     (n : ℕ) × (world : World) × Lives keeps_model present talked_any life_steps n began tt world tt
-    × ((desk : DeskState) × IsServedToClose (based_on keeps_model present world []) life_steps desk × IsOneHistory (based_on keeps_model present world []) desk.notes left)
+    × ((port : Local) × (desk : DeskState Local) × IsServedToClose (based_on keeps_model present world []) life_steps port desk × IsOneHistory (based_on keeps_model present world []) desk.notes left)
 
--- The fault that a server tells whose clients are waited for as usual, by lives from this world: nothing is left; or there were lives, and they ended with this fault.
-abbrev pub EndsWith : {D : Type 0} → (D → Bool) → (D → Present) → World → ServerFault → Type 0
-EndsWith {D} keeps_model present began told =
-    LeavesNothing keeps_model present told
-    ⊎ ((callers : Patience) × IsUsual callers × (ended : ServerEnd D Patience) × HasLived keeps_model present (λ _ _ _. ⊤) (λ _ _. ⊤) life_steps began callers ended
-    × (fault_at_end (has_stopped ended.closed.store) ended.served ended.output.is_broken ≡ Some told))
+-- the lives of a server whose clients are waited for as usual, from this world
+abbrev pub HasServed : {D : Type 0} → (D → Bool) → (D → Present) → World → ServerEnd D Patience → Type 0
+HasServed {D} keeps_model present began ended =
+    (callers : Patience) × IsUsual callers × HasLived keeps_model present (λ _ _ _. ⊤) (λ _ _. ⊤) life_steps began callers ended
 
 -- ---- all lives are one history
 

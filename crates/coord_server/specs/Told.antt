@@ -11,7 +11,8 @@ use Rattle.coord_ledger.specs.Facade.{IsCollectable}
 use Rattle.coord_engine.specs.State.{Basis}
 use Rattle.coord_engine.specs.Threads.{AtSomeMoment}
 use Rattle.coord_engine.specs.declared.closed.Closed.{Closed}
-use Rattle.coord_server.specs.EngineDesk.{Orders}
+use Rattle.coord_admin.specs.LifeLimit.{HasKeptFewer}
+use Rattle.coord_server.specs.EngineDesk.{DeskKeeps, DeskState, Orders}
 use Rattle.coord_server.specs.Ending.{IsOneHistory}
 
 -- An order that is told a reply was noted just then, with the number that it is told; or nothing was, since it repeats one. At some moment of that life the step was settled: the log had it at that number and answered it with that kind, or the base kept that reply for that order.
@@ -35,3 +36,7 @@ abbrev pub LivesLeaveSteps : Type 0 → Type 0
 LivesLeaveSteps D =
     (b : Basis D) (desk : List Note) (left : Closed D) → IsOneHistory b desk left
     → b.keeps_model left.store.disk ≡ true → (image : List ℕ) → IsImage (b.present left.store.disk) image → GivesSettled left image
+
+-- a desk that has noted as many steps as its life has does not keep fewer, whatever its engine keeps
+abbrev pub NotesEndALife : Type 0 → Type 0 → Type 0
+NotesEndALife D P = (b : Basis D) (desk : DeskState P) (most : ℕ) → most ≤ length desk.notes → ¬ HasKeptFewer (DeskKeeps b) desk most

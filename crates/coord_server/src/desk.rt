@@ -15,7 +15,7 @@ use std::marker::Model;
 use std::sync::Wait;
 
 /// Asks an engine, and hands what is to be sent again to a port. Contracts see the notes of its
-/// share, and how much it has seen.
+/// share, how much it has seen, and the port.
 #[derive(Drop)]
 pub struct EngineDesk<'a, D: Disk, L: Origin, P: Port, R: Wait> {
     rt: &'a R,
@@ -28,15 +28,15 @@ pub struct EngineDesk<'a, D: Disk, L: Origin, P: Port, R: Wait> {
 impl<'a, D: Disk, L: Origin, P: Port, R: Wait> Model for EngineDesk<'a, D, L, P, R> {
     ghost use Rattle.coord_server.specs.EngineDesk.{DeskState};
 
-    ghost Value = { DeskState };
+    ghost Value = { DeskState P };
 
-    ghost view = { λ d. record { notes = d.share; seen = d.seen } };
+    ghost view = { λ d. record { notes = d.share; seen = d.seen; port = d.port } };
 }
 
 impl<'a, D: Disk, L: Origin, P: Port + Drop, R: Wait> EngineDesk<'a, D, L, P, R> {
     /// A desk that has seen nothing yet.
     pub fn new(rt: &'a R, engine: &'a Engine<D, L>, port: P, share: Share<L>) -> Self
-        ensures { result ≡ record { notes = share; seen = 0 } }
+        ensures { result ≡ record { notes = share; seen = 0; port = port } }
     {
         EngineDesk {
             rt,
@@ -103,7 +103,7 @@ impl<'a, D: Disk, L: Origin, P: Port, R: Wait> Desk for EngineDesk<'a, D, L, P, 
     ghost use Rattle.coord_admin.specs.Replies.{resend_answer};
     ghost use Rattle.coord_admin.specs.declared.request.Request.TheVariants as request;
     ghost use Rattle.coord_server.specs.EngineDesk.{DeskAnswers, DeskKeeps, DeskPosts, DeskReplies, HandsAgain};
-    ghost use Rattle.coord_server.specs.Halves.{desk_answered, desk_apart};
+    ghost use Rattle.coord_server.specs.Halves.{desk_answered, desk_apart, desk_loses_none};
 
     /// A ticket for the reply, or why the order was refused.
     type Posted = Result<Ticket, Refusal>;
@@ -116,8 +116,10 @@ impl<'a, D: Disk, L: Origin, P: Port, R: Wait> Desk for EngineDesk<'a, D, L, P, 
 
     ghost keeps = { DeskKeeps (based_on D.model.keeps_model D.model.present L.base L.before) };
 
+    /// How many steps the engine has kept. The desk's own notes are among them; but of a lock no clause
+    /// says that, so they are looked at too.
     fn kept(&self) -> usize {
-        self.engine.kept(self.rt)
+        self.engine.kept(self.rt).max(self.share.notes().len())
     }
 
     fn post(&mut self, client: Client, number: u64, command: Command) -> Result<Ticket, Refusal> {
@@ -138,9 +140,9 @@ impl<'a, D: Disk, L: Origin, P: Port, R: Wait> Desk for EngineDesk<'a, D, L, P, 
     fn resend(&mut self) -> Result<u64, Refusal>
         ensures answered { DeskAnswers (based_on D.model.keeps_model D.model.present L.base L.before) self.old
             request.Resend (resend_answer result) self.new }
-        ensures handed { IfOk result (λ count. (port : P) × (later : P) × HandsAgain
-            (based_on D.model.keeps_model D.model.present L.base L.before) P.carried P.signalled count port
-            later) }
+        ensures handed { IfOk result (λ count. HandsAgain
+            (based_on D.model.keeps_model D.model.present L.base L.before) P.carried P.signalled count
+            self.old.port self.new.port) }
     {
         resend(self.rt, self.engine, &mut self.port)
     }
@@ -151,5 +153,5 @@ impl<'a, D: Disk, L: Origin, P: Port, R: Wait> Desk for EngineDesk<'a, D, L, P, 
 
     ghost stays_apart = { desk_apart (based_on D.model.keeps_model D.model.present L.base L.before) };
 
-    ghost loses_none = { λ _ _ _ _ _ _ is. is };
+    ghost loses_none = { desk_loses_none (based_on D.model.keeps_model D.model.present L.base L.before) };
 }

@@ -3,10 +3,11 @@
 
 ghost use Rattle.std.specs.Prelude.{ℕ};
 ghost use Rattle.coord_server.specs.Lives.{ClosedLivesAreOne, LivesAreOne};
-ghost use Rattle.coord_server.specs.Told.{LivesLeaveSteps, RepliesNameSteps};
+ghost use Rattle.coord_server.specs.Told.{LivesLeaveSteps, NotesEndALife, RepliesNameSteps};
 
 use coord_admin::Callers;
 use coord_disk::Disk;
+use coord_engine::Port;
 
 /// All lives of a server are one history: one trail from the world of its first store, of which each
 /// step has a number of its own.
@@ -31,4 +32,10 @@ pub fn replies_name_steps<D: Disk>()
 /// stop perhaps the world after the next ones too, which were in doubt.
 pub fn lives_leave_steps<D: Disk>()
     ensures { LivesLeaveSteps D }
+{}
+
+/// No connection begins at a desk that has noted as many steps as its life has, whatever its engine
+/// keeps.
+pub fn notes_end_a_life<D: Disk, P: Port>()
+    ensures { NotesEndALife D P }
 {}

@@ -86,8 +86,14 @@ fn serve_ledger<
 {
     let engine: Engine<D, L> = Engine::new(setting.alloc, blank, ledger);
     let begun = begin(setting, &engine)?;
-    let completed = run(setting, &engine, begun, callers, opening)?;
-    closed_life(engine, completed)
+    match run(setting, &engine, begun, callers, opening) {
+        Ok(completed) => closed_life(engine, completed),
+        Err(unserved) => {
+            drop(unserved);
+            drop(engine);
+            Err(ServerFault::OutOfMemory)
+        }
+    }
 }
 
 /// Gives out the desk's share, makes room for all that a life may not lose, and connects the port to

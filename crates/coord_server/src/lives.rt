@@ -1,6 +1,6 @@
 //! The lives of a server, one after the other.
 
-ghost use Rattle.std.specs.Prelude.{◌≡◌, ◌+◌, false, true, is_some, length, IfErr, IfOk, OnOk};
+ghost use Rattle.std.specs.Prelude.{◌≡◌, ◌+◌, ◌≤◌, false, true, is_some, length, IfErr, IfOk, OnOk};
 ghost use Rattle.std.specs.Thread.{IsSend, IsSync};
 ghost use Rattle.coord_store.specs.Kept.{has_stopped};
 ghost use Rattle.coord_server.specs.Ending.{LeavesNothing};
@@ -160,7 +160,7 @@ fn live<D: Disk + Send, C: Callers + Drop, W: Write + Drop, R: Threads + Wait + 
     let mut opening = Some(opening);
     for _ in setting.rt.forever() {
         let life = serve_life(setting, store, callers, opening.take())?;
-        match next_of(life) {
+        match next_of(setting.life_steps, life) {
             Ok((left, others)) => {
                 store = left;
                 callers = others;
@@ -184,15 +184,17 @@ fn is_settled<D: Disk>(closed: &Closed<D>) -> bool
 }
 
 /// The store and the callers with which the next life begins, or the last life: one that was ended,
-/// or rests over a store that has stopped.
-fn next_of<D: Disk, C>(life: Life<D, C>) -> Result<(Store<D>, C), Life<D, C>>
+/// or rests over a store that has stopped. One that rests has kept `most` steps.
+fn next_of<D: Disk, C>(most: usize, life: Life<D, C>) -> Result<(Store<D>, C), Life<D, C>>
+    ensures kept { IfOk result (λ next. most ≤ length life.closed.trail.items) }
     ensures next { IfOk result (λ next. (life.left ≡ LifeEndAs.Resting) ×
         (next.0 ≡ life.closed.store) × (next.1 ≡ life.callers)) }
     ensures settled { IfOk result (λ next. (has_stopped life.closed.store ≡ false) ×
         (life.closed.settled ≡ life.closed.base.count + length life.closed.trail.items)) }
     ensures last { IfErr result (λ last. last ≡ life) }
 {
-    if life.left != LifeEnd::Resting || !is_settled(&life.closed) {
+    let closed = &life.closed;
+    if life.left != LifeEnd::Resting || !is_settled(closed) || closed.trail.len() < most {
         return Err(life);
     }
     let Life {

@@ -6,6 +6,7 @@ ghost use Rattle.coord_server.specs.Workers.{worker_of};
 use coord_engine::Port;
 use coord_types::{NodeId, Packet};
 use crossbeam_channel::Sender;
+use std::marker::Model;
 use std::sync::{Mutex, Wait};
 
 /// How many workers there are. A node belongs to the worker with the node's number modulo this.
@@ -19,12 +20,19 @@ pub struct Signal {
 }
 
 /// Carries packets to the workers' channels, and signals to the channel of what prints them. It
-/// waits for neither: what a channel has no memory for is lost.
+/// waits for neither: what a channel has no memory for is lost. No clause can say what lies behind its
+/// locks, so contracts see nothing of it.
 #[derive(Drop)]
 pub struct LocalPort<R: Wait> {
     rt: R,
     channels: Mutex<Vec<Sender<Packet>>>,
     signals: Mutex<Option<Sender<Signal>>>,
+}
+
+impl<R: Wait> Model for LocalPort<R> {
+    ghost Value = { Unit {0} };
+
+    ghost view = { λ _. tt };
 }
 
 impl<R: Wait> LocalPort<R> {
@@ -76,13 +84,15 @@ fn send<R: Wait>(rt: &R, channels: &[Sender<Packet>], packet: Packet) -> bool {
 impl<R: Wait> Port for &LocalPort<R> {
     /// A packet says itself where it goes.
     fn carry(&mut self, _to: NodeId, packet: Packet) -> bool {
-        let channels = self.channels.lock(&self.rt);
-        send(&self.rt, &channels, packet)
+        let port = *self;
+        let channels = port.channels.lock(&port.rt);
+        send(&port.rt, &channels, packet)
     }
 
     fn signal(&mut self, node: NodeId, epoch: u64) -> bool {
-        match &*self.signals.lock(&self.rt) {
-            Some(signals) => signals.send(&self.rt, Signal { node, epoch }).is_ok(),
+        let port = *self;
+        match &*port.signals.lock(&port.rt) {
+            Some(signals) => signals.send(&port.rt, Signal { node, epoch }).is_ok(),
             None => false,
         }
     }

@@ -81,7 +81,8 @@ pub struct Printing<W: Write + Drop> {
 }
 
 impl<W: Write + Drop> Printing<W> {
-    /// Prints the signals that come. Why the first line was not printed is told by `Opening::open`.
+    /// Prints the signals that come. Why the first line was not printed is told by `Opening::open`. No
+    /// clause can say what comes over a channel: what is printed of it is said by `print_signals`.
     pub fn print<R: Wait>(self, rt: &R) -> OutputEnd {
         let Printing { handed, signals } = self;
         let is_broken = match handed.recv(rt) {
@@ -116,7 +117,8 @@ pub struct Outlet<R: Wait, W: Write + Drop> {
 }
 
 impl<R: Wait + Drop, W: Write + Drop> Outlet<R, W> {
-    /// Of an output to which nothing was printed yet.
+    /// Of an output to which nothing was printed yet. No clause can say that the two sides of a channel
+    /// belong together.
     pub fn new(rt: R, alloc: Global, output: W) -> Result<Self, AllocError> {
         let (to, handed) = crossbeam_channel::bounded(alloc, 1)?;
         let (signalled, signals) = crossbeam_channel::unbounded(alloc)?;

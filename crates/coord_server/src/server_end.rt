@@ -1,10 +1,12 @@
 //! What a server leaves.
 
-ghost use Rattle.std.specs.Prelude.{◌≡◌};
+ghost use Rattle.std.specs.Prelude.{◌≡◌, false, IfErr, IfOk, None, Some};
 ghost use Rattle.coord_store.specs.Kept.{has_stopped};
+ghost use Rattle.coord_world.specs.protocol.NumberedWorld.{World};
 ghost use Rattle.coord_server.specs.Ending.{fault_at_end};
 
 use crate::{OutputEnd, ServerFault};
+use coord_admin::Callers;
 use coord_disk::Disk;
 use coord_engine::Closed;
 
@@ -33,6 +35,35 @@ impl<D: Disk, C> ServerEnd<D, C> {
             Some(fault) => Some(fault),
             None if self.output.is_broken() => Some(ServerFault::Write),
             None => None,
+        }
+    }
+}
+
+impl<D: Disk, C: Callers + Drop> ServerEnd<D, C> {
+    ghost use Rattle.coord_server.specs.Lives.{HasLived, HasLivedToClose, life_steps};
+
+    /// What is left of its last engine, or the fault to tell and what is left all the same. No fault is
+    /// told of a server only where a line closed it and its store has not stopped.
+    pub fn into_closed(self) -> Result<Closed<D>, (ServerFault, Closed<D>)>
+        ensures closed { IfOk result (λ closed. (closed ≡ self.closed) ×
+            (fault_at_end (has_stopped self.closed.store) self.served self.output.is_broken ≡ None)) }
+        ensures fault { IfErr result (λ told. (told.1 ≡ self.closed) ×
+            (fault_at_end (has_stopped self.closed.store) self.served self.output.is_broken ≡ Some told.0)) }
+        ensures going { IfOk result (λ closed. has_stopped closed.store ≡ false) }
+        ensures lives { (began : World) (v : C) → HasLived D.model.keeps_model D.model.present C.talked C.failed
+            life_steps began v self → IfOk result (HasLivedToClose D.model.keeps_model D.model.present began) }
+    {
+        let fault = self.fault();
+        let ServerEnd {
+            closed,
+            callers,
+            served: _,
+            output: _,
+        } = self;
+        drop(callers);
+        match fault {
+            None => Ok(closed),
+            Some(fault) => Err((fault, closed)),
         }
     }
 }

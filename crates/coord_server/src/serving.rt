@@ -1,18 +1,15 @@
 //! A store that is served until a line closes it.
 
-ghost use Rattle.std.specs.Prelude.{◌≡◌, false, true, ℕ, List, IfErr, IfOk, None, Some};
+ghost use Rattle.std.specs.Prelude.{◌≡◌, false, true, IfErr, IfOk};
 ghost use Rattle.coord_admin.specs.Times.{IsUsual};
-ghost use Rattle.coord_disk.specs.Model.Present.{IsImage};
 ghost use Rattle.coord_store.specs.Kept.{ImagesGive, has_stopped};
-ghost use Rattle.coord_store.specs.Recovered.{Recovered};
-ghost use Rattle.coord_server.specs.Ending.{LeavesNothing, fault_at_end};
-ghost use Rattle.coord_server.specs.Lives.{EndsOneHistory, EndsWith, HasLived, HasLivedToClose, life_steps};
+ghost use Rattle.coord_server.specs.Ending.{LeavesNothing};
+ghost use Rattle.coord_server.specs.Lives.{EndsOneHistory, HasLived, HasServed, life_steps};
 
 use crate::lives::serve_lives;
 use crate::{ServerEnd, ServerFault};
 use coord_admin::{Accepted, Callers, Patience};
 use coord_disk::Disk;
-use coord_engine::Closed;
 use coord_store::Store;
 use std::alloc::Global;
 use std::io::{Read, Write};
@@ -26,79 +23,63 @@ use std::time::Clock;
 /// of its time with its end, which takes some tenths of a second.
 pub const LIFE_STEPS: usize = 262_144;
 
-/// Serves a store to the connections of a listener, one after the other, until a line closes it,
-/// and gives back what is left of the engine of its last life. It is `serve_callers` over these
+/// Serves a store to the connections of a listener, one after the other, until a line closes it, and
+/// gives back what is left of the engine of its last life. It is `serve_callers` over these
 /// connections, with the usual patience.
 pub fn serve_store<
-    D: Disk + Send,
-    S: Read + Write + OpenStream + Drop,
-    A: OpenListener<Stream = S>,
-    W: Write + Send + Drop,
-    R: Threads + Wait + Clock + Sync,
->(rt: &R, alloc: Global, store: Store<D>, listener: &A, output: W) -> Result<Closed<D>, ServerFault>
-    requires { has_stopped store ≡ false }
-    ensures going { IfOk result (λ closed. has_stopped closed.store ≡ false) }
-    ensures lives { IfOk result (HasLivedToClose D.model.keeps_model D.model.present store.world) }
-    ensures whole { IfOk result (EndsOneHistory store.world) }
-    ensures images { IfOk result (λ closed. D.model.keeps_model closed.store.disk ≡ true →
-        (image : List ℕ) → IsImage (D.model.present closed.store.disk) image →
-        Recovered image closed.store.world) }
-    ensures fault { IfErr result (EndsWith D.model.keeps_model D.model.present store.world) }
-{
-    let callers = Accepted::new(rt, listener, Patience::usual());
-    serve_accepted(rt, alloc, store, callers, output)
-}
-
-/// Serves a store to the connections of a listener whose clients are waited for as usual.
-fn serve_accepted<
+    'a,
     D: Disk + Send,
     S: Read + Write + OpenStream + Drop,
     A: OpenListener<Stream = S>,
     W: Write + Send + Drop,
     R: Threads + Wait + Clock + Sync,
 >(
-    rt: &R,
+    rt: &'a R,
     alloc: Global,
     store: Store<D>,
-    callers: Accepted<'_, A, R>,
+    listener: &'a A,
     output: W,
-) -> Result<Closed<D>, ServerFault>
-    requires going { has_stopped store ≡ false }
-    requires patience { IsUsual callers }
-    ensures going { IfOk result (λ closed. has_stopped closed.store ≡ false) }
-    ensures lives { IfOk result (HasLivedToClose D.model.keeps_model D.model.present store.world) }
-    ensures whole { IfOk result (EndsOneHistory store.world) }
-    ensures images { IfOk result (λ closed. D.model.keeps_model closed.store.disk ≡ true →
-        (image : List ℕ) → IsImage (D.model.present closed.store.disk) image →
-        Recovered image closed.store.world) }
-    ensures fault { IfErr result (EndsWith D.model.keeps_model D.model.present store.world) }
+) -> Result<ServerEnd<D, Accepted<'a, A, R>>, ServerFault>
+    requires { has_stopped store ≡ false }
+    ensures lives { IfOk result (HasServed D.model.keeps_model D.model.present store.world) }
+    ensures whole { IfOk result (λ ended. EndsOneHistory store.world ended.closed) }
+    ensures images { IfOk result (λ ended. D.model.keeps_model ended.closed.store.disk ≡ true →
+        ImagesGive D.model ended.closed.store) }
+    ensures nothing { IfErr result (LeavesNothing D.model.keeps_model D.model.present) }
 {
-    let ended = serve_callers(rt, alloc, store, callers, output)?;
-    closed_of(ended)
+    serve_accepted(
+        rt,
+        alloc,
+        store,
+        Accepted::new(rt, listener, Patience::usual()),
+        output,
+    )
 }
 
-/// What is left, unless there is a fault to be told.
-fn closed_of<D: Disk, C: Drop>(ended: ServerEnd<D, C>) -> Result<Closed<D>, ServerFault>
-    ensures closed { IfOk result (λ closed. (closed ≡ ended.closed) ×
-        (fault_at_end (has_stopped ended.closed.store) ended.served ended.output.is_broken ≡ None)) }
-    ensures fault { IfErr result (λ fault.
-        fault_at_end (has_stopped ended.closed.store) ended.served ended.output.is_broken ≡ Some fault) }
+/// Serves a store to the connections of a listener whose clients are waited for as usual.
+fn serve_accepted<
+    'a,
+    D: Disk + Send,
+    S: Read + Write + OpenStream + Drop,
+    A: OpenListener<Stream = S>,
+    W: Write + Send + Drop,
+    R: Threads + Wait + Clock + Sync,
+>(
+    rt: &'a R,
+    alloc: Global,
+    store: Store<D>,
+    callers: Accepted<'a, A, R>,
+    output: W,
+) -> Result<ServerEnd<D, Accepted<'a, A, R>>, ServerFault>
+    requires going { has_stopped store ≡ false }
+    requires patience { IsUsual callers }
+    ensures lives { IfOk result (HasServed D.model.keeps_model D.model.present store.world) }
+    ensures whole { IfOk result (λ ended. EndsOneHistory store.world ended.closed) }
+    ensures images { IfOk result (λ ended. D.model.keeps_model ended.closed.store.disk ≡ true →
+        ImagesGive D.model ended.closed.store) }
+    ensures nothing { IfErr result (LeavesNothing D.model.keeps_model D.model.present) }
 {
-    let fault = ended.fault();
-    let ServerEnd {
-        closed,
-        callers,
-        served: _,
-        output: _,
-    } = ended;
-    drop(callers);
-    match fault {
-        None => Ok(closed),
-        Some(fault) => {
-            drop(closed);
-            Err(fault)
-        }
-    }
+    serve_callers(rt, alloc, store, callers, output)
 }
 
 /// Serves a store to those who call, one after the other, until a line closes it, and gives back

@@ -4,7 +4,7 @@ ghost use Rattle.std.specs.Prelude.{◌≡◌, ◌⊎◌, ◌+◌, ◌≤◌, []
 ghost use Rattle.std.specs.Thread.{IsSend, IsSync};
 ghost use Rattle.coord_engine.specs.State.{based_on};
 ghost use Rattle.coord_server.specs.EngineDesk.{HandsAgain};
-ghost use Rattle.coord_server.specs.Ending.{AddsWorkers, HasRun, IsOfStart, ServesLife, new_desk};
+ghost use Rattle.coord_server.specs.Ending.{AddsWorkers, HasRun, IsOfStart, Local, ServesLife, new_desk};
 
 use crate::life_end::LifeEnd;
 use crate::printing::Opening;
@@ -44,16 +44,19 @@ pub struct Completed<L: Count, C> {
     pub left: LifeEnd,
 }
 
-/// The threads of a life: its flusher, and a worker for each channel.
+/// The threads of a life: its flusher, and a worker for each of the eight channels. Who serves is
+/// given one, so nobody is served before all of them were started.
 #[derive(Drop)]
 struct Crew<L: Count> {
     flushing: JoinHandle<()>,
     workers: Vec<JoinHandle<PacketShare<L>>>,
+    ghost eight: { vec_len workers ≡ 8 },
 }
 
 /// Starts a flusher, and a worker on each channel. Once all of them run, it opens the output, sends
 /// again what may have been lost, and serves those who call until the life is old. An error says
-/// that a thread could not be started: then nothing was printed, and nobody was served.
+/// that a thread could not be started: then nothing was printed and nobody was served, so callers and
+/// opening come back as they were.
 pub fn run<
     D: Disk + Send,
     L: Origin + Send + Sync,
@@ -66,21 +69,21 @@ pub fn run<
     begun: Begun<L>,
     callers: C,
     opening: Option<Opening<W>>,
-) -> Result<Completed<L, C>, ServerFault>
+) -> Result<Completed<L, C>, (C, Option<Opening<W>>)>
     ensures completed { IfOk result (λ completed.
         HasRun (based_on D.model.keeps_model D.model.present L.base L.before) C.talked C.failed setting.now.life_steps
         callers completed.callers completed.left completed.shares.items) }
-    ensures nothing { IfErr result (λ fault. fault ≡ ServerFault.OutOfMemory) }
+    ensures unserved { IfErr result (λ back. (back.0 ≡ callers) × (back.1 ≡ opening)) }
 {
     thread::scope(
         thread::scope_env(),
         setting.rt,
-        |scope| -> Result<Completed<L, C>, ServerFault>
+        |scope| -> Result<Completed<L, C>, (C, Option<Opening<W>>)>
             requires { IsSend D.row × IsSend L.row × IsSync L.row × IsSync R.row }
             ensures completed { IfOk result (λ completed.
                 HasRun (based_on D.model.keeps_model D.model.present L.base L.before) C.talked C.failed
                 setting.entry.now.life_steps callers completed.callers completed.left completed.shares.items) }
-            ensures nothing { IfErr result (λ fault. fault ≡ ServerFault.OutOfMemory) }
+            ensures unserved { IfErr result (λ back. (back.0 ≡ callers) × (back.1 ≡ opening)) }
         { run_in(scope, setting, engine, begun, callers, opening) },
     )
 }
@@ -104,22 +107,22 @@ fn run_in<
     begun: Begun<L>,
     callers: C,
     opening: Option<Opening<W>>,
-) -> Result<Completed<L, C>, ServerFault>
+) -> Result<Completed<L, C>, (C, Option<Opening<W>>)>
     ensures completed { IfOk result (λ completed.
         HasRun (based_on D.model.keeps_model D.model.present L.base L.before) C.talked C.failed setting.now.life_steps
         callers completed.callers completed.left completed.shares.items) }
-    ensures nothing { IfErr result (λ fault. fault ≡ ServerFault.OutOfMemory) }
+    ensures unserved { IfErr result (λ back. (back.0 ≡ callers) × (back.1 ≡ opening)) }
 {
     let rt = setting.rt;
-    let mut callers = callers;
     let Begun { own, room, packets } = begun;
     let Some(crew) = start(scope, setting, engine, packets) else {
         engine.finish(rt);
         setting.port.hang_up();
-        return Err(ServerFault::OutOfMemory);
+        return Err((callers, opening));
     };
+    let mut callers = callers;
+    let (own, left) = serve_over(setting, &*engine, &crew, own, &mut callers, opening);
     let Crew { flushing, workers } = crew;
-    let (own, left) = serve_over(setting, &*engine, own, &mut callers, opening);
     engine.finish(rt);
     flushing.join(rt);
     setting.port.hang_up();
@@ -137,7 +140,7 @@ fn start<'s, 'r: 's, 'e: 's, E, D: Disk + Send, L: Origin + Send + Sync, R: Wait
     engine: &'e Engine<D, L>,
     packets: Vec<Receiver<Packet>>,
 ) -> Option<Crew<L>>
-    ensures { IfSome result (λ crew. vec_len crew.workers ≡ vec_len packets) }
+    requires { vec_len packets ≡ 8 }
 {
     let (rt, port) = (setting.rt, setting.port);
     let flushing = scope
@@ -184,19 +187,20 @@ fn start_worker<'s, 'r: 's, 'e: 's, E, D: Disk + Send, L: Origin + Send + Sync, 
         .ok()
 }
 
-/// Opens the output, and serves those who call by a desk with this share. What ended that, and the
-/// share.
+/// Opens the output, and serves those who call by a desk with this share, while a crew is at work.
+/// What ended that, and the share.
 fn serve_over<D: Disk, L: Origin, C: Callers, W: Write + Drop, R: Wait>(
     setting: &Setting<'_, R>,
     engine: &Engine<D, L>,
+    _crew: &Crew<L>,
     own: Share<L>,
     callers: &mut C,
     opening: Option<Opening<W>>,
 ) -> (Share<L>, LifeEnd)
     requires { own ≡ [] }
-    ensures { (seen : ℕ) × ServesLife
-        (based_on D.model.keeps_model D.model.present L.base L.before) C.talked C.failed setting.now.life_steps callers.old
-        callers.new (record { notes = result.0; seen = seen }) result.1 }
+    ensures { (seen : ℕ) × (port : Local) × (later : Local) × ServesLife
+        (based_on D.model.keeps_model D.model.present L.base L.before) C.talked C.failed setting.now.life_steps port
+        callers.old callers.new (record { notes = result.0; seen = seen; port = later }) result.1 }
 {
     let opened = open(setting.rt, &*callers, opening);
     let mut desk = EngineDesk::new(setting.rt, engine, setting.port, own);
@@ -227,14 +231,16 @@ fn serve_clients<D: Disk, L: Origin, C: Callers, P: Port, R: Wait>(
     desk: &mut EngineDesk<'_, D, L, P, R>,
 ) -> LifeEnd
     requires start { IfErr opened IsOfStart }
-    requires new { desk.old ≡ new_desk }
+    requires new { desk.old ≡ new_desk desk.old.port }
     ensures told { IfErr opened (λ fault. result ≡ LifeEnd.Ended (Some fault)) }
     ensures resent { IfOk opened (λ _.
-        (result ≡ LifeEnd.Ended (Some ServerFault.OutOfMemory)) ⊎ ((count : ℕ) × (port : P) ×
-        (later : P) × HandsAgain (based_on D.model.keeps_model D.model.present L.base L.before) P.carried
-        P.signalled count port later)) }
-    ensures served { ServesLife (based_on D.model.keeps_model D.model.present L.base L.before) C.talked C.failed
-        setting.now.life_steps callers.old callers.new desk.new result }
+        (result ≡ LifeEnd.Ended (Some ServerFault.OutOfMemory)) ⊎ ((count : ℕ) × (later : P) ×
+        HandsAgain (based_on D.model.keeps_model D.model.present L.base L.before) P.carried P.signalled count
+        desk.old.port later × ServesLife (based_on D.model.keeps_model D.model.present L.base L.before)
+        C.talked C.failed setting.now.life_steps later callers.old callers.new desk.new result)) }
+    ensures served { (port : P) × ServesLife
+        (based_on D.model.keeps_model D.model.present L.base L.before) C.talked C.failed setting.now.life_steps port
+        callers.old callers.new desk.new result }
 {
     if let Err(fault) = opened {
         return LifeEnd::Ended(Some(fault));
@@ -242,6 +248,20 @@ fn serve_clients<D: Disk, L: Origin, C: Callers, P: Port, R: Wait>(
     let Ok(_) = desk.resend() else {
         return LifeEnd::Ended(Some(ServerFault::OutOfMemory));
     };
+    serve_until_old(setting, callers, desk)
+}
+
+/// Serves those who call by a desk that has noted nothing, until a line closes it or the life is old.
+/// What ended it.
+fn serve_until_old<D: Disk, L: Origin, C: Callers, P: Port, R: Wait>(
+    setting: &Setting<'_, R>,
+    callers: &mut C,
+    desk: &mut EngineDesk<'_, D, L, P, R>,
+) -> LifeEnd
+    requires { desk.old ≡ new_desk desk.old.port }
+    ensures { ServesLife (based_on D.model.keeps_model D.model.present L.base L.before) C.talked C.failed
+        setting.now.life_steps desk.old.port callers.old callers.new desk.new result }
+{
     match serve_connections(setting.rt, setting.alloc, setting.life_steps, callers, desk) {
         Ok(Stop::Closed) => LifeEnd::Ended(None),
         Ok(Stop::Old) => LifeEnd::Resting,

@@ -9,6 +9,7 @@ use crate::long_life::{has_kept_all, keeps_all};
 use crate::retried::settles_one;
 use crate::threads::callers::{call_twice, is_history};
 use crate::threads::gates::accepts_in_sync;
+use crate::threads::in_hand::keeps_in_hand;
 use crate::threads::patience::waits_once;
 use crate::threads::ports::Manner;
 use crate::threads::rings::{is_legal, resets_ring};
@@ -45,6 +46,7 @@ pub(crate) enum Doing<'a> {
     CallTwice,
     AcceptsInSync(&'a AtomicBool, &'a AtomicBool),
     WaitsOnce,
+    KeepsInHand,
     ResetsRing(Manner),
 }
 
@@ -67,6 +69,7 @@ fn done<D: Disk + Send, L: Origin + Send + Sync, R: Threads + Wait + Clock + Syn
             accepts_in_sync(rt, alloc, engine, entered, answered)
         }
         Doing::WaitsOnce => waits_once(rt, alloc, engine),
+        Doing::KeepsInHand => keeps_in_hand(rt, alloc, engine),
         Doing::ResetsRing(manner) => resets_ring(rt, alloc, engine, manner),
     }
 }

@@ -81,9 +81,17 @@ fn ends_last<R: Threads + Wait + Clock + Sync + Abort>(
     assert!(rt; !store.stopped());
     let callers = Accepted::new(rt, listener, Patience::usual());
     let ended = serve_lives(rt, alloc, MOST, store, callers, output).expect(rt, "no end");
-    let is_left = ended.fault().is_none() && is_last(&ended.closed);
-    drop(ended);
-    is_left
+    match ended.into_closed() {
+        Ok(closed) => {
+            let is_left = is_last(&closed);
+            drop(closed);
+            is_left
+        }
+        Err((_fault, closed)) => {
+            drop(closed);
+            false
+        }
+    }
 }
 
 /// Whether a ring that is made and reset over many lives signals as one wave.

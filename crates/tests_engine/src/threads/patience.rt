@@ -30,7 +30,7 @@ const OTHER: u8 = 9;
 
 /// A port that loses all that it takes, and doesn't know.
 #[derive(Clone, Copy, Drop)]
-struct Sink;
+pub(super) struct Sink;
 
 impl Port for Sink {
     fn carry(&mut self, _to: NodeId, _packet: Packet) -> bool {
@@ -42,8 +42,8 @@ impl Port for Sink {
     }
 }
 
-// Adds or removes the node.
-fn changing(number: u64) -> Option<Step> {
+/// Adds or removes the node.
+pub(super) fn changing(number: u64) -> Option<Step> {
     if number % 2 == 1 {
         adding(OTHER, number, OTHER)
     } else {

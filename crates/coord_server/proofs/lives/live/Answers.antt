@@ -7,7 +7,7 @@ pub loop-preserved : goal.loop-preserved
 loop-preserved g c =
     let next = c.in-Ok.ensures.next in
     let settled = c.in-Ok.ensures.settled in
-    let on = lives_next g.D.Disk.model.keeps_model g.D.Disk.model.present g.C.Callers.talked g.C.Callers.failed c.args.setting.now.life_steps _ _ _ _ _ c.in_ok-life.life _ c.loop.invariant.2 c.in_ok-life.ensures.life next.0 next.1 next.2 settled.0 settled.1 in
+    let on = lives_next g.D.Disk.model.keeps_model g.D.Disk.model.present g.C.Callers.talked g.C.Callers.failed c.args.setting.now.life_steps _ _ _ _ _ c.in_ok-life.life _ c.loop.invariant.2 c.in_ok-life.ensures.life c.in-Ok.ensures.kept next.0 next.1 next.2 settled.0 settled.1 in
     (tt, tt, on.0, on.1)
 
 pub returns-in-Err-clause-lived : goal.returns-in-Err-clause-lived

@@ -1,20 +1,29 @@
-use Rattle.std.proofs.Common.{rules, subst, ◌∙◌}
-use Rattle.coord_admin.specs.Connections.{ServedOpen, ServedToClose}
+use Rattle.std.proofs.Common.{IfErr, ap, ◌∙◌, subst}
 use Rattle.coord_engine.specs.State.{based_on}
-use Rattle.coord_server.specs.EngineDesk.{DeskAnswers, DeskKeeps}
-use Rattle.coord_server.proofs.Ends.{kept_most}
+use Rattle.coord_server.specs.Ending.{IsOfStart}
+use Rattle.coord_server.proofs.Begins.{begins, ends_at_start}
 use Rattle.coord_server.proofs.threads.serve_clients.Goals as goal
 
-pub returns-in-Ok-Closed-clause-served : goal.returns-in-Ok-Closed-clause-served
-returns-in-Ok-Closed-clause-served g c =
-    let b = based_on g.D.Disk.model.keeps_model g.D.Disk.model.present g.L.Origin.base g.L.Origin.before in
-    let served = c.serve_connections.ensures.closed (search rules) in
-    subst (λ d. ServedToClose (DeskAnswers b) (DeskKeeps b) c.args.setting.now.life_steps g.C.Callers.talked c.args.callers.now d c.serve_connections.new.callers c.serve_connections.new.desk) (c.resend.ensures.answered.3 ∙ c.requires.new) served
+pub serve_until_old-requires : goal.serve_until_old-requires
+serve_until_old-requires g c =
+    let again = c.resend.ensures.answered in
+    begins c.resend.new.self (again.3 ∙ ap (λ d. d.notes) c.requires.new) (again.4 ∙ ap (λ d. d.seen) c.requires.new)
 
-pub returns-in-Ok-Old-clause-served : goal.returns-in-Ok-Old-clause-served
-returns-in-Ok-Old-clause-served g c =
+-- the output could not be opened
+pub returns-in-Err-clause-served : goal.returns-in-Err-clause-served
+returns-in-Err-clause-served g c =
     let b = based_on g.D.Disk.model.keeps_model g.D.Disk.model.present g.L.Origin.base g.L.Origin.before in
-    let old = c.serve_connections.ensures.old (search rules) in (
-      subst (λ d. ServedOpen (DeskAnswers b) (DeskKeeps b) c.args.setting.now.life_steps g.C.Callers.talked c.args.callers.now d c.serve_connections.new.callers c.serve_connections.new.desk) (c.resend.ensures.answered.3 ∙ c.requires.new) old.0,
-      kept_most b c.serve_connections.new.desk c.args.setting.now.life_steps old.1,
+    let v = c.args.callers.now in
+    let of_start : IsOfStart c.in-Err.fault = subst (λ r. IfErr r IsOfStart) c.in-Err.is c.requires.start in
+    (c.args.desk.now.port, ends_at_start b g.C.Callers.talked g.C.Callers.failed c.args.setting.now.life_steps v v c.args.desk.now c.in-Err.fault of_start (g.met.C.Callers.at_rest v) c.requires.new)
+
+-- what may have been lost was not sent again
+pub returns-in_default-resend-clause-served : goal.returns-in_default-resend-clause-served
+returns-in_default-resend-clause-served g c =
+    let again = c.resend.ensures.answered in (
+      c.resend.new.self.port,
+      (
+        g.met.C.Callers.at_rest c.args.callers.now,
+        begins c.resend.new.self (again.3 ∙ ap (λ d. d.notes) c.requires.new) (again.4 ∙ ap (λ d. d.seen) c.requires.new),
+      ),
     )
