@@ -1,12 +1,16 @@
 """The proved library of the members' rule, beside the Python one; and members in other languages that call it."""
 
+import contextlib
 import itertools
 import json
 import os
 import random
 import shutil
+import signal
+import socket
 import subprocess
 import sys
+import threading
 
 from support.case import Case, tool
 from support.memberlib import PATH, Library, Order, Orders, Refused
@@ -14,10 +18,12 @@ from support.program import PROGRAM, ROOT
 
 sys.path.insert(0, f"{ROOT}/client")
 from resetd_client import Due, Link, Node, View  # noqa: E402
+from resetd_client.gateway import Desk  # noqa: E402
 from resetd_client.party import are_parted, digest_of, is_same_run, tag_of  # noqa: E402
 from resetd_client.rule import Kept, judge, shown_to  # noqa: E402
+from resetd_client.starts import Shelf, Starts  # noqa: E402
 
-STATES = 100_000
+STATES = 25_000  # at random, of each of four seeds
 EXAMPLES = f"{ROOT}/examples/members"
 HEADER = f"{ROOT}/crates/resetd_member/include"
 
@@ -31,6 +37,12 @@ def start_text(node, kept):
     """The file of a start, as the Python library writes it."""
     party = None if kept.party is None else sorted(kept.party)
     return (json.dumps({str(node): {"begun": kept.begun, "party": party}}) + "\n").encode()
+
+
+def kept_in(text, node):
+    """What a file of a start keeps."""
+    row = json.loads(text or b"{}").get(str(node), {"begun": None, "party": None})
+    return Kept(row["begun"], None if row["party"] is None else frozenset(row["party"]))
 
 
 def history_text(digests, torn=""):
@@ -62,7 +74,7 @@ class Random:
         self.random = random.Random(seed)
 
     def view(self):
-        draw, most = self.random, self.random.choice((1, 2, 3, 6, 64))
+        draw, most = self.random, self.random.choice((1, 2, 2, 3, 3, 4, 6, 6) * 4 + (64,))
         numbers = sorted(draw.sample(range(1, 65), draw.randint(1, most)))
         epochs = draw.choice((2, 12, 1 << 40))
         rows = tuple(Node(n, 1, draw.choice(("ready",) * 6 + ("abort", "converge")), 0, epoch := draw.randrange(epochs),
@@ -86,6 +98,41 @@ class Random:
         if draw.random() < 0.4:
             history.insert(draw.randint(0, len(history)), digest_of(view.party(row.node)))
         return view, row.node, kept, history, draw.choice((kept.begun, kept.begun, kept.begun, None, row.epoch))
+
+
+class Shows:
+    """A port that shows one line, and carries out each order."""
+
+    def __init__(self, line):
+        self.line, self.ordered, self.looks, self.looked_twice = line, None, 0, threading.Event()
+        self._listener = socket.create_server(("127.0.0.1", 0))
+        self.number = self._listener.getsockname()[1]
+
+    def __enter__(self):
+        threading.Thread(target=self._serve, daemon=True).start()
+        return self
+
+    def __exit__(self, *_):
+        with contextlib.suppress(OSError):
+            self._listener.shutdown(socket.SHUT_RDWR)
+        self._listener.close()
+
+    def _serve(self):
+        with contextlib.suppress(OSError):
+            while True:
+                connection, _ = self._listener.accept()
+                with connection, contextlib.suppress(OSError):
+                    for line in connection.makefile("rb"):
+                        connection.sendall(self._answer(json.loads(line)["op"]))
+
+    def _answer(self, op):
+        if op != "show":
+            self.ordered = self.ordered or op
+            return b'{"kind":"done","step":1}\n'
+        self.looks += 1
+        if self.looks > 1:
+            self.looked_twice.set()
+        return self.line
 
 
 class Members(Case):
@@ -117,15 +164,101 @@ class Members(Case):
     def test_small_states(self):
         """All of them."""
         dues = [self.judged_alike(state) for state in small_states()]
-        self.assertGreater(len(dues), 20_000)
+        self.assertGreater(len(dues), 15_000)
         self.assertEqual(set(dues), {due.name for due in Due})
 
-    def test_random_states(self):
-        states, dues = Random(60), {}
+    def random_states(self, seed):
+        states, dues = Random(seed), {}
         for _ in range(STATES):
             due = self.judged_alike(states.state(), states.random.choice(("", "", "", "a", "f" * 64, "?")))
             dues[due] = dues.get(due, 0) + 1
         self.assertGreater(min(dues.get(due.name, 0) for due in Due), STATES // 50, dues)
+
+    def test_random_states_1(self):
+        self.random_states(1)
+
+    def test_random_states_2(self):
+        self.random_states(2)
+
+    def test_random_states_3(self):
+        self.random_states(3)
+
+    def test_random_states_4(self):
+        self.random_states(4)
+
+    def alike_in(self, state, due, after, history):
+        """A member of another kind was shown a state: what was due to it, and what its files keep now, are as the proved
+        library says. (One that begins has gone on.)"""
+        view, node, kept, digests, work = state
+        told = self.library.judge(line_of(view), node, start_text(node, kept), history_text(digests), work)
+        self.assertEqual(due.name, told.due, state)
+        if told.due != "BEGIN":
+            self.assertEqual(after, kept_in(told.start, node) if told.start else kept, state)
+            self.assertEqual(history, history_text(digests) + told.line, state)
+
+    def test_the_files_of_the_python_library(self):
+        """Its starts, over files: they hold the same bytes."""
+        states = Random(5)
+        for turn in range(1_000):
+            view, node, kept, digests, work = state = states.state()
+            folder = self.path(f"{turn}")
+            os.mkdir(folder)
+            self.write(f"{turn}/starts.json", b"" if kept == Kept() else start_text(node, kept))
+            self.write(f"{turn}/starts.history", history_text(digests, states.random.choice(("", "torn"))))
+            shelf = Shelf(f"{folder}/starts.json")
+            due = Starts(shelf, node, work).due(view, view.node(node))
+            shelf.keep()
+            text = self.read(f"{turn}/starts.json")
+            self.alike_in(state, due, kept_in(text, node), self.read(f"{turn}/starts.history").removesuffix(b"torn"))
+            if text and due is Due.TALK:
+                self.assertEqual(text, start_text(node, kept_in(text, node)))
+
+    def test_a_gateway(self):
+        """The members behind it have begun what it told them, or have lost it."""
+        states = Random(6)
+        for turn in range(300):
+            view, node, kept, digests, work = state = states.state()
+            if work not in (None, kept.begun):
+                continue
+            folder, told = self.path(f"{turn}"), f"{kept.begun or 0} 1\n"
+            os.makedirs(f"{folder}/a")
+            kept_row = json.loads(start_text(node, kept))
+            kept_row[str(node)]["told"] = told
+            self.write(f"{turn}/starts.json", json.dumps(kept_row))
+            self.write(f"{turn}/starts.history", history_text(digests))
+            if work is not None:
+                self.write(f"{turn}/a/begun", told)
+            shelf = Shelf(f"{folder}/starts.json")
+            due = Desk(node, shelf, folder, ["a"]).due(view, view.node(node))
+            shelf.keep()
+            self.alike_in(state, due, kept_in(self.read(f"{turn}/starts.json"), node), self.read(f"{turn}/starts.history"))
+
+    def test_a_member_in_bash(self):
+        """examples/plain_member, over its own files."""
+        states = Random(7)
+        for turn in range(60):
+            view, node, kept, digests, work = state = states.state()
+            folder = self.path(f"{turn}")
+            os.mkdir(folder)
+            lines = [] if kept.party is None else sorted(kept.party)
+            self.write(f"{turn}/kept", "\n".join([str(-1 if kept.begun is None else kept.begun), *lines]) + "\n")
+            self.write(f"{turn}/history", history_text(digests))
+            if work is not None:
+                self.write(f"{turn}/work", f"{work}\n")
+            with Shows(line_of(view)) as port:
+                member = subprocess.Popen([f"{ROOT}/examples/plain_member", str(node), "127.0.0.1", str(port.number), folder],
+                                          stdout=subprocess.DEVNULL, start_new_session=True)
+                port.looked_twice.wait(300)
+                os.killpg(member.pid, signal.SIGKILL)
+                member.wait()
+            run = f"{folder}/run"
+            due = {"confirm": Due.BEGIN, "reset": Due.RESET}.get(port.ordered, Due.TALK if os.path.exists(run) else Due.WAIT)
+            first, *party = self.read(f"{turn}/kept").decode().splitlines()
+            after = Kept(None if first == "-1" else int(first), frozenset(party) if party else None)
+            self.alike_in(state, due, after, self.read(f"{turn}/history"))
+            if due is Due.TALK:
+                told = self.library.tag(line_of(view), node, start_text(node, after)).decode() or "-"
+                self.assertEqual(self.read(f"{turn}/run").decode(), f"{view.node(node).epoch} {told}\n", state)
 
     def test_begun(self):
         for node, epoch in ((1, 0), (64, (1 << 64) - 1), (7, 12)):
@@ -197,3 +330,24 @@ class InOtherLanguages(Case):
     def test_rust(self):
         self.keeps_the_rule("rustc", "--edition", "2024", "-O", "-o", self.path("member"), "member.rs",
                             "-L", os.path.dirname(PATH), "-l", "static=resetd_member")
+
+
+class Vectors(Case):
+    def test_vectors(self):
+        """docs/member-vectors.json is what the proved library says, and the Python library says the same."""
+        self.needs("the proved library: make lib makes it", os.path.exists(PATH), is_optional=True)
+        checked = subprocess.run([tool("member_vectors")], capture_output=True, text=True)
+        self.assertEqual((checked.returncode, checked.stderr), (0, ""))
+
+    def test_vectors_in_python(self):
+        with open(f"{ROOT}/docs/member-vectors.json", encoding="utf-8") as file:
+            cases = json.load(file)
+        for case in cases:
+            view = View.of(json.loads(case["show"]))
+            start = json.loads(case["start"] or "{}").get("1", {"begun": None, "party": None})
+            party = None if start["party"] is None else frozenset(start["party"])
+            begun = start["begun"] if start["begun"] == case["work"] else None
+            judged = judge(Kept(begun, party), case["history"], shown_to(view, view.node(1)))
+            self.assertEqual((judged.due.name.lower(), judged.digest), (case["due"], case["digest"]), case)
+            tag = tag_of(judged.kept.party, view.party(1)) if judged.due is Due.TALK else None
+            self.assertEqual(tag, case["tag"], case)

@@ -1,6 +1,7 @@
 """A member in any language beside two of the library: what is shown to it, what it orders, and in which run it says that it
 talks, compared with the library's rule at each look."""
 
+import contextlib
 import json
 import os
 import shutil
@@ -14,6 +15,7 @@ from resetd_client import Due, View
 from resetd_client.party import is_same_run, tag_of
 from resetd_client.rule import Kept, judge, shown_to
 
+from .file_calls import FileCalls
 from .party_trials import Slow
 from .services import Failed, patiently, read
 
@@ -21,48 +23,115 @@ NODE = 3
 ROWS = {Due.BEGIN: "begins", Due.WAIT: "waits", Due.TALK: "talks", Due.RESET: "asks for a reset", None: "is not shown"}
 
 
-class Rule:
-    """The rule beside the member: what it has to keep, and what is due by the last answer that it got."""
+class Guess:
+    """What the member may have on the disk, and what is then due by the last answer that it got. There are several guesses
+    only after it died: between two of its writes nobody else knows which of them were done."""
 
-    def __init__(self, folder):
-        self.folder, self.kept, self.history = folder, Kept(), set()
-        self.answered(None)
-        self.looks, self.talks, self.wrong = 0, 0, None
+    def __init__(self, kept=Kept(), history=frozenset()):
+        self.kept, self.history = kept, history
+        self.due, self.run, self.steps = None, "", [(kept, history)]
+        self.is_refused, self.has_asked = False, False  # whether a refused tag asks for a reset, and whether it did so
 
     def answered(self, view):
-        """The member is shown this, or it was started anew."""
-        self.view, self.orders, self.due, self.run = view, [], None, ""
+        """The member is shown this, or, where it is None, was started anew. `steps` are the states of the disk on the way."""
+        self.due, self.run, self.steps = None, "", [(self.kept, self.history)]
+        self.is_refused, self.has_asked = self.is_refused and not self.has_asked, False
         row = view and view.node(NODE)
         if not row:
             return
         judged = judge(self.kept, self.history, shown_to(view, row))
-        self.due, self.kept = judged.due, judged.kept
+        self.due = judged.due
         if judged.due is Due.TALK:
             self.history |= {judged.digest} - {None}
-            self.run = f"{row.epoch} {tag_of(self.kept.party, view.party(NODE)) or '-'}"
+            self.steps += [(self.kept, self.history), (judged.kept, self.history)]
+            self.run = f"{row.epoch} {tag_of(judged.kept.party, view.party(NODE)) or '-'}"
+        elif judged.due is Due.BEGIN:
+            self.steps += [(Kept(), self.history), (Kept(row.epoch), self.history)]
+        self.kept = judged.kept
+
+    def fit(self, view):
+        """The orders that are due."""
+        row = view and view.node(NODE)
+        reset = {("reset", NODE, None)}
+        return {Due.BEGIN: {("confirm", NODE, row and row.epoch)}, Due.RESET: reset,
+                Due.TALK: reset if self.is_refused else set()}.get(self.due, set())
+
+    def wrong(self, view, orders, run):
+        """What the member did that does not fit this guess; None if all fits."""
+        if not set(orders) <= self.fit(view):
+            return f"row `{ROWS[self.due]}`: it orders {', '.join(map(str, dict.fromkeys(orders)))}"
+        if not orders and self.due in (Due.BEGIN, Due.RESET):
+            return f"row `{ROWS[self.due]}`: it orders nothing"
+        if run != self.run:
+            return f"row `{ROWS[self.due]}`: its file `run` has {run!r} and not {self.run!r}"
+        return None
+
+
+class Rule:
+    """The rule beside the member: what it has to keep, and what is due by the last answer that it got."""
+
+    def __init__(self, folder):
+        self.folder, self.guesses, self.asked = folder, [Guess()], set()
+        self.looks, self.talks, self.wrong = 0, 0, None
+        self.answered(None)
+
+    @property
+    def due(self):
+        return self.guesses[0].due
+
+    @property
+    def run(self):
+        return self.guesses[0].run
+
+    def answered(self, view):
+        """The member is shown this, or it was started anew."""
+        self.view, self.orders = view, []
+        for guess in self.guesses:
+            guess.answered(view)
+
+    def died(self):
+        """It is started anew, with the writes for the last answer done up to any of them."""
+        steps = dict.fromkeys(step for guess in self.guesses for step in [*guess.steps, (guess.kept, guess.history)])
+        self.guesses = [Guess(*step) for step in steps]
+        self.answered(None)
+
+    def forgot(self):
+        """It has lost all its files."""
+        self.guesses = [Guess()]
+        self.answered(None)
+
+    def refused(self):
+        """It refused a message of another run, whose sender was shown what is shown to it."""
+        for guess in self.guesses:
+            guess.is_refused = True
 
     def ordered(self, order):
-        """The member orders something."""
-        if order.get("op") == "confirm" and order.get("epoch") == 0:
-            return  # it looks for its count
-        self.orders.append((order["op"], order.get("node"), order.get("epoch")))
-        if self.due is Due.BEGIN and order["op"] == "confirm":
-            self.expect(read(f"{self.folder}/run") == "", "it says that it talks while it confirms")
-            self.kept = Kept(order["epoch"])
+        """The member orders something. What it had in hand when it died it may send again, with its number."""
+        line = tuple(sorted(order.items()))
+        asked = (order["op"], order.get("node"), order.get("epoch"))
+        is_again = line in self.asked and not any(asked in guess.fit(self.view) for guess in self.guesses)
+        self.asked.add(line)
+        if is_again or order.get("op") == "confirm" and order.get("epoch") == 0:
+            return  # or it looks for its count
+        self.orders.append(asked)
+        for guess in self.guesses:
+            if guess.due is Due.BEGIN and order["op"] == "confirm":
+                self.expect(read(f"{self.folder}/run") == "", "it says that it talks while it confirms")
+                guess.kept = Kept(order["epoch"])
+            guess.has_asked = guess.has_asked or order["op"] == "reset"
 
     def looks_again(self):
         """The member has done all that it does for the last answer."""
         self.looks += 1
-        self.expect(set(self.orders) <= self.fit(), f"it orders {', '.join(map(str, dict.fromkeys(self.orders)))}")
-        self.expect(self.due not in (Due.BEGIN, Due.RESET) or self.orders, "it orders nothing")
         run = read(f"{self.folder}/run").strip()
-        self.expect(run == self.run, f"its file `run` has {run!r} and not {self.run!r}")
+        found = [guess.wrong(self.view, self.orders, run) for guess in self.guesses]
+        fitting = [guess for guess, wrong in zip(self.guesses, found) if not wrong]
+        if fitting:
+            self.guesses = list({(guess.kept, guess.history): guess for guess in fitting}.values())
+        elif not self.wrong:
+            self.wrong = found[0]
         self.talks = self.talks + 1 if self.due is Due.TALK else 0
         self.orders = []
-
-    def fit(self):
-        row = self.view and self.view.node(NODE)
-        return {Due.BEGIN: {("confirm", NODE, row and row.epoch)}, Due.RESET: {("reset", NODE, None)}}.get(self.due, set())
 
     def expect(self, holds, what):
         if not holds and not self.wrong:
@@ -75,6 +144,7 @@ class Between:
     def __init__(self, trial, rule):
         self.trial, self.rule, self.spoil = trial, rule, []
         self.on_confirm = None
+        self.lives, self.lock = 0, threading.RLock()  # how often the member died: what one asked that is dead tells nothing
         self.listener = socket.create_server(("127.0.0.1", 0))
         threading.Thread(target=self.serve, daemon=True).start()
 
@@ -87,30 +157,40 @@ class Between:
             with connection:
                 try:
                     connection.settimeout(30)
+                    lives = self.lives
                     for line in connection.makefile("rb"):
-                        if not self.answer(connection, line):
+                        if not self.answer(connection, line, lives):
                             break
                 except OSError:
                     pass
 
-    def answer(self, connection, line):
+    def answer(self, connection, line, lives):
         """Whether more is answered on this connection."""
-        request = json.loads(line)
-        if request["op"] == "show":
-            self.rule.looks_again()
-            spoiled = self.spoil.pop(0) if self.spoil else None
-            if spoiled:
-                return spoiled(connection, self.direct(line))
-        else:
-            self.rule.ordered(request)
-            if request["op"] == "confirm" and self.on_confirm:
-                self.on_confirm()
+        request, spoiled = json.loads(line), None
+        with self.lock:
+            if lives != self.lives:
                 return False
+            if request["op"] != "show":
+                self.rule.ordered(request)
+            else:
+                self.rule.looks_again()
+                spoiled = self.spoil.pop(0) if self.spoil else None
+        if spoiled:
+            return spoiled(connection, self.direct(line))
+        if request["op"] == "confirm" and self.on_confirm:
+            self.on_confirm()
+            return False
         text = self.direct(line)
-        if request["op"] == "show":
-            self.rule.answered(View.of(json.loads(text)))
+        with self.lock:
+            if lives == self.lives and request["op"] == "show":
+                self.rule.answered(View.of(json.loads(text)))
         connection.sendall(text + b"\n")
         return True
+
+    def died(self):
+        with self.lock:
+            self.lives += 1
+            self.rule.died()
 
     def direct(self, line):
         return patiently(lambda: self.trial.port.raw(json.loads(line)), 20).encode()
@@ -134,21 +214,37 @@ class Tried:
         self.rule = Rule(self.folder)
         self.between = Between(trial, self.rule)
         self.others = Slow(trial, (1, 2))
+        self.calls = FileCalls(trial.folder)
 
     def start(self):
         host, port = self.between.listener.getsockname()
         words = {"node": NODE, "host": host, "port": port, "address": f"{host}:{port}", "folder": self.folder,
                  "signals": self.trial.server.signals}
-        self.rule.answered(None)
         with open(f"{self.trial.folder}/foreign.lines", "ab") as lines:
             self.process = subprocess.Popen([word.format(**words) for word in self.command], stdin=subprocess.DEVNULL,
-                                            stdout=lines, stderr=lines, start_new_session=True)
+                                            stdout=lines, stderr=lines, start_new_session=True, env=self.calls.environment())
 
     def kill(self):
-        os.killpg(self.process.pid, signal.SIGKILL)
+        """Kills it, where it did not kill itself."""
+        with contextlib.suppress(ProcessLookupError):
+            os.killpg(self.process.pid, signal.SIGKILL)
         self.process.wait()
+        self.between.died()
 
-    def until(self, what, holds):
+    def stop(self):
+        os.killpg(self.process.pid, signal.SIGSTOP)
+
+    def go_on(self):
+        os.killpg(self.process.pid, signal.SIGCONT)
+
+    def dies_on_its_way(self, what):
+        """Whether it dies before it talks with the others."""
+        def holds():
+            return self.process.poll() is not None or self.talks_with_all()
+        self.until(what, holds, may_end=True)
+        return self.process.poll() is not None
+
+    def until(self, what, holds, may_end=False):
         """Waits until something holds, while the member keeps the rule."""
         until = time.monotonic() + self.trial.words.seconds
         while True:
@@ -157,7 +253,7 @@ class Tried:
                 raise Failed(f"{what}: {self.rule.wrong}")
             if reached:
                 return
-            if self.process.poll() is not None:
+            if self.process.poll() is not None and not may_end:
                 raise Failed(f"{what}: it has ended: {read(f'{self.trial.folder}/foreign.lines')[-300:]}")
             if time.monotonic() > until:
                 raise Failed(f"{what}, within {self.trial.words.seconds} s: {self.trial.told()}; due to it is {self.rule.due}")
@@ -168,15 +264,20 @@ class Tried:
         before = self.rule.looks
         self.until(what, lambda: self.rule.looks >= before + times)
 
+    def talks_now(self):
+        """Whether it talks by what is shown now."""
+        view = self.trial.port.show()
+        rule = self.rule
+        return rule.talks > 1 and rule.due is Due.TALK and rule.view.nodes == view.nodes
+
+    def talks_with_all(self):
+        """Whether all three are in one run, each with what is shown now."""
+        self.others.look(1, 2)
+        runs = [member.run for member in self.others.members.values()]
+        return self.talks_now() and all(runs) and all(is_same_run(run.tag, self.rule.run.split(" ")[1]) for run in runs)
+
     def all_talk(self, what):
-        """All three come to one run, each with what is shown now."""
-        def holds():
-            self.others.look(1, 2)
-            view = self.trial.port.show()
-            runs = [member.run for member in self.others.members.values()]
-            return (self.rule.talks > 1 and self.rule.view and self.rule.view.nodes == view.nodes and all(runs)
-                    and all(is_same_run(run.tag, self.rule.run.split(" ")[1]) for run in runs))
-        self.until(what, holds)
+        self.until(what, self.talks_with_all)
 
 
 def unlink(trial):
@@ -269,12 +370,61 @@ def of_restores(tried):
 def of_files(tried):
     tried.kill()
     shutil.rmtree(tried.folder)
-    tried.rule.kept, tried.rule.history = Kept(), set()
+    tried.rule.forgot()
     tried.start()
     tried.all_talk("after it lost all its files")
 
 
-EVENTS = (of_resets, of_links, of_nodes, of_confirms, of_restores, of_files)
+def of_second_hand(tried):
+    """Member 2 is taken off its links, reset alone, linked again, and taken off again, while it is stopped. Member 1 first
+    talks in between, with a start of 2 that it never hears of. Then both are shown the same, and talk in two runs."""
+    trial, others = tried.trial, tried.others
+    trial.reset(1)
+    trial.expect_quiet()
+    others.look(1, 2)
+    tried.until("after a reset, before member 1 has looked again", lambda: others.look(2) or tried.talks_now())
+    tried.stop()
+    for other in (1, NODE):
+        trial.order("drop", a=2, b=other)
+    trial.order("reset", node=2)
+    trial.expect_quiet()
+    others.while_it_begins.append(lambda trial: [trial.order("join", a=2, b=other) for other in (1, NODE)])
+    others.look(2, 1)
+    for other in (1, NODE):
+        trial.order("drop", a=2, b=other)
+    others.look(1)
+    tried.go_on()
+    tried.looks("another one was taken off its links, reset alone, linked and taken off again, while it was stopped", 3)
+    with open(f"{tried.folder}/refused.new", "w", encoding="utf-8") as file:
+        file.write(f"{others.members[1].run.tag}\n")
+    with tried.between.lock:
+        tried.rule.refused()
+        os.replace(f"{tried.folder}/refused.new", f"{tried.folder}/refused")
+    tried.until("it refused a message of another run, whose sender is shown the same, so it asks for a reset",
+                lambda: not tried.rule.guesses[0].is_refused)
+    for other in (1, NODE):
+        trial.order("join", a=2, b=other)
+    tried.all_talk("after that one came back")
+
+
+def of_kills(tried):
+    """It dies in front of each file call that a reset takes it to, in turn."""
+    if not tried.calls.can_see:
+        return
+    trial = tried.trial
+    for call in range(1, trial.words.kills + 1):
+        tried.calls.die_at(call)
+        trial.reset(1)
+        has_died = tried.dies_on_its_way(f"a reset, and a kill at file call {call}")
+        tried.calls.die_at(0)
+        if not has_died:
+            return
+        tried.kill()
+        tried.start()
+        tried.all_talk(f"after it died at file call {call} behind a reset")
+
+
+EVENTS = (of_resets, of_links, of_second_hand,  of_nodes, of_confirms, of_restores, of_kills, of_files)
 
 
 def lead(trial, command):
@@ -288,4 +438,5 @@ def lead(trial, command):
         if tried.process.poll() is None:
             tried.kill()
         tried.between.listener.close()
-    return f"{tried.rule.looks} looks, and each time it did what was due"
+    kills = "" if tried.calls.can_see else f" ({tried.calls.why}: no kill between two of its file calls)"
+    return f"{tried.rule.looks} looks, and each time it did what was due{kills}"

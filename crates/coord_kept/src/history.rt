@@ -46,7 +46,7 @@ fn is_line(line: &[u8]) -> bool
     ensures { result ≡ is_line line.now }
 {
     let (digits, end) = line.split_at(64);
-    are_digits(digits) && end == b"\n"
+    are_digits(digits) && end == b"\n".as_slice()
 }
 
 /// The line with this number, from 0.
@@ -66,9 +66,8 @@ fn are_lines(history: &[u8], count: usize) -> bool
 {
     let mut are = true;
     for place in 0..count {
-        if !is_line(line_at(history, place)) {
-            are = false;
-        }
+        let is = is_line(line_at(history, place));
+        are = are && is;
     }
     are
 }

@@ -1,2 +1,2 @@
 mod Each
-mod Names
+mod NameTables

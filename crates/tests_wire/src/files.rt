@@ -38,14 +38,14 @@ fn digests(rt: HostRuntime) {
     let digest = digest_of(rt.alloc(), "", &all).expect(&rt, "memory");
     same(
         &rt,
-        digest.as_str(),
-        "3c85007ce42aa9e7a12083350dec7c27b100d131c2161eaa460fa248b1c603ac",
+        &digest.as_str(),
+        &"3c85007ce42aa9e7a12083350dec7c27b100d131c2161eaa460fa248b1c603ac",
     );
     let tag = tag_of(rt.alloc(), "blue", &all, &both).expect(&rt, "memory");
     same(
         &rt,
-        tag.as_str(),
-        "5bf20a285655d3b06203419ddc5e29d1-5f7c811e52c286ed7afb5ab6ed8af220",
+        &tag.as_str(),
+        &"5bf20a285655d3b06203419ddc5e29d1-5f7c811e52c286ed7afb5ab6ed8af220",
     );
     drop(both);
     drop(all);
@@ -58,8 +58,8 @@ fn starts(rt: HostRuntime) {
     let text = start_text(rt.alloc(), 2, Some(5), Some(&both)).expect(&rt, "memory");
     same(
         &rt,
-        text.as_str(),
-        "{\"2\": {\"begun\": 5, \"party\": [\"1 2 3\", \"1 5\", \"2 5\"]}}\n",
+        &text.as_str(),
+        &"{\"2\": {\"begun\": 5, \"party\": [\"1 2 3\", \"1 5\", \"2 5\"]}}\n",
     );
     let start = read_start(rt.alloc(), 2, text.as_str())
         .ok()

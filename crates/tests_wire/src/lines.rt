@@ -7,7 +7,7 @@ use std::fmt::Debug;
 use std::process::Abort;
 
 /// What was found is what was wanted.
-pub(crate) fn same<T: PartialEq + Debug + ?Sized>(rt: &impl Abort, found: &T, wanted: &T) {
+pub(crate) fn same<T: PartialEq + Debug>(rt: &impl Abort, found: &T, wanted: &T) {
     assert_eq!(rt; found, wanted);
 }
 
@@ -26,7 +26,7 @@ fn printed(rt: &impl Host, command: Command, wanted: &str) {
     let mut text = String::new(rt.alloc());
     let line = Line { number: 7, command };
     print_order(&mut text, client, line).expect(rt, "memory");
-    same(rt, text.as_str(), wanted);
+    same(rt, &text.as_str(), &wanted);
 }
 
 /// Each order has its members.

@@ -5,5 +5,5 @@ use Rattle.coord_kept.proofs.tag.dash_in.Given as goal
 abbrev pub invariant-loop-place : goal.invariant-loop-place
 invariant-loop-place l = ((k : ℕ) → k < l.place → is_dash (slice_index l.tag k) ≡ false) × (l.place ≤ length l.tag)
 
-abbrev pub measure-loop-place : goal.measure-loop-place
-measure-loop-place l = length l.tag - l.place
+abbrev pub decreases-loop-place : goal.decreases-loop-place
+decreases-loop-place l = length l.tag - l.place
