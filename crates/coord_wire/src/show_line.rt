@@ -1,7 +1,7 @@
 //! The line of the answer to `show`.
 
-ghost use Rattle.std.specs.Prelude.{◌≡◌, ◌≢◌, Err, IfOk};
-ghost use Rattle.std.specs.Option.{option_map};
+ghost use Rattle.std.specs.Prelude.{◌≡◌, ◌≢◌, ◌++◌, Err, IfOk, OnOk, is_some};
+ghost use Rattle.std.specs.Option.{option_map, option_to_list};
 ghost use Rattle.serde_json.specs.View.{items_view, view};
 ghost use Rattle.coord_wire.specs.ShowLine.{count_at, each, id_at, link_in, links_in, mode_at, mode_named, node_in, nodes_in, number_at, parent_of, rows_at, shown_in, shown_of};
 ghost use Rattle.coord_wire.specs.declared.answer_line.ReadFault.TheVariants.{OutOfMemory};
@@ -77,15 +77,29 @@ fn link_of(row: &Value) -> Option<LinkView>
     })
 }
 
+/// Adds the node that a row is; false where it is none.
+fn push_node(nodes: &mut Vec<NodeView>, row: &Value) -> Result<bool, AllocError>
+    ensures read { IfOk result (λ is. is ≡ is_some (node_in (view row.now))) }
+    ensures pushed { OnOk result (nodes.new.items ≡ nodes.old.items ++ option_to_list (node_in (view row.now))) }
+{
+    match node_of(row) {
+        Some(node) => {
+            nodes.push(node)?;
+            Ok(true)
+        }
+        None => Ok(false),
+    }
+}
+
 fn nodes_of(alloc: Global, rows: &[Value]) -> Result<Option<Vec<NodeView>>, AllocError>
     ensures { IfOk result (λ nodes. option_map (λ v. v.items) nodes ≡ each node_in (items_view rows.now)) }
 {
     let mut nodes = Vec::new(alloc);
     for row in rows {
-        let Some(node) = node_of(row) else {
+        let is_read = push_node(&mut nodes, row)?;
+        if !is_read {
             return Ok(None);
-        };
-        nodes.push(node)?;
+        }
     }
     Ok(Some(nodes))
 }
