@@ -19,7 +19,7 @@ abbrev pub is_digit : ℕ → Bool
 is_digit c = (nat_le 48 c && nat_le c 57) || (nat_le 97 c && nat_le c 102)
 
 -- 64 hexadecimal digits and a line feed
-abbrev pub is_line : List ℕ → Bool
+unfoldable pub is_line : List ℕ → Bool
 is_line line = list_all is_digit (take 64 line) && bytes_eq (drop 64 line) (codes "\n")
 
 abbrev pub line_at : List ℕ → ℕ → List ℕ
@@ -27,7 +27,7 @@ line_at h k = take 65 (drop (65 * k) h)
 
 abbrev pub are_lines : List ℕ → ℕ → Bool
 are_lines h zero = true
-are_lines h (suc k) = are_lines h k && is_line (line_at h k)
+are_lines h (suc k) = is_line (line_at h k) && are_lines h k
 
 -- one of the first lines is this one
 abbrev pub is_among : List ℕ → List ℕ → ℕ → Bool

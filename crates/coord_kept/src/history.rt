@@ -41,6 +41,7 @@ fn are_digits(text: &[u8]) -> bool
 }
 
 /// Whether this is a digest with its line feed.
+#[tactic(auto, unfolding(crate::specs::History::is_line))]
 fn is_line(line: &[u8]) -> bool
     requires { length line.now ≡ 65 }
     ensures { result ≡ is_line line.now }
@@ -66,8 +67,9 @@ fn are_lines(history: &[u8], count: usize) -> bool
 {
     let mut are = true;
     for place in 0..count {
-        let is = is_line(line_at(history, place));
-        are = are && is;
+        if !is_line(line_at(history, place)) {
+            are = false;
+        }
     }
     are
 }

@@ -4,20 +4,30 @@ use Rattle.coord_types.specs.declared.steps.Command.{Command}
 use Rattle.coord_types.specs.declared.steps.Command.TheVariants.{Add, Remove, Join, Drop, Reset, Confirm}
 use Rattle.coord_orders.specs.declared.book.Line.{Line}
 
+-- a member that is a number
+unfoldable pub number_member : List ℕ → ℕ → List ℕ
+number_member name n = codes ",\"" ++ (name ++ (codes "\":" ++ decimal n))
+
+-- the members that each order has
+unfoldable pub head : List ℕ → ℕ → ℕ → List ℕ
+head op c n = codes "{\"op\":\"" ++ (op ++ (codes "\",\"client\":" ++ (decimal c ++ (codes ",\"number\":" ++ decimal n))))
+
+abbrev pub end : List ℕ
+end = codes "}\n"
+
+unfoldable pub add_line : ℕ → ℕ → ℕ → ℕ → List ℕ
+add_line c n u g = head (codes "add") c n ++ (number_member (codes "node") u ++ (number_member (codes "group") g ++ end))
+
+unfoldable pub confirm_line : ℕ → ℕ → ℕ → ℕ → List ℕ
+confirm_line c n u e = head (codes "confirm") c n ++ (number_member (codes "node") u ++ (number_member (codes "epoch") e ++ end))
+
 -- of an order that names a node
-abbrev pub node_line : List ℕ → ℕ → ℕ → ℕ → List ℕ
-node_line op c n u = codes "{\"op\":\"" ++ (op ++ (codes "\",\"client\":" ++ (decimal c ++ (codes ",\"number\":" ++ (decimal n ++ (codes ",\"node\":" ++ (decimal u ++ codes "}\n")))))))
+unfoldable pub node_line : List ℕ → ℕ → ℕ → ℕ → List ℕ
+node_line op c n u = head op c n ++ (number_member (codes "node") u ++ end)
 
 -- of one that names two
-abbrev pub link_line : List ℕ → ℕ → ℕ → ℕ → ℕ → List ℕ
-link_line op c n a b =
-    codes "{\"op\":\"" ++ (op ++ (codes "\",\"client\":" ++ (decimal c ++ (codes ",\"number\":" ++ (decimal n ++ (codes ",\"a\":" ++ (decimal a ++ (codes ",\"b\":" ++ (decimal b ++ codes "}\n")))))))))
-
-abbrev pub add_line : ℕ → ℕ → ℕ → ℕ → List ℕ
-add_line c n u g = codes "{\"op\":\"add\",\"client\":" ++ (decimal c ++ (codes ",\"number\":" ++ (decimal n ++ (codes ",\"node\":" ++ (decimal u ++ (codes ",\"group\":" ++ (decimal g ++ codes "}\n")))))))
-
-abbrev pub confirm_line : ℕ → ℕ → ℕ → ℕ → List ℕ
-confirm_line c n u e = codes "{\"op\":\"confirm\",\"client\":" ++ (decimal c ++ (codes ",\"number\":" ++ (decimal n ++ (codes ",\"node\":" ++ (decimal u ++ (codes ",\"epoch\":" ++ (decimal e ++ codes "}\n")))))))
+unfoldable pub link_line : List ℕ → ℕ → ℕ → ℕ → ℕ → List ℕ
+link_line op c n a b = head op c n ++ (number_member (codes "a") a ++ (number_member (codes "b") b ++ end))
 
 abbrev pub command_line : ℕ → ℕ → Command → List ℕ
 command_line c n (Add u g) = add_line c n u g

@@ -9,6 +9,8 @@ use Rattle.coord_types.specs.declared.messages.Mode.TheVariants.{Ready, Abort, C
 use Rattle.coord_view.specs.declared.view.LinkView.{LinkView}
 use Rattle.coord_view.specs.declared.view.NodeView.{NodeView}
 use Rattle.coord_view.specs.Shown.{Shown}
+use Rattle.coord_wire.specs.declared.show_line.NodeRow.{NodeRow}
+use Rattle.std.specs.Option.{option_map}
 use Rattle.coord_wire.specs.declared.answer_line.ReadFault.{ReadFault}
 use Rattle.coord_wire.specs.declared.answer_line.ReadFault.TheVariants.{NoAnswer}
 use Rattle.coord_wire.specs.AnswerLine.{Name, named}
@@ -28,26 +30,32 @@ from_1_to most n = if nat_le 1 n && nat_le n most then Some n else None
 abbrev pub id_at : ℕ → ℕ → Data → Option ℕ
 id_at place most d = option_and_then (from_1_to most) (number_at place d)
 
--- 0 stands for no parent
-abbrev pub parent_of : ℕ → Option (Option ℕ)
-parent_of n = if n == 0 then Some None else option_and_then (λ u. Some (Some u)) (from_1_to MAX_NODES n)
+-- a parent's number, of which 0 stands for none
+abbrev pub up_to : ℕ → ℕ → Option ℕ
+up_to most n = if nat_le n most then Some n else None
 
 abbrev pub mode_at : ℕ → Data → Option Mode
 mode_at place d = option_and_then mode_named (option_and_then as_str (at place d))
 
-abbrev pub node_with : Option ℕ → Option ℕ → Option Mode → Option (Option ℕ) → Option ℕ → Option ℕ → Option NodeView
-node_with None group mode parent epoch confirmed = None
-node_with (Some node) None mode parent epoch confirmed = None
-node_with (Some node) (Some group) None parent epoch confirmed = None
-node_with (Some node) (Some group) (Some mode) None epoch confirmed = None
-node_with (Some node) (Some group) (Some mode) (Some parent) None confirmed = None
-node_with (Some node) (Some group) (Some mode) (Some parent) (Some epoch) None = None
-node_with (Some node) (Some group) (Some mode) (Some parent) (Some epoch) (Some confirmed) =
+abbrev pub node_view : NodeRow → NodeView
+node_view r = record { node = r.node; group = r.group; mode = r.mode; parent = from_1_to MAX_NODES r.parent; epoch = r.epoch; confirmed = r.confirmed }
+
+abbrev pub row_with : Option ℕ → Option ℕ → Option Mode → Option ℕ → Option ℕ → Option ℕ → Option NodeRow
+row_with None group mode parent epoch confirmed = None
+row_with (Some node) None mode parent epoch confirmed = None
+row_with (Some node) (Some group) None parent epoch confirmed = None
+row_with (Some node) (Some group) (Some mode) None epoch confirmed = None
+row_with (Some node) (Some group) (Some mode) (Some parent) None confirmed = None
+row_with (Some node) (Some group) (Some mode) (Some parent) (Some epoch) None = None
+row_with (Some node) (Some group) (Some mode) (Some parent) (Some epoch) (Some confirmed) =
     Some (record { node = node; group = group; mode = mode; parent = parent; epoch = epoch; confirmed = confirmed })
 
 -- the number, the group, the mode, the parent, the epoch and the confirmed epoch
+abbrev pub row_in : Data → Option NodeRow
+row_in d = row_with (id_at 0 MAX_NODES d) (id_at 1 MAX_GROUPS d) (mode_at 2 d) (option_and_then (up_to MAX_NODES) (number_at 3 d)) (number_at 4 d) (number_at 5 d)
+
 abbrev pub node_in : Data → Option NodeView
-node_in d = node_with (id_at 0 MAX_NODES d) (id_at 1 MAX_GROUPS d) (mode_at 2 d) (option_and_then parent_of (number_at 3 d)) (number_at 4 d) (number_at 5 d)
+node_in d = option_map node_view (row_in d)
 
 abbrev pub link_with : Option ℕ → Option ℕ → Option ℕ → Option LinkView
 link_with None b inc = None

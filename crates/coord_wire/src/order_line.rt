@@ -1,15 +1,15 @@
 //! The line of an order.
 
 ghost use Rattle.std.specs.Prelude.{◌≡◌, ◌++◌, OnOk, string_bytes};
-ghost use Rattle.coord_wire.specs.OrderLine.{add_line, confirm_line, link_line, node_line, order_line};
+ghost use Rattle.coord_wire.specs.OrderLine.{add_line, confirm_line, head, link_line, node_line, number_member, order_line};
 
 use coord_orders::Line;
 use coord_types::{Client, Command, Group, NodeId};
 use std::alloc::AllocError;
 
 /// Adds the line that asks for this order of this client.
-pub fn print_order(text: &mut String, client: Client, line: Line) -> Result<(), AllocError>
-    ensures { OnOk result (string_bytes text.new ≡ string_bytes text.old ++ order_line client line) }
+pub fn print_order(text: &mut String, client: Client, line: &Line) -> Result<(), AllocError>
+    ensures { OnOk result (string_bytes text.new ≡ string_bytes text.old ++ order_line client line.now) }
 {
     let number = line.number;
     match line.command {
@@ -22,6 +22,27 @@ pub fn print_order(text: &mut String, client: Client, line: Line) -> Result<(), 
     }
 }
 
+/// Adds the members that each order has.
+#[tactic(auto, unfolding(crate::specs::OrderLine::head))]
+fn print_head(text: &mut String, op: &str, client: Client, number: u64) -> Result<(), AllocError>
+    ensures { OnOk result (string_bytes text.new ≡ string_bytes text.old ++ head op.now client number) }
+{
+    let by = client.number();
+    write!(
+        text,
+        "{{\"op\":\"{op}\",\"client\":{by},\"number\":{number}"
+    )
+}
+
+/// Adds a member that is a number.
+#[tactic(auto, unfolding(crate::specs::OrderLine::number_member))]
+fn print_member(text: &mut String, name: &str, number: u64) -> Result<(), AllocError>
+    ensures { OnOk result (string_bytes text.new ≡ string_bytes text.old ++ number_member name.now number) }
+{
+    write!(text, ",\"{name}\":{number}")
+}
+
+#[tactic(auto, unfolding(crate::specs::OrderLine::add_line))]
 fn print_add(
     text: &mut String,
     client: Client,
@@ -31,15 +52,13 @@ fn print_add(
 ) -> Result<(), AllocError>
     ensures { OnOk result (string_bytes text.new ≡ string_bytes text.old ++ add_line client number node group) }
 {
-    let by = client.number();
-    let node = node.number();
-    let group = group.number();
-    writeln!(
-        text,
-        "{{\"op\":\"add\",\"client\":{by},\"number\":{number},\"node\":{node},\"group\":{group}}}"
-    )
+    print_head(text, "add", client, number)?;
+    print_member(text, "node", node.number() as u64)?;
+    print_member(text, "group", group.number() as u64)?;
+    text.push_str("}\n")
 }
 
+#[tactic(auto, unfolding(crate::specs::OrderLine::confirm_line))]
 fn print_confirm(
     text: &mut String,
     client: Client,
@@ -49,14 +68,13 @@ fn print_confirm(
 ) -> Result<(), AllocError>
     ensures { OnOk result (string_bytes text.new ≡ string_bytes text.old ++ confirm_line client number node epoch) }
 {
-    let by = client.number();
-    let node = node.number();
-    writeln!(
-        text,
-        "{{\"op\":\"confirm\",\"client\":{by},\"number\":{number},\"node\":{node},\"epoch\":{epoch}}}"
-    )
+    print_head(text, "confirm", client, number)?;
+    print_member(text, "node", node.number() as u64)?;
+    print_member(text, "epoch", epoch)?;
+    text.push_str("}\n")
 }
 
+#[tactic(auto, unfolding(crate::specs::OrderLine::node_line))]
 fn print_node(
     text: &mut String,
     op: &str,
@@ -66,14 +84,12 @@ fn print_node(
 ) -> Result<(), AllocError>
     ensures { OnOk result (string_bytes text.new ≡ string_bytes text.old ++ node_line op.now client number node) }
 {
-    let by = client.number();
-    let node = node.number();
-    writeln!(
-        text,
-        "{{\"op\":\"{op}\",\"client\":{by},\"number\":{number},\"node\":{node}}}"
-    )
+    print_head(text, op, client, number)?;
+    print_member(text, "node", node.number() as u64)?;
+    text.push_str("}\n")
 }
 
+#[tactic(auto, unfolding(crate::specs::OrderLine::link_line))]
 fn print_link(
     text: &mut String,
     op: &str,
@@ -84,11 +100,8 @@ fn print_link(
 ) -> Result<(), AllocError>
     ensures { OnOk result (string_bytes text.new ≡ string_bytes text.old ++ link_line op.now client number a b) }
 {
-    let by = client.number();
-    let a = a.number();
-    let b = b.number();
-    writeln!(
-        text,
-        "{{\"op\":\"{op}\",\"client\":{by},\"number\":{number},\"a\":{a},\"b\":{b}}}"
-    )
+    print_head(text, op, client, number)?;
+    print_member(text, "a", a.number() as u64)?;
+    print_member(text, "b", b.number() as u64)?;
+    text.push_str("}\n")
 }

@@ -1,13 +1,13 @@
 //! The line of the answer to `show`.
 
-ghost use Rattle.std.specs.Prelude.{◌≡◌, ◌≢◌, ◌++◌, Err, IfOk, OnOk, is_some};
-ghost use Rattle.std.specs.Option.{option_map, option_to_list};
+ghost use Rattle.std.specs.Prelude.{◌≡◌, ◌≢◌, [], ◌∷◌, ◌++◌, Err, IfOk, OnOk, option_and_then};
+ghost use Rattle.std.specs.Option.{option_map};
 ghost use Rattle.serde_json.specs.View.{items_view, view};
-ghost use Rattle.coord_wire.specs.ShowLine.{count_at, each, id_at, link_in, links_in, mode_at, mode_named, node_in, nodes_in, number_at, parent_of, rows_at, shown_in, shown_of};
+ghost use Rattle.coord_wire.specs.ShowLine.{count_at, each, id_at, link_in, links_in, mode_at, mode_named, node_in, node_view, nodes_in, number_at, row_in, rows_at, shown_in, shown_of, up_to};
 ghost use Rattle.coord_wire.specs.declared.answer_line.ReadFault.TheVariants.{OutOfMemory};
 
 use crate::answer_line::ReadFault;
-use coord_types::{Identifier, Mode, NodeId};
+use coord_types::{Group, Identifier, MAX_NODES, Mode, NodeId};
 use coord_view::{LinkView, NodeView, View};
 use serde_json::Value;
 use std::alloc::{AllocError, Global};
@@ -38,14 +38,16 @@ fn id_at<const MOST: u8>(row: &Value, place: usize) -> Option<Identifier<MOST>>
     Identifier::new(u8::try_from(number).ok()?)
 }
 
-/// A parent by its number, where 0 stands for none.
-fn parent_of(number: u64) -> Option<Option<NodeId>>
-    ensures { result ≡ parent_of number }
+/// A parent's number; 0 is that of none.
+fn parent_at(row: &Value, place: usize) -> Option<u8>
+    ensures { result ≡ option_and_then (up_to MAX_NODES) (number_at place (view row.now)) }
 {
-    if number == 0 {
-        return Some(None);
+    let number = u8::try_from(number_at(row, place)?).ok()?;
+    if number <= MAX_NODES {
+        Some(number)
+    } else {
+        None
     }
-    Some(Some(NodeId::new(u8::try_from(number).ok()?)?))
 }
 
 fn mode_at(row: &Value, place: usize) -> Option<Mode>
@@ -54,14 +56,25 @@ fn mode_at(row: &Value, place: usize) -> Option<Mode>
     mode_named(row.get(place).and_then(Value::as_str)?)
 }
 
-fn node_of(row: &Value) -> Option<NodeView>
-    ensures { result ≡ node_in (view row.now) }
+/// A node's row, with the number of its parent.
+#[derive(Clone, Copy, Debug, PartialEq, Eq)]
+pub struct NodeRow {
+    node: NodeId,
+    group: Group,
+    mode: Mode,
+    parent: u8,
+    epoch: u64,
+    confirmed: u64,
+}
+
+fn row_of(row: &Value) -> Option<NodeRow>
+    ensures { result ≡ row_in (view row.now) }
 {
-    Some(NodeView {
+    Some(NodeRow {
         node: id_at(row, 0)?,
         group: id_at(row, 1)?,
         mode: mode_at(row, 2)?,
-        parent: parent_of(number_at(row, 3)?)?,
+        parent: parent_at(row, 3)?,
         epoch: number_at(row, 4)?,
         confirmed: number_at(row, 5)?,
     })
@@ -77,18 +90,19 @@ fn link_of(row: &Value) -> Option<LinkView>
     })
 }
 
-/// Adds the node that a row is; false where it is none.
-fn push_node(nodes: &mut Vec<NodeView>, row: &Value) -> Result<bool, AllocError>
-    ensures read { IfOk result (λ is. is ≡ is_some (node_in (view row.now))) }
-    ensures pushed { OnOk result (nodes.new.items ≡ nodes.old.items ++ option_to_list (node_in (view row.now))) }
+/// Adds a node as it is shown.
+fn push_node(nodes: &mut Vec<NodeView>, row: &NodeRow) -> Result<(), AllocError>
+    ensures { OnOk result (nodes.new.items ≡ nodes.old.items ++ (node_view row.now ∷ [])) }
 {
-    match node_of(row) {
-        Some(node) => {
-            nodes.push(node)?;
-            Ok(true)
-        }
-        None => Ok(false),
-    }
+    nodes.push(NodeView {
+        node: row.node,
+        group: row.group,
+        mode: row.mode,
+        parent: NodeId::new(row.parent),
+        epoch: row.epoch,
+        confirmed: row.confirmed,
+    })?;
+    Ok(())
 }
 
 fn nodes_of(alloc: Global, rows: &[Value]) -> Result<Option<Vec<NodeView>>, AllocError>
@@ -96,10 +110,10 @@ fn nodes_of(alloc: Global, rows: &[Value]) -> Result<Option<Vec<NodeView>>, Allo
 {
     let mut nodes = Vec::new(alloc);
     for row in rows {
-        let is_read = push_node(&mut nodes, row)?;
-        if !is_read {
+        let Some(row) = row_of(row) else {
             return Ok(None);
-        }
+        };
+        push_node(&mut nodes, &row)?;
     }
     Ok(Some(nodes))
 }

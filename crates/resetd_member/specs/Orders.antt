@@ -42,14 +42,17 @@ command_of o =
     else (if o.op == 6 then option_map (λ u. Confirm u o.epoch) (node o.a)
     else None)))))
 
-abbrev pub order_of : Option Command → Order
-order_of None = record { op = 0; a = 0; b = 0; epoch = 0 }
-order_of (Some (Add u g)) = record { op = 1; a = u; b = g; epoch = 0 }
-order_of (Some (Remove u)) = record { op = 2; a = u; b = 0; epoch = 0 }
-order_of (Some (Join a b)) = record { op = 3; a = a; b = b; epoch = 0 }
-order_of (Some (Drop a b)) = record { op = 4; a = a; b = b; epoch = 0 }
-order_of (Some (Reset u)) = record { op = 5; a = u; b = 0; epoch = 0 }
-order_of (Some (Confirm u e)) = record { op = 6; a = u; b = 0; epoch = e }
+abbrev pub order_of : Command → Order
+order_of (Add u g) = record { op = 1; a = u; b = g; epoch = 0 }
+order_of (Remove u) = record { op = 2; a = u; b = 0; epoch = 0 }
+order_of (Join a b) = record { op = 3; a = a; b = b; epoch = 0 }
+order_of (Drop a b) = record { op = 4; a = a; b = b; epoch = 0 }
+order_of (Reset u) = record { op = 5; a = u; b = 0; epoch = 0 }
+order_of (Confirm u e) = record { op = 6; a = u; b = 0; epoch = e }
+
+abbrev pub order_with : Option Command → Order
+order_with None = record { op = 0; a = 0; b = 0; epoch = 0 }
+order_with (Some x) = order_of x
 
 abbrev pub kept_with : ℕ → Option Command → Option Kept
 kept_with last None = None
@@ -59,7 +62,7 @@ abbrev pub kept_of : Orders → Option Kept
 kept_of o = if o.in_hand.op == 0 then Some (record { last = o.last; in_hand = None }) else kept_with o.last (command_of o.in_hand)
 
 abbrev pub orders_of : Kept → Orders
-orders_of kept = record { last = kept.last; in_hand = order_of kept.in_hand }
+orders_of kept = record { last = kept.last; in_hand = order_with kept.in_hand }
 
 -- ---- what the book makes of them
 

@@ -42,18 +42,22 @@ pub fn command_of(order: Order) -> Option<Command>
 }
 
 /// The numbers of an order.
-pub fn order_of(command: Option<Command>) -> Order
-    ensures { result ≡ order_of command }
+pub fn order_of(command: &Command) -> Order
+    ensures { result ≡ order_of command.now }
 {
-    let (op, a, b, epoch) = match command {
-        None => (0, 0, 0, 0),
-        Some(Command::Add(node, group)) => (1, node.number(), group.number(), 0),
-        Some(Command::Remove(node)) => (2, node.number(), 0, 0),
-        Some(Command::Join(a, b)) => (3, a.number(), b.number(), 0),
-        Some(Command::Drop(a, b)) => (4, a.number(), b.number(), 0),
-        Some(Command::Reset(node)) => (5, node.number(), 0, 0),
-        Some(Command::Confirm(node, epoch)) => (6, node.number(), 0, epoch),
-    };
+    match *command {
+        Command::Add(node, group) => order(1, node.number(), group.number(), 0),
+        Command::Remove(node) => order(2, node.number(), 0, 0),
+        Command::Join(a, b) => order(3, a.number(), b.number(), 0),
+        Command::Drop(a, b) => order(4, a.number(), b.number(), 0),
+        Command::Reset(node) => order(5, node.number(), 0, 0),
+        Command::Confirm(node, epoch) => order(6, node.number(), 0, epoch),
+    }
+}
+
+fn order(op: u8, a: u8, b: u8, epoch: u64) -> Order
+    ensures { result ≡ record { op = op; a = a; b = b; epoch = epoch } }
+{
     Order { op, a, b, epoch }
 }
 
@@ -74,11 +78,15 @@ pub fn kept_of(orders: Orders) -> Option<Kept>
 }
 
 /// The numbers of what is kept.
-pub fn orders_of(kept: Kept) -> Orders
-    ensures { result ≡ orders_of kept }
+pub fn orders_of(kept: &Kept) -> Orders
+    ensures { result ≡ orders_of kept.now }
 {
+    let in_hand = match &kept.in_hand {
+        Some(command) => order_of(command),
+        None => order(0, 0, 0, 0),
+    };
     Orders {
         last: kept.last,
-        in_hand: order_of(kept.in_hand),
+        in_hand,
     }
 }

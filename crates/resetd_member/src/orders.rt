@@ -29,7 +29,7 @@ pub fn write_down(orders: Orders, order: Order) -> Result<Orders, Fault>
         return Err(Fault::BadNumber);
     };
     match OrderBook::open(kept).write_down(command) {
-        Some(book) => Ok(orders_of(book.kept)),
+        Some(book) => Ok(orders_of(&book.kept)),
         None => Err(Fault::InHand),
     }
 }
@@ -50,7 +50,7 @@ pub fn line_for(alloc: Global, orders: Orders, client: u8) -> Result<String, Fau
     }
     let mut text = String::new(alloc);
     if let Some(line) = OrderBook::open(kept).line() {
-        print_order(&mut text, client, line)?;
+        print_order(&mut text, client, &line)?;
     }
     Ok(text)
 }
@@ -85,7 +85,7 @@ pub fn hear(alloc: Global, orders: Orders, line: &str) -> Result<Heard, Fault>
     }
     let heard = OrderBook::open(kept).send(0).hear(0, answer);
     Ok(Heard {
-        orders: orders_of(heard.book.kept),
+        orders: orders_of(&heard.book.kept),
         meaning: match heard.meaning {
             Some(meaning) => meaning_number(meaning),
             None => 0,

@@ -25,7 +25,7 @@ fn printed(rt: &impl Host, command: Command, wanted: &str) {
     let client = Client::new(3).expect(rt, "a client");
     let mut text = String::new(rt.alloc());
     let line = Line { number: 7, command };
-    print_order(&mut text, client, line).expect(rt, "memory");
+    print_order(&mut text, client, &line).expect(rt, "memory");
     same(rt, &text.as_str(), &wanted);
 }
 
