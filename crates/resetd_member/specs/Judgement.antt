@@ -87,11 +87,11 @@ line_of_change line NotesAlone = []
 line_of_change line NotesFirst = line
 
 -- where these are shown and kept
-pub record IsDueBy (node : ℕ) (row : Row) (party : List Entry) (lines : List (String Global)) (line : List ℕ) (kept : Start) (found : Found) (work : Option ℕ) (j : Judgement) : Type 0 where
+pub record IsDueBy (node : ℕ) (row : Row) (party : List Entry) (lines : List (String Global)) (shown_line : List ℕ) (kept : Start) (found : Found) (work : Option ℕ) (j : Judgement) : Type 0 where
   pub due : j.due ≡ due_of (begun_at kept.begun work) (first_known kept party) found.has row party
   pub epoch : j.epoch ≡ row.epoch
   pub start : string_bytes j.start ≡ start_after node (begun_at kept.begun work) lines (change_of j.due (is_some kept.party) party)
-  pub line : string_bytes j.line ≡ line_of_change line (change_of j.due (is_some kept.party) party)
+  pub line : string_bytes j.line ≡ line_of_change shown_line (change_of j.due (is_some kept.party) party)
   pub size : j.history_size ≡ found.size
 
 -- where these are shown, and the files read

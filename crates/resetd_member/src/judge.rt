@@ -48,7 +48,7 @@ pub struct Judged {
 }
 
 /// What the line that answers `show` shows to the member of a node.
-pub fn look_at(alloc: Global, show: &str, node: NodeId) -> Result<Look, Fault>
+pub(crate) fn look_at(alloc: Global, show: &str, node: NodeId) -> Result<Look, Fault>
     ensures { IsLooked show.now node result }
 {
     let view = match read_show(alloc, show) {
@@ -190,7 +190,7 @@ fn judged_with(
 }
 
 /// What a view asks of the member of a node, by the texts of its files.
-pub fn judge(
+pub(crate) fn judge(
     alloc: Global,
     show: &str,
     node: NodeId,
@@ -217,7 +217,13 @@ pub fn judge(
 }
 
 /// The tag of the start that a file keeps, where a line shows these to it; empty: it has none.
-pub fn tag(alloc: Global, show: &str, node: NodeId, file: &str, word: &str) -> Result<String, Fault>
+pub(crate) fn tag(
+    alloc: Global,
+    show: &str,
+    node: NodeId,
+    file: &str,
+    word: &str,
+) -> Result<String, Fault>
     ensures { IsTagged show.now node file.now word.now result }
 {
     let look = look_at(alloc, show, node)?;
@@ -269,7 +275,7 @@ fn put_texts(judgement: Judgement, out: &mut [u8]) -> Result<Judged, Fault>
 }
 
 /// What a view asks of the member of a node, by bytes, with the texts put into the room for them.
-pub fn judge_into(
+pub(crate) fn judge_into(
     alloc: Global,
     show: &[u8],
     node: u8,
@@ -290,7 +296,7 @@ pub fn judge_into(
 }
 
 /// The tag, of bytes.
-pub fn tag_of_bytes(
+pub(crate) fn tag_of_bytes(
     alloc: Global,
     show: &[u8],
     node: u8,

@@ -27,7 +27,7 @@ pub struct Orders {
 }
 
 /// The order that these numbers are; None where one is out of its range.
-pub fn command_of(order: Order) -> Option<Command>
+pub(crate) fn command_of(order: Order) -> Option<Command>
     ensures { result ≡ command_of order }
 {
     match order.op {
@@ -42,27 +42,27 @@ pub fn command_of(order: Order) -> Option<Command>
 }
 
 /// The numbers of an order.
-pub fn order_of(command: &Command) -> Order
+pub(crate) fn order_of(command: &Command) -> Order
     ensures { result ≡ order_of command.now }
 {
     match *command {
-        Command::Add(node, group) => order(1, node.number(), group.number(), 0),
-        Command::Remove(node) => order(2, node.number(), 0, 0),
-        Command::Join(a, b) => order(3, a.number(), b.number(), 0),
-        Command::Drop(a, b) => order(4, a.number(), b.number(), 0),
-        Command::Reset(node) => order(5, node.number(), 0, 0),
-        Command::Confirm(node, epoch) => order(6, node.number(), 0, epoch),
+        Command::Add(node, group) => numbers(1, node.number(), group.number(), 0),
+        Command::Remove(node) => numbers(2, node.number(), 0, 0),
+        Command::Join(a, b) => numbers(3, a.number(), b.number(), 0),
+        Command::Drop(a, b) => numbers(4, a.number(), b.number(), 0),
+        Command::Reset(node) => numbers(5, node.number(), 0, 0),
+        Command::Confirm(node, epoch) => numbers(6, node.number(), 0, epoch),
     }
 }
 
-fn order(op: u8, a: u8, b: u8, epoch: u64) -> Order
+fn numbers(op: u8, a: u8, b: u8, epoch: u64) -> Order
     ensures { result ≡ record { op = op; a = a; b = b; epoch = epoch } }
 {
     Order { op, a, b, epoch }
 }
 
 /// What these numbers keep; None where one is out of its range.
-pub fn kept_of(orders: Orders) -> Option<Kept>
+pub(crate) fn kept_of(orders: Orders) -> Option<Kept>
     ensures { result ≡ kept_of orders }
 {
     if orders.in_hand.op == 0 {
@@ -78,12 +78,12 @@ pub fn kept_of(orders: Orders) -> Option<Kept>
 }
 
 /// The numbers of what is kept.
-pub fn orders_of(kept: &Kept) -> Orders
+pub(crate) fn orders_of(kept: &Kept) -> Orders
     ensures { result ≡ orders_of kept.now }
 {
     let in_hand = match &kept.in_hand {
         Some(command) => order_of(command),
-        None => order(0, 0, 0, 0),
+        None => numbers(0, 0, 0, 0),
     };
     Orders {
         last: kept.last,

@@ -19,7 +19,7 @@ pub struct Heard {
 }
 
 /// Writes an order down under the next number.
-pub fn write_down(orders: Orders, order: Order) -> Result<Orders, Fault>
+pub(crate) fn write_down(orders: Orders, order: Order) -> Result<Orders, Fault>
     ensures { result ≡ written_down orders order }
 {
     let Some(kept) = kept_of(orders) else {
@@ -35,7 +35,7 @@ pub fn write_down(orders: Orders, order: Order) -> Result<Orders, Fault>
 }
 
 /// The line that is to be sent, first or again; empty: no order is in hand.
-pub fn line_for(alloc: Global, orders: Orders, client: u8) -> Result<String, Fault>
+pub(crate) fn line_for(alloc: Global, orders: Orders, client: u8) -> Result<String, Fault>
     ensures line { IfOk result (λ text. line_for orders client ≡ Ok (string_bytes text)) }
     ensures fault { IfErr result (λ fault. fault ≢ OutOfMemory → line_for orders client ≡ Err fault) }
 {
@@ -69,7 +69,7 @@ fn meaning_number(meaning: Meaning) -> u32
 
 /// Hears the answer to the line that was sent last. Each line has a connection of its own, or no line
 /// goes out before the one in front of it is answered: so no other answer comes.
-pub fn hear(alloc: Global, orders: Orders, line: &str) -> Result<Heard, Fault>
+pub(crate) fn hear(alloc: Global, orders: Orders, line: &str) -> Result<Heard, Fault>
     ensures { result ≢ Err OutOfMemory → result ≡ heard_in orders line.now }
 {
     let Some(kept) = kept_of(orders) else {

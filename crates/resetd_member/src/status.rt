@@ -38,7 +38,7 @@ impl From<AllocError> for Fault {
 }
 
 /// Its number. 0 is for none.
-pub fn status_of(fault: Fault) -> u32
+pub(crate) fn status_of(fault: Fault) -> u32
     ensures { result ≡ status_of fault }
 {
     match fault {
@@ -55,7 +55,7 @@ pub fn status_of(fault: Fault) -> u32
 }
 
 /// The number of what is due.
-pub fn due_number(due: Due) -> u32
+pub(crate) fn due_number(due: Due) -> u32
     ensures { result ≡ due_number due }
 {
     match due {
@@ -67,7 +67,7 @@ pub fn due_number(due: Due) -> u32
 }
 
 /// Puts a text at the beginning of the room for it.
-pub fn put(out: &mut [u8], text: &[u8]) -> Result<(), Fault>
+pub(crate) fn put(out: &mut [u8], text: &[u8]) -> Result<(), Fault>
     ensures { IsPut text.now out.new result }
 {
     let size = text.len();
@@ -79,7 +79,7 @@ pub fn put(out: &mut [u8], text: &[u8]) -> Result<(), Fault>
 }
 
 /// Gives a text to C: at the beginning of the room for it, with how many bytes it has.
-pub fn give(made: Result<String, Fault>, out: &mut [u8], length: &mut usize) -> u32
+pub(crate) fn give(made: Result<String, Fault>, out: &mut [u8], length: &mut usize) -> u32
     ensures { IsGiven made out.new length.new result }
 {
     let text = match made {
@@ -96,7 +96,7 @@ pub fn give(made: Result<String, Fault>, out: &mut [u8], length: &mut usize) -> 
 }
 
 /// A text of bytes.
-pub fn text_of(bytes: &[u8]) -> Result<&str, Fault>
+pub(crate) fn text_of(bytes: &[u8]) -> Result<&str, Fault>
     ensures { IsTextOf bytes.now result }
 {
     match std::str::from_utf8(bytes) {
