@@ -1,5 +1,5 @@
 # What a person would ask for. The toolchain's command `rt` has to be on the PATH.
-.PHONY: help demo drill trial example services soak lives takeover build prove test program load refusals bench sweep nightly install uninstall deb release
+.PHONY: help demo drill trial example services soak lives takeover build prove lib test program load refusals bench sweep nightly install install-lib uninstall deb release
 
 PREFIX ?= /usr/local
 PROGRAM ?= bin/resetd
@@ -13,6 +13,7 @@ help:
 	@echo 'make example   the example services of examples/ around a coordinator, in a few seconds'
 	@echo 'make services  tries what services rest on: restores, members that come again, a work queue, torn and lost lines, 64 members, messages'
 	@echo 'make build     proves every crate, and leaves the program at bin/resetd; nothing is proved again while that is newer than every source'
+	@echo 'make lib       proves the members'"'"' library for C and other languages, and leaves it in lib/: libresetd_member.a, .so, its header and a file for pkg-config'
 	@echo 'make test      the gate: every changed crate from nothing, the must-fail edits, every test and both programs, then make program; it leaves the program at bin/resetd too'
 	@echo 'make program   tries the program as people run it (tests/), over a trial build of it, in some minutes'
 	@echo 'make load      the same ten times on a busy machine, where none may fail (TIMES=N for N)'
@@ -66,6 +67,9 @@ prove:
 	mkdir -p bin
 	cp crates/resetd/out/resetd bin/resetd
 
+lib:
+	@JOBS=$(JOBS) tools/member_library $(PREFIX)
+
 refusals:
 	refusals/run --jobs $(JOBS) $(CRATE)
 
@@ -96,7 +100,7 @@ BASH_COMPLETIONS = $(DESTDIR)$(PREFIX)/share/bash-completion/completions
 ZSH_COMPLETIONS = $(DESTDIR)$(PREFIX)/share/zsh/vendor-completions
 
 # What stands below share/resetd has the places of the repository, so that each part finds the others.
-install: $(PROGRAM)
+install: $(PROGRAM) $(if $(wildcard lib/libresetd_member.so),install-lib)
 	install -D -m 755 $(PROGRAM) $(DESTDIR)$(PREFIX)/bin/resetd
 	install -d $(SHARE)/client/resetd_client/control $(SHARE)/client/resetd_front $(SHARE)/tools/picture $(SHARE)/examples $(SHARE)/docs
 	install -m 755 client/resetctl client/resetd-front $(SHARE)/client/
@@ -109,7 +113,7 @@ install: $(PROGRAM)
 	install -m 755 examples/ask examples/gateway examples/local_check examples/member examples/plain_member examples/run examples/service examples/talk examples/worker $(SHARE)/examples/
 	install -m 644 examples/coordinator.py examples/ring.toml examples/resetd.logrotate examples/resetd.rules.yml $(SHARE)/examples/
 	for unit in examples/*.service examples/*.timer; do sed 's|/usr/local/bin/|$(PREFIX)/bin/|' $$unit > $(SHARE)/$$unit; chmod 644 $(SHARE)/$$unit; done
-	install -m 644 docs/OPERATING.md docs/TAKEOVER.md docs/FORMATS.md docs/SERVICES.md docs/PROTOCOL.md docs/FRONT.md docs/*.svg $(SHARE)/docs/
+	install -m 644 docs/OPERATING.md docs/TAKEOVER.md docs/FORMATS.md docs/SERVICES.md docs/PROTOCOL.md docs/FRONT.md docs/member-vectors.json docs/*.svg $(SHARE)/docs/
 	install -m 644 CHANGELOG.md $(SHARE)/
 	install -m 755 examples/account examples/hello examples/hello.sh examples/one_for_all $(SHARE)/examples/
 	install -m 644 examples/pair.toml $(SHARE)/examples/
@@ -122,6 +126,17 @@ install: $(PROGRAM)
 	install -D -m 644 docs/resetd.8 $(DESTDIR)$(PREFIX)/share/man/man8/resetd.8
 	install -D -m 644 docs/resetctl.8 $(DESTDIR)$(PREFIX)/share/man/man8/resetctl.8
 	install -D -m 644 docs/resetd-front.8 $(DESTDIR)$(PREFIX)/share/man/man8/resetd-front.8
+
+# The members' library, where make lib has made it.
+install-lib:
+	install -D -m 644 lib/libresetd_member.a $(DESTDIR)$(PREFIX)/lib/libresetd_member.a
+	install -D -m 644 lib/libresetd_member.so $(DESTDIR)$(PREFIX)/lib/libresetd_member.so
+	install -D -m 644 lib/resetd_member.h $(DESTDIR)$(PREFIX)/include/resetd_member.h
+	sed 's|^prefix=.*|prefix=$(PREFIX)|' lib/resetd_member.pc > lib/resetd_member.pc.new
+	install -D -m 644 lib/resetd_member.pc.new $(DESTDIR)$(PREFIX)/lib/pkgconfig/resetd_member.pc
+	rm lib/resetd_member.pc.new
+	install -d $(SHARE)/examples/members
+	install -m 644 examples/members/member.c examples/members/member.rs examples/members/resetd_member.rs $(SHARE)/examples/members/
 
 deb: $(PROGRAM)
 	@PROGRAM=$(PROGRAM) tools/deb
@@ -141,4 +156,5 @@ uninstall:
 	rm -f $(DESTDIR)$(PREFIX)/bin/resetd $(DESTDIR)$(PREFIX)/bin/resetctl $(DESTDIR)$(PREFIX)/bin/resetd-front
 	rm -f $(foreach page,resetd resetctl resetd-front,$(DESTDIR)$(PREFIX)/share/man/man8/$(page).8)
 	rm -f $(BASH_COMPLETIONS)/resetctl $(ZSH_COMPLETIONS)/_resetctl
+	rm -f $(foreach file,lib/libresetd_member.a lib/libresetd_member.so lib/pkgconfig/resetd_member.pc include/resetd_member.h,$(DESTDIR)$(PREFIX)/$(file))
 	rm -rf $(SHARE)

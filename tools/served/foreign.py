@@ -1,6 +1,7 @@
 """A member in any language beside two of the library: what is shown to it, what it orders, and in which run it says that it
 talks, compared with the library's rule at each look."""
 
+import contextlib
 import json
 import os
 import shutil
@@ -9,88 +10,145 @@ import socket
 import subprocess
 import threading
 import time
-from collections.abc import Callable
 
 from resetd_client import Due, View
 from resetd_client.party import is_same_run, tag_of
 from resetd_client.rule import Kept, judge, shown_to
 
-from .clients import Json
+from .file_calls import FileCalls
 from .party_trials import Slow
-from .services import Failed, Trial, patiently, read
+from .services import Failed, patiently, read
 
 NODE = 3
-# What a member orders: the kind, the node, and the epoch that it confirms.
-Order = tuple[str, int | None, int | None]
-ROWS: dict[Due | None, str] = {Due.BEGIN: "begins", Due.WAIT: "waits", Due.TALK: "talks", Due.RESET: "asks for a reset", None: "is not shown"}
+ROWS = {Due.BEGIN: "begins", Due.WAIT: "waits", Due.TALK: "talks", Due.RESET: "asks for a reset", None: "is not shown"}
+
+
+class Guess:
+    """What the member may have on the disk, and what is then due by the last answer that it got. There are several guesses
+    only after it died: between two of its writes nobody else knows which of them were done."""
+
+    def __init__(self, kept=Kept(), history=frozenset()):
+        self.kept, self.history = kept, history
+        self.due, self.run, self.steps = None, "", [(kept, history)]
+        self.is_refused, self.has_asked = False, False  # whether a refused tag asks for a reset, and whether it did so
+
+    def answered(self, view):
+        """The member is shown this, or, where it is None, was started anew. `steps` are the states of the disk on the way."""
+        self.due, self.run, self.steps = None, "", [(self.kept, self.history)]
+        self.is_refused, self.has_asked = self.is_refused and not self.has_asked, False
+        row = view and view.node(NODE)
+        if not row:
+            return
+        judged = judge(self.kept, self.history, shown_to(view, row))
+        self.due = judged.due
+        if judged.due is Due.TALK:
+            self.history |= {judged.digest} - {None}
+            self.steps += [(self.kept, self.history), (judged.kept, self.history)]
+            self.run = f"{row.epoch} {tag_of(judged.kept.party, view.party(NODE)) or '-'}"
+        elif judged.due is Due.BEGIN:
+            self.steps += [(Kept(), self.history), (Kept(row.epoch), self.history)]
+        self.kept = judged.kept
+
+    def fit(self, view):
+        """The orders that are due."""
+        row = view and view.node(NODE)
+        reset = {("reset", NODE, None)}
+        return {Due.BEGIN: {("confirm", NODE, row and row.epoch)}, Due.RESET: reset,
+                Due.TALK: reset if self.is_refused else set()}.get(self.due, set())
+
+    def wrong(self, view, orders, run):
+        """What the member did that does not fit this guess; None if all fits."""
+        if not set(orders) <= self.fit(view):
+            return f"row `{ROWS[self.due]}`: it orders {', '.join(map(str, dict.fromkeys(orders)))}"
+        if not orders and self.due in (Due.BEGIN, Due.RESET):
+            return f"row `{ROWS[self.due]}`: it orders nothing"
+        if run != self.run:
+            return f"row `{ROWS[self.due]}`: its file `run` has {run!r} and not {self.run!r}"
+        return None
 
 
 class Rule:
     """The rule beside the member: what it has to keep, and what is due by the last answer that it got."""
 
-    def __init__(self, folder: str) -> None:
-        self.folder, self.kept, self.history = folder, Kept(), set[str]()
-        self.note_answer(None)
-        self.looks, self.talks, self.wrong = 0, 0, ""
+    def __init__(self, folder):
+        self.folder, self.guesses, self.asked = folder, [Guess()], set()
+        self.looks, self.talks, self.wrong = 0, 0, None
+        self.answered(None)
 
-    def note_answer(self, view: View | None) -> None:
+    @property
+    def due(self):
+        return self.guesses[0].due
+
+    @property
+    def run(self):
+        return self.guesses[0].run
+
+    def answered(self, view):
         """The member is shown this, or it was started anew."""
-        self.view, self.orders, self.run = view, list[Order](), ""
-        self.due: Due | None = None
-        row = view and view.node(NODE)
-        if not view or not row:
-            return
-        judged = judge(self.kept, self.history, shown_to(view, row))
-        self.due, self.kept = judged.due, judged.kept
-        if judged.due is Due.TALK:
-            self.history |= {judged.digest} if judged.digest else set()
-            assert self.kept.party is not None
-            self.run = f"{row.epoch} {tag_of(self.kept.party, view.party(NODE)) or '-'}"
+        self.view, self.orders = view, []
+        for guess in self.guesses:
+            guess.answered(view)
 
-    def note_order(self, order: Json) -> None:
-        """The member orders something."""
-        if order.get("op") == "confirm" and order.get("epoch") == 0:
-            return  # it looks for its count
-        self.orders.append((order["op"], order.get("node"), order.get("epoch")))
-        if self.due is Due.BEGIN and order["op"] == "confirm":
-            self.expect(read(f"{self.folder}/run") == "", "it says that it talks while it confirms")
-            self.kept = Kept(order["epoch"])
+    def died(self):
+        """It is started anew, with the writes for the last answer done up to any of them."""
+        steps = dict.fromkeys(step for guess in self.guesses for step in [*guess.steps, (guess.kept, guess.history)])
+        self.guesses = [Guess(*step) for step in steps]
+        self.answered(None)
 
-    def looks_again(self) -> None:
+    def forgot(self):
+        """It has lost all its files."""
+        self.guesses = [Guess()]
+        self.answered(None)
+
+    def refused(self):
+        """It refused a message of another run, whose sender was shown what is shown to it."""
+        for guess in self.guesses:
+            guess.is_refused = True
+
+    def ordered(self, order):
+        """The member orders something. What it had in hand when it died it may send again, with its number."""
+        line = tuple(sorted(order.items()))
+        asked = (order["op"], order.get("node"), order.get("epoch"))
+        is_again = line in self.asked and not any(asked in guess.fit(self.view) for guess in self.guesses)
+        self.asked.add(line)
+        if is_again or order.get("op") == "confirm" and order.get("epoch") == 0:
+            return  # or it looks for its count
+        self.orders.append(asked)
+        for guess in self.guesses:
+            if guess.due is Due.BEGIN and order["op"] == "confirm":
+                self.expect(read(f"{self.folder}/run") == "", "it says that it talks while it confirms")
+                guess.kept = Kept(order["epoch"])
+            guess.has_asked = guess.has_asked or order["op"] == "reset"
+
+    def looks_again(self):
         """The member has done all that it does for the last answer."""
         self.looks += 1
-        self.expect(set(self.orders) <= self.fit(), f"it orders {', '.join(map(str, dict.fromkeys(self.orders)))}")
-        self.expect(self.due not in (Due.BEGIN, Due.RESET) or bool(self.orders), "it orders nothing")
         run = read(f"{self.folder}/run").strip()
-        self.expect(run == self.run, f"its file `run` has {run!r} and not {self.run!r}")
+        found = [guess.wrong(self.view, self.orders, run) for guess in self.guesses]
+        fitting = [guess for guess, wrong in zip(self.guesses, found) if not wrong]
+        if fitting:
+            self.guesses = list({(guess.kept, guess.history): guess for guess in fitting}.values())
+        elif not self.wrong:
+            self.wrong = found[0]
         self.talks = self.talks + 1 if self.due is Due.TALK else 0
         self.orders = []
 
-    def fit(self) -> set[Order]:
-        row = self.view and self.view.node(NODE)
-        if self.due is Due.BEGIN:
-            return {("confirm", NODE, row.epoch if row else None)}
-        return {("reset", NODE, None)} if self.due is Due.RESET else set()
-
-    def expect(self, holds: bool, what: str) -> None:
+    def expect(self, holds, what):
         if not holds and not self.wrong:
             self.wrong = f"row `{ROWS[self.due]}`: {what}"
-
-
-# What becomes of a request: whether more is answered on its connection.
-Spoil = Callable[[socket.socket, bytes], bool]
 
 
 class Between:
     """A port in front of the coordinator's, for the member alone. `spoil` says what becomes of the next requests."""
 
-    def __init__(self, trial: Trial, rule: Rule) -> None:
-        self.trial, self.rule, self.spoil = trial, rule, list[Spoil]()
-        self.on_confirm: Callable[[], None] | None = None
+    def __init__(self, trial, rule):
+        self.trial, self.rule, self.spoil = trial, rule, []
+        self.on_confirm = None
+        self.lives, self.lock = 0, threading.RLock()  # how often the member died: what one asked that is dead tells nothing
         self.listener = socket.create_server(("127.0.0.1", 0))
         threading.Thread(target=self.serve, daemon=True).start()
 
-    def serve(self) -> None:
+    def serve(self):
         while True:
             try:
                 connection, _ = self.listener.accept()
@@ -99,41 +157,50 @@ class Between:
             with connection:
                 try:
                     connection.settimeout(30)
+                    lives = self.lives
                     for line in connection.makefile("rb"):
-                        if not self.answer(connection, line):
+                        if not self.answer(connection, line, lives):
                             break
                 except OSError:
                     pass
 
-    def answer(self, connection: socket.socket, line: bytes) -> bool:
+    def answer(self, connection, line, lives):
         """Whether more is answered on this connection."""
-        request = json.loads(line)
-        if request["op"] == "show":
-            self.rule.looks_again()
-            spoiled = self.spoil.pop(0) if self.spoil else None
-            if spoiled:
-                return spoiled(connection, self.direct(line))
-        else:
-            self.rule.note_order(request)
-            if request["op"] == "confirm" and self.on_confirm:
-                self.on_confirm()
+        request, spoiled = json.loads(line), None
+        with self.lock:
+            if lives != self.lives:
                 return False
+            if request["op"] != "show":
+                self.rule.ordered(request)
+            else:
+                self.rule.looks_again()
+                spoiled = self.spoil.pop(0) if self.spoil else None
+        if spoiled:
+            return spoiled(connection, self.direct(line))
+        if request["op"] == "confirm" and self.on_confirm:
+            self.on_confirm()
+            return False
         text = self.direct(line)
-        if request["op"] == "show":
-            self.rule.note_answer(View.of(json.loads(text)))
+        with self.lock:
+            if lives == self.lives and request["op"] == "show":
+                self.rule.answered(View.of(json.loads(text)))
         connection.sendall(text + b"\n")
         return True
 
-    def direct(self, line: bytes) -> bytes:
-        request: Json = json.loads(line)
-        return patiently(lambda: self.trial.port.raw(request), 20).encode()
+    def died(self):
+        with self.lock:
+            self.lives += 1
+            self.rule.died()
+
+    def direct(self, line):
+        return patiently(lambda: self.trial.port.raw(json.loads(line)), 20).encode()
 
 
-def away(connection: socket.socket, text: bytes) -> bool:
+def away(connection, text):
     return False
 
 
-def tear(connection: socket.socket, text: bytes) -> bool:
+def torn(connection, text):
     connection.sendall(text[:len(text) // 2])
     return False
 
@@ -141,28 +208,43 @@ def tear(connection: socket.socket, text: bytes) -> bool:
 class Tried:
     """The member's process, and the group around it."""
 
-    def __init__(self, trial: Trial, command: list[str]) -> None:
-        self.trial, self.command = trial, command
+    def __init__(self, trial, command):
+        self.trial, self.command, self.process = trial, command, None
         self.folder = f"{trial.folder}/foreign"
         self.rule = Rule(self.folder)
         self.between = Between(trial, self.rule)
         self.others = Slow(trial, (1, 2))
+        self.calls = FileCalls(trial.folder)
 
-    def start(self) -> None:
+    def start(self):
         host, port = self.between.listener.getsockname()
         words = {"node": NODE, "host": host, "port": port, "address": f"{host}:{port}", "folder": self.folder,
                  "signals": self.trial.server.signals}
-        self.rule.note_answer(None)
         with open(f"{self.trial.folder}/foreign.lines", "ab") as lines:
-            self.process: subprocess.Popen[bytes] = subprocess.Popen(
-                [word.format(**words) for word in self.command], stdin=subprocess.DEVNULL, stdout=lines, stderr=lines,
-                start_new_session=True)
+            self.process = subprocess.Popen([word.format(**words) for word in self.command], stdin=subprocess.DEVNULL,
+                                            stdout=lines, stderr=lines, start_new_session=True, env=self.calls.environment())
 
-    def kill(self) -> None:
-        os.killpg(self.process.pid, signal.SIGKILL)
+    def kill(self):
+        """Kills it, where it did not kill itself."""
+        with contextlib.suppress(ProcessLookupError):
+            os.killpg(self.process.pid, signal.SIGKILL)
         self.process.wait()
+        self.between.died()
 
-    def until(self, what: str, holds: Callable[[], bool]) -> None:
+    def stop(self):
+        os.killpg(self.process.pid, signal.SIGSTOP)
+
+    def go_on(self):
+        os.killpg(self.process.pid, signal.SIGCONT)
+
+    def dies_on_its_way(self, what):
+        """Whether it dies before it talks with the others."""
+        def holds():
+            return self.process.poll() is not None or self.talks_with_all()
+        self.until(what, holds, may_end=True)
+        return self.process.poll() is not None
+
+    def until(self, what, holds, may_end=False):
         """Waits until something holds, while the member keeps the rule."""
         until = time.monotonic() + self.trial.words.seconds
         while True:
@@ -171,49 +253,54 @@ class Tried:
                 raise Failed(f"{what}: {self.rule.wrong}")
             if reached:
                 return
-            if self.process.poll() is not None:
+            if self.process.poll() is not None and not may_end:
                 raise Failed(f"{what}: it has ended: {read(f'{self.trial.folder}/foreign.lines')[-300:]}")
             if time.monotonic() > until:
                 raise Failed(f"{what}, within {self.trial.words.seconds} s: {self.trial.told()}; due to it is {self.rule.due}")
             time.sleep(0.02)
 
-    def looks(self, what: str, times: int = 2) -> None:
+    def looks(self, what, times=2):
         """The member looks so often, and does each time what is due."""
         before = self.rule.looks
         self.until(what, lambda: self.rule.looks >= before + times)
 
-    def all_talk(self, what: str) -> None:
-        """All three come to one run, each with what is shown now."""
-        def holds() -> bool:
-            self.others.look(1, 2)
-            view = self.trial.port.show()
-            runs = [member.run for member in self.others.members.values()]
-            return (self.rule.talks > 1 and self.rule.view is not None and self.rule.view.nodes == view.nodes
-                    and all(run is not None and is_same_run(run.tag, self.rule.run.split(" ")[1]) for run in runs))
-        self.until(what, holds)
+    def talks_now(self):
+        """Whether it talks by what is shown now."""
+        view = self.trial.port.show()
+        rule = self.rule
+        return rule.talks > 1 and rule.due is Due.TALK and rule.view.nodes == view.nodes
+
+    def talks_with_all(self):
+        """Whether all three are in one run, each with what is shown now."""
+        self.others.look(1, 2)
+        runs = [member.run for member in self.others.members.values()]
+        return self.talks_now() and all(runs) and all(is_same_run(run.tag, self.rule.run.split(" ")[1]) for run in runs)
+
+    def all_talk(self, what):
+        self.until(what, self.talks_with_all)
 
 
-def unlink(trial: Trial) -> None:
+def unlink(trial):
     for other in (1, 2):
         trial.order("drop", a=NODE, b=other)
 
 
-def link(trial: Trial) -> None:
+def link(trial):
     for other in (1, 2):
         trial.order("join", a=NODE, b=other)
 
 
-def of_resets(tried: Tried) -> None:
+def of_resets(tried):
     trial = tried.trial
     tried.all_talk("at first")
     trial.reset(1)
     tried.looks("a reset, after which the others look late", 4)
     tried.all_talk("after a reset")
-    tried.between.spoil += [tear, away, away, tear]
+    tried.between.spoil += [torn, away, away, torn]
     tried.looks("the coordinator is away, and its answers are torn", 6)
 
 
-def of_links(tried: Tried) -> None:
+def of_links(tried):
     trial = tried.trial
     trial.order("drop", a=1, b=2)
     trial.order("drop", a=1, b=NODE)
@@ -230,7 +317,7 @@ def of_links(tried: Tried) -> None:
     tried.all_talk("after it came back")
 
 
-def of_nodes(tried: Tried) -> None:
+def of_nodes(tried):
     trial = tried.trial
     for _ in range(2):
         unlink(trial)
@@ -241,18 +328,18 @@ def of_nodes(tried: Tried) -> None:
         tried.all_talk("after its node was added again")
 
 
-def of_confirms(tried: Tried) -> None:
+def of_confirms(tried):
     """A confirm by hand; a kill where it is about to confirm, once with the confirm lost."""
     trial = tried.trial
     tried.kill()
     trial.reset(1)
     trial.expect_quiet()
-    trial.order("confirm", node=NODE, epoch=trial.epoch(NODE))
+    trial.order("confirm", node=NODE, epoch=trial.port.show().node(NODE).epoch)
     tried.start()
     tried.all_talk("after somebody else confirmed for it")
     died = threading.Event()
 
-    def dies() -> None:
+    def dies():
         tried.between.on_confirm = None
         tried.kill()
         died.set()
@@ -264,7 +351,7 @@ def of_confirms(tried: Tried) -> None:
     tried.all_talk("after it died before its confirm")
 
 
-def of_restores(tried: Tried) -> None:
+def of_restores(tried):
     """A store is put back, with its node unconfirmed, to where it has talked in the epoch that it is to begin."""
     trial = tried.trial
     tried.kill()
@@ -280,18 +367,67 @@ def of_restores(tried: Tried) -> None:
     tried.all_talk("after a store was put back")
 
 
-def of_files(tried: Tried) -> None:
+def of_files(tried):
     tried.kill()
     shutil.rmtree(tried.folder)
-    tried.rule.kept, tried.rule.history = Kept(), set()
+    tried.rule.forgot()
     tried.start()
     tried.all_talk("after it lost all its files")
 
 
-EVENTS = (of_resets, of_links, of_nodes, of_confirms, of_restores, of_files)
+def of_second_hand(tried):
+    """Member 2 is taken off its links, reset alone, linked again, and taken off again, while it is stopped. Member 1 first
+    talks in between, with a start of 2 that it never hears of. Then both are shown the same, and talk in two runs."""
+    trial, others = tried.trial, tried.others
+    trial.reset(1)
+    trial.expect_quiet()
+    others.look(1, 2)
+    tried.until("after a reset, before member 1 has looked again", lambda: others.look(2) or tried.talks_now())
+    tried.stop()
+    for other in (1, NODE):
+        trial.order("drop", a=2, b=other)
+    trial.order("reset", node=2)
+    trial.expect_quiet()
+    others.while_it_begins.append(lambda trial: [trial.order("join", a=2, b=other) for other in (1, NODE)])
+    others.look(2, 1)
+    for other in (1, NODE):
+        trial.order("drop", a=2, b=other)
+    others.look(1)
+    tried.go_on()
+    tried.looks("another one was taken off its links, reset alone, linked and taken off again, while it was stopped", 3)
+    with open(f"{tried.folder}/refused.new", "w", encoding="utf-8") as file:
+        file.write(f"{others.members[1].run.tag}\n")
+    with tried.between.lock:
+        tried.rule.refused()
+        os.replace(f"{tried.folder}/refused.new", f"{tried.folder}/refused")
+    tried.until("it refused a message of another run, whose sender is shown the same, so it asks for a reset",
+                lambda: not tried.rule.guesses[0].is_refused)
+    for other in (1, NODE):
+        trial.order("join", a=2, b=other)
+    tried.all_talk("after that one came back")
 
 
-def lead(trial: Trial, command: list[str]) -> str:
+def of_kills(tried):
+    """It dies in front of each file call that a reset takes it to, in turn."""
+    if not tried.calls.can_see:
+        return
+    trial = tried.trial
+    for call in range(1, trial.words.kills + 1):
+        tried.calls.die_at(call)
+        trial.reset(1)
+        has_died = tried.dies_on_its_way(f"a reset, and a kill at file call {call}")
+        tried.calls.die_at(0)
+        if not has_died:
+            return
+        tried.kill()
+        tried.start()
+        tried.all_talk(f"after it died at file call {call} behind a reset")
+
+
+EVENTS = (of_resets, of_links, of_second_hand,  of_nodes, of_confirms, of_restores, of_kills, of_files)
+
+
+def lead(trial, command):
     """Leads a member through the events. Raises Failed where it does not keep the rule."""
     tried = Tried(trial, command)
     tried.start()
@@ -302,4 +438,5 @@ def lead(trial: Trial, command: list[str]) -> str:
         if tried.process.poll() is None:
             tried.kill()
         tried.between.listener.close()
-    return f"{tried.rule.looks} looks, and each time it did what was due"
+    kills = "" if tried.calls.can_see else f" ({tried.calls.why}: no kill between two of its file calls)"
+    return f"{tried.rule.looks} looks, and each time it did what was due{kills}"

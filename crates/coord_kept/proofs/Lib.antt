@@ -1,0 +1,2 @@
+mod Dashes
+mod Rows

@@ -1,0 +1,32 @@
+-- The digest of a party's lines, and the tag of a start's messages.
+use Rattle.std.specs.Prelude.{ℕ, ◌==◌, List, [], ◌∷◌, ◌++◌, codes, length, take, if◌then◌else◌, String, string_bytes}
+use Rattle.std.specs.declared.alloc.Global.{Global}
+use Rattle.std.specs.List.{flat_map}
+use Rattle.hex.specs.Hex.{encode_lower}
+use Rattle.sha2.specs.Sha256.{sha256}
+
+abbrev pub line_of : String Global → List ℕ
+line_of line = string_bytes line ++ codes "\n"
+
+-- the word is the first line, if it is not empty
+abbrev pub word_line : List ℕ → List ℕ
+word_line word = if length word == 0 then [] else word ++ codes "\n"
+
+abbrev pub text_of : List ℕ → List (String Global) → List ℕ
+text_of word lines = word_line word ++ flat_map line_of lines
+
+-- 64 hexadecimal digits
+abbrev pub digest_of : List ℕ → List (String Global) → List ℕ
+digest_of word lines = encode_lower (sha256 (text_of word lines))
+
+-- the first 32 of them
+abbrev pub half_of : List ℕ → List (String Global) → List ℕ
+half_of word lines = encode_lower (take 16 (sha256 (text_of word lines)))
+
+-- of the party that the start first talked with, and of the one that is shown now; a start that was alone has none
+abbrev pub tag_of : List ℕ → List (String Global) → List (String Global) → List ℕ
+tag_of word first shown = if length first == 1 then [] else half_of word first ++ (codes "-" ++ half_of word shown)
+
+-- what the history gets
+abbrev pub history_line : List (String Global) → List ℕ
+history_line lines = digest_of [] lines ++ codes "\n"

@@ -1,0 +1,5 @@
+pub mod Lines
+pub mod Digest
+pub mod History
+pub mod Start
+pub mod Tag

@@ -1,0 +1,75 @@
+//! The digest of a party's lines, and the tag of a start's messages.
+
+ghost use Rattle.std.specs.Prelude.{◌≡◌, ◌++◌, [], codes, IfOk, OnOk, string_bytes};
+ghost use Rattle.coord_kept.specs.Digest.{digest_of, half_of, history_line, line_of, tag_of, text_of, word_line};
+
+use sha2::{Digest, Sha256};
+use std::alloc::{AllocError, Global};
+
+/// Adds a line.
+fn push_line(text: &mut String, line: &str) -> Result<(), AllocError>
+    ensures { OnOk result (string_bytes text.new ≡ string_bytes text.old ++ (line.now ++ codes "\n")) }
+{
+    text.push_str(line)?;
+    text.push_str("\n")
+}
+
+/// The text of which the digest is taken: the word as its first line, if it is not empty, and these.
+fn text_of(alloc: Global, word: &str, lines: &[String]) -> Result<String, AllocError>
+    ensures { IfOk result (λ text. string_bytes text ≡ text_of word.now lines.now) }
+{
+    let mut text = String::new(alloc);
+    if !word.is_empty() {
+        push_line(&mut text, word)?;
+    }
+    for line in lines {
+        push_line(&mut text, line.as_str())?;
+    }
+    Ok(text)
+}
+
+/// The digest of these lines below a word, in 64 hexadecimal digits.
+pub fn digest_of(alloc: Global, word: &str, lines: &[String]) -> Result<String, AllocError>
+    ensures { IfOk result (λ digest. string_bytes digest ≡ digest_of word.now lines.now) }
+{
+    let text = text_of(alloc, word, lines)?;
+    let digest = Sha256::digest(text.as_bytes());
+    hex::encode(alloc, &digest[..])
+}
+
+/// The first 32 of those digits.
+fn half_of(alloc: Global, word: &str, lines: &[String]) -> Result<String, AllocError>
+    ensures { IfOk result (λ digest. string_bytes digest ≡ half_of word.now lines.now) }
+{
+    let text = text_of(alloc, word, lines)?;
+    let digest = Sha256::digest(text.as_bytes());
+    hex::encode(alloc, &digest[..16])
+}
+
+/// The tag of a start that first talked with these and is shown those now. One that was alone has
+/// none: the empty text.
+pub fn tag_of(
+    alloc: Global,
+    word: &str,
+    first: &[String],
+    shown: &[String],
+) -> Result<String, AllocError>
+    ensures { IfOk result (λ tag. string_bytes tag ≡ tag_of word.now first.now shown.now) }
+{
+    if first.len() == 1 {
+        return Ok(String::new(alloc));
+    }
+    let mut tag = half_of(alloc, word, first)?;
+    tag.push_str("-")?;
+    tag.push_str(half_of(alloc, word, shown)?.as_str())?;
+    Ok(tag)
+}
+
+/// The line of the history for a party.
+pub fn history_line(alloc: Global, lines: &[String]) -> Result<String, AllocError>
+    ensures { IfOk result (λ line. string_bytes line ≡ history_line lines.now) }
+{
+    let mut line = digest_of(alloc, "", lines)?;
+    line.push_str("\n")?;
+    Ok(line)
+}

@@ -1,0 +1,56 @@
+//! Whether a message is of the receiver's run, by its tag.
+
+ghost use Rattle.std.specs.Prelude.{◌≡◌, ◌≤◌, length};
+ghost use Rattle.std.specs.List.{position_or_len};
+ghost use Rattle.coord_kept.specs.Tag.{are_parted, is_dash, is_same_run, run_of, shown_of};
+
+/// Where the dash of a tag stands; behind its end, where it has none.
+#[tactic(auto, using(crate::proofs::Dashes::first_dash))]
+fn dash_in(tag: &[u8]) -> usize
+    ensures is { result ≡ position_or_len is_dash tag.now }
+    ensures within { result ≤ length tag.now }
+{
+    let mut place = 0;
+    while place < tag.len() && tag[place] != b'-' {
+        place += 1;
+    }
+    place
+}
+
+/// The digest in front of the dash.
+fn run_of(tag: &[u8]) -> &[u8]
+    ensures { result.now ≡ run_of tag.now }
+{
+    tag.split_at(dash_in(tag)).0
+}
+
+/// The digest behind it.
+fn shown_of(tag: &[u8]) -> &[u8]
+    ensures { result.now ≡ shown_of tag.now }
+{
+    let place = dash_in(tag);
+    if place < tag.len() {
+        tag.split_at(place + 1).1
+    } else {
+        tag.split_at(place).1
+    }
+}
+
+/// Whether a message with the tag `other` belongs to the run of `own`, its receiver's tag. A receiver
+/// without a tag takes no message.
+pub fn is_same_run(own: &[u8], other: &[u8]) -> bool
+    ensures { result ≡ is_same_run own.now other.now }
+{
+    !own.is_empty() && run_of(own) == run_of(other)
+}
+
+/// Whether two starts refuse each other for ever: they talk in two runs, though the same was shown to
+/// both last.
+pub fn are_parted(own: &[u8], other: &[u8]) -> bool
+    ensures { result ≡ are_parted own.now other.now }
+{
+    if own.is_empty() || other.is_empty() {
+        return false;
+    }
+    run_of(own) != run_of(other) && shown_of(own) == shown_of(other)
+}

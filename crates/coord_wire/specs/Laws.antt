@@ -1,0 +1,9 @@
+-- The names that the server prints are those that are read.
+use Rattle.std.specs.Prelude.{◌≡◌, Some}
+use Rattle.std.specs.List.{AllByRecursion}
+use Rattle.coord_types.specs.Names.{kind_name, refusal_name}
+use Rattle.coord_wire.specs.AnswerLine.{kind_named, kinds, refusal_named, refusals}
+
+pub record NamesAreRead : Type 0 where
+  pub kinds : AllByRecursion (λ row. (row.0 ≡ kind_name row.1) × (kind_named row.0 ≡ Some row.1)) kinds
+  pub refusals : AllByRecursion (λ row. (row.0 ≡ refusal_name row.1) × (refusal_named row.0 ≡ Some row.1)) refusals

@@ -1,0 +1,4 @@
+pub mod OrderLine
+pub mod AnswerLine
+pub mod ShowLine
+pub mod Laws

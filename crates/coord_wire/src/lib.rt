@@ -1,0 +1,19 @@
+//! The port's lines as a client writes and reads them: the line of an order, the line of its
+//! answer, and the line that answers `show`.
+//!
+//! `specs/OrderLine.antt`, `specs/AnswerLine.antt` and `specs/ShowLine.antt` say them by
+//! docs/FORMATS.md, "Administration lines". [`print_order`] adds just that line to a text,
+//! [`read_answer`] tells the reply or the refusal that a line is, and [`read_show`] the view. The main
+//! theorem is the contract of [`laws::names_are_read`]: each name that the server prints for a refusal of
+//! an order, or for what became of one, is read as that.
+#![tactic(auto)]
+
+mod answer_line;
+pub mod laws;
+mod names;
+mod order_line;
+mod show_line;
+
+pub use answer_line::{ReadFault, read_answer};
+pub use order_line::print_order;
+pub use show_line::read_show;

@@ -1,0 +1,4 @@
+pub mod Status
+pub mod Judgement
+pub mod Orders
+pub mod Exports

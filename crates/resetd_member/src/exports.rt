@@ -1,0 +1,155 @@
+//! What C calls. `include/resetd_member.h` declares these functions.
+
+ghost use Rattle.std.specs.Prelude.{◌≡◌, Ok, Err};
+ghost use Rattle.coord_kept.specs.Tag as tag;
+ghost use Rattle.resetd_member.specs.Exports.{IsBegunGiven, IsHeardAs, IsJudgedAs, IsLineGiven, IsTagGiven, IsWrittenAs, work_of};
+
+use crate::judge::{Judged, judge_into, tag_of_bytes};
+use crate::order::{Order, Orders};
+use crate::orders::{hear, line_for, write_down};
+use crate::status::{Fault, give, status_of, text_of};
+use coord_kept::start_text;
+use std::alloc::Global;
+
+/// The epoch that stands with the work in hand, if there is work.
+#[repr(C)]
+#[derive(Clone, Copy, Debug, PartialEq, Eq)]
+pub struct Work {
+    pub is_there: bool,
+    pub epoch: u64,
+}
+
+fn work_of(work: Work) -> Option<u64>
+    ensures { result ≡ work_of work }
+{
+    if work.is_there {
+        Some(work.epoch)
+    } else {
+        None
+    }
+}
+
+/// Judges a line that answers `show`, for the member of a node with these files and this work.
+#[unsafe(no_mangle)]
+pub extern "C" fn resetd_judge(
+    alloc: Global,
+    show: &[u8],
+    node: u8,
+    start: &[u8],
+    history: &[u8],
+    work: &Work,
+    out: &mut [u8],
+    judged: &mut Judged,
+) -> u32
+    ensures { IsJudgedAs show.now node start.now history.now (work_of work.now) out.new judged.new result }
+{
+    match judge_into(alloc, show, node, start, history, work_of(*work), out) {
+        Ok(found) => {
+            *judged = found;
+            0
+        }
+        Err(fault) => status_of(fault),
+    }
+}
+
+/// The text for the file of a start, once the common start is loaded for an epoch.
+#[unsafe(no_mangle)]
+pub extern "C" fn resetd_begun(
+    alloc: Global,
+    node: u8,
+    epoch: u64,
+    out: &mut [u8],
+    length: &mut usize,
+) -> u32
+    ensures { IsBegunGiven node epoch out.new length.new result }
+{
+    let text = match start_text(alloc, node, Some(epoch), None) {
+        Ok(text) => Ok(text),
+        Err(_) => Err(Fault::OutOfMemory),
+    };
+    give(text, out, length)
+}
+
+/// The tag of a start that is due to talk. Its file is as it was put down; `word` is the group's.
+#[unsafe(no_mangle)]
+pub extern "C" fn resetd_tag(
+    alloc: Global,
+    show: &[u8],
+    node: u8,
+    start: &[u8],
+    word: &[u8],
+    out: &mut [u8],
+    length: &mut usize,
+) -> u32
+    ensures { IsTagGiven show.now node start.now word.now out.new length.new result }
+{
+    give(tag_of_bytes(alloc, show, node, start, word), out, length)
+}
+
+/// Whether a message with the tag `other` belongs to the run of `own`.
+#[unsafe(no_mangle)]
+pub extern "C" fn resetd_is_same_run(own: &[u8], other: &[u8]) -> bool
+    ensures { result ≡ tag.is_same_run own.now other.now }
+{
+    coord_kept::is_same_run(own, other)
+}
+
+/// Whether two starts refuse each other for ever.
+#[unsafe(no_mangle)]
+pub extern "C" fn resetd_are_parted(own: &[u8], other: &[u8]) -> bool
+    ensures { result ≡ tag.are_parted own.now other.now }
+{
+    coord_kept::are_parted(own, other)
+}
+
+/// Writes an order down under the next number.
+#[unsafe(no_mangle)]
+pub extern "C" fn resetd_write_down(orders: &mut Orders, order: &Order) -> u32
+    ensures { IsWrittenAs orders.old order.now orders.new result }
+{
+    match write_down(*orders, *order) {
+        Ok(written) => {
+            *orders = written;
+            0
+        }
+        Err(fault) => status_of(fault),
+    }
+}
+
+/// The line that is to be sent, first or again.
+#[unsafe(no_mangle)]
+pub extern "C" fn resetd_order_line(
+    alloc: Global,
+    orders: &Orders,
+    client: u8,
+    out: &mut [u8],
+    length: &mut usize,
+) -> u32
+    ensures { IsLineGiven orders.now client out.new length.new result }
+{
+    give(line_for(alloc, *orders, client), out, length)
+}
+
+/// Hears the answer to the line that was sent last.
+#[unsafe(no_mangle)]
+pub extern "C" fn resetd_hear(
+    alloc: Global,
+    orders: &mut Orders,
+    line: &[u8],
+    meaning: &mut u32,
+) -> u32
+    ensures { IsHeardAs orders.old line.now orders.new meaning.new result }
+{
+    let text = match text_of(line) {
+        Ok(text) => text,
+        Err(fault) => return status_of(fault),
+    };
+    match hear(alloc, *orders, text) {
+        Ok(heard) => {
+            *orders = heard.orders;
+            *meaning = heard.meaning;
+            0
+        }
+        Err(fault) => status_of(fault),
+    }
+}

@@ -1,0 +1,312 @@
+//! What a view asks of the member of a node.
+
+ghost use Rattle.std.specs.Prelude.{◌≡◌, ◌++◌, IfOk, string_bytes};
+ghost use Rattle.std.specs.Option.{option_map};
+ghost use Rattle.coord_kept.specs.Lines.{known};
+ghost use Rattle.coord_member.specs.Rule as rule;
+ghost use Rattle.resetd_member.specs.Judgement.{IsDueBy, IsGivenTo, IsJudged, IsJudgedWith, IsLooked, IsPutOf, IsRead, IsTagged, begun_at, first_known, line_of_change, start_after};
+
+use crate::status::{Fault, due_number, put, text_of};
+use coord_kept::{
+    Found, ReadFault, Start, history_line, known, lines_of, look_up, read_start, start_text, tag_of,
+};
+use coord_look::{Look, look_of};
+use coord_member::{Change, Due, change_of, due_of};
+use coord_types::NodeId;
+use coord_wire::read_show;
+use std::alloc::{AllocError, Global};
+
+/// What a view asks of a member, and what has to be on the disk before it is done.
+#[derive(Drop, Debug)]
+pub struct Judgement {
+    pub due: Due,
+    /// The epoch that is shown.
+    pub epoch: u64,
+    /// What the file of the start has to hold; empty: it stays as it is.
+    pub start: String,
+    /// The line that the history gets before that; empty: it gets none.
+    pub line: String,
+    /// Where in the history the line goes.
+    pub history_size: usize,
+}
+
+/// What C hears of a judgement. Its texts stand in the room that it gave: first what the file of the
+/// start has to hold, then the line that the history gets.
+#[repr(C)]
+#[derive(Clone, Copy, Debug, PartialEq, Eq)]
+pub struct Judged {
+    /// 1 to talk, 2 to wait, 3 to begin, 4 to ask for a reset.
+    pub due: u32,
+    /// The epoch that is shown.
+    pub epoch: u64,
+    /// How many bytes the file of the start has to have; 0: it stays.
+    pub start_length: usize,
+    /// How many bytes the line has; 0: the history gets none.
+    pub line_length: usize,
+    /// Where in the history the line goes.
+    pub history_size: usize,
+}
+
+/// What the line that answers `show` shows to the member of a node.
+pub(crate) fn look_at(alloc: Global, show: &str, node: NodeId) -> Result<Look, Fault>
+    ensures { IsLooked show.now node result }
+{
+    let view = match read_show(alloc, show) {
+        Ok(view) => view,
+        Err(coord_wire::ReadFault::OutOfMemory) => return Err(Fault::OutOfMemory),
+        Err(coord_wire::ReadFault::NoAnswer) => return Err(Fault::BadLine),
+    };
+    let found = look_of(alloc, &view, node);
+    drop(view);
+    match found {
+        Ok(Some(look)) => Ok(look),
+        Ok(None) => Err(Fault::NoNode),
+        Err(_) => Err(Fault::OutOfMemory),
+    }
+}
+
+/// The epoch of the work in hand, where it is the one that is kept as begun.
+fn begun_at(kept: Option<u64>, work: Option<u64>) -> Option<u64>
+    ensures { result ≡ begun_at kept work }
+{
+    match (kept, work) {
+        (Some(epoch), Some(other)) if epoch == other => kept,
+        _ => None,
+    }
+}
+
+/// What is due.
+fn due_at(
+    alloc: Global,
+    begun: Option<u64>,
+    kept: &Start,
+    was: bool,
+    look: &Look,
+) -> Result<Due, AllocError>
+    ensures { IfOk result (λ due. due ≡ rule.due_of begun (first_known kept.now look.now.party.items) was look.now.row look.now.party.items) }
+{
+    match &kept.party {
+        None => Ok(due_of(begun, None, was, look.row, look.party.as_slice())),
+        Some(lines) => {
+            let those = known(alloc, lines.as_slice(), look.party.as_slice())?;
+            let due = due_of(
+                begun,
+                Some(those.as_slice()),
+                was,
+                look.row,
+                look.party.as_slice(),
+            );
+            drop(those);
+            Ok(due)
+        }
+    }
+}
+
+/// What the file of the start has to hold after a change.
+fn start_after(
+    alloc: Global,
+    node: u8,
+    begun: Option<u64>,
+    lines: &[String],
+    change: Change,
+) -> Result<String, AllocError>
+    ensures { IfOk result (λ text. string_bytes text ≡ start_after node begun lines.now change) }
+{
+    match change {
+        Change::Keeps => Ok(String::new(alloc)),
+        Change::Drops => start_text(alloc, node, None, None),
+        Change::NotesAlone | Change::NotesFirst => start_text(alloc, node, begun, Some(lines)),
+    }
+}
+
+/// The line that the history gets with a change, where `line` is that of the party that is shown.
+fn line_after(alloc: Global, line: &str, change: Change) -> Result<String, AllocError>
+    ensures { IfOk result (λ text. string_bytes text ≡ line_of_change line.now change) }
+{
+    match change {
+        Change::NotesFirst => String::from_str(alloc, line),
+        Change::Keeps | Change::Drops | Change::NotesAlone => Ok(String::new(alloc)),
+    }
+}
+
+/// What the file of a start says.
+fn read(alloc: Global, node: u8, file: &str) -> Result<Start, Fault>
+    ensures { IsRead node file.now result }
+{
+    match read_start(alloc, node, file) {
+        Ok(kept) => Ok(kept),
+        Err(ReadFault::OutOfMemory) => Err(Fault::OutOfMemory),
+        Err(ReadFault::BadStart) => Err(Fault::BadStart),
+    }
+}
+
+/// What is due by what is kept, and what changes.
+fn judged_by(
+    alloc: Global,
+    node: u8,
+    look: &Look,
+    lines: &[String],
+    line: &str,
+    kept: &Start,
+    found: Found,
+    work: Option<u64>,
+) -> Result<Judgement, AllocError>
+    ensures { IfOk result (λ j. IsDueBy node look.now.row look.now.party.items lines.now line.now kept.now found work j) }
+{
+    let begun = begun_at(kept.begun, work);
+    let due = due_at(alloc, begun, kept, found.has, look)?;
+    let change = change_of(due, kept.party.is_some(), look.party.as_slice());
+    Ok(Judgement {
+        due,
+        epoch: look.row.epoch,
+        start: start_after(alloc, node, begun, lines, change)?,
+        line: line_after(alloc, line, change)?,
+        history_size: found.size,
+    })
+}
+
+/// What a view asks of the member of a node, by the lines of those that are shown.
+fn judged_with(
+    alloc: Global,
+    node: u8,
+    look: &Look,
+    lines: &[String],
+    file: &str,
+    history: &[u8],
+    work: Option<u64>,
+) -> Result<Judgement, Fault>
+    ensures { IsJudgedWith node look.now.row look.now.party.items lines.now file.now history.now work result }
+{
+    let line = history_line(alloc, lines)?;
+    let Some(found) = look_up(history, line.as_bytes()) else {
+        drop(line);
+        return Err(Fault::BadHistory);
+    };
+    let kept = read(alloc, node, file)?;
+    let judged = judged_by(alloc, node, look, lines, line.as_str(), &kept, found, work);
+    drop(kept);
+    drop(line);
+    Ok(judged?)
+}
+
+/// What a view asks of the member of a node, by the texts of its files.
+pub(crate) fn judge(
+    alloc: Global,
+    show: &str,
+    node: NodeId,
+    file: &str,
+    history: &[u8],
+    work: Option<u64>,
+) -> Result<Judgement, Fault>
+    ensures { IsJudged show.now node file.now history.now work result }
+{
+    let look = look_at(alloc, show, node)?;
+    let lines = lines_of(alloc, look.party.as_slice())?;
+    let judged = judged_with(
+        alloc,
+        node.number(),
+        &look,
+        lines.as_slice(),
+        file,
+        history,
+        work,
+    );
+    drop(lines);
+    drop(look);
+    judged
+}
+
+/// The tag of the start that a file keeps, where a line shows these to it; empty: it has none.
+pub(crate) fn tag(
+    alloc: Global,
+    show: &str,
+    node: NodeId,
+    file: &str,
+    word: &str,
+) -> Result<String, Fault>
+    ensures { IsTagged show.now node file.now word.now result }
+{
+    let look = look_at(alloc, show, node)?;
+    let lines = lines_of(alloc, look.party.as_slice())?;
+    drop(look);
+    let kept = read(alloc, node.number(), file)?;
+    let tag = match &kept.party {
+        Some(first) => tag_of(alloc, word, first.as_slice(), lines.as_slice()),
+        None => Ok(String::new(alloc)),
+    };
+    drop(kept);
+    drop(lines);
+    Ok(tag?)
+}
+
+/// A text with another one behind it.
+fn joined(mut text: String, behind: &str) -> Result<String, AllocError>
+    ensures { IfOk result (λ both. string_bytes both ≡ string_bytes text ++ behind.now) }
+{
+    text.push_str(behind)?;
+    Ok(text)
+}
+
+/// Puts the texts of a judgement into the room for them.
+fn put_texts(judgement: Judgement, out: &mut [u8]) -> Result<Judged, Fault>
+    ensures { IsPutOf judgement out.new result }
+{
+    let Judgement {
+        due,
+        epoch,
+        start,
+        line,
+        history_size,
+    } = judgement;
+    let judged = Judged {
+        due: due_number(due),
+        epoch,
+        start_length: start.len(),
+        line_length: line.len(),
+        history_size,
+    };
+    let both = joined(start, line.as_str());
+    drop(line);
+    let both = both?;
+    let is_put = put(out, both.as_bytes());
+    drop(both);
+    is_put?;
+    Ok(judged)
+}
+
+/// What a view asks of the member of a node, by bytes, with the texts put into the room for them.
+pub(crate) fn judge_into(
+    alloc: Global,
+    show: &[u8],
+    node: u8,
+    file: &[u8],
+    history: &[u8],
+    work: Option<u64>,
+    out: &mut [u8],
+) -> Result<Judged, Fault>
+    ensures { IsGivenTo show.now node file.now history.now work out.new result }
+{
+    let Some(node) = NodeId::new(node) else {
+        return Err(Fault::BadNumber);
+    };
+    let show = text_of(show)?;
+    let file = text_of(file)?;
+    let judgement = judge(alloc, show, node, file, history, work)?;
+    put_texts(judgement, out)
+}
+
+/// The tag, of bytes.
+pub(crate) fn tag_of_bytes(
+    alloc: Global,
+    show: &[u8],
+    node: u8,
+    file: &[u8],
+    word: &[u8],
+) -> Result<String, Fault>
+    ensures { IsTagged show.now node file.now word.now result }
+{
+    let Some(node) = NodeId::new(node) else {
+        return Err(Fault::BadNumber);
+    };
+    tag(alloc, text_of(show)?, node, text_of(file)?, text_of(word)?)
+}

@@ -1,0 +1,94 @@
+//! What the order book makes of orders as numbers.
+
+ghost use Rattle.std.specs.Prelude.{◌≡◌, ◌≢◌, Ok, Err, IfOk, IfErr, string_bytes};
+ghost use Rattle.resetd_member.specs.Orders.{heard_in, line_for, meaning_number, written_down};
+ghost use Rattle.resetd_member.specs.declared.status.Fault.TheVariants.{OutOfMemory};
+
+use crate::order::{Order, Orders, command_of, kept_of, orders_of};
+use crate::status::Fault;
+use coord_orders::{Meaning, OrderBook};
+use coord_types::Client;
+use coord_wire::{ReadFault, print_order, read_answer};
+use std::alloc::Global;
+
+/// What is kept after an answer, and what the answer meant.
+#[derive(Clone, Copy, Debug, PartialEq, Eq)]
+pub struct Heard {
+    pub orders: Orders,
+    pub meaning: u32,
+}
+
+/// Writes an order down under the next number.
+pub(crate) fn write_down(orders: Orders, order: Order) -> Result<Orders, Fault>
+    ensures { result ≡ written_down orders order }
+{
+    let Some(kept) = kept_of(orders) else {
+        return Err(Fault::BadNumber);
+    };
+    let Some(command) = command_of(order) else {
+        return Err(Fault::BadNumber);
+    };
+    match OrderBook::open(kept).write_down(command) {
+        Some(book) => Ok(orders_of(&book.kept)),
+        None => Err(Fault::InHand),
+    }
+}
+
+/// The line that is to be sent, first or again; empty: no order is in hand.
+pub(crate) fn line_for(alloc: Global, orders: Orders, client: u8) -> Result<String, Fault>
+    ensures line { IfOk result (λ text. line_for orders client ≡ Ok (string_bytes text)) }
+    ensures fault { IfErr result (λ fault. fault ≢ OutOfMemory → line_for orders client ≡ Err fault) }
+{
+    let Some(kept) = kept_of(orders) else {
+        return Err(Fault::BadNumber);
+    };
+    let Some(client) = Client::new(client) else {
+        return Err(Fault::BadNumber);
+    };
+    if kept.last == u64::MAX {
+        return Err(Fault::BadNumber);
+    }
+    let mut text = String::new(alloc);
+    if let Some(line) = OrderBook::open(kept).line() {
+        print_order(&mut text, client, &line)?;
+    }
+    Ok(text)
+}
+
+/// The number of a meaning.
+fn meaning_number(meaning: Meaning) -> u32
+    ensures { result ≡ meaning_number meaning }
+{
+    match meaning {
+        Meaning::Done(_) => 1,
+        Meaning::NotDone => 2,
+        Meaning::SendAgain => 3,
+        Meaning::CountLost => 4,
+    }
+}
+
+/// Hears the answer to the line that was sent last. Each line has a connection of its own, or no line
+/// goes out before the one in front of it is answered: so no other answer comes.
+pub(crate) fn hear(alloc: Global, orders: Orders, line: &str) -> Result<Heard, Fault>
+    ensures { result ≢ Err OutOfMemory → result ≡ heard_in orders line.now }
+{
+    let Some(kept) = kept_of(orders) else {
+        return Err(Fault::BadNumber);
+    };
+    let answer = match read_answer(alloc, line) {
+        Ok(answer) => answer,
+        Err(ReadFault::OutOfMemory) => return Err(Fault::OutOfMemory),
+        Err(ReadFault::NoAnswer) => return Err(Fault::BadLine),
+    };
+    if kept.last == u64::MAX {
+        return Err(Fault::BadNumber);
+    }
+    let heard = OrderBook::open(kept).send(0).hear(0, answer);
+    Ok(Heard {
+        orders: orders_of(&heard.book.kept),
+        meaning: match heard.meaning {
+            Some(meaning) => meaning_number(meaning),
+            None => 0,
+        },
+    })
+}

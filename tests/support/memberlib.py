@@ -1,0 +1,107 @@
+"""The proved library of the members' rule (`make lib`), as Python calls it."""
+
+import ctypes
+import os
+from typing import NamedTuple
+
+from .program import ROOT
+
+PATH = os.environ.get("RESETD_MEMBER", f"{ROOT}/lib/libresetd_member.so")
+OK, NO_NODE = 0, 4
+DUE = {1: "TALK", 2: "WAIT", 3: "BEGIN", 4: "RESET"}
+MOST_TEXT = 8192
+
+
+class Work(ctypes.Structure):
+    _fields_ = [("is_there", ctypes.c_bool), ("epoch", ctypes.c_uint64)]
+
+
+class Judged(ctypes.Structure):
+    _fields_ = [("due", ctypes.c_uint32), ("epoch", ctypes.c_uint64), ("start_length", ctypes.c_size_t),
+                ("line_length", ctypes.c_size_t), ("history_size", ctypes.c_size_t)]
+
+
+class Order(ctypes.Structure):
+    _fields_ = [("op", ctypes.c_uint8), ("a", ctypes.c_uint8), ("b", ctypes.c_uint8), ("epoch", ctypes.c_uint64)]
+
+
+class Orders(ctypes.Structure):
+    _fields_ = [("last", ctypes.c_uint64), ("in_hand", Order)]
+
+
+class Told(NamedTuple):
+    """What a judgement says: what is due, at which epoch, the text for the file of the start, the line that the history
+    gets, and where in the history it goes."""
+
+    due: str
+    epoch: int
+    start: bytes
+    line: bytes
+    history_size: int
+
+
+class Refused(Exception):
+    """A call gave nothing; `status` says why."""
+
+    def __init__(self, status):
+        super().__init__(f"status {status}")
+        self.status = status
+
+
+def sized(text):
+    """A text as a pointer and a count."""
+    return ctypes.cast(ctypes.c_char_p(text), ctypes.c_void_p), ctypes.c_size_t(len(text))
+
+
+def word(number):
+    return ctypes.c_uint8(number)
+
+
+class Library:
+    """The functions of resetd_member.h, over bytes."""
+
+    def __init__(self, path=PATH):
+        self._calls = ctypes.CDLL(path)
+        for name in ("is_same_run", "are_parted"):
+            getattr(self._calls, f"resetd_{name}").restype = ctypes.c_bool
+        self._out = ctypes.create_string_buffer(MOST_TEXT)
+        self._length = ctypes.c_size_t()
+
+    def judge(self, show, node, start=b"", history=b"", work=None):
+        judged = Judged()
+        self._expect(self._calls.resetd_judge(
+            *sized(show), word(node), *sized(start), *sized(history), ctypes.byref(Work(work is not None, work or 0)),
+            self._out, ctypes.c_size_t(MOST_TEXT), ctypes.byref(judged)))
+        text = self._out.raw[:judged.start_length + judged.line_length]
+        return Told(DUE[judged.due], judged.epoch, text[:judged.start_length], text[judged.start_length:], judged.history_size)
+
+    def begun(self, node, epoch):
+        return self._text(self._calls.resetd_begun, word(node), ctypes.c_uint64(epoch))
+
+    def tag(self, show, node, start, word_of_group=b""):
+        return self._text(self._calls.resetd_tag, *sized(show), word(node), *sized(start), *sized(word_of_group))
+
+    def is_same_run(self, own, other):
+        return self._calls.resetd_is_same_run(*sized(own), *sized(other))
+
+    def are_parted(self, own, other):
+        return self._calls.resetd_are_parted(*sized(own), *sized(other))
+
+    def write_down(self, orders, order):
+        self._expect(self._calls.resetd_write_down(ctypes.byref(orders), ctypes.byref(order)))
+
+    def order_line(self, orders, client):
+        return self._text(self._calls.resetd_order_line, ctypes.byref(orders), word(client))
+
+    def hear(self, orders, line):
+        meaning = ctypes.c_uint32()
+        self._expect(self._calls.resetd_hear(ctypes.byref(orders), *sized(line), ctypes.byref(meaning)))
+        return meaning.value
+
+    def _text(self, call, *words):
+        self._expect(call(*words, self._out, ctypes.c_size_t(MOST_TEXT), ctypes.byref(self._length)))
+        return self._out.raw[:self._length.value]
+
+    def _expect(self, status):
+        if status != OK:
+            raise Refused(status)

@@ -1,0 +1,353 @@
+"""The proved library of the members' rule, beside the Python one; and members in other languages that call it."""
+
+import contextlib
+import itertools
+import json
+import os
+import random
+import shutil
+import signal
+import socket
+import subprocess
+import sys
+import threading
+
+from support.case import Case, tool
+from support.memberlib import PATH, Library, Order, Orders, Refused
+from support.program import PROGRAM, ROOT
+
+sys.path.insert(0, f"{ROOT}/client")
+from resetd_client import Due, Link, Node, View  # noqa: E402
+from resetd_client.gateway import Desk  # noqa: E402
+from resetd_client.party import are_parted, digest_of, is_same_run, tag_of  # noqa: E402
+from resetd_client.rule import Kept, judge, shown_to  # noqa: E402
+from resetd_client.starts import Shelf, Starts  # noqa: E402
+
+STATES = 25_000  # at random, of each of four seeds
+EXAMPLES = f"{ROOT}/examples/members"
+HEADER = f"{ROOT}/crates/resetd_member/include"
+
+
+def line_of(view):
+    """The line that shows a view."""
+    return (json.dumps(view.members(), separators=(",", ":")) + "\n").encode()
+
+
+def start_text(node, kept):
+    """The file of a start, as the Python library writes it."""
+    party = None if kept.party is None else sorted(kept.party)
+    return (json.dumps({str(node): {"begun": kept.begun, "party": party}}) + "\n").encode()
+
+
+def kept_in(text, node):
+    """What a file of a start keeps."""
+    row = json.loads(text or b"{}").get(str(node), {"begun": None, "party": None})
+    return Kept(row["begun"], None if row["party"] is None else frozenset(row["party"]))
+
+
+def history_text(digests, torn=""):
+    return "".join(f"{digest}\n" for digest in digests).encode() + torn.encode()
+
+
+def small_views():
+    """Two nodes, each in each state of two epochs, and the link between them: none, the first or the second."""
+    rows = list(itertools.product(("ready", "abort", "converge"), (0, 1), (0, 1)))
+    for (mode, epoch, confirmed), (other_mode, other_epoch, other_confirmed), link in itertools.product(rows, rows, (0, 1, 2)):
+        yield View(3, 3, (Node(1, 1, mode, 0, epoch, confirmed), Node(2, 1, other_mode, 0, other_epoch, other_confirmed)),
+                   (Link(1, 2, link),) if link else ())
+
+
+def small_states():
+    """Each small view with each small state that may be kept, and work of that epoch or none."""
+    for view in small_views():
+        party = view.party(1)
+        others = [party | {"3 0"}, party - {"2 0", "2 1"}]
+        for begun, kept, has, has_work in itertools.product((None, 0, 1), (None, party, *others), (False, True), (False, True)):
+            if has_work or begun is not None:
+                yield view, 1, Kept(begun, kept), [digest_of(party)] if has else [], begun if has_work else None
+
+
+class Random:
+    """States of up to six nodes with any links, epochs and histories."""
+
+    def __init__(self, seed):
+        self.random = random.Random(seed)
+
+    def view(self):
+        draw, most = self.random, self.random.choice((1, 2, 2, 3, 3, 4, 6, 6) * 4 + (64,))
+        numbers = sorted(draw.sample(range(1, 65), draw.randint(1, most)))
+        epochs = draw.choice((2, 12, 1 << 40))
+        rows = tuple(Node(n, 1, draw.choice(("ready",) * 6 + ("abort", "converge")), 0, epoch := draw.randrange(epochs),
+                          draw.choice((epoch, epoch, epoch, max(0, epoch - 1)))) for n in numbers)
+        pairs = list(itertools.combinations(numbers, 2))
+        chosen = sorted(draw.sample(pairs, min(len(pairs), draw.randint(0, 2 * len(numbers)), 128)))
+        return View(99, 99, rows, tuple(Link(a, b, draw.randrange(1, epochs + 99)) for a, b in chosen))
+
+    def party(self, view, row):
+        """None, what is shown, or some more or fewer than that."""
+        draw, shown = self.random, view.party(row.node)
+        more = frozenset(f"{draw.randint(1, 64)} {draw.randrange(99)}" for _ in range(draw.randrange(3)))
+        fewer = frozenset(line for line in shown if draw.random() < 0.8)
+        return draw.choice((None, None, shown, shown | more, fewer | more or None))
+
+    def state(self):
+        draw, view = self.random, self.view()
+        row = draw.choice(view.nodes)
+        kept = Kept(draw.choice((None, row.epoch, row.epoch, row.confirmed, draw.randrange(99))), self.party(view, row))
+        history = [digest_of(frozenset({str(draw.random())})) for _ in range(draw.randrange(4))]
+        if draw.random() < 0.4:
+            history.insert(draw.randint(0, len(history)), digest_of(view.party(row.node)))
+        return view, row.node, kept, history, draw.choice((kept.begun, kept.begun, kept.begun, None, row.epoch))
+
+
+class Shows:
+    """A port that shows one line, and carries out each order."""
+
+    def __init__(self, line):
+        self.line, self.ordered, self.looks, self.looked_twice = line, None, 0, threading.Event()
+        self._listener = socket.create_server(("127.0.0.1", 0))
+        self.number = self._listener.getsockname()[1]
+
+    def __enter__(self):
+        threading.Thread(target=self._serve, daemon=True).start()
+        return self
+
+    def __exit__(self, *_):
+        with contextlib.suppress(OSError):
+            self._listener.shutdown(socket.SHUT_RDWR)
+        self._listener.close()
+
+    def _serve(self):
+        with contextlib.suppress(OSError):
+            while True:
+                connection, _ = self._listener.accept()
+                with connection, contextlib.suppress(OSError):
+                    for line in connection.makefile("rb"):
+                        connection.sendall(self._answer(json.loads(line)["op"]))
+
+    def _answer(self, op):
+        if op != "show":
+            self.ordered = self.ordered or op
+            return b'{"kind":"done","step":1}\n'
+        self.looks += 1
+        if self.looks > 1:
+            self.looked_twice.set()
+        return self.line
+
+
+class Members(Case):
+    takes = 120
+
+    def setUp(self):
+        super().setUp()
+        self.needs("the proved library: make lib makes it", os.path.exists(PATH), is_optional=True)
+        self.library = Library()
+
+    def judged_alike(self, state, torn=""):
+        """Both libraries, of one state: what is due, what is kept, the line of the history, and the tag."""
+        view, node, kept, history, work = state
+        row = view.node(node)
+        begun = kept.begun if kept.begun == work else None
+        wanted = judge(Kept(begun, kept.party), set(history), shown_to(view, row))
+        line, file = line_of(view), b"" if kept == Kept() else start_text(node, kept)
+        told = self.library.judge(line, node, file, history_text(history, torn), work)
+        self.assertEqual((told.due, told.epoch, told.history_size), (wanted.due.name, row.epoch, 65 * len(history)), state)
+        self.assertEqual(told.line, history_text([wanted.digest]) if wanted.digest else b"", state)
+        changes = wanted.due is Due.BEGIN or wanted.due is Due.TALK and kept.party is None
+        self.assertEqual(told.start, start_text(node, wanted.kept) if changes else b"", state)
+        if wanted.due is Due.TALK:
+            for word in ("", "blue"):
+                tag = self.library.tag(line, node, told.start or file, word.encode())
+                self.assertEqual(tag.decode(), tag_of(wanted.kept.party, view.party(node), word), state)
+        return told.due
+
+    def test_small_states(self):
+        """All of them."""
+        dues = [self.judged_alike(state) for state in small_states()]
+        self.assertGreater(len(dues), 15_000)
+        self.assertEqual(set(dues), {due.name for due in Due})
+
+    def random_states(self, seed):
+        states, dues = Random(seed), {}
+        for _ in range(STATES):
+            due = self.judged_alike(states.state(), states.random.choice(("", "", "", "a", "f" * 64, "?")))
+            dues[due] = dues.get(due, 0) + 1
+        self.assertGreater(min(dues.get(due.name, 0) for due in Due), STATES // 50, dues)
+
+    def test_random_states_1(self):
+        self.random_states(1)
+
+    def test_random_states_2(self):
+        self.random_states(2)
+
+    def test_random_states_3(self):
+        self.random_states(3)
+
+    def test_random_states_4(self):
+        self.random_states(4)
+
+    def alike_in(self, state, due, after, history):
+        """A member of another kind was shown a state: what was due to it, and what its files keep now, are as the proved
+        library says. (One that begins has gone on.)"""
+        view, node, kept, digests, work = state
+        told = self.library.judge(line_of(view), node, start_text(node, kept), history_text(digests), work)
+        self.assertEqual(due.name, told.due, state)
+        if told.due != "BEGIN":
+            self.assertEqual(after, kept_in(told.start, node) if told.start else kept, state)
+            self.assertEqual(history, history_text(digests) + told.line, state)
+
+    def test_the_files_of_the_python_library(self):
+        """Its starts, over files: they hold the same bytes."""
+        states = Random(5)
+        for turn in range(1_000):
+            view, node, kept, digests, work = state = states.state()
+            folder = self.path(f"{turn}")
+            os.mkdir(folder)
+            self.write(f"{turn}/starts.json", b"" if kept == Kept() else start_text(node, kept))
+            self.write(f"{turn}/starts.history", history_text(digests, states.random.choice(("", "torn"))))
+            shelf = Shelf(f"{folder}/starts.json")
+            due = Starts(shelf, node, work).due(view, view.node(node))
+            shelf.keep()
+            text = self.read(f"{turn}/starts.json")
+            self.alike_in(state, due, kept_in(text, node), self.read(f"{turn}/starts.history").removesuffix(b"torn"))
+            if text and due is Due.TALK:
+                self.assertEqual(text, start_text(node, kept_in(text, node)))
+
+    def test_a_gateway(self):
+        """The members behind it have begun what it told them, or have lost it."""
+        states = Random(6)
+        for turn in range(300):
+            view, node, kept, digests, work = state = states.state()
+            if work not in (None, kept.begun):
+                continue
+            folder, told = self.path(f"{turn}"), f"{kept.begun or 0} 1\n"
+            os.makedirs(f"{folder}/a")
+            kept_row = json.loads(start_text(node, kept))
+            kept_row[str(node)]["told"] = told
+            self.write(f"{turn}/starts.json", json.dumps(kept_row))
+            self.write(f"{turn}/starts.history", history_text(digests))
+            if work is not None:
+                self.write(f"{turn}/a/begun", told)
+            shelf = Shelf(f"{folder}/starts.json")
+            due = Desk(node, shelf, folder, ["a"]).due(view, view.node(node))
+            shelf.keep()
+            self.alike_in(state, due, kept_in(self.read(f"{turn}/starts.json"), node), self.read(f"{turn}/starts.history"))
+
+    def test_a_member_in_bash(self):
+        """examples/plain_member, over its own files."""
+        states = Random(7)
+        for turn in range(60):
+            view, node, kept, digests, work = state = states.state()
+            folder = self.path(f"{turn}")
+            os.mkdir(folder)
+            lines = [] if kept.party is None else sorted(kept.party)
+            self.write(f"{turn}/kept", "\n".join([str(-1 if kept.begun is None else kept.begun), *lines]) + "\n")
+            self.write(f"{turn}/history", history_text(digests))
+            if work is not None:
+                self.write(f"{turn}/work", f"{work}\n")
+            with Shows(line_of(view)) as port:
+                member = subprocess.Popen([f"{ROOT}/examples/plain_member", str(node), "127.0.0.1", str(port.number), folder],
+                                          stdout=subprocess.DEVNULL, start_new_session=True)
+                port.looked_twice.wait(300)
+                os.killpg(member.pid, signal.SIGKILL)
+                member.wait()
+            run = f"{folder}/run"
+            due = {"confirm": Due.BEGIN, "reset": Due.RESET}.get(port.ordered, Due.TALK if os.path.exists(run) else Due.WAIT)
+            first, *party = self.read(f"{turn}/kept").decode().splitlines()
+            after = Kept(None if first == "-1" else int(first), frozenset(party) if party else None)
+            self.alike_in(state, due, after, self.read(f"{turn}/history"))
+            if due is Due.TALK:
+                told = self.library.tag(line_of(view), node, start_text(node, after)).decode() or "-"
+                self.assertEqual(self.read(f"{turn}/run").decode(), f"{view.node(node).epoch} {told}\n", state)
+
+    def test_begun(self):
+        for node, epoch in ((1, 0), (64, (1 << 64) - 1), (7, 12)):
+            self.assertEqual(self.library.begun(node, epoch), start_text(node, Kept(epoch)))
+
+    def test_tags_that_came(self):
+        tags = ["", *(tag_of(frozenset({a, "x"}), frozenset({b}), word) for a in "12" for b in "12" for word in ("", "w")), "torn", "-", "a-b-c"]
+        for own, other in itertools.product(tags, tags):
+            self.assertEqual(self.library.is_same_run(own.encode(), other.encode()), is_same_run(own, other), (own, other))
+            self.assertEqual(self.library.are_parted(own.encode(), other.encode()), are_parted(own, other), (own, other))
+
+    def refuses(self, status, *words):
+        with self.assertRaises(Refused) as refused:
+            self.library.judge(*words)
+        self.assertEqual(refused.exception.status, status, words)
+
+    def test_what_does_not_read(self):
+        line = line_of(View(1, 1, (Node(1, 1, "ready", 0, 0, 0),), ()))
+        for torn in (b"", line[:40], b"{}\n", b'{"fault":"BadJson"}\n', b'{"name":"Stopped","refused":1}\n', b"7\n"):
+            self.refuses(3, torn, 1)
+        self.refuses(4, line, 2)
+        for start in (b"{", b"[]", b"7", b'{"1": {}}', b'{"1": {"begun": true, "party": null}}', b'{"1": {"begun": 1, "party": [1]}}'):
+            self.refuses(5, line, 1, start)
+        for history in (b"\n", b"a" * 63 + b"\n", b"A" * 64 + b"\n", b"a" * 64 + b"\nb\n"):
+            self.refuses(6, line, 1, b"", history)
+        for node in (0, 65, 255):
+            self.refuses(7, line, node)
+        self.refuses(9, line, 1, b"\xff")
+
+    def test_the_order_book(self):
+        """One order from its first line to its last answer, and the number of the next."""
+        orders = Orders()
+        self.assertEqual(self.library.order_line(orders, 3), b"")
+        self.library.write_down(orders, Order(6, 5, 0, 9))
+        with self.assertRaises(Refused) as refused:
+            self.library.write_down(orders, Order(5, 5, 0, 0))
+        self.assertEqual(refused.exception.status, 8)
+        self.assertEqual(json.loads(self.library.order_line(orders, 3)),
+                         {"op": "confirm", "client": 3, "number": 1, "node": 5, "epoch": 9})
+        for again in (b'{"name":"Stopped","refused":1}\n', b'{"name":"PendingFull","refused":20}\n'):
+            self.assertEqual(self.library.hear(orders, again), 3)
+        self.assertEqual(self.library.hear(orders, b'{"name":"OutOfTurn","refused":4}\n'), 4)
+        self.assertEqual((orders.last, orders.in_hand.op), (0, 6))
+        self.assertEqual(self.library.hear(orders, b'{"kind":"done","step":7}\n'), 1)
+        self.assertEqual((orders.last, orders.in_hand.op), (1, 0))
+        self.library.write_down(orders, Order(5, 5, 0, 0))
+        self.assertEqual(json.loads(self.library.order_line(orders, 3)), {"op": "reset", "client": 3, "number": 2, "node": 5})
+        self.assertEqual(self.library.hear(orders, b'{"name":"UnknownNode","refused":6}\n'), 2)
+        self.assertEqual((orders.last, orders.in_hand.op), (1, 0))
+
+
+class InOtherLanguages(Case):
+    takes = 100
+
+    def keeps_the_rule(self, compiler, *words):
+        """The compiler makes a member of the library, and tools/try_member finds nothing wrong with it."""
+        self.needs("the proved library: make lib makes it", os.path.exists(PATH), is_optional=True)
+        self.needs(f"the compiler {compiler}", shutil.which(compiler), is_optional=True)
+        made = subprocess.run([compiler, *words], capture_output=True, text=True, cwd=EXAMPLES, timeout=600)
+        self.assertEqual((made.returncode, made.stderr), (0, ""))
+        tried = subprocess.run([tool("try_member"), self.path("member"), "{node}", "{host}", "{port}", "{folder}"],
+                               capture_output=True, text=True, env={**os.environ, "RESETD": PROGRAM, "TMPDIR": self.folder})
+        self.assertEqual(tried.returncode, 0, tried.stdout + tried.stderr)
+
+    def test_c(self):
+        self.keeps_the_rule("cc", "-Wall", "-Wextra", "-O1", "-I", HEADER, "-o", self.path("member"), "member.c",
+                            PATH.replace(".so", ".a"))
+
+    def test_rust(self):
+        self.keeps_the_rule("rustc", "--edition", "2024", "-O", "-o", self.path("member"), "member.rs",
+                            "-L", os.path.dirname(PATH), "-l", "static=resetd_member")
+
+
+class Vectors(Case):
+    def test_vectors(self):
+        """docs/member-vectors.json is what the proved library says, and the Python library says the same."""
+        self.needs("the proved library: make lib makes it", os.path.exists(PATH), is_optional=True)
+        checked = subprocess.run([tool("member_vectors")], capture_output=True, text=True)
+        self.assertEqual((checked.returncode, checked.stderr), (0, ""))
+
+    def test_vectors_in_python(self):
+        with open(f"{ROOT}/docs/member-vectors.json", encoding="utf-8") as file:
+            cases = json.load(file)
+        for case in cases:
+            view = View.of(json.loads(case["show"]))
+            start = json.loads(case["start"] or "{}").get("1", {"begun": None, "party": None})
+            party = None if start["party"] is None else frozenset(start["party"])
+            begun = start["begun"] if start["begun"] == case["work"] else None
+            judged = judge(Kept(begun, party), case["history"], shown_to(view, view.node(1)))
+            self.assertEqual((judged.due.name.lower(), judged.digest), (case["due"], case["digest"]), case)
+            tag = tag_of(judged.kept.party, view.party(1)) if judged.due is Due.TALK else None
+            self.assertEqual(tag, case["tag"], case)
