@@ -16,4 +16,4 @@ loop-packet-preserved g c =
 pub returns : goal.returns
 returns g c =
     let b = based_on g.D.Disk.model.keeps_model g.D.Disk.model.present g.L.Origin.base g.L.Origin.before in
-    subst (λ ps. Works b c.args.share.now c.args.hand.now ps c.loop-packet.share c.loop-packet.hand) (take_all c.args.packets.now c.loop-packet.packet-index (omega (arith, c.loop-packet-test.false))) c.loop-packet.invariant
+    subst (λ ps. Works b c.args.share.now c.args.hand.now ps c.loop-packet.share c.loop-packet.hand) (take_all c.loop-packet.packet-index c.args.packets.now (omega (arith, c.loop-packet-test.false))) c.loop-packet.invariant
