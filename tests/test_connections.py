@@ -57,6 +57,26 @@ class Connections(Case):
         told = [line.split()[2] for line in self.read("calls").decode().splitlines() if line.startswith("at-once ")]
         self.assertEqual(told, ["1"] * 3)
 
+    def test_an_order_is_not_looked_behind(self) -> None:
+        """A read that found less than it asked for has taken all that was there. Behind any other it is looked for more."""
+        self.needs("a C compiler", preloaded.has_compiler())
+        environment = preloaded.environment(self.folder, CALLS=self.path("calls"), WAITS=1)
+        with Serving(self.made(topology([(1, 1)])), env=environment) as server:
+            with server.connect() as connection:
+                for number in range(1, 6):
+                    connection.send({"op": "reset", "client": 1, "number": number, "node": 1})
+                    connection.line()
+                self.assertEqual(self.looks(), 0)
+                connection.send(b'{"op":"resend"}\n' * 100)
+                for _ in range(100):
+                    connection.line()
+                self.assertGreater(self.looks(), 0)
+            self.assertEqual(server.close().status, 0)
+
+    def looks(self) -> int:
+        """How often the program has looked whether more is there."""
+        return self.read("calls").decode().count("look ")
+
     def test_reads_and_writes_that_are_interrupted(self) -> None:
         """As a stop of the process does. Also answers that go out byte by byte come whole, and once."""
         self.needs("a C compiler", preloaded.has_compiler())

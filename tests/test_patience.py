@@ -122,8 +122,8 @@ class Patience(Case):
             self.expect_within(LINE, begun, server)
 
     def test_the_times_that_the_system_is_told(self) -> None:
-        """For each read and each write: of a line that has begun what is left of its time, and not of a silence. The clock
-        stands still, and is put forward by a second between two parts of what is sent."""
+        """Where a read or a write waits otherwise than the last one: of a line that has begun what is left of its time, and
+        not of a silence. The clock stands still, and is put forward by a second between two parts of what is sent."""
         self.needs("a C compiler", preloaded.has_compiler())
         log = self.path("calls")
         environment = preloaded.environment(self.folder, CALLS=log, WAITS=1, STILL=1, CLOCK=self.clock(0))
@@ -131,10 +131,12 @@ class Patience(Case):
             self.expect_times(log, [SILENCE])
             for ahead, (part, times) in enumerate((
                     (b'{"op":', [LINE]), (b'"resend"', [LINE - 1]), (b'}\n', [-REPLY, SILENCE]),
-                    (b'{"op":"resend"}\n', [-REPLY, SILENCE]), (b"x" * 600, [LINE, LINE]),
-                    (b"\n", [-REPLY, SILENCE]), (b'{"op":"close"', [LINE]), (b"}\n", [-REPLY, DISCARD])), 1):
+                    (b'{"op":"resend"}\n', []), (b"x" * 600, [LINE]),
+                    (b"\n", [SILENCE]), (b'{"op":"close"', [LINE]), (b"}\n", [DISCARD])), 1):
                 self.clock(ahead)
                 connection.send(part)
+                if part.endswith(b"\n"):
+                    connection.line()
                 self.expect_times(log, times)
             connection.socket.close()
             self.assertEqual(server.ended().status, 0)

@@ -218,10 +218,13 @@ int pthread_create(pthread_t *thread, const pthread_attr_t *how, void *(*run)(vo
     return ++threads == setting("THREAD_FAILS") ? EAGAIN : usual(thread, how, run, given);
 }
 ssize_t read(int file, void *buffer, size_t count) { return syscall(SYS_read, file, buffer, piece(count)); }
-// With STOPS each wait for what comes is interrupted after 10 ms.
+// With STOPS each wait for what comes is interrupted after 10 ms. With WAITS it is written down that it was looked at what is there.
 ssize_t recv(int socket, void *buffer, size_t count, int flags) {
     static long receives, stormed;
-    if (flags & MSG_PEEK) return syscall(SYS_recvfrom, socket, buffer, count, flags, 0, 0);
+    if (flags & MSG_PEEK) {
+        if (getenv("WAITS")) note("look", socket, 0, "", 0);
+        return syscall(SYS_recvfrom, socket, buffer, count, flags, 0, 0);
+    }
     if (storms("RECEIVE_STORM", &stormed) || (setting("INTERRUPTS") && ++receives % 2)) return interrupted();
     if (!setting("STOPS")) return syscall(SYS_recvfrom, socket, buffer, piece(count), flags, 0, 0);
     ssize_t received = syscall(SYS_recvfrom, socket, buffer, piece(count), flags | MSG_DONTWAIT, 0, 0);

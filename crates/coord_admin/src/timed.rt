@@ -26,6 +26,11 @@ pub struct TimedStream<'a, S, T: Clock> {
     opened: Instant,
     /// Since when the end of a line is waited for.
     line_begun: Option<Instant>,
+    /// How long a read and a write wait, as the system was told last.
+    read_wait: Option<Duration>,
+    write_wait: Option<Duration>,
+    /// Whether the last read filled its buffer: only then more may have been there.
+    has_filled: bool,
 }
 
 /// How much of a span of time is left since its start; None once it is over.
@@ -42,6 +47,7 @@ fn left<T: Clock>(clock: &T, start: Instant, span: Duration) -> Option<Duration>
 fn read_within<S: Read + OpenStream, T: Clock>(
     clock: &T,
     stream: &mut S,
+    told: &mut Option<Duration>,
     buffer: &mut [u8],
     span: Duration,
 ) -> Result<usize, NotRead>
@@ -53,9 +59,10 @@ fn read_within<S: Read + OpenStream, T: Clock>(
     };
     let mut wait = span;
     for _ in 0..MOST_READS {
-        if stream.set_read_timeout(Some(wait)).is_err() {
+        if *told != Some(wait) && stream.set_read_timeout(Some(wait)).is_err() {
             return Err(NotRead);
         }
+        *told = Some(wait);
         match stream.read(buffer) {
             Ok(count) => return Ok(count),
             Err(error) if error.kind() == ErrorKind::Interrupted => {}
@@ -80,6 +87,9 @@ impl<'a, S: Read + Write + OpenStream + Drop, T: Clock> TimedStream<'a, S, T> {
             patience,
             opened,
             line_begun: None,
+            read_wait: None,
+            write_wait: None,
+            has_filled: false,
         })
     }
 
@@ -117,7 +127,8 @@ impl<'a, S: Read + Write + OpenStream + Drop, T: Clock> TimedStream<'a, S, T> {
             let Some(wait) = left(self.clock, start, self.patience.discard) else {
                 return;
             };
-            match read_within(self.clock, &mut self.stream, &mut buffer, wait) {
+            let told = &mut self.read_wait;
+            match read_within(self.clock, &mut self.stream, told, &mut buffer, wait) {
                 Ok(0) | Err(NotRead) => return,
                 Ok(_) => {}
             }
@@ -131,15 +142,19 @@ impl<'a, S: Read + Write + OpenStream + Drop, T: Clock> Duplex for TimedStream<'
     ghost has_ended = { λ _. ⊤ };
 
     fn receive(&mut self, buffer: &mut [u8], is_within_line: bool) -> Result<usize, NotRead> {
-        match self.waits(is_within_line) {
-            Some(wait) => read_within(self.clock, &mut self.stream, buffer, wait),
-            None => Err(NotRead),
-        }
+        let Some(wait) = self.waits(is_within_line) else {
+            return Err(NotRead);
+        };
+        let told = &mut self.read_wait;
+        let read = read_within(self.clock, &mut self.stream, told, buffer, wait);
+        self.has_filled = read == Ok(buffer.len());
+        read
     }
 
-    /// Looks without waiting. A stream that can't be made to wait again fails at the next read.
+    /// Looks without waiting, unless the last read has shown that nothing is there. A stream that can't
+    /// be made to wait again fails at the next read.
     fn has_more(&self) -> bool {
-        if self.stream.set_nonblocking(true).is_err() {
+        if !self.has_filled || self.stream.set_nonblocking(true).is_err() {
             return false;
         }
         let looked = self.stream.peek(&mut [0]);
@@ -152,6 +167,7 @@ impl<'a, S: Read + Write + OpenStream + Drop, T: Clock> Duplex for TimedStream<'
             return Err(NotWritten);
         };
         let mut rest = text;
+        let mut wait = Some(self.patience.reply);
         for _ in 0..MOST_WRITES {
             if rest.is_empty() {
                 return match self.stream.flush() {
@@ -159,18 +175,20 @@ impl<'a, S: Read + Write + OpenStream + Drop, T: Clock> Duplex for TimedStream<'
                     Err(_) => Err(NotWritten),
                 };
             }
-            let Some(wait) = left(self.clock, ready, self.patience.reply) else {
-                return Err(NotWritten);
-            };
-            if self.stream.set_write_timeout(Some(wait)).is_err() {
+            if wait.is_none() {
                 return Err(NotWritten);
             }
+            if self.write_wait != wait && self.stream.set_write_timeout(wait).is_err() {
+                return Err(NotWritten);
+            }
+            self.write_wait = wait;
             match self.stream.write(rest) {
                 Ok(0) => return Err(NotWritten),
                 Ok(count) => rest = &rest[count..],
                 Err(error) if error.kind() == ErrorKind::Interrupted => {}
                 Err(_) => return Err(NotWritten),
             }
+            wait = left(self.clock, ready, self.patience.reply);
         }
         Err(NotWritten)
     }

@@ -6,7 +6,7 @@ use Rattle.coord_store.specs.declared.faults.CommitFault.TheVariants.{OutOfMemor
 use Rattle.coord_ledger.specs.declared.release.Release.{Release}
 use Rattle.coord_engine.specs.Flights.{AnswersFlush, RefusesFlush}
 use Rattle.coord_engine.specs.Pacing.{is_idle, is_over}
-use Rattle.coord_engine.specs.Port.{AreAsked, deliveries_of}
+use Rattle.coord_engine.specs.Port.{AreHanded, deliveries_of}
 use Rattle.coord_engine.specs.State.{Basis}
 use Rattle.coord_engine.specs.Threads.{AtSomeMoment}
 use Rattle.coord_engine.specs.declared.flushing.TheConstants.{CALLERS_PART, PATIENCE, REST}
@@ -25,11 +25,11 @@ finds_no_memory (Err OutOfMemory) = true
 finds_no_memory answer = false
 
 -- the meaning of an engine, and of the port that it hands to
-module _ {D P : Type 0} (b : Basis D) (failures : D → ℕ) (carried : P → ℕ → Packet → Bool → P → Type 0) (signalled : P → ℕ → ℕ → Bool → P → Type 0) where
-  -- what follows a flush before the next one: all that was released is asked of the port, each delivery once and in order; where none left or there was no memory, nothing is; behind any other fault no flush follows
+module _ {D P : Type 0} (b : Basis D) (failures : D → ℕ) (carried : P → ℕ → Packet → Bool → P → Type 0) (signalled : P → ℕ → ℕ → Bool → P → Type 0) (handed_on : P → ℕ → P → Type 0) where
+  -- what follows a flush before the next one: all that was released is asked of the port, each delivery once and in order, and then it is to hand on what it has gathered; where none left or there was no memory, nothing is; behind any other fault no flush follows
   abbrev pub Follows : P → Result (Option (List Release)) CommitFault → P → Type 0
   Follows port (Ok None) later = later ≡ port
-  Follows port (Ok (Some released)) later = AreAsked carried signalled port (deliveries_of released) later
+  Follows port (Ok (Some released)) later = AreHanded carried signalled handed_on port (deliveries_of released) later
   Follows port (Err OutOfMemory) later = later ≡ port
   Follows port (Err fault) later = ⊥
 

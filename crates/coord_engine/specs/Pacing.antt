@@ -30,9 +30,9 @@ is_gathered g = nat_eq g.in_hand 0 && nat_le g.awaited (pending_count g)
 abbrev pub starts_at_once : {D : Type 0} → GuardedState D → Bool
 starts_at_once g = is_gathered g || (nat_le MAX_BATCH_STEPS (pending_count g) || g.finishing)
 
--- a flusher is to be woken: for the first step that is pending, from which on it waits a little, and once a flight starts at once
-abbrev pub wakes_flusher : {D : Type 0} → GuardedState D → Bool
-wakes_flusher g = not (is_idle g) && (nat_eq (pending_count g) 1 || starts_at_once g)
+-- a flusher is to be woken: where nothing could be flushed before, since from now on it waits only a little, and once a flight starts at once
+abbrev pub wakes_flusher : {D : Type 0} → Bool → GuardedState D → Bool
+wakes_flusher was_idle g = not (is_idle g) && (was_idle || starts_at_once g)
 
 -- with another count of packets in hand
 abbrev pub with_in_hand : {D : Type 0} → GuardedState D → ℕ → GuardedState D

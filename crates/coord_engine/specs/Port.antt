@@ -36,3 +36,12 @@ module _ {P : Type 0} (carried : P → ℕ → Packet → Bool → P → Type 0)
   abbrev pub AreAsked : P → List Delivery → P → Type 0
   AreAsked port [] later = later ≡ port
   AreAsked port (d ∷ ds) later = (next : P) × IsAsked port d next × AreAsked next ds later
+
+  -- `handed_on`: what a port may be once it has handed on what it had gathered, and answered that so many packets are lost
+  module _ (handed_on : P → ℕ → P → Type 0) where
+    -- a port was asked for these, each once and in order, and then to hand on what it had gathered
+    pub record AreHanded (port : P) (ds : List Delivery) (later : P) : Type 0 where
+      pub asked : P
+      pub lost : ℕ
+      pub are_asked : AreAsked port ds asked
+      pub hands_on : handed_on asked lost later

@@ -1,5 +1,6 @@
 -- How a worker works: what came, what was tried, what waits, and what it notes in its share.
-use Rattle.std.specs.Prelude.{◌≡◌, ◌⊎◌, ℕ, ◌+◌, ◌-◌, ◌^◌, min, Bool, true, false, List, [], ◌∷◌, ◌++◌, All, Result, Ok, Err}
+use Rattle.std.specs.Prelude.{◌≡◌, ◌⊎◌, ℕ, ◌+◌, ◌-◌, ◌^◌, min, Bool, true, false, List, [], ◌∷◌, ◌++◌, All, Result, Ok, Err, Vec, flat_map}
+use Rattle.std.specs.declared.alloc.Global.{Global}
 use Rattle.coord_types.specs.declared.packets.Packet.{Packet}
 use Rattle.coord_types.specs.declared.refusals.Refusal.{Refusal}
 use Rattle.coord_types.specs.declared.refusals.Refusal.TheVariants.{OutOfMemory, PendingFull}
@@ -44,6 +45,10 @@ with_put_down hand = record hand { put_down = one_more hand.put_down }
 abbrev pub Keeps : Bool → Hand → Packet → Hand → Type 0
 Keeps true hand p kept = (kept ≡ record hand { waiting = with_packet hand.waiting p }) ⊎ (kept ≡ record hand { lost = one_more hand.lost })
 Keeps false hand p kept = kept ≡ hand
+
+-- the packets of what came together, in order
+abbrev pub packets_of : List (Vec Packet Global) → List Packet
+packets_of parcels = flat_map (λ parcel. parcel.items) parcels
 
 module _ {D : Type 0} (b : Basis D) where
   -- a packet's step was submitted, and whether the packet has to wait

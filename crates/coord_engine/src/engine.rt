@@ -102,8 +102,9 @@ impl<D: Disk, L: Origin> Engine<D, L> {
     {
         let mut guarded = self.guarded.lock(rt);
         guarded.keeps();
+        let was_idle = guarded.is_idle();
         let answer = guarded.submit(step, mine);
-        let wakes = guarded.wakes_flusher();
+        let wakes = guarded.wakes_flusher(was_idle);
         drop(guarded);
         if wakes {
             self.work.notify_all();

@@ -1,20 +1,19 @@
 //! Flights as they are needed, and what they release handed to a port.
 
-ghost use Rattle.std.specs.Prelude.{◌≡◌, Bool, false, true, length};
+ghost use Rattle.std.specs.Prelude.{◌≡◌, false, true, length};
 ghost use Rattle.std.specs.Sync.Mutex.{mutex_guard_value};
 ghost use Rattle.coord_engine.specs.Flights.{AnswersFlush};
 ghost use Rattle.coord_engine.specs.Flushing.{HasFlushed, finds_no_memory};
 ghost use Rattle.coord_engine.specs.Pacing.{is_idle, is_over};
-ghost use Rattle.coord_engine.specs.Port.{IsAsked, AreAsked, deliveries_of};
+ghost use Rattle.coord_engine.specs.Port.{AreAsked, AreHanded, IsAsked, deliveries_of};
 ghost use Rattle.coord_engine.specs.State.{based_on};
 ghost use Rattle.coord_engine.specs.Threads.{AtSomeMoment};
 
 use crate::port::{Delivery, Port};
-use crate::{Engine, Guarded, Origin, PutDown};
+use crate::{Engine, Guarded, Origin};
 use coord_disk::Disk;
 use coord_ledger::Releases;
 use coord_store::CommitFault;
-use coord_types::{NodeId, Packet};
 use std::sync::{MutexGuard, Wait};
 use std::time::{Clock, Duration, Instant};
 use std::{io, thread};
@@ -47,27 +46,25 @@ fn patience_since<R: Clock>(rt: &R, start: io::Result<Instant>) -> Duration {
 }
 
 impl<D: Disk, L: Origin> Engine<D, L> {
-    /// Hands a packet to a port: it is in hand, unless the port says that it is lost. It is counted
-    /// before the port has it, since its worker may be done with it first.
-    fn hand_packet<P: Port, R: Wait>(&self, rt: &R, port: &mut P, to: NodeId, packet: Packet)
-        ensures { (answer : Bool) × P.carried port.old to packet answer port.new }
-    {
-        self.guarded.lock(rt).raise_in_hand();
-        if !port.carry(to, packet) {
-            self.put_down(rt);
-        }
+    /// So many packets are about to be handed to a port. They are counted before the port has them,
+    /// since a worker may be done with one first.
+    fn take_in_hand<R: Wait>(&self, rt: &R, count: u64) {
+        self.guarded.lock(rt).raise_in_hand(count);
     }
 
-    /// A packet that was in hand was submitted, dropped, kept or lost.
-    pub(crate) fn put_down<R: Wait>(&self, rt: &R) -> PutDown {
+    /// So many of those that were counted are in nobody's hand.
+    fn let_go<R: Wait>(&self, rt: &R, count: u64) {
+        if count == 0 {
+            return;
+        }
         let mut guarded = self.guarded.lock(rt);
-        let put_down = guarded.lower_in_hand();
-        let wakes = guarded.wakes_flusher();
+        let was_idle = guarded.is_idle();
+        guarded.lower_in_hand(count);
+        let wakes = guarded.wakes_flusher(was_idle);
         drop(guarded);
         if wakes {
             self.work.notify_all();
         }
-        put_down
     }
 
     /// Takes the lock once something can be flushed, or nothing will be any more.
@@ -119,25 +116,39 @@ impl<D: Disk, L: Origin> Engine<D, L> {
     }
 }
 
-/// Asks a port for a delivery.
-fn ask<D: Disk, L: Origin, P: Port, R: Wait>(
-    rt: &R,
-    engine: &Engine<D, L>,
-    port: &mut P,
-    delivery: Delivery,
-)
+/// Asks a port for a delivery. Whether a packet is in its hand by that: a signal is no packet, and
+/// one may be lost.
+fn ask<P: Port>(port: &mut P, delivery: Delivery) -> bool
     ensures { IsAsked P.carried P.signalled port.old delivery port.new }
 {
     match delivery {
         Delivery::Signal(node, epoch) => {
             port.signal(node, epoch);
+            false
         }
-        Delivery::Carry(to, packet) => engine.hand_packet(rt, port, to, packet),
+        Delivery::Carry(to, packet) => port.carry(to, packet),
     }
 }
 
-/// Hands all that was released to a port, in order and each delivery once, and answers how much that
-/// was. What the port answers that it has lost is lost.
+/// Asks a port for a delivery for each release, in order. How many packets are in its hand by that.
+fn ask_for_all<P: Port>(port: &mut P, releases: Releases) -> u64
+    ensures { AreAsked P.carried P.signalled port.old (deliveries_of releases) port.new }
+{
+    let mut left = releases;
+    let count = left.len();
+    let mut in_hand = 0u64;
+    for _handed in 0..count {
+        if let Some(release) = left.next() {
+            let is_in_hand = ask(port, Delivery::of(release.output));
+            in_hand = in_hand.saturating_add(u64::from(is_in_hand));
+        }
+    }
+    left.lose_rest();
+    in_hand
+}
+
+/// Hands all that was released to a port, in order and each delivery once, has it hand that on, and
+/// answers how much it was. What the port answers that it has lost is lost.
 pub fn hand_over<D: Disk, L: Origin, P: Port, R: Wait>(
     rt: &R,
     engine: &Engine<D, L>,
@@ -145,16 +156,14 @@ pub fn hand_over<D: Disk, L: Origin, P: Port, R: Wait>(
     releases: Releases,
 ) -> u64
     ensures count { result ≡ length releases }
-    ensures handed { AreAsked P.carried P.signalled port.old (deliveries_of releases) port.new }
+    ensures handed { AreHanded P.carried P.signalled P.handed_on port.old (deliveries_of releases) port.new }
 {
-    let mut left = releases;
-    let count = left.len();
-    for _handed in 0..count {
-        if let Some(release) = left.next() {
-            ask(rt, engine, port, Delivery::of(release.output));
-        }
-    }
-    left.lose_rest();
+    let count = releases.len();
+    engine.take_in_hand(rt, count);
+    let in_hand = ask_for_all(port, releases);
+    let lost = port.hand_on();
+    let carried = in_hand.saturating_sub(lost);
+    engine.let_go(rt, count.saturating_sub(carried));
     count
 }
 
@@ -217,7 +226,7 @@ pub fn flusher<D: Disk, L: Origin, P: Port, R: Wait + Clock>(
     port: &mut P,
 )
     ensures { HasFlushed (based_on D.model.keeps_model D.model.present L.base L.before) D.model.failures
-        P.carried P.signalled port.old port.new }
+        P.carried P.signalled P.handed_on port.old port.new }
 {
     let mut pace = Pace::at_first();
     for _ in rt.forever() {

@@ -21,13 +21,21 @@ pub trait Port {
     /// What it may be once it was asked to signal an epoch to a node, and answered so.
     ghost signalled: { Self → ℕ → ℕ → Bool → Self → Type 0 } = { λ _ _ _ _ _. ⊤ };
 
-    /// Carries a packet to this node.
+    /// What it may be once it was told to hand on what it has gathered, and answered so.
+    ghost handed_on: { Self → ℕ → Self → Type 0 } = { λ _ _ _. ⊤ };
+
+    /// Carries a packet to this node. It may gather packets, so that those for one place go together.
     fn carry(&mut self, to: NodeId, packet: Packet) -> bool
         ensures { carried self.old to packet result self.new };
 
     /// Says to the service at this node that a reset has ended there, with the epoch that began.
     fn signal(&mut self, node: NodeId, epoch: u64) -> bool
         ensures { signalled self.old node epoch result self.new };
+
+    /// Hands on the packets that it has gathered: nothing more is asked of it for now. Answers how many
+    /// of them it knows to be lost by that.
+    fn hand_on(&mut self) -> u64
+        ensures { handed_on self.old result self.new };
 }
 
 /// What is asked of a port for an output.

@@ -1,13 +1,13 @@
 //! Packets that came, submitted as steps.
 
-ghost use Rattle.std.specs.Prelude.{◌≡◌, List};
+ghost use Rattle.std.specs.Prelude.{◌≡◌, List, Vec};
 ghost use Rattle.std.specs.Iterator.{Drains, IsFinite};
 ghost use Rattle.coord_types.specs.declared.packets.Packet.{Packet as Asked};
 ghost use Rattle.coord_engine.specs.State.{based_on};
-ghost use Rattle.coord_engine.specs.Working.{AddsPackets, Takes, Tries, TriesAll, Works, has_to_wait};
+ghost use Rattle.coord_engine.specs.Working.{AddsPackets, Takes, Tries, TriesAll, Works, has_to_wait, packets_of};
 
 use crate::port::step_of;
-use crate::{Engine, Hand, Origin, PacketShare, Share, Waiting};
+use crate::{Engine, Guarded, Hand, Origin, PacketShare, Share, Waiting};
 use coord_disk::Disk;
 use coord_types::{Packet, Refusal};
 use crossbeam_channel::Receiver;
@@ -22,16 +22,16 @@ fn has_to_wait(refusal: Refusal) -> bool
 }
 
 /// Submits a packet's step, whose reply is forgotten. Whether the packet has to wait.
-fn submit<D: Disk, L: Origin, R: Wait>(
-    rt: &R,
-    engine: &Engine<D, L>,
+fn submit<D: Disk, L: Origin>(
+    guarded: &mut Guarded<D, L>,
     packet: Packet,
     share: &mut Share<L>,
 ) -> bool
     ensures { Tries (based_on D.model.keeps_model D.model.present L.base L.before) share.old packet result
         share.new }
 {
-    match engine.submit(rt, step_of(packet), share) {
+    guarded.keeps();
+    match guarded.submit(step_of(packet), share) {
         Ok(ticket) => {
             ticket.forget();
             false
@@ -41,9 +41,8 @@ fn submit<D: Disk, L: Origin, R: Wait>(
 }
 
 /// Submits the packets that wait, in order, up to the first that still has to wait.
-fn try_waiting<D: Disk, L: Origin, R: Wait>(
-    rt: &R,
-    engine: &Engine<D, L>,
+fn try_waiting<D: Disk, L: Origin>(
+    guarded: &mut Guarded<D, L>,
     share: &mut Share<L>,
     waiting: &mut Waiting,
 )
@@ -54,7 +53,7 @@ fn try_waiting<D: Disk, L: Origin, R: Wait>(
         let Some(packet) = waiting.first() else {
             return;
         };
-        if submit(rt, engine, packet, share) {
+        if submit(guarded, packet, share) {
             return;
         }
         waiting.drop_first();
@@ -62,9 +61,8 @@ fn try_waiting<D: Disk, L: Origin, R: Wait>(
 }
 
 /// Submits a packet that came, keeps it where it has to wait, and puts it down.
-fn take<D: Disk, L: Origin, R: Wait>(
-    rt: &R,
-    engine: &Engine<D, L>,
+fn take<D: Disk, L: Origin>(
+    guarded: &mut Guarded<D, L>,
     packet: &Packet,
     share: &mut Share<L>,
     hand: &mut Hand,
@@ -72,35 +70,71 @@ fn take<D: Disk, L: Origin, R: Wait>(
     ensures { Takes (based_on D.model.keeps_model D.model.present L.base L.before) share.old hand.old
         packet.now share.new hand.new }
 {
-    let has_to_wait = submit(rt, engine, *packet, share);
+    let has_to_wait = submit(guarded, *packet, share);
     hand.keep(packet, has_to_wait);
-    hand.count(engine.put_down(rt));
+    hand.count(guarded.put_down());
+}
+
+/// Takes packets in order, and tries those that wait behind each.
+fn take_each<D: Disk, L: Origin>(
+    guarded: &mut Guarded<D, L>,
+    packets: &[Packet],
+    share: &mut Share<L>,
+    hand: &mut Hand,
+)
+    ensures { Works (based_on D.model.keeps_model D.model.present L.base L.before) share.old hand.old
+        packets.now share.new hand.new }
+{
+    for packet in packets {
+        take(guarded, packet, share, hand);
+        try_waiting(guarded, share, &mut hand.waiting);
+    }
+}
+
+/// Takes packets that came together under one lock, and wakes the flusher once.
+fn take_together<D: Disk, L: Origin, R: Wait>(
+    rt: &R,
+    engine: &Engine<D, L>,
+    packets: &[Packet],
+    share: &mut Share<L>,
+    hand: &mut Hand,
+)
+    ensures { Works (based_on D.model.keeps_model D.model.present L.base L.before) share.old hand.old
+        packets.now share.new hand.new }
+{
+    let mut guarded = engine.guarded.lock(rt);
+    let was_idle = guarded.is_idle();
+    take_each(&mut guarded, packets, share, hand);
+    let wakes = guarded.wakes_flusher(was_idle);
+    drop(guarded);
+    if wakes {
+        engine.work.notify_all();
+    }
 }
 
 /// Submits the packets that come, in order, and ends behind the last one. Their replies are
-/// forgotten.
+/// forgotten. Those that come together are submitted under one lock.
 ///
 /// Where no more steps may be pending, or no memory is found, it keeps the packet, and tries those
 /// kept again before it takes the next one. After any other refusal it drops the packet, and where
 /// there is no memory to keep it, it loses it: what was needed is sent again. In any case it puts the
 /// packet down.
-pub fn worker<D: Disk, L: Origin, I: Iterator<Item = Packet>, R: Wait>(
+pub fn worker<D: Disk, L: Origin, I: Iterator<Item = Vec<Packet>>, R: Wait>(
     rt: &R,
     engine: &Engine<D, L>,
-    packets: I,
+    parcels: I,
     share: Share<L>,
     hand: &mut Hand,
 ) -> Share<L>
-    requires { I.can_next packets × IsFinite (I.remaining packets) }
-    ensures worked { (came : List Asked) × Drains I.next_gives packets came ×
-        Works (based_on D.model.keeps_model D.model.present L.base L.before) share hand.old came result
-        hand.new }
+    requires { I.can_next parcels × IsFinite (I.remaining parcels) }
+    ensures worked { (came : List (Vec Asked Global)) × Drains I.next_gives parcels came ×
+        Works (based_on D.model.keeps_model D.model.present L.base L.before) share hand.old
+        (packets_of came) result hand.new }
     ensures packets { AddsPackets share result }
 {
     let mut share = share;
-    for packet in packets {
-        take(rt, engine, &packet, &mut share, hand);
-        try_waiting(rt, engine, &mut share, &mut hand.waiting);
+    for packets in parcels {
+        take_together(rt, engine, &packets, &mut share, hand);
     }
     share
 }
@@ -111,13 +145,13 @@ pub fn packet_worker<D: Disk, L: Origin, R: Wait>(
     rt: &R,
     alloc: Global,
     engine: &Engine<D, L>,
-    packets: Receiver<Packet>,
+    parcels: Receiver<Vec<Packet>>,
     share: PacketShare<L>,
 ) -> PacketShare<L>
     ensures { AddsPackets share result }
 {
     let mut hand = Hand::new(alloc);
     PacketShare {
-        share: worker(rt, engine, packets.iter(rt), share.into_share(), &mut hand),
+        share: worker(rt, engine, parcels.iter(rt), share.into_share(), &mut hand),
     }
 }

@@ -10,7 +10,7 @@ use Rattle.coord_ledger.specs.declared.release.Release.{Release}
 use Rattle.coord_ledger.specs.declared.ticket.Note.{Note}
 use Rattle.coord_ledger.specs.ledger.State.{Claim}
 use Rattle.coord_view.specs.Shown as shown
-use Rattle.coord_engine.specs.Facade.{AreAsked, Basis, CollectsAs, deliveries_of}
+use Rattle.coord_engine.specs.Facade.{AreHanded, Basis, CollectsAs, deliveries_of}
 use Rattle.coord_engine.specs.Threads.{AnswersShow, AtSomeMoment, SendsAgain, Submits}
 use Rattle.coord_engine.specs.declared.collected.Collected.TheVariants.{Settled, Refused}
 use Rattle.coord_admin.specs.Replies.{order_answer, resend_answer, show_answer}
@@ -52,10 +52,10 @@ abbrev pub Resends : {D : Type 0} → Basis D → Result ℕ Refusal → Type 0
 Resends {D} b (Ok count) = (released : List Release) × AtSomeMoment b (SendsAgain {D = D} released) × (count ≡ length released)
 Resends {D} b (Err refusal) = refusal ≡ OutOfMemory
 
--- What may have been lost was asked of a port again, each packet once and in order, and so many they are. `carried`, `signalled`: what the port may be once it was asked so.
-abbrev pub HandsAgain : {D P : Type 0} → Basis D → (P → ℕ → Packet → Bool → P → Type 0) → (P → ℕ → ℕ → Bool → P → Type 0) → ℕ → P → P → Type 0
-HandsAgain {D} b carried signalled count port later =
-    (released : List Release) × AtSomeMoment b (SendsAgain {D = D} released) × (count ≡ length released) × AreAsked carried signalled port (deliveries_of released) later
+-- What may have been lost was asked of a port again, each packet once and in order, and then it was to hand on what it had gathered; and so many they are. `carried`, `signalled`, `handed_on`: what the port may be once it was asked so.
+abbrev pub HandsAgain : {D P : Type 0} → Basis D → (P → ℕ → Packet → Bool → P → Type 0) → (P → ℕ → ℕ → Bool → P → Type 0) → (P → ℕ → P → Type 0) → ℕ → P → P → Type 0
+HandsAgain {D} b carried signalled handed_on count port later =
+    (released : List Release) × AtSomeMoment b (SendsAgain {D = D} released) × (count ≡ length released) × AreHanded carried signalled handed_on port (deliveries_of released) later
 
 abbrev pub DeskAnswers : {D P : Type 0} → Basis D → DeskState P → Request → Answer → DeskState P → Type 0
 DeskAnswers {D} b d (request.Order client number command) answer e =

@@ -89,8 +89,8 @@ fn resend<D: Disk, L: Origin, P: Port, R: Wait>(
 ) -> Result<u64, Refusal>
     ensures counted { Resends (based_on D.model.keeps_model D.model.present L.base L.before) result }
     ensures handed { IfOk result (λ count. HandsAgain
-        (based_on D.model.keeps_model D.model.present L.base L.before) P.carried P.signalled count port.old
-        port.new) }
+        (based_on D.model.keeps_model D.model.present L.base L.before) P.carried P.signalled P.handed_on count
+        port.old port.new) }
 {
     match engine.resend(rt) {
         Ok(releases) => Ok(hand_over(rt, engine, port, releases)),
@@ -141,8 +141,8 @@ impl<'a, D: Disk, L: Origin, P: Port, R: Wait> Desk for EngineDesk<'a, D, L, P, 
         ensures answered { DeskAnswers (based_on D.model.keeps_model D.model.present L.base L.before) self.old
             request.Resend (resend_answer result) self.new }
         ensures handed { IfOk result (λ count. HandsAgain
-            (based_on D.model.keeps_model D.model.present L.base L.before) P.carried P.signalled count
-            self.old.port self.new.port) }
+            (based_on D.model.keeps_model D.model.present L.base L.before) P.carried P.signalled P.handed_on
+            count self.old.port self.new.port) }
     {
         resend(self.rt, self.engine, &mut self.port)
     }

@@ -144,7 +144,9 @@ fn closed_life<D: Disk, L: Origin, C: Drop>(
 }
 
 /// The ends of a channel for each worker.
-fn channels(alloc: Global) -> Result<(Vec<Sender<Packet>>, Vec<Receiver<Packet>>), AllocError>
+fn channels(
+    alloc: Global,
+) -> Result<(Vec<Sender<Vec<Packet>>>, Vec<Receiver<Vec<Packet>>>), AllocError>
     ensures { IfOk result (λ ends. (length ends.0.items ≡ 8) × (length ends.1.items ≡ 8)) }
 {
     let mut to = Vec::new(alloc);

@@ -6,7 +6,10 @@ ghost use Rattle.coord_server.specs.Workers.{worker_of};
 use coord_engine::Port;
 use coord_types::{NodeId, Packet};
 use crossbeam_channel::Sender;
+use std::alloc::Global;
+use std::array;
 use std::marker::Model;
+use std::mem;
 use std::sync::{Mutex, Wait};
 
 /// How many workers there are. A node belongs to the worker with the node's number modulo this.
@@ -19,13 +22,23 @@ pub struct Signal {
     pub epoch: u64,
 }
 
-/// Carries packets to the workers' channels, and signals to the channel of what prints them. It
-/// waits for neither: what a channel has no memory for is lost. No clause can say what lies behind its
-/// locks, so contracts see nothing of it.
+/// The ways to the workers: the channel of the worker i is the i-th, and the packets that are gathered
+/// for it are the i-th too.
+#[derive(Drop)]
+struct Ways {
+    channels: Vec<Sender<Vec<Packet>>>,
+    gathered: [Vec<Packet>; 8],
+}
+
+/// Carries packets to the workers' channels, and signals to the channel of what prints them. It gathers
+/// packets, and hands on those for one worker as one message, so that each is woken once. It waits for
+/// nobody: what there is no memory for is lost. No clause can say what lies behind its locks, so contracts
+/// see nothing of it.
 #[derive(Drop)]
 pub struct LocalPort<R: Wait> {
     rt: R,
-    channels: Mutex<Vec<Sender<Packet>>>,
+    alloc: Global,
+    ways: Mutex<Ways>,
     signals: Mutex<Option<Sender<Signal>>>,
 }
 
@@ -37,22 +50,31 @@ impl<R: Wait> Model for LocalPort<R> {
 
 impl<R: Wait> LocalPort<R> {
     /// The channel of the worker i is the i-th.
-    pub fn new(rt: R, channels: Vec<Sender<Packet>>, signals: Sender<Signal>) -> Self {
+    pub fn new(
+        rt: R,
+        alloc: Global,
+        channels: Vec<Sender<Vec<Packet>>>,
+        signals: Sender<Signal>,
+    ) -> Self {
         LocalPort {
             rt,
-            channels: Mutex::new(channels),
+            alloc,
+            ways: Mutex::new(Ways {
+                channels,
+                gathered: array::from_fn(|_| Vec::new(alloc)),
+            }),
             signals: Mutex::new(Some(signals)),
         }
     }
 
     /// Carries packets to these channels from now on.
-    pub fn connect(&self, channels: Vec<Sender<Packet>>) {
-        *self.channels.lock(&self.rt) = channels;
+    pub fn connect(&self, channels: Vec<Sender<Vec<Packet>>>) {
+        self.ways.lock(&self.rt).channels = channels;
     }
 
     /// Closes the channels of packets. What they hold is still received.
     pub fn hang_up(&self) {
-        self.channels.lock(&self.rt).clear();
+        self.ways.lock(&self.rt).channels.clear();
     }
 
     /// Closes the channel of signals. What it holds is still received.
@@ -72,21 +94,48 @@ fn worker_of(packet: &Packet) -> usize
     usize::from(node.number() % WORKERS)
 }
 
-/// Puts a packet into the channel of its worker.
-fn send<R: Wait>(rt: &R, channels: &[Sender<Packet>], packet: Packet) -> bool {
-    let worker = worker_of(&packet);
-    match channels.get(worker) {
-        Some(channel) => channel.send(rt, packet).is_ok(),
+/// Sends packets that were gathered for a worker, if there are some. How many of them are lost.
+fn send<R: Wait>(
+    rt: &R,
+    channels: &[Sender<Vec<Packet>>],
+    worker: usize,
+    packets: Vec<Packet>,
+) -> u64 {
+    let count = packets.len() as u64;
+    if count == 0 {
+        return 0;
+    }
+    let is_sent = match channels.get(worker) {
+        Some(channel) => channel.send(rt, packets).is_ok(),
         None => false,
+    };
+    if is_sent { 0 } else { count }
+}
+
+impl Ways {
+    /// Gathers a packet, which says itself where it goes.
+    fn gather(&mut self, packet: Packet) -> bool {
+        match self.gathered.get_mut(worker_of(&packet)) {
+            Some(packets) => packets.push(packet).is_ok(),
+            None => false,
+        }
+    }
+
+    /// Hands on what was gathered, and answers how many packets are lost.
+    fn hand_on<R: Wait>(&mut self, rt: &R, alloc: Global) -> u64 {
+        let mut lost = 0u64;
+        for (worker, gathered) in self.gathered.iter_mut().enumerate() {
+            let packets = mem::replace(gathered, Vec::new(alloc));
+            lost = lost.saturating_add(send(rt, &self.channels, worker, packets));
+        }
+        lost
     }
 }
 
 impl<R: Wait> Port for &LocalPort<R> {
-    /// A packet says itself where it goes.
     fn carry(&mut self, _to: NodeId, packet: Packet) -> bool {
         let port = *self;
-        let channels = port.channels.lock(&port.rt);
-        send(&port.rt, &channels, packet)
+        port.ways.lock(&port.rt).gather(packet)
     }
 
     fn signal(&mut self, node: NodeId, epoch: u64) -> bool {
@@ -95,5 +144,10 @@ impl<R: Wait> Port for &LocalPort<R> {
             Some(signals) => signals.send(&port.rt, Signal { node, epoch }).is_ok(),
             None => false,
         }
+    }
+
+    fn hand_on(&mut self) -> u64 {
+        let port = *self;
+        port.ways.lock(&port.rt).hand_on(&port.rt, port.alloc)
     }
 }

@@ -124,7 +124,7 @@ impl<R: Wait + Drop, W: Write + Drop> Outlet<R, W> {
         let (signalled, signals) = crossbeam_channel::unbounded(alloc)?;
         let printer = Printer::new(alloc, output);
         Ok(Outlet {
-            port: LocalPort::new(rt, Vec::new(alloc), signalled),
+            port: LocalPort::new(rt, alloc, Vec::new(alloc), signalled),
             opening: Opening { printer, to },
             printing: Printing { handed, signals },
         })

@@ -30,7 +30,7 @@ pub struct Begun<L: Count> {
     /// Room for all shares: none of them may be lost for want of memory.
     pub room: Vec<Share<L>>,
     /// What the workers receive.
-    pub packets: Vec<Receiver<Packet>>,
+    pub packets: Vec<Receiver<Vec<Packet>>>,
     pub ghost unused: { own ≡ [] },
     pub ghost has_room: { (room.items ≡ []) × (9 ≤ vec_capacity room) },
     pub ghost eight: { length packets.items ≡ 8 },
@@ -138,7 +138,7 @@ fn start<'s, 'r: 's, 'e: 's, E, D: Disk + Send, L: Origin + Send + Sync, R: Wait
     scope: &Scope<'s, E>,
     setting: &Setting<'r, R>,
     engine: &'e Engine<D, L>,
-    packets: Vec<Receiver<Packet>>,
+    packets: Vec<Receiver<Vec<Packet>>>,
 ) -> Option<Crew<L>>
     requires { vec_len packets ≡ 8 }
 {
@@ -159,7 +159,7 @@ fn start_workers<'s, 'r: 's, 'e: 's, E, D: Disk + Send, L: Origin + Send + Sync,
     scope: &Scope<'s, E>,
     setting: &Setting<'r, R>,
     engine: &'e Engine<D, L>,
-    packets: Vec<Receiver<Packet>>,
+    packets: Vec<Receiver<Vec<Packet>>>,
 ) -> Option<Vec<JoinHandle<PacketShare<L>>>>
     ensures { IfSome result (λ running. vec_len running ≡ vec_len packets) }
 {
@@ -178,7 +178,7 @@ fn start_worker<'s, 'r: 's, 'e: 's, E, D: Disk + Send, L: Origin + Send + Sync, 
     scope: &Scope<'s, E>,
     setting: &Setting<'r, R>,
     engine: &'e Engine<D, L>,
-    packets: Receiver<Packet>,
+    packets: Receiver<Vec<Packet>>,
 ) -> Option<JoinHandle<PacketShare<L>>> {
     let (rt, alloc) = (setting.rt, setting.alloc);
     let share = PacketShare::new(engine.share(rt)?);
@@ -235,8 +235,8 @@ fn serve_clients<D: Disk, L: Origin, C: Callers, P: Port, R: Wait>(
     ensures told { IfErr opened (λ fault. result ≡ LifeEnd.Ended (Some fault)) }
     ensures resent { IfOk opened (λ _.
         (result ≡ LifeEnd.Ended (Some ServerFault.OutOfMemory)) ⊎ ((count : ℕ) × (later : P) ×
-        HandsAgain (based_on D.model.keeps_model D.model.present L.base L.before) P.carried P.signalled count
-        desk.old.port later × ServesLife (based_on D.model.keeps_model D.model.present L.base L.before)
+        HandsAgain (based_on D.model.keeps_model D.model.present L.base L.before) P.carried P.signalled
+        P.handed_on count desk.old.port later × ServesLife (based_on D.model.keeps_model D.model.present L.base L.before)
         C.talked C.failed setting.now.life_steps later callers.old callers.new desk.new result)) }
     ensures served { (port : P) × ServesLife
         (based_on D.model.keeps_model D.model.present L.base L.before) C.talked C.failed setting.now.life_steps port

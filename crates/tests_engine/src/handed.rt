@@ -22,6 +22,7 @@ const NODES: u8 = 64;
 struct Counting {
     carried: u64,
     signalled: u64,
+    handed_on: u64,
 }
 
 impl Port for Counting {
@@ -34,16 +35,22 @@ impl Port for Counting {
         self.signalled = self.signalled.saturating_add(1);
         true
     }
+
+    fn hand_on(&mut self) -> u64 {
+        self.handed_on = self.handed_on.saturating_add(1);
+        0
+    }
 }
 
 fn new_port() -> Counting {
     Counting {
         carried: 0,
         signalled: 0,
+        handed_on: 0,
     }
 }
 
-/// What a flight releases is handed over: a packet and a signal, each once.
+/// What a flight releases is handed over: a packet and a signal, each once, and then it is handed on.
 pub(crate) fn hands_each<D: Disk, L: Origin, R: Wait + Clock + Abort>(
     rt: &R,
     alloc: Global,
@@ -54,6 +61,7 @@ pub(crate) fn hands_each<D: Disk, L: Origin, R: Wait + Clock + Abort>(
     let mut port = new_port();
     let count = hand_over(rt, engine, &mut port, releases);
     same(rt, &(count, port.carried, port.signalled), &(2, 1, 1));
+    same(rt, &port.handed_on, &1);
     Vec::new(alloc)
 }
 

@@ -46,13 +46,15 @@ pub(crate) fn takes_new_first<D: Disk, L: Origin, R: Wait + Clock + Abort>(
     assert!(rt; is_filled(rt, engine, &mut own, MOST + 1));
     let mut hand = Hand::new(alloc);
     let share = engine.share(rt).expect(rt, "no share");
-    let share = worker(rt, engine, [first].into_iter(), share, &mut hand);
+    let parcels = [vec![in alloc; first].expect(rt, "no memory")];
+    let share = worker(rt, engine, parcels.into_iter(), share, &mut hand);
     assert!(rt; share.notes().is_empty());
     for _ in 0..FLIGHTS {
         let flight = engine.flush_once(rt).expect(rt, "no flight");
         flight.expect(rt, "no releases").lose_rest();
     }
-    let share = worker(rt, engine, [second].into_iter(), share, &mut hand);
+    let parcels = [vec![in alloc; second].expect(rt, "no memory")];
+    let share = worker(rt, engine, parcels.into_iter(), share, &mut hand);
     drop(hand);
     let notes = share.notes();
     assert!(rt; notes.len() == 2 && is_of(notes.first(), second) && is_of(notes.last(), first));

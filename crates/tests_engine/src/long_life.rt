@@ -40,6 +40,10 @@ impl<R: Wait> Port for &Epochs<R> {
         }
         is_next
     }
+
+    fn hand_on(&mut self) -> u64 {
+        0
+    }
 }
 
 /// Submits the orders of a flight, has it flown, and hands over what it released.

@@ -210,7 +210,7 @@ fn run<D: Disk + Send, L: Origin + Send + Sync, R: Threads + Wait + Clock + Sync
 fn silent_port<R: Wait + Abort>(rt: &R, alloc: Global) -> LocalPort<&R> {
     let (signals, receiver) = crossbeam_channel::unbounded(alloc).expect(rt, "no channel");
     drop(receiver);
-    LocalPort::new(rt, Vec::new(alloc), signals)
+    LocalPort::new(rt, alloc, Vec::new(alloc), signals)
 }
 
 /// The lines get their replies. All shares.

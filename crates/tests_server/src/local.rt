@@ -1,5 +1,6 @@
 //! What a port within one process does with what it is asked: each packet goes to the worker of its
-//! node, and each signal to what prints, once, however great its numbers are.
+//! node, once it is to hand on what it has gathered, together with the others for that worker; and each
+//! signal to what prints; once, however great its numbers are.
 
 use coord_engine::Port;
 use coord_server::{LocalPort, Signal, WORKERS};
@@ -13,7 +14,10 @@ use std::sync::Wait;
 const NUMBERS: [u64; 6] = [1, 2, 65, 1_000, 100_000, 1 << 40];
 
 /// The ends of a channel for each worker.
-fn channels<R: Abort>(rt: &R, alloc: Global) -> (Vec<Sender<Packet>>, Vec<Receiver<Packet>>) {
+fn channels<R: Abort>(
+    rt: &R,
+    alloc: Global,
+) -> (Vec<Sender<Vec<Packet>>>, Vec<Receiver<Vec<Packet>>>) {
     let mut to = Vec::new(alloc);
     let mut from = Vec::new(alloc);
     for _ in 0..WORKERS {
@@ -50,22 +54,19 @@ fn goes_to(packet: &Packet) -> NodeId {
     }
 }
 
-/// Whether just this packet comes, and to its worker alone.
-fn comes_once<R: Wait>(
+/// Whether these packets have come to the worker of a node, together, and none to another.
+fn come_together<R: Wait>(
     rt: &R,
-    port: &LocalPort<&R>,
-    inboxes: &[Receiver<Packet>],
-    packet: Packet,
+    inboxes: &[Receiver<Vec<Packet>>],
+    node: NodeId,
+    packets: &[Packet],
 ) -> bool {
-    let node = goes_to(&packet);
-    let mut port = port;
-    if !port.carry(node, packet) {
-        return false;
-    }
     for (worker, inbox) in inboxes.iter().enumerate() {
-        let is_its = worker == usize::from(node.number() % WORKERS);
-        if is_its && inbox.try_recv(rt).ok() != Some(packet) {
-            return false;
+        if worker == usize::from(node.number() % WORKERS) {
+            match inbox.try_recv(rt) {
+                Ok(came) if came.as_slice() == packets => {}
+                _ => return false,
+            }
         }
         if inbox.try_recv(rt).is_ok() {
             return false;
@@ -74,24 +75,41 @@ fn comes_once<R: Wait>(
     true
 }
 
-/// Whether all packets between the node 64 and another come once.
+/// Whether two packets that go to one node come to its worker once they are handed on, together, and
+/// not again.
+fn both_come<R: Wait>(
+    rt: &R,
+    port: &LocalPort<&R>,
+    inboxes: &[Receiver<Vec<Packet>>],
+    packets: &[Packet; 2],
+) -> bool {
+    let [first, second] = packets;
+    let node = goes_to(first);
+    let mut port = port;
+    let are_carried = port.carry(node, *first) && port.carry(node, *second);
+    let is_early = inboxes.iter().any(|inbox| !inbox.is_empty());
+    let lost = port.hand_on();
+    let come = come_together(rt, inboxes, node, packets);
+    let lost_later = port.hand_on();
+    let is_late = inboxes.iter().any(|inbox| !inbox.is_empty());
+    are_carried && !is_early && come && !is_late && lost == 0 && lost_later == 0
+}
+
+/// Whether all packets to the node 64 and to another, between the two, come once.
 fn all_come<R: Wait + Abort>(
     rt: &R,
     port: &LocalPort<&R>,
-    inboxes: &[Receiver<Packet>],
+    inboxes: &[Receiver<Vec<Packet>>],
     other: NodeId,
 ) -> bool {
     let last = NodeId::new(64).expect(rt, "no node");
     for number in NUMBERS {
-        for packet in packets(other, last, number) {
-            if !comes_once(rt, port, inboxes, packet) {
-                return false;
-            }
-        }
-        for packet in packets(last, other, number) {
-            if !comes_once(rt, port, inboxes, packet) {
-                return false;
-            }
+        let [data, receipt] = packets(other, last, number);
+        let [back, receipt_back] = packets(last, other, number);
+        if !both_come(rt, port, inboxes, &[data, receipt_back])
+            || !both_come(rt, port, inboxes, &[back, receipt])
+        {
+            return false;
         }
     }
     true
@@ -120,7 +138,7 @@ fn all_told<R: Wait>(
 fn is_so<R: Wait + Abort>(rt: &R, alloc: Global) -> bool {
     let (to, inboxes) = channels(rt, alloc);
     let (told, signals) = crossbeam_channel::unbounded(alloc).expect(rt, "no memory");
-    let port = LocalPort::new(rt, to, told);
+    let port = LocalPort::new(rt, alloc, to, told);
     let mut is_so = true;
     for id in 1..=64 {
         let node = NodeId::new(id).expect(rt, "no node");

@@ -22,7 +22,7 @@ use coord_types::{MAX_BATCH_STEPS, Step};
 /// the wait costs more than the few that are missing.
 const MOST_AWAITED: u64 = 32;
 
-/// Says that the count of packets in hand was lowered by one. Nothing but `lower_in_hand` makes it.
+/// Says that the count of packets in hand was lowered by one. Nothing but `put_down` makes it.
 #[derive(Drop)]
 pub struct PutDown(());
 
@@ -44,18 +44,25 @@ fn next_steps(steps: &[Step]) -> &[Step]
 }
 
 impl<D: Disk, L: Origin> Guarded<D, L> {
-    /// One more packet is handed over.
-    pub fn raise_in_hand(&mut self)
-        ensures { self.new ≡ with_in_hand self.old (min (self.old.in_hand + 1) (2 ^ 64 - 1)) }
+    /// So many more packets are handed over.
+    pub fn raise_in_hand(&mut self, count: u64)
+        ensures { self.new ≡ with_in_hand self.old (min (self.old.in_hand + count) (2 ^ 64 - 1)) }
     {
-        self.in_hand = self.in_hand.saturating_add(1);
+        self.in_hand = self.in_hand.saturating_add(count);
+    }
+
+    /// So many are in no hand.
+    pub fn lower_in_hand(&mut self, count: u64)
+        ensures { self.new ≡ with_in_hand self.old (self.old.in_hand - count) }
+    {
+        self.in_hand = self.in_hand.saturating_sub(count);
     }
 
     /// A packet was submitted, dropped, kept or lost.
-    pub fn lower_in_hand(&mut self) -> PutDown
+    pub fn put_down(&mut self) -> PutDown
         ensures { self.new ≡ with_in_hand self.old (self.old.in_hand - 1) }
     {
-        self.in_hand = self.in_hand.saturating_sub(1);
+        self.lower_in_hand(1);
         PutDown(())
     }
 
@@ -125,10 +132,10 @@ impl<D: Disk, L: Origin> Guarded<D, L> {
         self.is_gathered() || self.pending() >= MAX_BATCH_STEPS || self.finishing
     }
 
-    /// Whether a flusher that waits is to be woken.
-    pub fn wakes_flusher(&self) -> bool
-        ensures { result ≡ wakes_flusher self.now }
+    /// Whether a flusher that waits is to be woken, where nothing could be flushed before or something.
+    pub fn wakes_flusher(&self, was_idle: bool) -> bool
+        ensures { result ≡ wakes_flusher was_idle self.now }
     {
-        !self.is_idle() && (self.pending() == 1 || self.starts_at_once())
+        !self.is_idle() && (was_idle || self.starts_at_once())
     }
 }

@@ -40,6 +40,10 @@ impl Port for Sink {
     fn signal(&mut self, _node: NodeId, _epoch: u64) -> bool {
         true
     }
+
+    fn hand_on(&mut self) -> u64 {
+        0
+    }
 }
 
 /// Adds or removes the node.

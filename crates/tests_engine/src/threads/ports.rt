@@ -46,17 +46,21 @@ impl Manner {
 /// The channels, and a packet that is held back.
 #[derive(Drop)]
 struct Carrier {
-    channels: Vec<Sender<Packet>>,
+    alloc: Global,
+    channels: Vec<Sender<Vec<Packet>>>,
     manner: Manner,
     count: u64,
     held: Option<(NodeId, Packet)>,
 }
 
 impl Carrier {
-    // Puts a packet into its node's channel.
+    // Puts a packet by itself into its node's channel.
     fn send<R: Wait>(&self, rt: &R, to: NodeId, packet: &Packet) -> bool {
+        let Ok(parcel) = vec![in self.alloc; *packet] else {
+            return false;
+        };
         match self.channels.get(to.number() as usize - 1) {
-            Some(channel) => channel.send(rt, *packet).is_ok(),
+            Some(channel) => channel.send(rt, parcel).is_ok(),
             None => false,
         }
     }
@@ -147,10 +151,16 @@ pub(crate) struct Ring<R: Wait> {
 }
 
 impl<R: Wait> Ring<R> {
-    pub(crate) fn new(rt: R, alloc: Global, channels: Vec<Sender<Packet>>, manner: Manner) -> Self {
+    pub(crate) fn new(
+        rt: R,
+        alloc: Global,
+        channels: Vec<Sender<Vec<Packet>>>,
+        manner: Manner,
+    ) -> Self {
         Ring {
             rt,
             carrier: Mutex::new(Carrier {
+                alloc,
                 channels,
                 manner,
                 count: 0,
@@ -204,5 +214,10 @@ impl<R: Wait> Port for &Ring<R> {
     fn signal(&mut self, node: NodeId, epoch: u64) -> bool {
         let mut signals = self.signals.lock(&self.rt);
         signals.push(Signal { node, epoch }).is_ok()
+    }
+
+    // It gathers nothing.
+    fn hand_on(&mut self) -> u64 {
+        0
     }
 }

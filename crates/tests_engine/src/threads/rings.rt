@@ -27,7 +27,10 @@ pub(super) const NODES: u8 = 8;
 pub(super) const LOOKS: u64 = 20_000;
 
 // The ends of a channel for each node.
-fn channels<R: Abort>(rt: &R, alloc: Global) -> (Vec<Sender<Packet>>, Vec<Receiver<Packet>>) {
+fn channels<R: Abort>(
+    rt: &R,
+    alloc: Global,
+) -> (Vec<Sender<Vec<Packet>>>, Vec<Receiver<Vec<Packet>>>) {
     let mut to = Vec::new(alloc);
     let mut from = Vec::new(alloc);
     for _ in 0..NODES {
@@ -92,7 +95,7 @@ fn run<D: Disk + Send, L: Origin + Send + Sync, R: Threads + Wait + Clock + Sync
     alloc: Global,
     engine: &Engine<D, L>,
     ring: &Ring<&R>,
-    channels: Vec<Receiver<Packet>>,
+    channels: Vec<Receiver<Vec<Packet>>>,
     reset: Step,
     manner: Manner,
 ) -> (Vec<Share<L>>, bool) {

@@ -1,16 +1,4 @@
-use Rattle.std.proofs.Common.{◌≡◌, ◌+◌, ◌<◌, drop, length, sym, ap, ◌∙◌, arith, slice_get}
-use Rattle.std.proofs.lemmas.List.{drop-drop}
-use Rattle.coord_engine.proofs.Handed.{hands_next, one_left}
 use Rattle.coord_engine.proofs.flushing.hand_over.Goals as goal
-use Rattle.coord_engine.proofs.flushing.hand_over.Goals.{in-Some, in_default}
 
-pub loop-handed-preserved : goal.loop-handed-preserved
-loop-handed-preserved g c =
-    let k = c.loop-handed._handed in
-    let at = c.loop-handed.invariant.0 in
-    let rest : c.next.new.self ≡ drop (k + 1) c.args.releases = c.next.ensures.rest ∙ ap (drop 1) at ∙ drop-drop 1 k c.args.releases in
-    let here : k < length c.args.releases = omega (arith, c.loop-handed-test.true, c.len-count.ensures) in
-    elim c.match-next.branch [
-      | in-Some w ↦ (rest, hands_next g.P.Port.carried g.P.Port.signalled c.args.port.now c.loop-handed.port c.match-next.port w.ask.new.port k c.args.releases c.loop-handed.left w.in-Some.release w.of.result at c.loop-handed.invariant.1 (sym c.next.ensures.first ∙ w.in-Some.is) w.of.ensures w.ask.ensures w.port-is)
-      | in_default w ↦ absurd (one_left k c.args.releases (ap (λ l. slice_get l 0) (sym at) ∙ sym c.next.ensures.first ∙ w.in_default.is) here)
-    ]
+pub returns-clause-handed : goal.returns-clause-handed
+returns-clause-handed g c = record { asked = c.ask_for_all-in_hand.new.port; lost = c.hand_on-lost.result; are_asked = c.ask_for_all-in_hand.ensures; hands_on = c.hand_on-lost.ensures }

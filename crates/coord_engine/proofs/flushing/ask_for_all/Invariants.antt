@@ -1,6 +1,6 @@
 use Rattle.std.proofs.Common.{◌≡◌, drop, take}
 use Rattle.coord_engine.specs.Facade.{AreAsked, deliveries_of}
-use Rattle.coord_engine.proofs.flushing.hand_over.Given as goal
+use Rattle.coord_engine.proofs.flushing.ask_for_all.Given as goal
 
 -- the port was asked for those that were taken so far
 abbrev pub invariant-loop-handed : goal.invariant-loop-handed
