@@ -1,5 +1,6 @@
 -- How the batches are read, one after another.
-use Rattle.std.proofs.Common.{◌≡◌, ◌≢◌, ℕ, ◌+◌, ◌<◌, ◌^◌, List, [], ◌∷◌, ◌++◌, length, take, drop, get_or, refl, sym, ◌∙◌, ap, arith, append_assoc, length-append, Vec, Global}
+use Rattle.std.proofs.Common.{◌≡◌, ◌≢◌, ℕ, ◌+◌, ◌<◌, ◌^◌, List, [], ◌∷◌, ◌++◌, length, take, drop, get_or, refl, sym, ◌∙◌, ap, arith, append_assoc, length-append}
+use Rattle.std.specs.Borrow.{Bor}
 use Rattle.std.proofs.lemmas.Bool.Decides.{nat_tests}
 use Rattle.std.specs.Int.{w32, to_be_bytes, from_be_bytes}
 use Rattle.std.proofs.lemmas.List.{take_at, drop_at, append-nil}
@@ -108,7 +109,7 @@ reads_same (b ∷ bs) (c ∷ cs) m n l one other =
     (ap (λ (k : List ℕ). k ∷ bs) body ∙ ap (λ (k : List (List ℕ)). c ∷ k) rest.0, omega (arith, f.size_is, g.size_is, ap length body, rest.1))
 
 -- one batch more in front of the rest
-pub opened_more : (batches : List (Vec ℕ Global)) (v : Vec ℕ Global) (opened batch behind rest text : List ℕ) (gate : ℕ) → text ≡ opened ++ rest → IsOpened (bodies batches) opened → gate ≢ 0 → v.items ≡ batch → BeginsWithBody MAX_BODY gate batch behind rest
+pub opened_more : (batches : List (Bor (List ℕ))) (v : Bor (List ℕ)) (opened batch behind rest text : List ℕ) (gate : ℕ) → text ≡ opened ++ rest → IsOpened (bodies batches) opened → gate ≢ 0 → v.now ≡ batch → BeginsWithBody MAX_BODY gate batch behind rest
     → (front : List ℕ) × (text ≡ front ++ behind) × IsOpened (bodies (batches ++ v ∷ [])) front
 opened_more batches v opened batch behind rest text gate split so_far is_open same begins = (
   opened ++ gate ∷ (sized batch ++ []),
@@ -116,6 +117,6 @@ opened_more batches v opened batch behind rest text gate split so_far is_open sa
   rw (bodies_push batches v) (rw same (opened_push (bodies batches) batch opened gate so_far is_open begins.0)),
 )
   where
-    bodies_push : (vs : List (Vec ℕ Global)) (w : Vec ℕ Global) → bodies (vs ++ w ∷ []) ≡ bodies vs ++ w.items ∷ []
+    bodies_push : (vs : List (Bor (List ℕ))) (w : Bor (List ℕ)) → bodies (vs ++ w ∷ []) ≡ bodies vs ++ w.now ∷ []
     bodies_push [] w = refl
-    bodies_push (u ∷ vs) w = ap (λ (k : List (List ℕ)). u.items ∷ k) (bodies_push vs w)
+    bodies_push (u ∷ vs) w = ap (λ (k : List (List ℕ)). u.now ∷ k) (bodies_push vs w)

@@ -27,7 +27,7 @@ struct Place {
 }
 
 // What the bytes of a device say.
-fn read_text(alloc: Global, bytes: &[u8]) -> Result<(Place, Contents), JournalFault>
+fn read_text(alloc: Global, bytes: &[u8]) -> Result<(Place, Contents<'_>), JournalFault>
     ensures text { IfOk result (λ read. IsTextAt bytes.now (content_of read.1) read.0.half_size
         (half_number read.0.half) read.0.used) }
     ensures only { (content : Content) → IsText content bytes.now →
@@ -58,13 +58,15 @@ fn read_text(alloc: Global, bytes: &[u8]) -> Result<(Place, Contents), JournalFa
     Ok((place, contents))
 }
 
-/// Opens the journal on a device, and gives what it holds. It begins with a sync, reads, and writes nothing.
+/// Opens the journal on a device, and gives what it holds, which is lent from `bytes`: the device is read into them. It
+/// begins with a sync, reads, and writes nothing.
 ///
 /// A refusal hands the disk back.
-pub fn open<D: Disk>(
+pub fn open<'b, D: Disk>(
     alloc: Global,
     mut disk: D,
-) -> Result<(Journal<D>, Contents), (JournalFault, D)>
+    bytes: &'b mut Vec<u8>,
+) -> Result<(Journal<D>, Contents<'b>), (JournalFault, D)>
     // Where the bytes of the device are the text of a content, it gives that content, or there is no memory or the device fails.
     ensures text { D.model.keeps_model disk ≡ true →
         IfOk result (λ opened. IsText (content_of opened.1) (D.model.present disk).read) }
@@ -91,11 +93,11 @@ pub fn open<D: Disk>(
     ensures runs { MatchResult result (λ opened. Runs D.model disk (disk_of opened.0) 3 0)
         (λ refused. Runs D.model disk refused.1 3 (failed_in refused.0)) }
 {
-    let bytes = match read_durable(alloc, &mut disk) {
-        Ok(bytes) => bytes,
+    match read_durable(alloc, &mut disk) {
+        Ok(read) => *bytes = read,
         Err(fault) => return Err((fault, disk)),
-    };
-    match read_text(alloc, &bytes) {
+    }
+    match read_text(alloc, bytes) {
         Ok((place, contents)) => {
             let journal = Journal::at(alloc, disk, place.half_size, place.half, place.used);
             Ok((journal, contents))

@@ -30,7 +30,7 @@ fn split_body(rest: &[u8], limit: usize) -> Option<(&[u8], &[u8])>
 }
 
 // The batches behind open gates, up to the first closed gate, and how many bytes stand before that.
-fn read_batches(alloc: Global, text: &[u8]) -> Result<(Vec<Vec<u8>>, usize), JournalFault>
+fn read_batches(alloc: Global, text: &[u8]) -> Result<(Vec<&[u8]>, usize), JournalFault>
     ensures ok { IfOk result (λ read. ReadsAs (bodies read.0.items) read.1 text.now) }
     ensures bad { IfErr result (λ fault. fault ≡ BadRecord → (batches : List (List ℕ)) (size : ℕ) →
         ReadsAs batches size text.now → ⊥) }
@@ -45,14 +45,14 @@ fn read_batches(alloc: Global, text: &[u8]) -> Result<(Vec<Vec<u8>>, usize), Jou
         let Some((batch, behind)) = split_body(rest, MAX_BODY) else {
             return Err(JournalFault::BadRecord);
         };
-        batches.push(batch.to_vec(alloc)?)?;
+        batches.push(batch)?;
         rest = behind;
     }
     Err(JournalFault::BadRecord)
 }
 
 /// What a half holds, and how many bytes of it are used.
-pub fn read_half(alloc: Global, half: &[u8]) -> Result<(Contents, usize), JournalFault>
+pub fn read_half(alloc: Global, half: &[u8]) -> Result<(Contents<'_>, usize), JournalFault>
     ensures ok { IfOk result (λ read. IsHalf half.now (content_of read.0) read.1) }
     ensures within { IfOk result (λ read. read.1 ≤ length half.now) }
     ensures bad { IfErr result (λ fault. fault ≡ BadRecord → (content : Content) (used : ℕ) →
@@ -71,7 +71,7 @@ pub fn read_half(alloc: Global, half: &[u8]) -> Result<(Contents, usize), Journa
     };
     let contents = Contents {
         version: half[0],
-        snapshot: snapshot.to_vec(alloc)?,
+        snapshot,
         batches,
     };
     Ok((contents, half.len() - rest.len() + size + 1))

@@ -1,16 +1,23 @@
 -- Steps and batches that follow one another.
-use Rattle.std.proofs.Common.{◌≡◌, ℕ, ◌+◌, ◌<◌, ◌≤◌, ◌^◌, suc, List, [], ◌∷◌, ◌++◌, length, take, drop, get_or, sym, ap, ◌∙◌, subst, add-one, arith, Vec, refl, Global}
+use Rattle.std.proofs.Common.{◌≡◌, ℕ, zero, suc, ◌+◌, ◌<◌, ◌≤◌, ◌^◌, true, cond, List, [], ◌∷◌, ◌++◌, Option, Some, None, Ok, length, take, drop, get_or, sym, ap, ◌∙◌, subst, add-one, arith, refl}
+use Rattle.std.specs.Borrow.{Bor}
+use Rattle.std.proofs.lemmas.Bool.Decides.{nat_tests}
 use Rattle.std.proofs.lemmas.List.{take-append-drop, length-take-le}
 use Rattle.std.proofs.Math.Seq.{drop-cons, take-length, take-suc}
 use Rattle.std.specs.List.{AllByRecursion}
 use Rattle.coord_types.specs.declared.steps.Step.{Step}
-use Rattle.coord_world.specs.Facade.{InRange, IsFresh, StepInRange, World, fold, next}
+use Rattle.coord_types.specs.declared.steps.Step.TheVariants.{Order, Take, Clear}
+use Rattle.coord_types.specs.declared.steps.Kind.TheVariants.{Cleared, Taken}
+use Rattle.coord_types.specs.declared.refusals.Refusal.TheVariants.{Exhausted}
+use Rattle.coord_link.specs.LaneMachine.{Lane, refused_or}
+use Rattle.coord_world.specs.declared.verdicts.Verdict.TheVariants.{Fresh}
+use Rattle.coord_world.specs.Facade.{InRange, IsFresh, StepInRange, World, against_data, against_receipt, fold, has_receipted, has_sent, is_exhausted, lane, next}
 use Rattle.coord_batch.specs.Batches.{CarriesRightly, IsNumbered, IsWritable}
 use Rattle.coord_world.specs.laws.Trails.{IsSound}
-use Rattle.coord_world.proofs.Facade.{EachFresh, carried_within, fold-append, fresh_count, itself, same_version, trail_keeps_worlds, trail_of}
+use Rattle.coord_world.proofs.Facade.{EachFresh, by_test, carried_within, fold-append, fresh_count, itself, same_version, trail_keeps_worlds, trail_of}
 use Rattle.coord_store.specs.Recovered.{AllFresh}
 use Rattle.coord_journal.specs.Contents.{bodies}
-use Rattle.coord_store.specs.Facade.{RefusesBatch, RefusesReplay, Replays, Takes}
+use Rattle.coord_store.specs.Facade.{RefusesBatch, RefusesReplay, Replays, Takes, has_given_out, how_many_out}
 use Rattle.coord_store.specs.declared.faults.StoreFault.{StoreFault}
 
 -- ---- steps
@@ -32,6 +39,10 @@ fold-push front w s = fold-append front (s ∷ []) w
 pub split_at : {A : Type 0} (xs : List A) (i : ℕ) (x : A) → i < length xs → x ≡ get_or xs i x → xs ≡ take i xs ++ x ∷ drop (i + 1) xs
 split_at xs i x below is =
     sym (take-append-drop i xs) ∙ ap (λ l. take i xs ++ l) (drop-cons xs i x below ∙ ap (λ y. y ∷ drop (suc i) xs) (sym is) ∙ ap (λ n. x ∷ drop n xs) (sym (add-one i)))
+
+-- what is left of it from that element on
+pub drop_at : {A : Type 0} (xs : List A) (i : ℕ) (x : A) → i < length xs → x ≡ get_or xs i x → drop i xs ≡ x ∷ drop (i + 1) xs
+drop_at xs i x below is = drop-cons xs i x below ∙ ap (λ y. y ∷ drop (suc i) xs) (sym is) ∙ ap (λ n. x ∷ drop n xs) (sym (add-one i))
 
 -- and its front up to that element
 pub take-push : {A : Type 0} (xs : List A) (i : ℕ) (x : A) → i < length xs → x ≡ get_or xs i x → take (i + 1) xs ≡ take i xs ++ x ∷ []
@@ -68,6 +79,54 @@ pub all_writable : (version : ℕ) (steps : List Step) → AllByRecursion IsNumb
 all_writable version [] numbered brings = tt
 all_writable version (s ∷ steps) numbered brings = (writable version s numbered.0 brings.0, all_writable version steps numbered.1 brings.1)
 
+-- ---- what a settled world has given out
+
+-- a step that a world takes names what the settled world has given out
+pub fresh_is_out : (w settled : World) (s : Step) → IsFresh w settled s → has_given_out settled s ≡ true
+fresh_is_out w settled (Order c n x) fresh = refl
+fresh_is_out w settled (Take p) fresh = of_lane (lane w p.from p.to p.inc) (lane settled p.from p.to p.inc) fresh
+  where
+    of_lane : (o k : Option Lane) → refused_or (Fresh Taken) ((is_exhausted w, Exhausted) ∷ against_data o k p) ≡ Ok (Fresh Taken) → has_sent k p.number ≡ true
+    of_lane None k e = grind (arith, nat_tests, e)
+    of_lane (Some l) k e = grind (arith, nat_tests, e)
+fresh_is_out w settled (Clear p) fresh = of_lane (lane w p.from p.to p.inc) (lane settled p.from p.to p.inc) fresh
+  where
+    of_lane : (o k : Option Lane) → refused_or (Fresh Cleared) ((is_exhausted w, Exhausted) ∷ against_receipt o k p) ≡ Ok (Fresh Cleared) → has_receipted k p.number ≡ true
+    of_lane None k e = grind (arith, nat_tests, e)
+    of_lane (Some l) k e = grind (arith, nat_tests, e)
+
+-- and where that is out, a step that a world takes over itself it takes over the settled one
+pub fresh_over : (w settled : World) (s : Step) → has_given_out settled s ≡ true → IsFresh w w s → IsFresh w settled s
+fresh_over w settled (Order c n x) out fresh = fresh
+fresh_over w settled (Take p) out fresh = of_lane (lane w p.from p.to p.inc) (lane w p.from p.to p.inc) (lane settled p.from p.to p.inc) out fresh
+  where
+    of_lane : (o j k : Option Lane) → has_sent k p.number ≡ true → refused_or (Fresh Taken) ((is_exhausted w, Exhausted) ∷ against_data o j p) ≡ Ok (Fresh Taken) →
+        refused_or (Fresh Taken) ((is_exhausted w, Exhausted) ∷ against_data o k p) ≡ Ok (Fresh Taken)
+    of_lane None j k out e = e
+    of_lane (Some l) j k out e = grind (arith, nat_tests, out, e)
+fresh_over w settled (Clear p) out fresh = of_lane (lane w p.from p.to p.inc) (lane w p.from p.to p.inc) (lane settled p.from p.to p.inc) out fresh
+  where
+    of_lane : (o j k : Option Lane) → has_receipted k p.number ≡ true → refused_or (Fresh Cleared) ((is_exhausted w, Exhausted) ∷ against_receipt o j p) ≡ Ok (Fresh Cleared) →
+        refused_or (Fresh Cleared) ((is_exhausted w, Exhausted) ∷ against_receipt o k p) ≡ Ok (Fresh Cleared)
+    of_lane None j k out e = e
+    of_lane (Some l) j k out e = grind (arith, nat_tests, out, e)
+
+-- each of the first steps names what is out
+pub out_below : (steps : List Step) (settled : World) (i : ℕ) (s : Step) → i < how_many_out settled steps → s ≡ get_or steps i s → has_given_out settled s ≡ true
+out_below [] settled i s below is = absurd (omega (arith, below))
+out_below (t ∷ steps) settled zero s below is = by_test (has_given_out settled t) (λ b. zero < cond b (suc (how_many_out settled steps)) zero → has_given_out settled s ≡ true)
+    (λ e _. ap (has_given_out settled) is ∙ e) (λ _ none. absurd (omega (arith, none))) below
+out_below (t ∷ steps) settled (suc i) s below is = by_test (has_given_out settled t) (λ b. suc i < cond b (suc (how_many_out settled steps)) zero → has_given_out settled s ≡ true)
+    (λ _ more. out_below steps settled i s (omega (arith, more)) is) (λ _ none. absurd (omega (arith, none))) below
+
+-- and the one behind them does not
+pub out_further : (steps : List Step) (settled : World) (i : ℕ) (s : Step) → i ≤ how_many_out settled steps → i < length steps → s ≡ get_or steps i s → has_given_out settled s ≡ true → i < how_many_out settled steps
+out_further [] settled i s within below is out = absurd (omega (arith, below))
+out_further (t ∷ steps) settled zero s within below is out = by_test (has_given_out settled t) (λ b. has_given_out settled t ≡ b → zero < cond b (suc (how_many_out settled steps)) zero)
+    (λ _ _. omega arith) (λ _ e. let same = ap (has_given_out settled) is in absurd cc) refl
+out_further (t ∷ steps) settled (suc i) s within below is out = by_test (has_given_out settled t) (λ b. suc i ≤ cond b (suc (how_many_out settled steps)) zero → suc i < cond b (suc (how_many_out settled steps)) zero)
+    (λ _ more. let rest = out_further steps settled i s (omega (arith, more)) (omega (arith, below)) is out in omega (arith, rest)) (λ _ none. absurd (omega (arith, none))) within
+
 -- ---- the worlds on the way of such steps
 
 -- each step is fresh over the world before it, and in its ranges
@@ -103,33 +162,45 @@ reached (b ∷ front) rest body start v led =
 
 -- ---- the bodies of the batches that a journal has read
 
-pub bodies-append : (xs ys : List (Vec ℕ Global)) → bodies (xs ++ ys) ≡ bodies xs ++ bodies ys
+pub bodies-append : (xs ys : List (Bor (List ℕ))) → bodies (xs ++ ys) ≡ bodies xs ++ bodies ys
 bodies-append [] ys = refl
-bodies-append (x ∷ xs) ys = ap (λ l. x.items ∷ l) (bodies-append xs ys)
+bodies-append (x ∷ xs) ys = ap (λ l. x.now ∷ l) (bodies-append xs ys)
 
-pub length-bodies : (xs : List (Vec ℕ Global)) → length (bodies xs) ≡ length xs
+pub length-bodies : (xs : List (Bor (List ℕ))) → length (bodies xs) ≡ length xs
 length-bodies [] = refl
 length-bodies (x ∷ xs) = ap suc (length-bodies xs)
 
-module _ (batches : List (Vec ℕ Global)) (i : ℕ) (v : Vec ℕ Global) (below : i < length batches) (is : v ≡ get_or batches i v) (start w : World) (led : Replays start (bodies (take i batches)) w) where
+-- an element that is there is the same whatever stands for one that is not
+same_or : {A : Type 0} (xs : List A) (i : ℕ) (d e : A) → i < length xs → get_or xs i d ≡ get_or xs i e
+same_or [] i d e below = absurd (omega (arith, below))
+same_or (x ∷ xs) zero d e below = refl
+same_or (x ∷ xs) (suc i) d e below = same_or xs i d e (omega (arith, below))
+
+module _ (batches : List (Bor (List ℕ))) (i : ℕ) (none : Bor (List ℕ)) (below : i < length batches) (start w : World) (led : Replays start (bodies (take i batches)) w) where
+  abbrev here : Bor (List ℕ)
+  here = get_or batches i none
+
+  is : here ≡ get_or batches i here
+  is = same_or batches i none here below
+
   -- the batch at this place is reached, and where it is refused, the batches are
-  pub refused_here : (body : List ℕ) (fault : StoreFault) → body ≡ v.items → RefusesBatch w i body fault → RefusesReplay start (bodies batches) fault
-  refused_here body fault same refuses = record {
+  pub refused_here : (fault : StoreFault) → RefusesBatch w i (get_or batches i none).now fault → RefusesReplay start (bodies batches) fault
+  refused_here fault refuses = record {
     number = i;
-    body = v.items;
+    body = here.now;
     reached = w;
     reaches = record {
       front = bodies (take i batches);
       rest = bodies (drop (i + 1) batches);
-      split = ap bodies (split_at batches i v below is) ∙ bodies-append (take i batches) (v ∷ drop (i + 1) batches);
+      split = ap bodies (split_at batches i here below is) ∙ bodies-append (take i batches) (here ∷ drop (i + 1) batches);
       number = length-bodies (take i batches) ∙ length-take-le i batches (omega arith);
       replays = led;
     };
-    refuses = rw (sym same) refuses;
+    refuses = refuses;
   }
 
   -- once it is taken, the one behind it is reached
-  pub replays_on : (body : List ℕ) (steps : List Step) → body ≡ v.items → Takes w body steps → Replays start (bodies (take (i + 1) batches)) (fold w steps)
-  replays_on body steps same takes =
+  pub replays_on : (steps : List Step) → Takes w (get_or batches i none).now steps → Replays start (bodies (take (i + 1) batches)) (fold w steps)
+  replays_on steps takes =
       let P : List (List ℕ) → Type 0 = λ l. Replays start l (fold w steps) in
-      subst P (sym (ap bodies (take-push batches i v below is) ∙ bodies-append (take i batches) (v ∷ []))) (replays-push (bodies (take i batches)) v.items steps start w led (rw (sym same) takes))
+      subst P (sym (ap bodies (take-push batches i here below is) ∙ bodies-append (take i batches) (here ∷ []))) (replays-push (bodies (take i batches)) here.now steps start w led takes)

@@ -1,6 +1,7 @@
 pub mod Faults
 pub mod Kept
 pub mod Laws
+pub mod GivenOut
 pub mod Recovered
 pub mod Refused
 pub mod Migrating

@@ -87,7 +87,8 @@ impl<D: Disk> Store<D> {
             Ok(()) => {}
             Err(fault) => return Err((fault_of(fault), disk)),
         }
-        match coord_journal::open(alloc, disk) {
+        let mut bytes = Vec::new(alloc);
+        match coord_journal::open(alloc, disk, &mut bytes) {
             Ok((journal, _)) => Ok(Store::over(alloc, journal, World::empty(alloc, known))),
             Err((fault, disk)) => Err((fault_of(fault), disk)),
         }

@@ -37,7 +37,7 @@ pub fn fault_of(fault: JournalFault) -> StoreFault
 }
 
 /// The world that the content of a journal gives.
-fn read_contents(alloc: Global, contents: &Contents) -> Result<World, StoreFault>
+fn read_contents(alloc: Global, contents: &Contents<'_>) -> Result<World, StoreFault>
     ensures gives { IfOk result (Gives (content_of contents.now)) }
     ensures legal { IfOk result (λ world. Legal world) }
     ensures refused { IfErr result (λ fault. (fault ≡ OutOfMemory) ⊎
@@ -82,7 +82,8 @@ impl<D: Disk> Store<D> {
         ensures runs { MatchResult result (λ store. Runs D.model disk store.disk 3 0)
             (λ refused. Runs D.model disk refused.1 3 (failed_in refused.0)) }
     {
-        let (journal, contents) = match coord_journal::open(alloc, disk) {
+        let mut bytes = Vec::new(alloc);
+        let (journal, contents) = match coord_journal::open(alloc, disk, &mut bytes) {
             Ok(opened) => opened,
             Err((fault, disk)) => return Err((fault_of(fault), disk)),
         };

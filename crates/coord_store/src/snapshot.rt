@@ -15,13 +15,13 @@ use coord_world::World;
 use std::alloc::Global;
 
 /// The legal world that the snapshot of a journal spells.
-pub fn read_snapshot(alloc: Global, contents: &Contents) -> Result<World, StoreFault>
+pub fn read_snapshot(alloc: Global, contents: &Contents<'_>) -> Result<World, StoreFault>
     ensures spelled { IfOk result (HasSnapshot (content_of contents.now)) }
     ensures legal { IfOk result (λ start. Legal start) }
     ensures refused { IfErr result (λ fault. (fault ≡ OutOfMemory) ⊎
         RefusesSnapshot (content_of contents.now) fault) }
 {
-    let start = match read_world(alloc, contents.version, &contents.snapshot) {
+    let start = match read_world(alloc, contents.version, contents.snapshot) {
         Ok(start) => start,
         Err(fault) if fault.kind == FaultKind::OutOfMemory => return Err(StoreFault::OutOfMemory),
         Err(_) => return Err(StoreFault::BadSnapshot),

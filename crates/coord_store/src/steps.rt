@@ -1,17 +1,20 @@
 //! Steps that a world takes, one after the other.
 
-ghost use Rattle.std.specs.Prelude.{◌≡◌, ◌⊎◌, ◌↔◌, ℕ, IsTrue, OnOk, IfOk, IfErr, IfSome};
+ghost use Rattle.std.specs.Prelude.{◌≡◌, ◌⊎◌, ◌↔◌, ◌<◌, ℕ, Some, IsTrue, OnOk, IfOk, IfErr, IfSome};
 ghost use Rattle.std.specs.List.{AllByRecursion};
+ghost use Rattle.std.specs.Option.{option_copied};
+ghost use Rattle.coord_store.specs.GivenOut.{has_given_out, how_many_out};
 ghost use Rattle.coord_store.specs.Recovered.{AllFresh};
 ghost use Rattle.coord_store.specs.Refused.{StopsAt};
 ghost use Rattle.coord_store.specs.declared.faults.StoreFault.TheVariants.{OutOfMemory, BadStep};
-ghost use Rattle.coord_world.specs.protocol.Acceptance.{IsFresh};
+ghost use Rattle.coord_world.specs.protocol.Acceptance.{IsFresh, has_sent, lane};
 ghost use Rattle.coord_world.specs.protocol.Legal.{Legal};
 ghost use Rattle.coord_world.specs.protocol.Next.{fold};
 ghost use Rattle.coord_world.specs.protocol.Ranges.{StepInRange};
 
 use crate::StoreFault;
-use coord_types::Step;
+use coord_link::Lane;
+use coord_types::{NodeId, Step};
 use coord_world::{Verdict, World};
 use std::alloc::AllocError;
 
@@ -61,26 +64,69 @@ pub(crate) fn led_to(
     }
 }
 
-/// Whether the world takes the step, with `settled` as the settled world.
-fn is_fresh(world: &World, settled: &World, step: &Step) -> bool
-    ensures { IsTrue result ↔ IsFresh world.now settled.now step.now }
+/// The lane from one node to another, where it has this incarnation.
+fn lane_of(world: &World, from: NodeId, to: NodeId, inc: u64) -> Option<&Lane>
+    ensures { option_copied result ≡ lane world.now from to inc }
 {
-    match world.judge(settled, step) {
+    let lane = world.lane(from, to)?;
+    if lane.inc() == inc { Some(lane) } else { None }
+}
+
+/// Whether a lane has given out the data packet with this number.
+fn has_sent(lane: &Lane, number: u64) -> bool
+    ensures { result ≡ has_sent (Some lane.now) number }
+{
+    number > 0 && number - 1 == lane.base() && !lane.queue().is_empty()
+}
+
+/// Whether a settled world has given out the packet that a step names.
+fn has_given_out(settled: &World, step: &Step) -> bool
+    ensures { result ≡ has_given_out settled.now step.now }
+{
+    match *step {
+        Step::Order(_, _, _) => true,
+        Step::Take(packet) => match lane_of(settled, packet.from, packet.to, packet.inc) {
+            None => false,
+            Some(sent) => has_sent(sent, packet.number),
+        },
+        Step::Clear(packet) => match lane_of(settled, packet.from, packet.to, packet.inc) {
+            None => false,
+            Some(taken) => packet.number <= taken.got(),
+        },
+    }
+}
+
+/// How many steps come before the first one that names a packet that the settled world has not
+/// given out.
+fn how_many_out(settled: &World, steps: &[Step]) -> usize
+    ensures { result ≡ how_many_out settled.now steps.now }
+{
+    for (index, step) in steps.iter().enumerate() {
+        if !has_given_out(settled, step) {
+            return index;
+        }
+    }
+    steps.len()
+}
+
+/// Whether a step is among those in front whose packets are out, and the world takes it.
+fn is_fresh(world: &World, out: usize, index: usize, step: &Step) -> bool
+    ensures { IsTrue result ↔ ((index < out) × IsFresh world.now world.now step.now) }
+{
+    if index >= out {
+        return false;
+    }
+    match world.judge(world, step) {
         Ok(Verdict::Fresh(_)) => true,
         Ok(Verdict::Repeat(_)) => false,
         Err(_) => false,
     }
 }
 
-/// Takes the steps of a batch with this number, with `settled` as the settled world, which is the
-/// world from before them all.
-pub fn judge_all(
-    world: &mut World,
-    settled: &World,
-    batch: usize,
-    steps: &[Step],
-) -> Result<(), StoreFault>
-    requires same { world.old ≡ settled.now }
+/// Takes the steps of a batch with this number. The world from before them all is the settled one:
+/// before it changes it tells which of their packets it has given out, and that is all that a step
+/// asks of it.
+pub fn judge_all(world: &mut World, batch: usize, steps: &[Step]) -> Result<(), StoreFault>
     requires legal { Legal world.old }
     ensures world { OnOk result (world.new ≡ fold world.old steps.now) }
     ensures fresh { OnOk result (AllFresh world.old world.old steps.now) }
@@ -88,8 +134,9 @@ pub fn judge_all(
     ensures fault { IfErr result (λ fault. (fault ≡ OutOfMemory) ⊎
         ((index : ℕ) × (fault ≡ BadStep batch index) × StopsAt world.old steps.now index)) }
 {
+    let out = how_many_out(world, steps);
     for (index, step) in steps.iter().enumerate() {
-        if !is_fresh(world, settled, step) {
+        if !is_fresh(world, out, index, step) {
             return Err(StoreFault::BadStep { batch, index });
         }
         world.apply(step)?;

@@ -38,18 +38,24 @@ fn created() -> [u8; 34] {
     bytes
 }
 
-fn opened<D: Disk>(rt: &impl Host, disk: D) -> (Journal<D>, Contents) {
-    match open(rt.alloc(), disk) {
+// The journal of a disk, and what it holds, of which the bytes are kept in `bytes`.
+fn opened<'b, D: Disk>(
+    rt: &impl Host,
+    disk: D,
+    bytes: &'b mut Vec<u8>,
+) -> (Journal<D>, Contents<'b>) {
+    match open(rt.alloc(), disk, bytes) {
         Ok(found) => found,
         Err((fault, _disk)) => panic!(rt; "not opened: {fault:?}"),
     }
 }
 
-fn opened_on(rt: &impl Host, bytes: &[u8]) -> (Journal<MemDisk>, Contents) {
-    opened(
-        rt,
-        MemDisk::from_bytes(rt.alloc(), bytes).expect(rt, "no disk"),
-    )
+// The journal of a disk.
+fn journal_on<D: Disk>(rt: &impl Host, disk: D) -> Journal<D> {
+    let mut bytes = Vec::new(rt.alloc());
+    let (journal, contents) = opened(rt, disk, &mut bytes);
+    drop(contents);
+    journal
 }
 
 fn append<D: Disk>(rt: &impl Host, journal: &mut Journal<D>) -> Result<(), JournalFault> {
@@ -67,21 +73,22 @@ fn made(rt: &impl Host) -> MemDisk {
 }
 
 // What is read of a device: a snapshot of eleven zeros, and so many batches, each with that body.
-fn holds(rt: &impl Host, contents: &Contents, batches: usize) {
+fn holds(rt: &impl Host, contents: &Contents<'_>, batches: usize) {
     same(
         rt,
         &(contents.version, contents.batches.len()),
         &(1, batches),
     );
-    same(rt, &contents.snapshot.as_slice(), &[0; 11].as_slice());
+    same(rt, &contents.snapshot, &[0; 11].as_slice());
     for batch in &contents.batches {
-        same(rt, &batch.as_slice(), &body().as_slice());
+        same(rt, batch, &body().as_slice());
     }
 }
 
 // The same device with a batch behind the others.
 fn added(rt: &impl Host, disk: MemDisk) -> MemDisk {
-    let (mut journal, contents) = opened(rt, disk);
+    let mut bytes = Vec::new(rt.alloc());
+    let (mut journal, contents) = opened(rt, disk, &mut bytes);
     holds(rt, &contents, 0);
     drop(contents);
     same(rt, &journal.room(), &32_746);
@@ -97,7 +104,8 @@ fn a_journal_is_made_and_added_to(rt: HostRuntime) {
     same(&rt, &disk.bytes(), &created().as_slice());
     let disk = added(&rt, disk);
     same(&rt, &disk.bytes(), &committed().as_slice());
-    let (journal, contents) = opened(&rt, disk);
+    let mut bytes = Vec::new(rt.alloc());
+    let (journal, contents) = opened(&rt, disk, &mut bytes);
     drop(journal);
     holds(&rt, &contents, 1);
     drop(contents);
@@ -136,7 +144,8 @@ fn are_moved(rt: &impl Host, bytes: &[u8]) {
 
 // The device once it is replaced by this version, and a batch is added.
 fn moved(rt: &impl Host, disk: MemDisk, version: u8, batches: usize) -> MemDisk {
-    let (mut journal, contents) = opened(rt, disk);
+    let mut bytes = Vec::new(rt.alloc());
+    let (mut journal, contents) = opened(rt, disk, &mut bytes);
     same(rt, &contents.version, &version.saturating_sub(1));
     same(rt, &contents.batches.len(), &batches);
     drop(contents);
@@ -150,8 +159,9 @@ fn moved(rt: &impl Host, disk: MemDisk, version: u8, batches: usize) -> MemDisk 
 
 // The same with a second batch, behind an opening.
 fn moved_on(rt: &impl Host, disk: MemDisk, version: u8) -> MemDisk {
-    let (mut journal, contents) = opened(rt, disk);
-    same(rt, &contents.snapshot.as_slice(), &[version; 3].as_slice());
+    let mut bytes = Vec::new(rt.alloc());
+    let (mut journal, contents) = opened(rt, disk, &mut bytes);
+    same(rt, &contents.snapshot, &[version; 3].as_slice());
     drop(contents);
     append(rt, &mut journal).expect(rt, "not added");
     same(rt, &journal.room(), &32_698);
@@ -161,8 +171,8 @@ fn moved_on(rt: &impl Host, disk: MemDisk, version: u8) -> MemDisk {
 // Back and forth, with a body at once and one behind an opening.
 #[test]
 fn a_journal_moves_into_its_other_half(rt: HostRuntime) {
-    let (mut journal, contents) = opened_on(&rt, &committed());
-    drop(contents);
+    let disk = MemDisk::from_bytes(rt.alloc(), &committed()).expect(&rt, "no disk");
+    let mut journal = journal_on(&rt, disk);
     journal.replace(1, &[0; 11]).expect(&rt, "not moved");
     let mut disk = journal.into_disk();
     are_moved(&rt, disk.bytes());
@@ -186,8 +196,7 @@ const ACTS: [Act; 3] = [Act::Append, Act::Replace, Act::ReplaceAgain];
 
 // The device before the act: version 1 in the first half, or version 2 in the second.
 fn before(rt: &impl Host, act: Act, which: usize) -> MemDisk {
-    let (mut journal, contents) = opened(rt, choosing(rt, &created(), which));
-    drop(contents);
+    let mut journal = journal_on(rt, choosing(rt, &created(), which));
     if let Act::ReplaceAgain = act {
         journal.replace(2, &[]).expect(rt, "not replaced");
     }
@@ -196,8 +205,7 @@ fn before(rt: &impl Host, act: Act, which: usize) -> MemDisk {
 
 // What an act over this device answers, and the device. Nothing is written behind a fault.
 fn done<D: Disk>(rt: &impl Host, disk: D, act: Act) -> (Result<(), JournalFault>, D) {
-    let (mut journal, contents) = opened(rt, disk);
-    drop(contents);
+    let mut journal = journal_on(rt, disk);
     let answer = match act {
         Act::Append => append(rt, &mut journal),
         Act::Replace | Act::ReplaceAgain => journal.replace(3, &[]),
@@ -236,7 +244,8 @@ fn left(act: Act, passed: u64, which: usize) -> (u8, usize) {
 
 // The version and the number of batches on a disk.
 fn found_on(rt: &impl Host, disk: MemDisk) -> (u8, usize) {
-    let (journal, contents) = opened(rt, disk);
+    let mut bytes = Vec::new(rt.alloc());
+    let (journal, contents) = opened(rt, disk, &mut bytes);
     let found = (contents.version, contents.batches.len());
     drop(journal);
     drop(contents);

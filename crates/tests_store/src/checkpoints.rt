@@ -6,7 +6,8 @@ use coord_journal::open;
 
 // How many bytes there is room for in the half of a device.
 fn room_on(rt: &impl Host, disk: MemDisk) -> u64 {
-    match open(rt.alloc(), disk) {
+    let mut bytes = Vec::new(rt.alloc());
+    match open(rt.alloc(), disk, &mut bytes) {
         Ok((journal, contents)) => {
             let room = journal.room();
             drop(journal);

@@ -57,7 +57,7 @@ impl<D: Disk> Store<D> {
             AllFresh self.now.world self.now.world steps.now) }
     {
         let mut next = self.world.copy()?;
-        match judge_all(&mut next, &self.world, 0, steps) {
+        match judge_all(&mut next, 0, steps) {
             Ok(()) => Ok(true),
             Err(fault) => {
                 if fault == StoreFault::OutOfMemory {

@@ -1,4 +1,4 @@
-use Rattle.std.proofs.Common.{◌≡◌, ◌≢◌, [], refl, sym, get_or, arith, rules}
+use Rattle.std.proofs.Common.{◌≡◌, ◌≢◌, [], refl, sym, get_or, arith}
 use Rattle.coord_journal.specs.Facade.{BeginsWithBody}
 use Rattle.coord_journal.specs.declared.layout.TheConstants.{MAX_BODY}
 use Rattle.coord_journal.proofs.Reading.{some, nothing, opened_more, same_behind, empty, small_body}
@@ -23,10 +23,9 @@ loop-rest-preserved c =
     let now = c.loop-rest.rest.now in
     let is_open : get_or now 0 0 ≢ 0 = c.if-rest-eq0.false in
     let begins : BeginsWithBody MAX_BODY (get_or now 0 0) c.in-Some.batch.now c.in-Some.behind.now now = c.in-Some.ensures.some in
-    let same : c.in_ok-to_vec.field-0.items ≡ c.in-Some.batch.now = search rules in
     record {
       so_far = rw c.in_ok-push.ensures.items
-          (opened_more c.loop-rest.batches.items c.in_ok-to_vec.field-0 so_far.0 c.in-Some.batch.now c.in-Some.behind.now now c.args.text.now (get_or now 0 0) so_far.1 so_far.2 is_open same begins);
+          (opened_more c.loop-rest.batches.items c.in-Some.batch so_far.0 c.in-Some.batch.now c.in-Some.behind.now now c.args.text.now (get_or now 0 0) so_far.1 so_far.2 is_open refl begins);
       others = λ batches size reads.
           let rest = c.loop-rest.invariant.others batches size reads in
           let s = some now is_open rest.0 rest.1 rest.2 in

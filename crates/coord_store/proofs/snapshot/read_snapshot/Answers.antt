@@ -10,6 +10,6 @@ returns-in-Some-clause-refused c =
       c.in-Ok.start,
       c.in-Some.violation,
       refl,
-      record { known = sym found.0; in_range = found.1; spelled = sym c.deref.ensures.value ∙ found.2 ∙ ap (λ n. (world n).text (rows_of c.in-Ok.start)) (sym found.0) },
+      record { known = sym found.0; in_range = found.1; spelled = found.2 ∙ ap (λ n. (world n).text (rows_of c.in-Ok.start)) (sym found.0) },
       sym c.in-Some.ensures.first,
     ))
