@@ -4,6 +4,7 @@ pub mod Laws
 pub mod Recovered
 pub mod Refused
 pub mod Migrating
+pub mod Halves
 pub mod Writing
 pub mod Changing
 pub mod Facade
