@@ -1,13 +1,14 @@
 -- What was written of a commit or of a migration, as the store tells it.
-use Rattle.std.proofs.Common.{◌≡◌, ◌≢◌, ◌⊎◌, ◌↔◌, ◌+◌, ◌≤◌, inr, ⊎_elim, ℕ, List, length, true, false, None, Option, is_some, Result, Ok, Err, IfErr, IsErrOf, refl, sym, ap, ◌∙◌, arith}
+use Rattle.std.proofs.Common.{◌≡◌, ◌≢◌, ◌⊎◌, ◌↔◌, ◌+◌, ◌≤◌, ◌<◌, ◌^◌, inr, ⊎_elim, ℕ, List, ◌++◌, length, true, false, None, Option, is_some, Result, Ok, Err, IfErr, IsErrOf, refl, sym, subst, ap, ◌∙◌, arith}
 use Rattle.coord_disk.specs.Model.DiskModel.{DiskModel, IsModel}
 use Rattle.coord_disk.specs.Model.Moments.{LeavesOnly, Runs}
-use Rattle.coord_journal.specs.Facade.{HasRoomFor, disk_of, half_of}
+use Rattle.coord_journal.specs.Facade.{HasHeader, HasRoomFor, disk_of, half_of, half_size_of}
 use Rattle.coord_journal.specs.declared.journal.Journal.{Journal}
+use Rattle.coord_journal.proofs.Texts.{size_read}
 use Rattle.coord_types.specs.declared.steps.Step.{Step}
 use Rattle.coord_world.specs.Facade.{Legal, World, fold}
 use Rattle.coord_store.specs.Faults.{failures_in}
-use Rattle.coord_store.specs.Facade.{Changes, Commits, Concludes, Ends, FitsIn, Follows, Holds, IsKept, IsOnlyWorld, Kept, Stays, Takes, with_world}
+use Rattle.coord_store.specs.Facade.{Changes, Commits, Concludes, Ends, FitsIn, Follows, HasHalves, Holds, IsKept, IsOnlyWorld, Kept, Stays, Takes, with_world}
 use Rattle.coord_store.specs.declared.faults.CommitFault.{CommitFault}
 use Rattle.coord_store.specs.declared.faults.CommitFault.TheVariants.{OutOfMemory, Device, Stopped}
 use Rattle.coord_store.proofs.Holding.{as_long, has_room, in_half, kept_on, kept_torn, only_is_either}
@@ -39,7 +40,25 @@ pub same_failures : {T : Type 0} (w : World) (r : Result T CommitFault) → fail
 same_failures w (Ok x) = refl
 same_failures w (Err fault) = refl
 
+small : (bytes : List ℕ) (selector size : ℕ) (rest : List ℕ) → HasHeader bytes selector size rest → size < 2 ^ 64
+small bytes selector size rest header = omega (arith, header.size.greatest)
+
+-- bytes have halves of one size at most
+same_size : (bytes : List ℕ) (m n : ℕ) → HasHalves m bytes → HasHalves n bytes → m ≡ n
+same_size bytes m n one other =
+    sym (size_read bytes one.0 m one.1 (small bytes one.0 m one.1 one.2) one.2.spelled)
+    ∙ size_read bytes other.0 n other.1 (small bytes other.0 n other.1 other.2) other.2.spelled
+
 module _ {D : Type 0} (m : DiskModel D) where
+  -- the halves of a journal that holds a world are of the journal's size
+  halves_of : (journal : Journal D) (w : World) → Holds m journal w → HasHalves (half_size_of journal) (m.present (disk_of journal)).read
+  halves_of journal w holds = (holds.ready.text.selector, holds.ready.text.skipped ++ holds.ready.text.half_bytes, holds.ready.text.header)
+
+  -- and of the same size after a call that keeps that
+  same_halves : (old new : Journal D) (w v : World) (size : ℕ) → half_size_of new ≡ half_size_of old → Holds m old w → Holds m new v → HasHalves size (m.present (disk_of old)).read → HasHalves size (m.present (disk_of new)).read
+  same_halves old new w v size same was is has =
+      subst (λ n. HasHalves n (m.present (disk_of new)).read) (same ∙ same_size (m.present (disk_of old)).read (half_size_of old) size (halves_of old w was) has) (halves_of new v is)
+
   -- a call is refused, and nothing was written
   pub refused : {T E : Type 0} (s : Kept D) (next : World) (device fault : E) → fault ≢ device → (m.keeps_model s.disk ≡ true → s.torn ≡ None → LeavesOnly m s.disk s.disk (IsOnlyWorld s.world)) → Changes {T = T} m next device s s (Err fault)
   refused s next device fault other still = grind (arith, only_is_either, err_is)
@@ -56,22 +75,31 @@ module _ {D : Type 0} (m : DiskModel D) where
 
   -- the same change, told with the faults of another type
   pub retold : {T U E F : Type 0} (s n : Kept D) (next : World) (a : E) (b : F) (x : T) (y : U) → Changes m next a s n (Ok x) → Changes m next b s n (Ok y)
-  retold s n next a b x y changes = record { any_moment = changes.any_moment; any_moment_refused = λ k none. tt; world = changes.world; going = changes.going; torn = λ e. ok_not y b e; same_world = tt }
+  retold s n next a b x y changes = record { any_moment = changes.any_moment; any_moment_refused = λ k none. tt; world = changes.world; going = changes.going; torn = λ e. ok_not y b e; same_world = tt; halves = changes.halves }
 
   pub retold_refused : {T U E F : Type 0} (s n : Kept D) (next : World) (a : E) (b : F) (e : E) (f : F) → (f ≡ b → e ≡ a) → (f ≢ b → e ≢ a) → Changes {T = T} m next a s n (Err e) → Changes {T = U} m next b s n (Err f)
   retold_refused s n next a b e f device other changes = grind (arith, err_is)
 
 -- What comes of writing another world in place of a store's, by its answer: `v` and `now` are what the store keeps then.
 module _ {D T : Type 0} (m : DiskModel D) (old new : Journal D) (w next v : World) (torn now : Option World) (none : torn ≡ None) (holds : m.keeps_model (disk_of old) ≡ true → torn ≡ None → Holds m old w) where
-  pub changed : (r : Result T CommitFault) → Concludes next w v torn now r → (Holds m old w → Follows m w next old new r) → (Holds m old w → Stays m w old new r) → Changes m next Device (kept old w torn) (kept new v now) (with_world w r)
-  changed (Ok x) keeps follows stays = record { any_moment = λ k same. (follows (holds k same)).any_moment; any_moment_refused = λ k same. tt; world = keeps.world; going = keeps.same_torn ∙ none; torn = λ e. ok_not w Device e; same_world = tt }
-  changed (Err fault) keeps follows stays = record {
+  pub changed : (r : Result T CommitFault) → half_size_of new ≡ half_size_of old → Concludes next w v torn now r → (Holds m old w → Follows m w next old new r) → (Holds m old w → Stays m w old new r) → Changes m next Device (kept old w torn) (kept new v now) (with_world w r)
+  changed (Ok x) sized keeps follows stays = record {
+    any_moment = λ k same. (follows (holds k same)).any_moment;
+    any_moment_refused = λ k same. tt;
+    world = keeps.world;
+    going = keeps.same_torn ∙ none;
+    torn = λ e. ok_not w Device e;
+    same_world = tt;
+    halves = λ k same size has. same_halves m old new w next size sized (holds k same) (follows (holds k same)).done has;
+  }
+  changed (Err fault) sized keeps follows stays = record {
     any_moment = λ k same. (follows (holds k same)).any_moment;
     any_moment_refused = λ k same. (stays (holds k same)).any_moment;
     world = tt;
     going = tt;
     torn = λ e. keeps.torn (ap Err (err_is fault Device e));
     same_world = keeps.same_world;
+    halves = λ k same size has other. same_halves m old new w w size sized (holds k same) ((stays (holds k same)).held other) has;
   }
 
   -- what the type of a store keeps
@@ -96,7 +124,7 @@ module _ {D T : Type 0} (m : DiskModel D) (old new : Journal D) (w v : World) (t
       → (m.keeps_model (disk_of old) ≡ true → HasRoomFor old (length body) → m.clock (disk_of new) ≤ m.clock (disk_of old) + 4) → (HasRoomFor old (length body) → half_of new ≡ half_of old)
       → Commits m steps (kept old w torn) (kept new v now) (with_world w r)
   committed (Ok x) keeps follows stays ends calls same_half = record {
-    changes = changed m old new w (fold w steps) v torn now none holds (Ok x) keeps follows stays;
+    changes = changed m old new w (fold w steps) v torn now none holds (Ok x) ends.half_size keeps follows stays;
     runs = ends.runs;
     calls_where_it_fits = λ half fits. calls fits.keeps (fits_in m old w torn steps body half holds takes fits).0;
     half_where_it_fits = λ half fits.
@@ -108,7 +136,7 @@ module _ {D T : Type 0} (m : DiskModel D) (old new : Journal D) (w v : World) (t
     untouched = λ e. ok_not w Stopped e;
   }
   committed (Err fault) keeps follows stays ends calls same_half = record {
-    changes = changed m old new w (fold w steps) v torn now none holds (Err fault) keeps follows stays;
+    changes = changed m old new w (fold w steps) v torn now none holds (Err fault) ends.half_size keeps follows stays;
     runs = ends.runs;
     calls_where_it_fits = λ half fits. calls fits.keeps (fits_in m old w torn steps body half holds takes fits).0;
     half_where_it_fits = λ half fits. tt;

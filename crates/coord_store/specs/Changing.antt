@@ -6,6 +6,7 @@ use Rattle.coord_disk.specs.Model.Moments.{LeavesOnly, Runs}
 use Rattle.coord_journal.specs.Text.{HasPlaceIn, IsTextIn}
 use Rattle.coord_world.specs.Facade.{World, fold}
 use Rattle.coord_store.specs.Faults.{failures_in}
+use Rattle.coord_store.specs.Halves.{KeepsHalves}
 use Rattle.coord_store.specs.Kept.{GivesEither, IsOnlyWorld, Kept, has_stopped}
 use Rattle.coord_store.specs.Recovered.{IsBody}
 use Rattle.coord_store.specs.declared.faults.CommitFault.{CommitFault}
@@ -22,6 +23,7 @@ pub record Changes {D T E : Type 0} (m : DiskModel D) (next : World) (device : E
   pub going : OnOk result (new.torn ≡ None)
   pub torn : IsErrOf result device → new.torn ≡ Some next
   pub same_world : IfErr result (λ fault. new.world ≡ old.world)
+  pub halves : KeepsHalves m device old new result
 
 -- The body of the batch fits behind what stands in this half.
 pub record FitsIn {D : Type 0} (m : DiskModel D) (half : ℕ) (steps : List Step) (store : Kept D) : Type 0 where

@@ -1,6 +1,7 @@
 -- The definitions in which the proofs and the crates above speak of this crate.
 pub use Rattle.coord_store.specs.Faults.{commit_fault_of, store_fault_of}
-pub use Rattle.coord_store.specs.Kept.{GivesEither, GivesKept, Holds, ImagesGive, IsKept, IsOnlyWorld, Kept, has_stopped}
+pub use Rattle.coord_store.specs.Halves.{HasHalves, KeepsHalves}
+pub use Rattle.coord_store.specs.Kept.{GivesEither, GivesKept, Holds, ImagesGive, IsJustMade, IsKept, IsOnlyWorld, Kept, has_stopped}
 pub use Rattle.coord_store.specs.Recovered.{AllFresh, Gives, HasSnapshot, IsBody, Recovered, Replays, Takes}
 pub use Rattle.coord_store.specs.GivenOut.{has_given_out, how_many_out}
 pub use Rattle.coord_store.specs.Refused.{IsCreateFault, IsOpenFault, IsPassing, RefusesBatch, RefusesBatches, RefusesContent, RefusesCreate, RefusesOpen, RefusesReplay, RefusesSnapshot, RefusesText, StopsAt}

@@ -3,7 +3,7 @@ use Rattle.std.specs.Prelude.{◌≡◌, ◌⊎◌, ℕ, Bool, true, List, Optio
 use Rattle.coord_codec.specs.Worlds.{world}
 use Rattle.coord_disk.specs.Model.DiskModel.{DiskModel}
 use Rattle.coord_disk.specs.Model.Present.{Present, IsImage, whole}
-use Rattle.coord_journal.specs.Facade.{Content, IsReady, disk_of, formatted, has_stopped as journal_has_stopped}
+use Rattle.coord_journal.specs.Facade.{Content, IsHalfSize, IsReady, disk_of, formatted, has_stopped as journal_has_stopped}
 use Rattle.coord_journal.specs.declared.journal.Journal.{Journal}
 use Rattle.coord_world.specs.Facade.{Legal, World, no_world, rows_of}
 use Rattle.coord_store.specs.Recovered.{Gives, Recovered}
@@ -52,3 +52,9 @@ IsOnlyWorld w bytes = Recovered bytes w
 -- what a disk holds on which a store was just made
 abbrev pub made : ℕ → ℕ → Present
 made half_size version = whole (formatted half_size version ((world version).text (rows_of (no_world version))))
+
+-- a store of a version was just made on this disk, with halves of this size: it has no step
+pub record IsJustMade (half_size version : ℕ) (disk : Present) : Type 0 where
+  pub bytes : disk ≡ made half_size version
+  pub half : IsHalfSize half_size
+  pub gives : Recovered disk.read (no_world version)

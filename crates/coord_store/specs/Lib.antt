@@ -5,6 +5,7 @@ pub mod GivenOut
 pub mod Recovered
 pub mod Refused
 pub mod Migrating
+pub mod Halves
 pub mod Writing
 pub mod Changing
 pub mod Facade

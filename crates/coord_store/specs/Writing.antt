@@ -2,7 +2,7 @@
 use Rattle.std.specs.Prelude.{◌≡◌, ◌≢◌, ◌⊎◌, true, false, ℕ, Option, Some, Result, Ok, Err, IfErr, IsErrOf, OnOk}
 use Rattle.coord_disk.specs.Model.DiskModel.{DiskModel}
 use Rattle.coord_disk.specs.Model.Moments.{LeavesOnly, Runs}
-use Rattle.coord_journal.specs.Facade.{disk_of, has_stopped}
+use Rattle.coord_journal.specs.Facade.{disk_of, half_size_of, has_stopped}
 use Rattle.coord_journal.specs.declared.journal.Journal.{Journal}
 use Rattle.coord_world.specs.Facade.{World}
 use Rattle.coord_store.specs.Faults.{failures_in}
@@ -24,6 +24,7 @@ pub record Stays {D T : Type 0} (m : DiskModel D) (w : World) (old new : Journal
 -- Whatever the journal holds: how often the device is called and fails, and what the journal is then.
 pub record Ends {D T : Type 0} (m : DiskModel D) (most : ℕ) (old new : Journal D) (result : Result T CommitFault) : Type 0 where
   pub runs : Runs m (disk_of old) (disk_of new) most (failures_in result)
+  pub half_size : half_size_of new ≡ half_size_of old
   pub fault : IfErr result (λ fault. (fault ≡ OutOfMemory) ⊎ (fault ≡ Device))
   pub going : OnOk result (has_stopped new ≡ false)
   pub still : IfErr result (λ fault. fault ≢ Device → has_stopped new ≡ false)

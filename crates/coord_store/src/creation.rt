@@ -5,7 +5,7 @@ ghost use Rattle.coord_codec.specs.Worlds.{world};
 ghost use Rattle.coord_disk.specs.Model.Moments.{IsUntouched, Runs};
 ghost use Rattle.coord_journal.specs.Text.{IsHalfSize, without_batch};
 ghost use Rattle.coord_journal.specs.declared.layout.TheConstants.{MAX_SNAPSHOT};
-ghost use Rattle.coord_store.specs.Kept.{made};
+ghost use Rattle.coord_store.specs.Kept.{IsJustMade, made};
 ghost use Rattle.coord_store.specs.Recovered.{Gives};
 ghost use Rattle.coord_store.specs.Refused.{IsCreateFault, RefusesCreate, failed_in};
 ghost use Rattle.coord_store.specs.declared.faults.StoreFault.TheVariants.{Device, HalfSize, NotEmpty, OutOfMemory};
@@ -70,7 +70,7 @@ impl<D: Disk> Store<D> {
             IsUntouched D.model disk refused.1) }
         ensures memory { D.model.keeps_model disk ≡ true →
             IfErr result (λ refused. refused.0 ≡ OutOfMemory → IsUntouched D.model disk refused.1 ⊎
-            (D.model.present refused.1 ≡ made half_size version)) }
+            IsJustMade half_size version (D.model.present refused.1)) }
         ensures taken { D.model.keeps_model disk ≡ true → 0 < length (D.model.present disk).read →
             IfErr result (λ refused. refused.0 ≢ Device → IsUntouched D.model disk refused.1) }
         ensures runs { MatchResult result (λ store. Runs D.model disk store.disk 6 0)

@@ -5,7 +5,7 @@ ghost use Rattle.coord_disk.specs.Model.Moments.{Runs};
 ghost use Rattle.coord_store.specs.Changing.{Changes};
 ghost use Rattle.coord_store.specs.Faults.{failures_in as put_failures};
 ghost use Rattle.coord_store.specs.Kept.{has_stopped};
-ghost use Rattle.coord_store.specs.Migrating.{RefusesMigration, failures_in, risen};
+ghost use Rattle.coord_store.specs.Migrating.{IsQuiet, RefusesMigration, failures_in, risen};
 ghost use Rattle.coord_store.specs.declared.faults.CommitFault.TheVariants as commit;
 ghost use Rattle.coord_store.specs.declared.faults.StoreFault.TheVariants.{Device, Stopped};
 ghost use Rattle.coord_world.specs.protocol.Legal.{Legal};
@@ -27,6 +27,7 @@ impl<D: Disk> Store<D> {
         ensures changes { Changes D.model (risen self.old.world) Device self.old self.new result }
         ensures unchanged { IfErr result (λ fault. fault ≢ Device → self.new ≡ self.old) }
         ensures again { self.old.world.version ≡ 2 → OnOk result (self.new ≡ self.old) }
+        ensures quiet { OnOk result ((self.old.world.version ≡ 2) ⊎ IsQuiet self.old.world) }
         ensures runs { Runs D.model self.old.disk self.new.disk 4 (failures_in result) }
 
         // When it is refused, in this order.

@@ -24,6 +24,7 @@ returns-then-number-eq2-clause-changes g c = record {
   going = search rules;
   torn = λ e. ok_not _ _ e;
   same_world = tt;
+  halves = λ k none size has. has;
 }
 
 pub returns-in-Some-clause-changes : goal.returns-in-Some-clause-changes

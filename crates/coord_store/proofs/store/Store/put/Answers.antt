@@ -23,7 +23,7 @@ returns-clause-changes g c =
     let none = none_of torn (is_some torn) refl (ap (λ (k : Kept g.row.D.Denot). is_some k.torn) c.self.view_is ∙ c.requires.going) in
     rw (← c.self.view_is, c.conclude.ensures.answer)
     (changed g.D.Disk.model journal c.put_in_place-written.new.journal w c.args.next c.conclude.new.world torn c.conclude.new.torn none c.self.invariant.holds c.put_in_place-written.result
-    c.conclude.ensures.keeps (c.put_in_place-written.ensures.follows w) (c.put_in_place-written.ensures.stays w))
+    c.put_in_place-written.ensures.ends.half_size c.conclude.ensures.keeps (c.put_in_place-written.ensures.follows w) (c.put_in_place-written.ensures.stays w))
 
 pub returns-clause-unchanged : goal.returns-clause-unchanged
 returns-clause-unchanged g c =
