@@ -1,5 +1,6 @@
 pub mod Begins
 pub mod Ends
+pub mod Moments
 pub mod OneHistory
 pub mod Starts
 pub mod Told

@@ -5,6 +5,7 @@ ghost use Rattle.coord_admin.specs.Times.{IsUsual};
 ghost use Rattle.coord_store.specs.Kept.{ImagesGive, has_stopped};
 ghost use Rattle.coord_server.specs.Ending.{LeavesNothing};
 ghost use Rattle.coord_server.specs.Lives.{EndsOneHistory, HasLived, HasServed, life_steps};
+ghost use Rattle.coord_server.specs.Moments.{AtEachMoment};
 
 use crate::lives::serve_lives;
 use crate::{ServerEnd, ServerFault};
@@ -43,6 +44,7 @@ pub fn serve_store<
     requires { has_stopped store ≡ false }
     ensures lives { IfOk result (HasServed D.model.keeps_model D.model.present store.world) }
     ensures whole { IfOk result (λ ended. EndsOneHistory store.world ended.closed) }
+    ensures moments { IfOk result (λ ended. AtEachMoment D.model store ended.closed) }
     ensures images { IfOk result (λ ended. D.model.keeps_model ended.closed.store.disk ≡ true →
         ImagesGive D.model ended.closed.store) }
     ensures nothing { IfErr result (LeavesNothing D.model.keeps_model D.model.present) }
@@ -75,6 +77,7 @@ fn serve_accepted<
     requires patience { IsUsual callers }
     ensures lives { IfOk result (HasServed D.model.keeps_model D.model.present store.world) }
     ensures whole { IfOk result (λ ended. EndsOneHistory store.world ended.closed) }
+    ensures moments { IfOk result (λ ended. AtEachMoment D.model store ended.closed) }
     ensures images { IfOk result (λ ended. D.model.keeps_model ended.closed.store.disk ≡ true →
         ImagesGive D.model ended.closed.store) }
     ensures nothing { IfErr result (LeavesNothing D.model.keeps_model D.model.present) }
@@ -100,6 +103,7 @@ pub fn serve_callers<
     ensures lives { IfOk result
         (HasLived D.model.keeps_model D.model.present C.talked C.failed life_steps store.world callers) }
     ensures whole { IfOk result (λ ended. EndsOneHistory store.world ended.closed) }
+    ensures moments { IfOk result (λ ended. AtEachMoment D.model store ended.closed) }
     ensures images { IfOk result (λ ended. D.model.keeps_model ended.closed.store.disk ≡ true →
         ImagesGive D.model ended.closed.store) }
     ensures nothing { IfErr result (LeavesNothing D.model.keeps_model D.model.present) }
