@@ -42,24 +42,27 @@ class Descriptors(Case):
         self.fail("a client was served without a descriptor")
 
     def test_too_few_to_begin(self) -> None:
-        """It says which one it could not have, and leaves the store as it was."""
-        store, seen = self.made(topology([(1, 1)])), set()
+        """It has all that it needs before it says that it listens: it serves, or says why it does not, and ends."""
+        store, ends = self.made(topology([(1, 1)])), set[tuple[str, str, int]]()
         before = self.read("store")
-        for most in range(4, 12):
+        for most in range(4, 13):
             words = ["prlimit", f"--nofile={most}", PROGRAM, "serve", store, "127.0.0.1:0"]
-            with subprocess.Popen(words, stdout=subprocess.PIPE, stderr=subprocess.PIPE) as server:
+            with self.subTest(most=most), subprocess.Popen(words, stdout=subprocess.PIPE, stderr=subprocess.PIPE) as server:
                 assert server.stdout and server.stderr
-                line = server.stdout.readline()
+                line = server.stdout.readline().decode()
                 if line:
-                    server.kill()
+                    self.is_served(line.removeprefix("listening ").strip())
                 told = server.stderr.read().decode()
-                server.wait()
-            with self.subTest(most=most):
-                self.assertIn((line[:10], told), [(b"listening ", ""), (b"", "resetd: Device\n"), (b"", "resetd: Socket\n")])
-            seen.add(told or line[:10])
-        self.assertEqual(seen, {b"listening ", "resetd: Device\n", "resetd: Socket\n"})
-        self.assertEqual((self.read("store"), ran("check", store).status), (before, 0))
+                ends.add((line[:10], told, server.wait()))
+            self.assertEqual(self.read("store"), before)
+        self.assertEqual(ends, {("listening ", "", 0), ("", "resetd: Device\n", 3), ("", "resetd: Socket\n", 3)})
 
+    def is_served(self, address: str) -> None:
+        """Each of two connections, one after the other; the second one closes the server."""
+        for request, answer in (({"op": "resend"}, {"count": 0, "kind": "resent"}), ({"op": "close"}, {"kind": "closed"})):
+            with Connection(address) as connection:
+                connection.send(request)
+                self.assertEqual(connection.reply(), answer)
 
     def test_an_address_that_can_not_be_listened_at(self) -> None:
         """Whatever the reason is."""

@@ -18,8 +18,9 @@ use coord_server::serve_store;
 use coord_store::Store;
 use std::alloc::Global;
 use std::fs::File;
+use std::io;
 use std::io::Write;
-use std::net::{Net, SocketAddr, SocketAddrV4, TcpListener};
+use std::net::{Net, OpenListener, SocketAddr, SocketAddrV4, TcpListener};
 use std::rt::Files;
 use std::sync::Wait;
 use std::thread::Threads;
@@ -84,7 +85,7 @@ fn serve_at<S: Net + Threads + Wait + Clock + Sync + AllocGlobal, F: Folder, W: 
         (F.holds folder.new file.now)) }
 {
     let store = opened(rt.alloc(), folder, file)?;
-    match TcpListener::bind(rt, SocketAddr::V4(address)) {
+    match listening(rt, address) {
         Ok(listener) => {
             let ended = serve_store(rt, rt.alloc(), store, &listener, output)?;
             let served = ended.into_closed();
@@ -105,6 +106,15 @@ fn serve_at<S: Net + Threads + Wait + Clock + Sync + AllocGlobal, F: Folder, W: 
             Err(Fault::Socket)
         }
     }
+}
+
+/// A listener at an address, where a descriptor is left for a connection: without one the server
+/// would listen, and answer nobody.
+fn listening<S: Net>(rt: &S, address: SocketAddrV4) -> io::Result<S::Listener> {
+    let listener = TcpListener::bind(rt, SocketAddr::V4(address))?;
+    let spare = listener.try_clone()?;
+    drop(spare);
+    Ok(listener)
 }
 
 /// Takes the disk of a name, and opens the store on it. A disk that is refused is put back.
