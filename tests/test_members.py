@@ -53,8 +53,8 @@ def small_views():
     """Two nodes, each in each state of two epochs, and the link between them: none, the first or the second."""
     rows = list(itertools.product(("ready", "abort", "converge"), (0, 1), (0, 1)))
     for (mode, epoch, confirmed), (other_mode, other_epoch, other_confirmed), link in itertools.product(rows, rows, (0, 1, 2)):
-        yield View(3, 3, (Node(1, 1, mode, 0, epoch, confirmed), Node(2, 1, other_mode, 0, other_epoch, other_confirmed)),
-                   (Link(1, 2, link),) if link else ())
+        nodes = Node(1, 1, mode, 0, epoch, confirmed), Node(2, 1, other_mode, 0, other_epoch, other_confirmed)
+        yield View(3, 3, nodes, (Link(1, 2, link),) if link else ())
 
 
 def small_states():
@@ -265,7 +265,8 @@ class Members(Case):
             self.assertEqual(self.library.begun(node, epoch), start_text(node, Kept(epoch)))
 
     def test_tags_that_came(self):
-        tags = ["", *(tag_of(frozenset({a, "x"}), frozenset({b}), word) for a in "12" for b in "12" for word in ("", "w")), "torn", "-", "a-b-c"]
+        tags = ["", "torn", "-", "a-b-c"]
+        tags += [tag_of(frozenset({a, "x"}), frozenset({b}), word) for a in "12" for b in "12" for word in ("", "w")]
         for own, other in itertools.product(tags, tags):
             self.assertEqual(self.library.is_same_run(own.encode(), other.encode()), is_same_run(own, other), (own, other))
             self.assertEqual(self.library.are_parted(own.encode(), other.encode()), are_parted(own, other), (own, other))
@@ -280,7 +281,8 @@ class Members(Case):
         for torn in (b"", line[:40], b"{}\n", b'{"fault":"BadJson"}\n', b'{"name":"Stopped","refused":1}\n', b"7\n"):
             self.refuses(3, torn, 1)
         self.refuses(4, line, 2)
-        for start in (b"{", b"[]", b"7", b'{"1": {}}', b'{"1": {"begun": true, "party": null}}', b'{"1": {"begun": 1, "party": [1]}}'):
+        for start in (b"{", b"[]", b"7", b'{"1": {}}', b'{"1": {"begun": true, "party": null}}',
+                      b'{"1": {"begun": 1, "party": [1]}}'):
             self.refuses(5, line, 1, start)
         for history in (b"\n", b"a" * 63 + b"\n", b"A" * 64 + b"\n", b"a" * 64 + b"\nb\n"):
             self.refuses(6, line, 1, b"", history)

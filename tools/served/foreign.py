@@ -30,12 +30,11 @@ class Guess:
     def __init__(self, kept=Kept(), history=frozenset()):
         self.kept, self.history = kept, history
         self.due, self.run, self.steps = None, "", [(kept, history)]
-        self.is_refused, self.has_asked = False, False  # whether a refused tag asks for a reset, and whether it did so
+        self.is_refused = False  # whether it has refused a tag that needs a reset, if it looks and talks
 
     def answered(self, view):
         """The member is shown this, or, where it is None, was started anew. `steps` are the states of the disk on the way."""
         self.due, self.run, self.steps = None, "", [(self.kept, self.history)]
-        self.is_refused, self.has_asked = self.is_refused and not self.has_asked, False
         row = view and view.node(NODE)
         if not row:
             return
@@ -56,14 +55,17 @@ class Guess:
         return {Due.BEGIN: {("confirm", NODE, row and row.epoch)}, Due.RESET: reset,
                 Due.TALK: reset if self.is_refused else set()}.get(self.due, set())
 
-    def wrong(self, view, orders, run):
-        """What the member did that does not fit this guess; None if all fits."""
+    def wrong(self, view, orders, run, has_heeded):
+        """What the member did that does not fit this guess; None if all fits. `has_heeded` says that it has taken the file
+        `refused` away."""
         if not set(orders) <= self.fit(view):
             return f"row `{ROWS[self.due]}`: it orders {', '.join(map(str, dict.fromkeys(orders)))}"
         if not orders and self.due in (Due.BEGIN, Due.RESET):
             return f"row `{ROWS[self.due]}`: it orders nothing"
         if run != self.run:
             return f"row `{ROWS[self.due]}`: its file `run` has {run!r} and not {self.run!r}"
+        if not orders and self.due is Due.TALK and self.is_refused and has_heeded:
+            return f"row `{ROWS[self.due]}`: it refused a tag that no look can bring to its own, and orders nothing"
         return None
 
 
@@ -118,18 +120,20 @@ class Rule:
             if guess.due is Due.BEGIN and order["op"] == "confirm":
                 self.expect(read(f"{self.folder}/run") == "", "it says that it talks while it confirms")
                 guess.kept = Kept(order["epoch"])
-            guess.has_asked = guess.has_asked or order["op"] == "reset"
 
     def looks_again(self):
         """The member has done all that it does for the last answer."""
         self.looks += 1
         run = read(f"{self.folder}/run").strip()
-        found = [guess.wrong(self.view, self.orders, run) for guess in self.guesses]
+        has_heeded = not os.path.exists(f"{self.folder}/refused")
+        found = [guess.wrong(self.view, self.orders, run, has_heeded) for guess in self.guesses]
         fitting = [guess for guess, wrong in zip(self.guesses, found) if not wrong]
         if fitting:
             self.guesses = list({(guess.kept, guess.history): guess for guess in fitting}.values())
         elif not self.wrong:
             self.wrong = found[0]
+        for guess in self.guesses:
+            guess.is_refused = guess.is_refused and not has_heeded
         self.talks = self.talks + 1 if self.due is Due.TALK else 0
         self.orders = []
 
