@@ -3,15 +3,15 @@
 from __future__ import annotations
 
 import asyncio
-import ipaddress
 import json
 import os
+import socket
 from typing import Any
 
 from .audit import moment
 from .front import Front, complain
+from .listeners import check_loopback, listening, place_of
 from .metrics import Metrics
-from .upstream import address_of
 
 PAGE = os.path.join(os.path.dirname(os.path.abspath(__file__)), "page.html")
 POLICY = "default-src 'none'; script-src 'unsafe-inline'; style-src 'unsafe-inline'; connect-src 'self'"
@@ -33,7 +33,7 @@ class Page:
             self._text = file.read()
 
     async def listen(self, address: str) -> None:
-        """At unix:PATH or HOST:PORT of the loopback. Raises OSError, and ValueError."""
+        """At unix:PATH, HOST:PORT of the loopback, or fd:NAME of a socket that was passed. Raises OSError, and ValueError."""
         web = self._web
         application = web.Application()
         application.add_routes([web.get("/", self._page), web.get("/events", self._events), web.get("/metrics", self._numbers)])
@@ -42,12 +42,13 @@ class Page:
         if address.startswith("unix:"):
             site = web.UnixSite(self._runner, address.removeprefix("unix:"), shutdown_timeout=1.0)
         else:
-            host, port = address_of(address) if not address.endswith(":0") else (address[:-2], 0)
-            if not ipaddress.ip_address(host).is_loopback:
-                raise ValueError(f"{host} is no address of the loopback")
-            site = web.TCPSite(self._runner, host, port, shutdown_timeout=1.0)
+            listener = listening(place_of(address))
+            if listener.family != socket.AF_UNIX:
+                check_loopback(listener)
+            site = web.SockSite(self._runner, listener, shutdown_timeout=1.0)
         await site.start()
-        where = site.name if address.startswith("unix:") else "http://{}:{}".format(*self._runner.addresses[0][:2])
+        is_http = isinstance(self._runner.addresses[0], tuple)
+        where = "http://{}:{}".format(*self._runner.addresses[0][:2]) if is_http else site.name
         complain(f"the page is at {where}")
 
     async def close(self) -> None:
