@@ -67,6 +67,22 @@ class Units(unittest.TestCase):
             self.assertEqual(self.unit(name)["Unit"]["OnFailure"], "resetd-alert@%n.service")
         self.assertTrue(self.unit("resetd-alert@.service")["Service"]["ExecStart"])
 
+    def test_three_units_share_a_network_that_nobody_else_has(self) -> None:
+        """Each names the two others: a network goes by the name of the unit that began it."""
+        names = {"resetd.service", "resetd-front.service", "resetd-health.service"}
+        for name in names:
+            unit = self.unit(name)
+            self.assertEqual(unit["Service"]["PrivateNetwork"], "yes", name)
+            if name != "resetd.service":  # whose own names are the inverse of the others'
+                self.assertEqual(set(unit["Unit"]["JoinsNamespaceOf"].split()), names - {name})
+
+    def test_members_and_other_hosts_come_through_the_front(self) -> None:
+        front, passed = self.unit("resetd-front.service")["Service"], self.unit("resetd-front-tls.socket")["Socket"]
+        self.assertIn(" unix:/run/resetd-front/socket ", self.unit("resetd-member@.service")["Service"]["ExecStart"])
+        self.assertIn(" --socket /run/resetd-front/socket --group resetd-look,resetd --policy /etc/resetd/front.toml ",
+                      re.sub(" +", " ", front["ExecStart"]))
+        self.assertEqual((passed["Service"], passed["FileDescriptorName"]), ("resetd-front.service", "tls"))
+
     def test_the_folder_of_signals_is_roots(self) -> None:
         """The manager opens the file there as root: whoever owns the folder could lead it to any other file."""
         for name in ("examples/resetd.service", "docs/OPERATING.md", "docs/TAKEOVER.md", "tools/deb"):
@@ -77,7 +93,7 @@ class Units(unittest.TestCase):
 
     @unittest.skipUnless(shutil.which("systemd-analyze"), "systemd-analyze is not installed: no unit is verified")
     def test_the_units_are_understood(self) -> None:
-        names = [name for name in os.listdir(EXAMPLES) if name.endswith((".service", ".timer"))]
+        names = [name for name in os.listdir(EXAMPLES) if name.endswith((".service", ".timer", ".socket"))]
         self.assertLessEqual({"resetd.service", "resetd-front.service", "resetd-health.timer", "resetd-member@.service"}, {*names})
         for name in names:
             with open(os.path.join(self.folder, name), "w", encoding="utf-8") as file:
