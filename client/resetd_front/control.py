@@ -137,7 +137,7 @@ class Process:
         except ImportError:
             complain("there is no page: python3-aiohttp is not installed")
             return None
-        await page.listen(self.words.page)
+        await page.listen(self.words.page, self.words.mode, self.words.group)
         return page
 
     def reload(self) -> None:

@@ -44,19 +44,7 @@ class Listeners:
 
     def unix(self, path: str, mode: int, groups: Sequence[int]) -> None:
         """Listens at a path, which a process that is gone may have left; the mode says what these groups may. Raises OSError."""
-        remove_stale(path)
-        listener = socket.socket(socket.AF_UNIX)
-        before = os.umask(0o177)
-        try:
-            listener.bind(path)
-        finally:
-            os.umask(before)
-        if groups:
-            os.chown(path, -1, groups[0])
-        os.chmod(path, mode)
-        if groups[1:]:
-            let_in(path, groups[1:])
-        listener.listen(BACKLOG)
+        listener = unix_listening(path, mode, groups)
         self._path = path
         self._begin(listener, f"unix:{path}", None)
 
@@ -140,6 +128,24 @@ def reason_of(fault: BaseException) -> str:
     if isinstance(fault, ssl.SSLError):
         return str(fault.reason or fault).replace("_", " ").lower()
     return str(fault) or "it did not end in time"
+
+
+def unix_listening(path: str, mode: int, groups: Sequence[int]) -> socket.socket:
+    """A listener at a path; the mode says what these groups may. Raises OSError."""
+    remove_stale(path)
+    listener = socket.socket(socket.AF_UNIX)
+    before = os.umask(0o177)
+    try:
+        listener.bind(path)
+    finally:
+        os.umask(before)
+    if groups:
+        os.chown(path, -1, groups[0])
+    os.chmod(path, mode)
+    if groups[1:]:
+        let_in(path, groups[1:])
+    listener.listen(BACKLOG)
+    return listener
 
 
 def listening(place: Place) -> socket.socket:
