@@ -73,8 +73,7 @@ class Units(unittest.TestCase):
         for name in names:
             unit = self.unit(name)
             self.assertEqual(unit["Service"]["PrivateNetwork"], "yes", name)
-            if name != "resetd.service":  # whose own names are the inverse of the others'
-                self.assertEqual(set(unit["Unit"]["JoinsNamespaceOf"].split()), names - {name})
+            self.assertEqual(set(unit["Unit"]["JoinsNamespaceOf"].split()), names - {name})
 
     def test_members_and_other_hosts_come_through_the_front(self) -> None:
         front, passed = self.unit("resetd-front.service")["Service"], self.unit("resetd-front-tls.socket")["Socket"]
@@ -110,7 +109,7 @@ class Units(unittest.TestCase):
         """In place, as the server keeps it open; the lines stand in the file before."""
         signals = os.path.join(self.folder, "signals")
         with open(os.path.join(self.folder, "conf"), "w", encoding="utf-8") as file:
-            file.write(shipped("resetd.logrotate").replace("/var/log/resetd/signals", signals))
+            file.write(shipped("resetd.logrotate").replace("/var/log/resetd/signals", signals).replace("su resetd resetd\n", "\n"))
         os.chmod(os.path.join(self.folder, "conf"), 0o644)
         with open(signals, "a", encoding="utf-8") as server:
             server.write("signal 1 1\n")
@@ -125,6 +124,22 @@ class Units(unittest.TestCase):
             self.assertEqual(file.read(), "signal 1 2\n")
         with open(f"{signals}.1", encoding="utf-8") as file:
             self.assertEqual(file.read(), "signal 1 1\n")
+
+
+    @unittest.skipUnless(shutil.which("logrotate"), "logrotate is not installed: nothing is rotated")
+    def test_the_audit_is_rotated(self) -> None:
+        """By its name, as the front opens it anew when it is told."""
+        audit, told = (os.path.join(self.folder, name) for name in ("audit", "told"))
+        text = shipped("resetd.logrotate").replace("/var/log/resetd-front/audit", audit).replace("su resetd resetd\n", "\n")
+        with open(os.path.join(self.folder, "conf"), "w", encoding="utf-8") as file:
+            file.write(text.replace("systemctl try-reload-or-restart resetd-front.service", f"touch {told}"))
+        os.chmod(os.path.join(self.folder, "conf"), 0o644)
+        with open(audit, "w", encoding="utf-8") as file:
+            file.write("{}\n")
+        done = subprocess.run(["logrotate", "--force", "--state", f"{self.folder}/state", f"{self.folder}/conf"],
+                              capture_output=True, encoding="utf-8", check=False)
+        self.assertEqual((done.returncode, done.stderr), (0, ""))
+        self.assertEqual((os.path.exists(audit), os.path.exists(f"{audit}.1"), os.path.exists(told)), (False, True, True))
 
 
 class Table(unittest.TestCase):
