@@ -172,8 +172,9 @@ def check_loopback(listener: socket.socket) -> None:
 
 
 def name_of(address: object) -> str:
+    """Where a socket is; one of version 4 at a listener for both as people write it."""
     assert isinstance(address, tuple)
-    return f"{address[0]}:{address[1]}"
+    return f"{address[0].removeprefix('::ffff:')}:{address[1]}"
 
 
 def remove_stale(path: str) -> None:
