@@ -65,9 +65,9 @@ class Server:
             time.sleep(0.01)
         self.address = lines[0].split()[1]
 
-    def start_front(self):
+    def start_front(self, client=15):
         self._start(sys.executable, str(ROOT / "client" / "resetd-front"), "serve", "--server", self.address, "--socket", self.path,
-                    "--state", f"{self.folder}/front", "--audit", f"{self.folder}/audit", "--signals", self.signals)
+                    "--state", f"{self.folder}/front", "--audit", f"{self.folder}/audit", "--signals", self.signals, "--client", str(client))
 
     def start_haproxy(self):
         pathlib.Path(f"{self.folder}/haproxy.cfg").write_text(PROXY.format(path=self.path, address=self.address), encoding="ascii")

@@ -54,17 +54,22 @@ def started(commands, others=()):
             process.wait()
 
 
-def resets(server, lines, links, count):
-    """Milliseconds from the order of a reset until all talk: the median of some resets, and the most."""
+def resets(order, lines, count):
+    """Milliseconds from the order of a reset until all talk: the median of some resets, and the most. `order` takes the
+    number of the reset."""
     lines.await_all("talks", 0)
-    number, took = len(links), []
-    for _ in range(count):
-        number += 1
+    took = []
+    for number in range(1, count + 1):
         time.sleep(0.2)
         began = time.monotonic_ns()
-        asyncio.run(once(server.port, {"op": "reset", "client": CLIENT, "number": number, "node": 1}))
+        asyncio.run(order(number))
         took.append((lines.await_all("talks", began) - began) / 1e6)
     return statistics.median(took), max(took)
+
+
+def at_port(server, before):
+    """Orders of a reset at the port, by a client that has so many orders before."""
+    return lambda number: once(server.port, {"op": "reset", "client": CLIENT, "number": before + number, "node": 1})
 
 
 def gateway(program, library, count):
@@ -75,7 +80,7 @@ def gateway(program, library, count):
         for node in range(1, NODES + 1):
             os.makedirs(f"{folder}/{node}")
         with started([[f"{HERE}/member.py", f"{folder}/{node}"] for node in range(1, NODES + 1)], [words]) as lines:
-            return resets(server, lines, range(NODES + len(CHORDS)), count)
+            return resets(at_port(server, NODES + len(CHORDS)), lines, count)
 
 
 def services(program, library, nodes, count, is_front):
@@ -83,13 +88,14 @@ def services(program, library, nodes, count, is_front):
     links = [(node, node % nodes + 1) for node in range(1, nodes + 1)]
     with Server(program, library, nodes, links) as server:
         if is_front:
-            server.start_front()
+            server.start_front(CLIENT)
+        order = (lambda _: once(server.at_socket, {"op": "reset", "node": 1})) if is_front else at_port(server, nodes + len(links))
         address = f"unix:{server.path}" if is_front else server.address
         for node in range(1, nodes + 1):
             os.mkdir(f"{server.folder}/{node}")
         words = [[f"{HERE}/service.py", str(node), address, f"{server.folder}/{node}", server.signals] for node in range(1, nodes + 1)]
         with started(words) as lines:
-            return resets(server, lines, range(nodes + len(links)), count)
+            return resets(order, lines, count)
 
 
 def one(program, library, count):
