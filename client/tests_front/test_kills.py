@@ -11,7 +11,7 @@ import time
 import unittest
 from typing import Any
 
-from case import Case, Client, until
+from case import Case, Client, Front, Server, until
 
 KILLS = int(os.environ.get("KILLS", "20"))
 CLIENTS = range(1, 9)
@@ -95,7 +95,7 @@ class Kills(Case):
         time.sleep(chance.random() / 20)  # any moment will do
         name = chance.choice(("server", "front"))
         self.killed[name] += 1
-        killed = self.server if name == "server" else self.front
+        killed: Server | Front = self.server if name == "server" else self.front
         killed.kill()
         killed.start()
 
