@@ -71,6 +71,7 @@ refusals:
 
 bench: build
 	bench/run bin/resetd
+	bench/front bin/resetd
 
 sweep:
 	bench/refused_allocations --seconds $(or $(EACH),12) $$(sed -n 's/^\([a-z][a-z0-9_]*\).*/\1/p' crates.txt)

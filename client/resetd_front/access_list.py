@@ -16,4 +16,7 @@ def let_in(path: str, groups: Iterable[int]) -> None:
     owner, group, others = mode >> 6 & 7, mode >> 3 & 7, mode & 7
     entries = [(OWNER, owner, NO_NUMBER), (OWN_GROUP, group, NO_NUMBER), *((GROUP, group, number) for number in sorted({*groups})),
                (MASK, group, NO_NUMBER), (OTHERS, others, NO_NUMBER)]
-    os.setxattr(path, NAME, struct.pack("<I", VERSION) + b"".join(struct.pack("<HHI", *entry) for entry in entries))
+    try:
+        os.setxattr(path, NAME, struct.pack("<I", VERSION) + b"".join(struct.pack("<HHI", *entry) for entry in entries))
+    except OSError as fault:
+        raise OSError(fault.errno, f"no access list for a second group: {fault.strerror}", path) from None
