@@ -3,6 +3,7 @@
 import asyncio
 import contextlib
 import json
+import resource
 import select
 import socket
 import statistics
@@ -69,6 +70,8 @@ def hostile(program, library, count):
 
 def connected(server, count):
     """So many connections, none of which says anything."""
+    most = resource.getrlimit(resource.RLIMIT_NOFILE)[1]
+    resource.setrlimit(resource.RLIMIT_NOFILE, (most, most))
     kept = []
     for _ in range(count):
         connection = socket.socket(socket.AF_UNIX)
