@@ -4,19 +4,22 @@
 #   podman build -t resetd .
 #   podman run --rm -v resetd-store:/var/lib/resetd -v resetd-log:/var/log/resetd resetd init
 #   podman run -d --name resetd --stop-timeout 20 -v resetd-store:/var/lib/resetd -v resetd-log:/var/log/resetd resetd
-#   podman exec resetd resetctl show
+#   podman run -d --name resetd-front --network container:resetd -v resetd-front:/run/resetd-front -v resetd-log:/var/log/resetd resetd front
+#   podman exec resetd-front resetctl show
 #
 # As the unit has it: the store is one volume and the file of signals another, which the services read; `stop` sends
 # SIGTERM, at which the server ends in order; nothing else is written to (so --read-only may be given). The port has no
-# authentication and is at 127.0.0.1, so services share the container's network (--network container:resetd, or a pod).
+# authentication and is at 127.0.0.1: only what shares the container's network reaches it, as the front does. Services
+# mount the folder of the front's socket, and run as a user of its group.
 FROM docker.io/library/debian:bookworm-slim
 COPY bin/resetd_*.deb /tmp/
 RUN apt-get update \
  && apt-get install -y --no-install-recommends /tmp/resetd_*.deb \
  && rm -rf /tmp/resetd_*.deb /var/lib/apt/lists/* \
+ && install -d -o resetd -g resetd /run/resetd-front \
  && chown resetd:resetd /var/log/resetd
 USER resetd
-VOLUME ["/var/lib/resetd", "/var/log/resetd"]
+VOLUME ["/var/lib/resetd", "/var/log/resetd", "/run/resetd-front"]
 STOPSIGNAL SIGTERM
 HEALTHCHECK --interval=30s --timeout=10s CMD ["resetctl", "--state", "/tmp", "health"]
 ENTRYPOINT ["/usr/share/resetd/tools/container"]

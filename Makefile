@@ -75,6 +75,7 @@ refusals:
 
 bench: build
 	bench/run bin/resetd
+	bench/front bin/resetd
 
 sweep:
 	bench/refused_allocations --seconds $(or $(EACH),12) $$(sed -n 's/^\([a-z][a-z0-9_]*\).*/\1/p' crates.txt)
@@ -111,13 +112,13 @@ install: $(PROGRAM) $(if $(wildcard lib/libresetd_member.so),install-lib)
 	install -m 755 tools/wave tools/container $(SHARE)/tools/
 	install -m 644 tools/picture/*.py $(SHARE)/tools/picture/
 	install -m 755 examples/ask examples/gateway examples/local_check examples/member examples/plain_member examples/run examples/service examples/talk examples/worker $(SHARE)/examples/
-	install -m 644 examples/coordinator.py examples/ring.toml examples/resetd.logrotate examples/resetd.rules.yml $(SHARE)/examples/
-	for unit in examples/*.service examples/*.timer; do sed 's|/usr/local/bin/|$(PREFIX)/bin/|' $$unit > $(SHARE)/$$unit; chmod 644 $(SHARE)/$$unit; done
-	install -m 644 docs/OPERATING.md docs/TAKEOVER.md docs/FORMATS.md docs/SERVICES.md docs/PROTOCOL.md docs/FRONT.md docs/member-vectors.json docs/*.svg $(SHARE)/docs/
+	install -m 644 examples/coordinator.py examples/ring.toml examples/front.toml examples/resetd.logrotate examples/resetd.rules.yml $(SHARE)/examples/
+	for unit in examples/*.service examples/*.timer examples/*.socket; do sed 's|/usr/local/bin/|$(PREFIX)/bin/|' $$unit > $(SHARE)/$$unit; chmod 644 $(SHARE)/$$unit; done
+	install -m 644 docs/OPERATING.md docs/TAKEOVER.md docs/FORMATS.md docs/SERVICES.md docs/PROTOCOL.md docs/FRONT.md docs/member-vectors.json docs/*.svg docs/front.png $(SHARE)/docs/
 	install -m 644 CHANGELOG.md $(SHARE)/
 	install -m 755 examples/account examples/hello examples/hello.sh examples/one_for_all $(SHARE)/examples/
 	install -m 644 examples/pair.toml $(SHARE)/examples/
-	sed 's|/usr/local/|$(PREFIX)/|' examples/resetd-member@.service > $(SHARE)/examples/resetd-member@.service
+	for unit in resetd-member@.service resetd-front.service; do sed 's|/usr/local/|$(PREFIX)/|' examples/$$unit > $(SHARE)/examples/$$unit; done
 	ln -sfn ../share/resetd/client/resetctl $(DESTDIR)$(PREFIX)/bin/resetctl
 	ln -sfn ../share/resetd/client/resetd-front $(DESTDIR)$(PREFIX)/bin/resetd-front
 	install -d $(BASH_COMPLETIONS) $(ZSH_COMPLETIONS)

@@ -21,7 +21,7 @@ class Front(Run):
                 self.expect(sys.executable, "-m", "unittest", "discover", "-s", FOLDER, "-p", f"{name}.py", ends_with="OK")
 
     def test_the_parts_by_themselves(self) -> None:
-        self.files("test_pairing", "test_policy", "test_own_orders")
+        self.files("test_pairing", "test_policy", "test_own_orders", "test_judging")
 
     def test_lines_and_orders(self) -> None:
         self.files("test_requests", "test_orders", "test_lost_answers")

@@ -7,6 +7,7 @@ these lines in the order of their bytes, each with a line feed.
 from __future__ import annotations
 
 import hashlib
+from functools import lru_cache
 
 Party = frozenset[str]
 
@@ -14,6 +15,7 @@ TAG_DIGITS = 32  # of the 64 of a SHA-256
 BETWEEN = "-"  # the two digests of a tag
 
 
+@lru_cache(maxsize=16)  # all members of a gateway ask for the same ones
 def digest_of(party: Party, word: str = "") -> str:
     """The SHA-256 of the party's text in 64 hexadecimal digits. `word`, if it is not empty, is the text's first line."""
     lines = [word] * bool(word) + sorted(party)

@@ -2,6 +2,7 @@
 
 from __future__ import annotations
 
+import ctypes
 import enum
 import hashlib
 import os
@@ -15,6 +16,7 @@ from dataclasses import dataclass
 LISTENS = "0A"  # the state in /proc/net/tcp
 MOST_WORDS = 400  # characters of a command
 LOOK_SECONDS = 0.5  # for so long a thread has to be in one call, or in none
+NETWORK = 0x40000000  # CLONE_NEWNET, for setns(2)
 
 
 def lock_holders(found: os.stat_result) -> list[int]:
@@ -75,6 +77,21 @@ def listening(host: str, port: int) -> set[int]:
         return set()
     sockets = {f"socket:[{row[9]}]" for row in rows if row[1] in wanted and row[3] == LISTENS}
     return {process for process in processes() if sockets & set(links_of(process))} if sockets else set()
+
+
+def has_other_network(process: int) -> bool:
+    """Whether a process is in another network namespace than this one, as far as this user may see it."""
+    try:
+        return not os.path.samestat(os.stat(f"/proc/{process}/ns/net"), os.stat("/proc/self/ns/net"))
+    except OSError:
+        return False
+
+
+def join_network(process: int) -> None:
+    """This thread goes on in the network namespace of another process, for good. Raises OSError; it takes root."""
+    with open(f"/proc/{process}/ns/net", "rb") as file:
+        if ctypes.CDLL(None, use_errno=True).setns(file.fileno(), NETWORK) != 0:
+            raise OSError(ctypes.get_errno(), os.strerror(ctypes.get_errno()))
 
 
 def processes() -> list[int]:

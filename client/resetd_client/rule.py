@@ -60,8 +60,8 @@ class Judged(NamedTuple):
 
 def shown_to(view: View, row: Node) -> Shown:
     """What a view says to the member of a node that is there."""
-    return Shown(row.epoch, row.confirmed, not view.awaited(row.node),
-                 all(node.mode == "ready" for node in view.connected(row.node)), view.party(row.node))
+    part = view.part(row.node)
+    return Shown(row.epoch, row.confirmed, part.is_through, part.is_quiet, part.party)
 
 
 def judge(kept: Kept, history: Container[str], shown: Shown) -> Judged:

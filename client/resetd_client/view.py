@@ -4,6 +4,7 @@ from __future__ import annotations
 
 from collections.abc import Mapping
 from dataclasses import dataclass
+from functools import cached_property
 from typing import Any, NamedTuple
 
 from .party import Party, tag_of
@@ -36,6 +37,31 @@ class Link(NamedTuple):
 
 
 @dataclass(frozen=True)
+class Part:
+    """Nodes that links connect with each other, in ascending order, and those links: a reset of one node reaches all. What
+    follows from them is found once, since all members of a gateway ask for it."""
+
+    nodes: tuple[Node, ...] = ()
+    links: tuple[Link, ...] = ()
+
+    @cached_property
+    def is_through(self) -> bool:
+        """No reset is at any of them, and all have begun."""
+        return all(node.is_begun for node in self.nodes)
+
+    @cached_property
+    def is_quiet(self) -> bool:
+        """No reset is at any of them."""
+        return all(node.mode == "ready" for node in self.nodes)
+
+    @cached_property
+    def party(self) -> Party:
+        """Each with its epoch, and their links: what names a run (party.py)."""
+        return frozenset([*(f"{node.node} {node.epoch}" for node in self.nodes),
+                          *(f"{link.a} {link.b} {link.incarnation}" for link in self.links)])
+
+
+@dataclass(frozen=True)
 class View:
     """The settled world: how many steps were accepted and how many are on the disk, and the rows."""
 
@@ -62,21 +88,14 @@ class View:
         """The row of a node, where it is there."""
         return next((node for node in self.nodes if node.node == number), None)
 
+    def part(self, number: int) -> Part:
+        """The node, and all that links connect with it. None if the node is not there."""
+        return self._parts.get(number, Part())
+
     def connected(self, number: int) -> tuple[Node, ...]:
         """The rows of the node and of all that links connect with it, in ascending order: a reset of one of them reaches
         all. None if the node is not there."""
-        if self.node(number) is None:
-            return ()
-        near: dict[int, set[int]] = {}
-        for link in self.links:
-            near.setdefault(link.a, set()).add(link.b)
-            near.setdefault(link.b, set()).add(link.a)
-        reached, rest = {number}, [number]
-        while rest:
-            for other in near.get(rest.pop(), set()) - reached:
-                reached.add(other)
-                rest.append(other)
-        return tuple(node for node in self.nodes if node.node in reached)
+        return self.part(number).nodes
 
     def awaited(self, number: int) -> tuple[Node, ...]:
         """Of the connected nodes, those that are not through: in a reset, or begun and not confirmed."""
@@ -84,10 +103,25 @@ class View:
 
     def party(self, number: int) -> Party:
         """Who is connected with a node, each with its epoch, and by which links: what names a run (party.py)."""
-        nodes = self.connected(number)
-        ids = {node.node for node in nodes}
-        return frozenset(f"{node.node} {node.epoch}" for node in nodes) | frozenset(
-            f"{link.a} {link.b} {link.incarnation}" for link in self.links if link.a in ids)
+        return self.part(number).party
+
+    @cached_property
+    def _parts(self) -> dict[int, Part]:
+        """The part of each node."""
+        near: dict[int, list[int]] = {node.node: [] for node in self.nodes}
+        for link in self.links:
+            near.setdefault(link.a, []).append(link.b)
+            near.setdefault(link.b, []).append(link.a)
+        first: dict[int, int] = {}  # of each node, the node by which its part was found
+        for node in self.nodes:
+            rest = [node.node]
+            while rest:
+                if (here := rest.pop()) not in first:
+                    first[here] = node.node
+                    rest += near[here]
+        parts = {each: Part(tuple(node for node in self.nodes if first[node.node] == each),
+                            tuple(link for link in self.links if first.get(link.a) == each)) for each in set(first.values())}
+        return {node.node: parts[first[node.node]] for node in self.nodes}
 
     def tag(self, number: int, word: str = "") -> str:
         """The tag of a start of this node that first talks where this view is shown (party.py); empty if it is alone.

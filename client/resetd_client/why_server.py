@@ -11,7 +11,7 @@ from .answers import Away, NotNow, NotTaken
 from .connections import Peer, peers
 from .finding import Finding, user_name
 from .port import Port
-from .processes import Condition, commanded, condition_of, listening, lock_holders
+from .processes import Condition, commanded, condition_of, has_other_network, join_network, listening, lock_holders
 from .same_store import NotCompared, Reading, difference, reading
 from .view import View
 
@@ -26,6 +26,7 @@ CONDITIONS = {
 
 def of_address(text: str, seconds: float, path: str) -> Iterator[Finding]:
     """What listens at an address, whether a server could, and whether a coordinator there has the store on this file."""
+    yield from of_network(path)
     try:
         host, port = host_and_port(text)
         socket.inet_aton(host)
@@ -43,6 +44,18 @@ def of_address(text: str, seconds: float, path: str) -> Iterator[Finding]:
     for process in listeners:
         yield Finding("address", f"process {process}{commanded(process)} listens there: a second one can't", "Socket")
     yield from of_answer(f"{host}:{port}", seconds, path, listeners)
+
+
+def of_network(path: str) -> Iterator[Finding]:
+    """A server whose unit has PrivateNetwork= is in a network of its own: what follows is then looked at in there."""
+    for process in filter(has_other_network, holders_of(path)):
+        try:
+            join_network(process)
+            yield Finding("address", f"process {process} has a network of its own: the address is looked at in there")
+        except OSError as fault:
+            text = f"process {process} has a network of its own, which can't be joined ({fault.strerror})"
+            yield Finding("address", text, left_out="what is at the address in there")
+        return
 
 
 def of_answer(address: str, seconds: float, path: str, listeners: list[int]) -> Iterator[Finding]:

@@ -2,11 +2,12 @@
 
 from __future__ import annotations
 
-import json
 import os
 import time
 from datetime import datetime, timezone
 from typing import Any
+
+from .requests import compact
 
 STANDARD_OUTPUT = "-"  # under systemd, the journal
 COMPLAINT_SECONDS = 60.0
@@ -27,7 +28,7 @@ class Audit:
         """Adds a line, which `write` writes, and answers its members. Those that are None are left out."""
         told = {name: value for name, value in members.items() if value is not None}
         line = {"time": moment(), "event": event, **told}
-        self._lines.append(json.dumps(line, separators=(",", ":")))
+        self._lines.append(compact(line))
         return line
 
     def write(self) -> str | None:

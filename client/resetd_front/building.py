@@ -29,7 +29,6 @@ class Hold(enum.Enum):
 
 
 Verdict = Place | Hold | bytes  # bytes: this is the answer, and nothing goes to the server
-Judge = Callable[[Request], Verdict]
 
 
 @dataclass(eq=False, slots=True)
@@ -42,6 +41,9 @@ class Asked:
     since: float
     answer: bytes | None = None
     tries: int = 0  # how often the number that the front gave it was lost
+
+
+Judge = Callable[[Asked], Verdict]
 
 
 @dataclass(eq=False, slots=True)
@@ -81,7 +83,7 @@ class Building:
         """Takes an asker's next line, unless it has to wait, or would overtake a line of the same asker."""
         request = asked.request
         assert isinstance(request, Request)
-        verdict = self._judge(request)
+        verdict = self._judge(asked)
         if isinstance(verdict, Hold):
             return False
         if isinstance(verdict, bytes):

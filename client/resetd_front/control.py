@@ -22,13 +22,12 @@ from resetd_client import __version__
 from . import policy
 from .audit import Audit
 from .front import Front, complain
-from .listeners import Listeners
+from .listeners import Listeners, place_of
 from .metrics import Metrics
 from .own_orders import OwnOrders
 from .page import Page
 from .peers import group_number, server_context
 from .signals import Signals
-from .upstream import address_of
 
 SOCKET, STATE = "/run/resetd-front/socket", "/var/lib/resetd-front"
 OK, FAULT, WRONG_WORDS = 0, 1, 2
@@ -54,12 +53,13 @@ def add_serve_words(serve: argparse.ArgumentParser) -> None:
     word("--server", "HOST:PORT", "the server's port, or several with commas (127.0.0.1:4170)", default="127.0.0.1:4170")
     word("--socket", "PATH", f"the Unix socket ({SOCKET})", default=SOCKET)
     word("--mode", "OCTAL", "its mode (660)", type=lambda text: int(text, 8), default=0o660)
-    word("--group", "NAME", "its group", type=group_named)
-    word("--tls", "HOST:PORT", "also TLS 1.3 with client certificates", type=listened)
+    word("--group", "NAMES", "the groups that the mode is for, with commas between", type=groups_named, default=())
+    word("--tls", "HOST:PORT", "also TLS 1.3 with client certificates; here, behind --tcp and --page fd:NAME stands for a socket that "
+                               "the service manager passes", type=place_of)
     word("--certificate", "PEM", "the front's certificate for TLS, with its chain")
     word("--key", "PEM", "its key")
     word("--authority", "PEM", "the authority that signed the clients' certificates")
-    word("--tcp", "HOST:PORT", "also TCP on the loopback, where whoever comes counts as the user nobody", type=listened)
+    word("--tcp", "HOST:PORT", "also TCP on the loopback, where whoever comes counts as the user nobody", type=place_of)
     word("--policy", "FILE", "who may do what (root and this user everything, the socket's group looks)")
     word("--audit", "FILE", "where each order is written down (standard output)", default="-")
     word("--signals", "FILE", "the server's file of signals, so that watchers are told at once")
@@ -70,17 +70,12 @@ def add_serve_words(serve: argparse.ArgumentParser) -> None:
     word("--page", "ADDRESS", "unix:PATH or a loopback HOST:PORT, for a page and metrics (read only)")
 
 
-def group_named(name: str) -> int:
-    """Raises ValueError."""
+def groups_named(names: str) -> tuple[int, ...]:
+    """Raises ArgumentTypeError."""
     try:
-        return group_number(name)
-    except KeyError:
-        raise ValueError(f"no group {name!r}") from None
-
-
-def listened(text: str) -> tuple[str, int]:
-    """HOST:PORT, where port 0 is a free one. Raises ValueError."""
-    return (text[:-2], 0) if text.endswith(":0") else address_of(text)
+        return tuple(map(group_number, names.split(",")))
+    except KeyError as unknown:
+        raise argparse.ArgumentTypeError(unknown.args[0]) from None
 
 
 def main() -> int:
@@ -142,7 +137,7 @@ class Process:
         except ImportError:
             complain("there is no page: python3-aiohttp is not installed")
             return None
-        await page.listen(self.words.page)
+        await page.listen(self.words.page, self.words.mode, self.words.group)
         return page
 
     def reload(self) -> None:
@@ -172,7 +167,7 @@ async def served(words: argparse.Namespace) -> None:
     """Serves until SIGTERM or SIGINT. Raises OSError, ValueError and Held where it can't begin."""
     loop, ended = asyncio.get_running_loop(), asyncio.Event()
     with contextlib.ExitStack() as stack:
-        rules = policy.read(words.policy) if words.policy else policy.without_policy(os.getuid(), group_of(words))
+        rules = policy.read(words.policy) if words.policy else policy.without_policy(os.getuid(), groups_of(words))
         own = OwnOrders(words.client, words.state)
         stack.callback(own.close)
         audit = Audit(words.audit)
@@ -200,10 +195,10 @@ async def served(words: argparse.Namespace) -> None:
         audit.write()
 
 
-def group_of(words: argparse.Namespace) -> int | None:
-    """The group whose members may look where there is no policy: the socket's."""
-    given: int | None = words.group
-    return given if given is not None else os.getgid() if words.mode & 0o060 else None
+def groups_of(words: argparse.Namespace) -> tuple[int, ...]:
+    """The groups whose members may look where there is no policy: the socket's."""
+    given: tuple[int, ...] = words.group
+    return given or ((os.getgid(),) if words.mode & 0o060 else ())
 
 
 def tell_manager(text: str) -> None:

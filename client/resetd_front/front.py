@@ -16,7 +16,7 @@ from .connection import Connection
 from .own_orders import OwnOrders
 from .pairing import Pairing
 from .policy import Policy, Rule
-from .requests import LOOKS, NotARequest, Request, read
+from .requests import LOOKS, NotARequest, Request, compact, read
 from .upstream import Events, Upstream
 from .views import Views
 from .watchers import Watchers
@@ -41,7 +41,7 @@ def complain(text: str) -> None:
 
 
 def text_of(answer: dict[str, Any]) -> bytes:
-    return json.dumps(answer, separators=(",", ":")).encode()
+    return compact(answer).encode()
 
 
 class Front(Events):
@@ -142,7 +142,7 @@ class Front(Events):
 
     def signalled(self) -> None:
         """The file of signals has grown."""
-        if self.follows():
+        if self.follows() or self.upstream.is_holding:
             self.upstream.look()
 
     def follow(self) -> None:

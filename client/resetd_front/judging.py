@@ -4,25 +4,37 @@ from __future__ import annotations
 
 from resetd_client import Node
 
-from .building import Hold, Place, Verdict
+from .building import Asked, Hold, Place, Verdict
 from .own_orders import OwnOrders
 from .requests import Request
 from .views import Views
 
 BAD_EPOCH = b'{"name":"BadEpoch","refused":15}'
 UNKNOWN_NODE = b'{"name":"UnknownNode","refused":6}'
+HOLD_SECONDS = 0.1  # for which a confirm waits at most for the end of a reset
 
 
 class Judging:
-    """The judge of one flight. `is_fresh` says that the last view was read behind all that was sent. Afterwards
+    """The judge of one flight at one moment. `is_fresh` says that the last view was read behind all that was sent. Afterwards
     `wants_count`, `wants_look` and `wants_end` say what lines were held for: the count of the front's own client, a look,
-    the end of a reset."""
+    the end of a reset.
 
-    def __init__(self, own: OwnOrders, views: Views, is_fresh: bool) -> None:
-        self._own, self._views, self._is_fresh = own, views, is_fresh
+    A confirm waits a little for the end of a reset that its node takes part in. Nobody talks before all have confirmed, so
+    nothing is lost by that; and each flight with an order has two syncs of its own, for which the wave would have to wait."""
+
+    def __init__(self, own: OwnOrders, views: Views, is_fresh: bool, now: float) -> None:
+        self._own, self._views, self._is_fresh, self._now = own, views, is_fresh, now
         self.wants_count = self.wants_look = self.wants_end = False
 
-    def __call__(self, request: Request) -> Verdict:
+    def __call__(self, asked: Asked) -> Verdict:
+        request = asked.request
+        assert isinstance(request, Request)
+        if request.op == "confirm" and request.members["node"] in self._views.in_reset and self._now - asked.since < HOLD_SECONDS:
+            self.wants_end = True
+            return Hold.HOLD
+        return self._placed(request)
+
+    def _placed(self, request: Request) -> Verdict:
         if request.op == "close":
             return Place.LAST
         if not request.is_order:
@@ -53,7 +65,7 @@ class Judging:
             return BAD_EPOCH
         if node.mode != "ready":
             return b'{"kind":"joined","step":%d}' % self._views.view.settled
-        if any(other.mode != "ready" for other in self._views.view.connected(number)):
+        if number in self._views.in_reset:
             self.wants_end = True  # it may have gone through the node already, or not
             return Hold.HOLD
         return Place.ORDER

@@ -11,13 +11,16 @@ import resource
 import socket
 import ssl
 import stat
-from collections.abc import Callable, Coroutine
+from collections.abc import Callable, Coroutine, Sequence
 from itertools import count
 from typing import Any
 
+from .access_list import let_in
 from .connection import Connection
 from .front import Front, complain
+from .passed import WORD, passed_as
 from .peers import Peer
+from .upstream import address_of
 
 BACKLOG = 1024
 KEPT_FREE = 48  # descriptors for the server, the audit, the page and listeners
@@ -25,6 +28,7 @@ HANDSHAKE_SECONDS = 10.0
 PAUSE_SECONDS = 0.02  # before the next try, where no connection can be taken
 NO_ROOM = (errno.EMFILE, errno.ENFILE, errno.ENOBUFS, errno.ENOMEM)
 PeerOf = Callable[[asyncio.Transport], Peer]
+Place = tuple[str, int] | str  # a host and a port, or fd:NAME of a socket that was passed
 
 
 class Listeners:
@@ -38,32 +42,21 @@ class Listeners:
         self._coming = 0  # connections whose handshake is under way
         self._path: str | None = None
 
-    def unix(self, path: str, mode: int, group: int | None) -> None:
-        """Listens at a path, which a process that is gone may have left. Raises OSError."""
-        remove_stale(path)
-        listener = socket.socket(socket.AF_UNIX)
-        before = os.umask(0o177)
-        try:
-            listener.bind(path)
-        finally:
-            os.umask(before)
-        if group is not None:
-            os.chown(path, -1, group)
-        os.chmod(path, mode)
-        listener.listen(BACKLOG)
+    def unix(self, path: str, mode: int, groups: Sequence[int]) -> None:
+        """Listens at a path, which a process that is gone may have left; the mode says what these groups may. Raises OSError."""
+        listener = unix_listening(path, mode, groups)
         self._path = path
         self._begin(listener, f"unix:{path}", None)
 
-    def tls(self, address: tuple[str, int], context: ssl.SSLContext) -> None:
-        """Raises OSError."""
-        listener = listening(address)
+    def tls(self, place: Place, context: ssl.SSLContext) -> None:
+        """Raises OSError, and ValueError."""
+        listener = listening(place)
         self._begin(listener, f"tls:{name_of(listener.getsockname())}", context)
 
-    def tcp(self, address: tuple[str, int]) -> None:
+    def tcp(self, place: Place) -> None:
         """Loopback alone, since whoever comes has no credentials. Raises OSError, and ValueError."""
-        if not ipaddress.ip_address(address[0]).is_loopback:
-            raise ValueError(f"{address[0]} is no address of the loopback: use TLS for others")
-        listener = listening(address)
+        listener = listening(place)
+        check_loopback(listener)
         self._begin(listener, f"tcp:{name_of(listener.getsockname())}", None)
 
     def close(self) -> None:
@@ -137,15 +130,51 @@ def reason_of(fault: BaseException) -> str:
     return str(fault) or "it did not end in time"
 
 
-def listening(address: tuple[str, int]) -> socket.socket:
-    """A TCP listener. Raises OSError."""
-    family = socket.AF_INET6 if ":" in address[0] else socket.AF_INET
-    return socket.create_server(address, family=family, backlog=BACKLOG)
+def unix_listening(path: str, mode: int, groups: Sequence[int]) -> socket.socket:
+    """A listener at a path; the mode says what these groups may. Raises OSError."""
+    remove_stale(path)
+    listener = socket.socket(socket.AF_UNIX)
+    before = os.umask(0o177)
+    try:
+        listener.bind(path)
+    finally:
+        os.umask(before)
+    if groups:
+        os.chown(path, -1, groups[0])
+    os.chmod(path, mode)
+    if groups[1:]:
+        let_in(path, groups[1:])
+    listener.listen(BACKLOG)
+    return listener
+
+
+def listening(place: Place) -> socket.socket:
+    """A TCP listener, its own or one that was passed. Raises OSError, and ValueError."""
+    if isinstance(place, str):
+        return passed_as(place.removeprefix(WORD))
+    family = socket.AF_INET6 if ":" in place[0] else socket.AF_INET
+    return socket.create_server(place, family=family, backlog=BACKLOG)
+
+
+def place_of(text: str) -> Place:
+    """HOST:PORT, where port 0 is a free one, or fd:NAME. Raises ValueError."""
+    if text.startswith(WORD):
+        return text
+    return (text[:-2], 0) if text.endswith(":0") else address_of(text)
+
+
+def check_loopback(listener: socket.socket) -> None:
+    """Raises ValueError where others than processes of this host may come."""
+    host = listener.getsockname()[0]
+    if not ipaddress.ip_address(host).is_loopback:
+        listener.close()
+        raise ValueError(f"{host} is no address of the loopback: use TLS for others")
 
 
 def name_of(address: object) -> str:
+    """Where a socket is; one of version 4 at a listener for both as people write it."""
     assert isinstance(address, tuple)
-    return f"{address[0]}:{address[1]}"
+    return f"{address[0].removeprefix('::ffff:')}:{address[1]}"
 
 
 def remove_stale(path: str) -> None:

@@ -18,6 +18,7 @@ from .building import Line, Place
 MOST_TRIES = 3  # of one order whose number was not the next: somebody else may order as the same client
 CARRIED_OUT = b'{"kind":"carried out","step":0}'  # it was carried out, and its reply was lost with a connection
 PASSING = (Refusal.STOPPED, Refusal.OUT_OF_MEMORY, Refusal.PENDING_FULL)  # they say nothing of the number
+MOST_DIGITS = 20  # of a number
 SECONDS = 5.0  # for one answer, where the number is looked for
 
 
@@ -37,12 +38,13 @@ class OwnOrders:
         self.client = client
         self.is_known = False  # whether the number is that of the coordinator
         self._lock = files.hold(folder)
-        self._path = os.path.join(folder, f"client-{client}")
-        self._number = kept_number(self._path)
+        self._file = os.open(os.path.join(folder, f"client-{client}"), os.O_RDWR | os.O_CREAT | os.O_CLOEXEC, 0o600)
+        self._number = kept_number(self._file)
         self._is_free = False  # in this flight a number was refused, so that those behind it are out of turn
         self._unsure: list[Line] = []  # out of turn, sent more than once: carried out if a later one is in turn
 
     def close(self) -> None:
+        os.close(self._file)
         self._lock.close()
 
     def find(self, addresses: str) -> int:
@@ -61,7 +63,7 @@ class OwnOrders:
                 line.number = number + 1
                 number += line.place is Place.ORDER
         if number != self._number:
-            keep_number(self._path, number)
+            keep_number(self._file, number)
 
     def answered(self, line: Line, text: bytes, answer: dict[str, Any]) -> list[Outcome]:
         """What an answer to a numbered line says of it, and of lines before it."""
@@ -108,15 +110,14 @@ class OwnOrders:
         return Outcome(line, (text or b'{"name":"OutOfTurn","refused":4}') if is_given_up else None)
 
 
-def kept_number(path: str) -> int:
+def kept_number(file: int) -> int:
     try:
-        return max(int(files.read(path) or 0), 0)
+        return max(int(os.pread(file, MOST_DIGITS + 1, 0) or 0), 0)
     except ValueError:
         return 0
 
 
-def keep_number(path: str, number: int) -> None:
-    """Replaces the file as a whole. It is not synced: after a power cut the number is found from an older one."""
-    with open(path + ".new", "w", encoding="ascii") as file:
-        file.write(str(number))
-    os.replace(path + ".new", path)
+def keep_number(file: int, number: int) -> None:
+    """Writes the number over the old one, of the same length, in one call. It is not synced: after a power cut the number is
+    found from an older one."""
+    os.pwrite(file, b"%0*d\n" % (MOST_DIGITS, number), 0)

@@ -3,15 +3,15 @@
 from __future__ import annotations
 
 import asyncio
-import ipaddress
 import json
 import os
+from collections.abc import Sequence
 from typing import Any
 
 from .audit import moment
 from .front import Front, complain
+from .listeners import check_loopback, listening, place_of, unix_listening
 from .metrics import Metrics
-from .upstream import address_of
 
 PAGE = os.path.join(os.path.dirname(os.path.abspath(__file__)), "page.html")
 POLICY = "default-src 'none'; script-src 'unsafe-inline'; style-src 'unsafe-inline'; connect-src 'self'"
@@ -32,22 +32,21 @@ class Page:
         with open(PAGE, "rb") as file:
             self._text = file.read()
 
-    async def listen(self, address: str) -> None:
-        """At unix:PATH or HOST:PORT of the loopback. Raises OSError, and ValueError."""
+    async def listen(self, address: str, mode: int, groups: Sequence[int]) -> None:
+        """At unix:PATH, which these groups may reach as the mode says, HOST:PORT of the loopback, or fd:NAME of a socket that
+        was passed. Raises OSError, and ValueError."""
         web = self._web
         application = web.Application()
         application.add_routes([web.get("/", self._page), web.get("/events", self._events), web.get("/metrics", self._numbers)])
         self._runner = web.AppRunner(application, access_log=None)
         await self._runner.setup()
         if address.startswith("unix:"):
-            site = web.UnixSite(self._runner, address.removeprefix("unix:"), shutdown_timeout=1.0)
+            listener, where = unix_listening(address.removeprefix("unix:"), mode, groups), address
         else:
-            host, port = address_of(address) if not address.endswith(":0") else (address[:-2], 0)
-            if not ipaddress.ip_address(host).is_loopback:
-                raise ValueError(f"{host} is no address of the loopback")
-            site = web.TCPSite(self._runner, host, port, shutdown_timeout=1.0)
-        await site.start()
-        where = site.name if address.startswith("unix:") else "http://{}:{}".format(*self._runner.addresses[0][:2])
+            listener = listening(place_of(address))
+            check_loopback(listener)
+            where = "http://{}:{}".format(*listener.getsockname()[:2])
+        await web.SockSite(self._runner, listener, shutdown_timeout=1.0).start()
         complain(f"the page is at {where}")
 
     async def close(self) -> None:

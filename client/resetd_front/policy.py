@@ -3,7 +3,7 @@
 from __future__ import annotations
 
 import tomllib
-from collections.abc import Sequence
+from collections.abc import Iterable, Sequence
 from dataclasses import dataclass
 from typing import Any
 
@@ -61,13 +61,11 @@ def spelled(numbers: frozenset[int] | None) -> str:
     return " ".join(map(str, sorted(numbers or ())))
 
 
-def without_policy(own_user: int, group: int | None) -> Policy:
-    """Root and the coordinator's user may do everything, others of the socket's group may look."""
+def without_policy(own_user: int, groups: Iterable[int]) -> Policy:
+    """Root and the coordinator's user may do everything, others of the socket's groups may look."""
     everything = frozenset(OPS)
-    rules = [Rule("user", "root", 0, everything), Rule("user", str(own_user), own_user, everything)]
-    if group is not None:
-        rules.append(Rule("group", str(group), group, frozenset(LOOKS)))
-    return Policy(tuple(rules))
+    return Policy((Rule("user", "root", 0, everything), Rule("user", str(own_user), own_user, everything),
+                   *(Rule("group", str(group), group, frozenset(LOOKS)) for group in groups)))
 
 
 def read(path: str) -> Policy:

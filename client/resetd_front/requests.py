@@ -7,6 +7,7 @@ from __future__ import annotations
 
 import json
 import math
+from collections.abc import Callable
 from dataclasses import dataclass
 from typing import Any
 
@@ -23,6 +24,9 @@ OPS = (*ORDERS, *LOOKS, "resend", "close")
 NUMBERED = ("client", "number")
 # Orders that the front numbers itself: they do no harm when they are repeated.
 WITHOUT_NUMBER = {"confirm": (frozenset({"node", "epoch"}),), "reset": (frozenset({"node"}), frozenset({"node", "epoch"}))}
+
+
+compact: Callable[[object], str] = json.JSONEncoder(separators=(",", ":")).encode
 
 
 class NotARequest(Exception):
@@ -78,7 +82,8 @@ class Request:
         if self.op in LOOKS:
             return b'{"op":"show"}\n'
         members = {name: value for name, value in self.members.items() if self.op != "reset" or name != "epoch"}
-        return json.dumps({"op": self.op, **numbered, **members}, separators=(",", ":")).encode() + b"\n"
+        told: dict[str, Any] = {"op": self.op, **numbered, **members}
+        return compact(told).encode() + b"\n"
 
 
 SHOW = Request("show", {})
@@ -111,7 +116,7 @@ def object_of(line: bytes) -> dict[str, Any]:
     except UnicodeDecodeError:
         raise NotARequest("BadText") from None
     try:
-        value = json.loads(text, parse_constant=refused, parse_float=finite, parse_int=whole)
+        value = STRICT.decode(text)
         if "\\u" in text:
             json.dumps(value, ensure_ascii=False).encode("utf-8")  # half of a pair of surrogates is no text
     except (ValueError, RecursionError):
@@ -137,6 +142,9 @@ def finite(text: str) -> float:
 def whole(text: str) -> int | float:
     """A whole number; one with a sign is none of 64 bits, not even -0."""
     return finite(text) if text.startswith("-") or len(text) > 20 else int(text)
+
+
+STRICT = json.JSONDecoder(parse_constant=refused, parse_float=finite, parse_int=whole)
 
 
 def depth(value: object) -> int:

@@ -11,21 +11,23 @@ from collections.abc import Callable
 IN_MODIFY, IN_MOVED_TO, IN_CREATE = 0x2, 0x80, 0x100
 HEAD = struct.Struct("iIII")  # of an event: the watch, what happened, a cookie, the length of the name behind it
 MOST_BYTES = 65_536
+OF_THE_FILE = b""  # the name in an event of a file that is watched itself
 
 
 class Signals:
-    """Calls `grown` when the file is written, made or put in place. It watches its folder, which has to be there."""
+    """Calls `grown` when the file is written, made or put in place. It watches the file, and for one that comes its folder,
+    which has to be there: what is written to other files of the folder wakes nobody."""
 
     def __init__(self, path: str, grown: Callable[[], None]) -> None:
         """Raises OSError."""
         self._name, self._grown = os.path.basename(path).encode(), grown
-        library = ctypes.CDLL(None, use_errno=True)
-        self._file = library.inotify_init1(os.O_NONBLOCK | os.O_CLOEXEC)
-        folder = os.path.dirname(os.path.abspath(path))
-        if self._file < 0 or library.inotify_add_watch(
-                self._file, os.fsencode(folder), IN_MODIFY | IN_MOVED_TO | IN_CREATE) < 0:
+        self._path, folder = path, os.path.dirname(os.path.abspath(path))
+        self._library = ctypes.CDLL(None, use_errno=True)
+        self._file = self._library.inotify_init1(os.O_NONBLOCK | os.O_CLOEXEC)
+        if self._file < 0 or not self._watch(folder, IN_MOVED_TO | IN_CREATE):
             number = ctypes.get_errno()
             raise OSError(number, os.strerror(number), folder)
+        self._watch(path, IN_MODIFY)
         asyncio.get_running_loop().add_reader(self._file, self._read)
 
     def close(self) -> None:
@@ -37,8 +39,15 @@ class Signals:
             text = os.read(self._file, MOST_BYTES)
         except BlockingIOError:
             return
-        if self._name in names_in(text):
+        names = names_in(text)
+        if self._name in names:
+            self._watch(self._path, IN_MODIFY)  # it has come: a new file
+        if names & {self._name, OF_THE_FILE}:
             self._grown()
+
+    def _watch(self, path: str, mask: int) -> bool:
+        """Watches what stands there from now on, and answers whether something does."""
+        return int(self._library.inotify_add_watch(self._file, os.fsencode(path), mask)) >= 0
 
 
 def names_in(text: bytes) -> set[bytes]:

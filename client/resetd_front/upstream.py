@@ -92,6 +92,7 @@ class Upstream:
         self.flights = self.resends = 0
         self.is_up: bool | None = None  # None until it is known
         self.is_stopped = False
+        self.is_holding = False  # whether lines wait for the end of a reset
 
     def wake(self) -> None:
         """Something waits. All that comes in this turn of the loop goes together."""
@@ -135,7 +136,7 @@ class Upstream:
 
     def _send(self) -> None:
         """The next flight goes out, or that whose answers did not come goes once more."""
-        judging = Judging(self._own, self._views, self._is_fresh)
+        judging = Judging(self._own, self._views, self._is_fresh, self._loop.time())
         is_again = self._pairing.in_flight > 0
         lines, answered = self._pairing.take(judging)
         if answered:
@@ -147,6 +148,7 @@ class Upstream:
             if self._wants_look or has_orders and self._events.follows():
                 lines = self._pairing.look_behind()
             self._wants_look = False
+        self.is_holding = judging.wants_end
         if judging.wants_end:
             self._later("look", LOOK_PAUSE, self.look)
         self._wants_count = judging.wants_count and self._loop.time() >= self._count_again

@@ -16,6 +16,7 @@ class Views:
         self.line = b""
         self._rows = b""  # of the line, what has nodes and links
         self._view: View | None = None
+        self._in_reset: frozenset[int] | None = None
 
     def note(self, line: bytes) -> bool:
         """Takes a new answer to a look, and answers whether nodes or links differ from before. What is no view is left."""
@@ -23,13 +24,27 @@ class Views:
         if rows is None:
             return False
         is_new = rows != self._rows
-        self.line, self._rows, self._view = line, rows, None
+        self.line = line
+        if is_new:
+            self._rows, self._in_reset = rows, None
+        self._view = None
         return is_new
 
     @property
     def is_in_reset(self) -> bool:
         """Whether a reset is under way at some node."""
         return any(mode in self._rows for mode in MODES_OF_A_RESET)
+
+    @property
+    def in_reset(self) -> frozenset[int]:
+        """The nodes of the resets that are under way: those that links connect with a node which a reset is at."""
+        if self._in_reset is None:
+            found = set[int]()
+            for node in self.view.nodes if self.view and self.is_in_reset else ():
+                if node.mode != "ready" and node.node not in found and self.view:
+                    found.update(other.node for other in self.view.connected(node.node))
+            self._in_reset = frozenset(found)
+        return self._in_reset
 
     @property
     def view(self) -> View | None:

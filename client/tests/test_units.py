@@ -67,6 +67,21 @@ class Units(unittest.TestCase):
             self.assertEqual(self.unit(name)["Unit"]["OnFailure"], "resetd-alert@%n.service")
         self.assertTrue(self.unit("resetd-alert@.service")["Service"]["ExecStart"])
 
+    def test_three_units_share_a_network_that_nobody_else_has(self) -> None:
+        """Each names the two others: a network goes by the name of the unit that began it."""
+        names = {"resetd.service", "resetd-front.service", "resetd-health.service"}
+        for name in names:
+            unit = self.unit(name)
+            self.assertEqual(unit["Service"]["PrivateNetwork"], "yes", name)
+            self.assertEqual(set(unit["Unit"]["JoinsNamespaceOf"].split()), names - {name})
+
+    def test_members_and_other_hosts_come_through_the_front(self) -> None:
+        front, passed = self.unit("resetd-front.service")["Service"], self.unit("resetd-front-tls.socket")["Socket"]
+        self.assertIn(" unix:/run/resetd-front/socket ", self.unit("resetd-member@.service")["Service"]["ExecStart"])
+        self.assertIn(" --socket /run/resetd-front/socket --group resetd-look,resetd --policy /etc/resetd/front.toml ",
+                      re.sub(" +", " ", front["ExecStart"]))
+        self.assertEqual((passed["Service"], passed["FileDescriptorName"]), ("resetd-front.service", "tls"))
+
     def test_the_folder_of_signals_is_roots(self) -> None:
         """The manager opens the file there as root: whoever owns the folder could lead it to any other file."""
         for name in ("examples/resetd.service", "docs/OPERATING.md", "docs/TAKEOVER.md", "tools/deb"):
@@ -77,7 +92,7 @@ class Units(unittest.TestCase):
 
     @unittest.skipUnless(shutil.which("systemd-analyze"), "systemd-analyze is not installed: no unit is verified")
     def test_the_units_are_understood(self) -> None:
-        names = [name for name in os.listdir(EXAMPLES) if name.endswith((".service", ".timer"))]
+        names = [name for name in os.listdir(EXAMPLES) if name.endswith((".service", ".timer", ".socket"))]
         self.assertLessEqual({"resetd.service", "resetd-front.service", "resetd-health.timer", "resetd-member@.service"}, {*names})
         for name in names:
             with open(os.path.join(self.folder, name), "w", encoding="utf-8") as file:
@@ -94,7 +109,7 @@ class Units(unittest.TestCase):
         """In place, as the server keeps it open; the lines stand in the file before."""
         signals = os.path.join(self.folder, "signals")
         with open(os.path.join(self.folder, "conf"), "w", encoding="utf-8") as file:
-            file.write(shipped("resetd.logrotate").replace("/var/log/resetd/signals", signals))
+            file.write(shipped("resetd.logrotate").replace("/var/log/resetd/signals", signals).replace("su resetd resetd\n", "\n"))
         os.chmod(os.path.join(self.folder, "conf"), 0o644)
         with open(signals, "a", encoding="utf-8") as server:
             server.write("signal 1 1\n")
@@ -109,6 +124,22 @@ class Units(unittest.TestCase):
             self.assertEqual(file.read(), "signal 1 2\n")
         with open(f"{signals}.1", encoding="utf-8") as file:
             self.assertEqual(file.read(), "signal 1 1\n")
+
+
+    @unittest.skipUnless(shutil.which("logrotate"), "logrotate is not installed: nothing is rotated")
+    def test_the_audit_is_rotated(self) -> None:
+        """By its name, as the front opens it anew when it is told."""
+        audit, told = (os.path.join(self.folder, name) for name in ("audit", "told"))
+        text = shipped("resetd.logrotate").replace("/var/log/resetd-front/audit", audit).replace("su resetd resetd\n", "\n")
+        with open(os.path.join(self.folder, "conf"), "w", encoding="utf-8") as file:
+            file.write(text.replace("systemctl try-reload-or-restart resetd-front.service", f"touch {told}"))
+        os.chmod(os.path.join(self.folder, "conf"), 0o644)
+        with open(audit, "w", encoding="utf-8") as file:
+            file.write("{}\n")
+        done = subprocess.run(["logrotate", "--force", "--state", f"{self.folder}/state", f"{self.folder}/conf"],
+                              capture_output=True, encoding="utf-8", check=False)
+        self.assertEqual((done.returncode, done.stderr), (0, ""))
+        self.assertEqual((os.path.exists(audit), os.path.exists(f"{audit}.1"), os.path.exists(told)), (False, True, True))
 
 
 class Table(unittest.TestCase):

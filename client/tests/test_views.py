@@ -3,9 +3,14 @@
 from __future__ import annotations
 
 import os
+import random
+import sys
+import unittest
 
 from case import Case
-from resetd_client import Follower, Node, View, Wake
+from resetd_client import Follower, Link, Node, View, Wake
+from resetd_client.rule import Kept, judge, shown_to
+from resetd_client.view import Part
 
 
 class Views(Case):
@@ -30,6 +35,44 @@ class Views(Case):
         self.assertNotEqual(self.port.show().tag(1), before.tag(1))
         self.assertNotEqual(before.tag(1), before.tag(1, "restored"))
         self.assertEqual([node.node for node in self.port.show().awaited(1)], [1, 2, 3])
+
+
+class Parts(unittest.TestCase):
+    def test_who_is_connected(self) -> None:
+        """Over random links, as following them one by one says; links name nodes that are not there too."""
+        chance = random.Random(7)
+        for _ in range(200):
+            nodes = sorted(chance.sample(range(1, 65), chance.randrange(1, 20)))
+            ends = [sorted(chance.sample(range(1, 25), 2)) for _ in range(chance.randrange(30))]
+            links = tuple(Link(a, b, place) for place, (a, b) in enumerate(ends))
+            view = View(9, 9, tuple(Node(node, 1, chance.choice(("ready", "abort")), 0, 2, 2) for node in nodes), links)
+            for node in nodes:
+                reached = {node}
+                for _ in links:
+                    reached |= {end for link in links if reached & {link.a, link.b} for end in (link.a, link.b)}
+                part = view.part(node)
+                self.assertEqual([each.node for each in part.nodes], [each for each in nodes if each in reached])
+                self.assertEqual(part.links, tuple(link for link in links if link.a in reached))
+                self.assertEqual(part.is_quiet, all(each.mode == "ready" for each in part.nodes))
+                self.assertEqual(view.connected(node), part.nodes)
+            self.assertEqual((view.part(64 if 64 not in nodes else 99), view.party(99)), (Part(), frozenset()))
+
+    def test_many_members_ask_a_view_once(self) -> None:
+        """What is due at each of 64 nodes costs the calls of a few, since what is the same for all is found once."""
+        links = tuple(Link(node, (node + far - 1) % 64 + 1, far) for node in range(1, 65) for far in (1, 2))
+        view = View(9, 9, tuple(Node(node, 1, "ready", 0, 2, 2) for node in range(1, 65)), links)
+        calls = 0
+
+        def count(frame: object, event: str, value: object) -> None:
+            nonlocal calls
+            calls += event in ("call", "c_call")
+        sys.setprofile(count)
+        try:
+            for row in view.nodes:
+                judge(Kept(2, None), (), shown_to(view, row))
+        finally:
+            sys.setprofile(None)
+        self.assertLess(calls, 6_000)
 
 
 class Wakes(Case):

@@ -17,7 +17,7 @@ import time
 import unittest
 from unittest import mock
 
-from case import PROGRAM, Case
+from case import PROGRAM, ROOT, Case
 from real import Real
 from resetd_client.access import Trial, account_of, tried_as
 from resetd_client.connections import Row, peers, read_address, row_of, written
@@ -224,6 +224,27 @@ class Connections(unittest.TestCase):
 
 
 @unittest.skipUnless(PROGRAM, "RESETD names no program to compare with")
+@unittest.skipUnless(PROGRAM and os.getuid() == 0 and shutil.which("unshare") and shutil.which("ip"), "it needs root, unshare and ip")
+class Networks(unittest.TestCase):
+    """A server in a network of its own, as its unit has it."""
+
+    def test_it_is_looked_at_in_there(self) -> None:
+        with tempfile.TemporaryDirectory() as folder:
+            store = f"{folder}/store"
+            with open(f"{folder}/empty", "wb"):
+                subprocess.run([PROGRAM, "init", store, f"{folder}/empty"], check=True, capture_output=True)
+            with subprocess.Popen(["unshare", "--net", "sh", "-c", f"ip link set lo up && exec {PROGRAM} serve {store} 127.0.0.1:4170"],
+                                  stdout=subprocess.PIPE, encoding="utf-8") as server:
+                assert server.stdout
+                self.assertEqual(server.stdout.readline(), "listening 127.0.0.1:4170\n")
+                why = subprocess.run([sys.executable, f"{ROOT}/client/resetctl", "why", store, "127.0.0.1:4170"],
+                                     stdout=subprocess.PIPE, encoding="utf-8", check=False)
+                server.kill()
+            self.assertIn(f"process {server.pid} has a network of its own: the address is looked at in there", why.stdout)
+            self.assertIn(f"a start now would end with Device: lock: held by process {server.pid} (", why.stdout)
+            self.assertIn("a coordinator with 0 nodes and 0 steps on the disk", why.stdout)
+
+
 class BesideTheProgram(Case):
     """The word that it foretells is the one of the program."""
 

@@ -24,6 +24,7 @@ from typing import Any, TypeVar
 sys.dont_write_bytecode = True
 HERE = os.path.dirname(os.path.abspath(__file__))
 CLIENT = os.path.dirname(HERE)
+ROOT = os.path.dirname(CLIENT)
 sys.path.insert(0, CLIENT)
 
 PROGRAM = os.path.abspath(os.environ["RESETD"]) if os.environ.get("RESETD") else ""

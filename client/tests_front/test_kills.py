@@ -5,12 +5,13 @@ from __future__ import annotations
 
 import os
 import random
+import sys
 import threading
 import time
 import unittest
 from typing import Any
 
-from case import Case, Client, until
+from case import Case, Client, Front, Server, until
 
 KILLS = int(os.environ.get("KILLS", "20"))
 CLIENTS = range(1, 9)
@@ -65,7 +66,7 @@ class Kills(Case):
     def test_kills(self) -> None:
         seed = int(os.environ.get("SEED", "0")) or random.randrange(1 << 30)
         chance = random.Random(seed)
-        self.stop = threading.Event()
+        self.stop, self.killed = threading.Event(), {"server": 0, "front": 0}
         orderers = [Orderer(self, number) for number in CLIENTS]
         for orderer in orderers:
             orderer.start()
@@ -81,6 +82,8 @@ class Kills(Case):
         steps = sorted(step for orderer in orderers for step in orderer.steps)
         self.assertEqual(len(steps), len(set(steps)), f"one step answers two orders (SEED={seed})")
         self.each_was_carried_out_once(orderers, seed)
+        print(f"{self.killed['server']} kills of the server and {self.killed['front']} of the front: {len(steps)} orders, each carried "
+              "out once and answered to whoever gave it", file=sys.stderr)
 
     def each_was_carried_out_once(self, orderers: list[Orderer], seed: int) -> None:
         """The store has made as many steps as were answered, beside those of its topology."""
@@ -90,12 +93,11 @@ class Kills(Case):
 
     def kill(self, chance: random.Random) -> None:
         time.sleep(chance.random() / 20)  # any moment will do
-        if chance.random() < 0.5:
-            self.server.kill()
-            self.server.start()
-        else:
-            self.front.kill()
-            self.front.start()
+        name = chance.choice(("server", "front"))
+        self.killed[name] += 1
+        killed: Server | Front = self.server if name == "server" else self.front
+        killed.kill()
+        killed.start()
 
     def progress(self, orderers: list[Orderer]) -> None:
         """Somebody was answered since the kill."""

@@ -187,12 +187,22 @@ class Counts(unittest.TestCase):
         lines = [Line(Request("reset", {"node": 1}), Place.ORDER) for _ in range(3)]
         own.give_numbers(lines)
         self.assertEqual([line.number for line in lines], [5, 6, 7])
-        self.assertEqual(kept_number(f"{self.folder}/client-15"), 7)
+        self.assertEqual(self.kept(), 7)
+        own.found(1 << 40)
+        own.give_numbers(lines)
+        self.assertEqual(self.kept(), (1 << 40) + 3)
 
-    def test_a_file_that_does_not_read(self) -> None:
-        with open(f"{self.folder}/client-15", "w", encoding="ascii") as file:
-            file.write("x")
+    def test_a_file_that_is_there(self) -> None:
+        """As an earlier version left it, and one that does not read."""
+        for text, number in (("7", 7), ("x", 0), ("-1", 0), ("", 0)):
+            with open(f"{self.folder}/client-15", "w", encoding="ascii") as file:
+                file.write(text)
+            self.assertEqual(self.kept(), number)
         self.assertEqual(self.own().is_known, False)
+
+    def kept(self) -> int:
+        with open(f"{self.folder}/client-15", "rb") as file:
+            return kept_number(file.fileno())
 
 
 if __name__ == "__main__":

@@ -7,6 +7,7 @@ import importlib.util
 import json
 import os
 import shutil
+import stat
 import subprocess
 import sys
 import unittest
@@ -15,7 +16,7 @@ import urllib.request
 from collections.abc import Callable, Iterator
 from typing import Any
 
-from case import DEADLINE, USER, Case, until
+from case import DEADLINE, USER, Case, Client, unix, until
 
 MODULES = ("aiohttp", "prometheus_client")
 
@@ -122,6 +123,23 @@ class Served(Case):
         self.assertEqual(browser.wait(DEADLINE), 0)
         browser.stdout.close()
         browser.stdin.close()
+
+
+@unittest.skipUnless(PYTHON, "optional: it needs python3-aiohttp and python3-prometheus-client")
+class AtASocket(Case):
+    nodes = 2
+
+    def test_for_whoever_reaches_the_front(self) -> None:
+        """The page's socket has the mode and the groups of the front's own, and is made anew where one was left."""
+        self.front.kill()
+        path = f"{self.folder}/page"
+        for _ in range(2):
+            self.front = self.started("--page", f"unix:{path}", "--mode", "640", python=PYTHON)
+            self.assertEqual(stat.S_IMODE(os.stat(path).st_mode), 0o640)
+            with Client(unix(path)) as browser:
+                browser.send(b"GET / HTTP/1.0\r\n\r\n")
+                self.assertEqual(browser.line(), b"HTTP/1.0 200 OK\r")
+            self.front.kill()
 
 
 class Without(Case):

@@ -8,14 +8,16 @@ import unittest
 from collections import defaultdict, deque
 
 import case  # noqa: F401
-from resetd_front.building import Hold, Place, Verdict
+from resetd_front.building import Asked, Hold, Place, Verdict
 from resetd_front.pairing import Pairing
 from resetd_front.requests import Request
 
 ROUNDS = 300
 
 
-def place_of(request: Request) -> Verdict:
+def place_of(asked: Asked) -> Verdict:
+    request = asked.request
+    assert isinstance(request, Request)
     if request.op == "close":
         return Place.LAST
     return Place.ORDER if request.is_order else Place.LOOK
@@ -177,8 +179,8 @@ class Pairs(unittest.TestCase):
         pairing.ask("a", numbered(1, 1), 0.0)
         pairing.ask("b", numbered(2, 1), 0.0)
 
-        def judge(request: Request) -> Verdict:
-            return Hold.HOLD if request.op == "confirm" else Place.ORDER
+        def judge(asked: Asked) -> Verdict:
+            return Hold.HOLD if asked.request == confirm(1, 1) else Place.ORDER
         lines, _ = pairing.take(judge)
         self.assertEqual([line.asked[0].asker for line in lines], ["b"])
         pairing.give(pairing.next_answered(), b"x")

@@ -43,6 +43,14 @@ import socket, sys
 connection = socket.socket(socket.AF_UNIX); connection.connect(sys.argv[1])
 connection.sendall(sys.argv[2].encode() + b"\\n"); print(connection.makefile("rb").readline().decode(), end="")
 """
+PASSING = """
+import os, socket, sys
+listener = socket.create_server((sys.argv[1], 0))
+os.dup2(listener.fileno(), 3)
+os.set_inheritable(3, True)
+os.environ.update(LISTEN_PID=str(os.getpid()), LISTEN_FDS="1", LISTEN_FDNAMES=sys.argv[2])
+os.execv(sys.argv[3], sys.argv[3:])
+"""
 PYTHON = "/usr/bin/python3" if os.path.exists("/usr/bin/python3") else sys.executable  # which other users can run
 SHOW, WATCH, RESET_1, RESET_2 = '{"op":"show"}', '{"op":"watch"}', '{"op":"reset","node":1}', '{"op":"reset","node":2}'
 DENIED = '{"fault":"NotAllowed"}\n'
@@ -107,6 +115,20 @@ class Users(Ruled):
         self.assertIn('"kind"', self.ask_as("root", "root", RESET_1))
 
 
+    def test_several_groups_may_connect(self) -> None:
+        """The socket has one group, and an entry of its access list for each other one."""
+        self.open_folder()
+        self.front = self.started("--group", "games,audio,video", "--mode", "660")
+        for group in ("games", "audio", "video"):
+            self.assertIn('"nodes"', self.ask_as("mail", group, SHOW))
+            self.assertEqual(self.ask_as("mail", group, RESET_1), DENIED)
+        self.assertEqual(self.ask_as("mail", "mail", SHOW), "no connection")
+
+    def test_no_such_group(self) -> None:
+        with self.assertRaisesRegex(AssertionError, "(?s)the front ended: .*name not found: 'no-such'"):
+            self.started("--group", "games,no-such")
+
+
 class Reloads(Ruled):
     def setUp(self) -> None:
         super().setUp()
@@ -140,6 +162,17 @@ class Reloads(Ruled):
             self.assertEqual(client.ask(op="close"), {"fault": "NotAllowed"})
         line = self.front.await_audited("a line of it", lambda line: line["event"] == "denied")
         self.assertEqual(line["who"]["user"], "nobody")
+
+    def test_a_socket_that_is_passed(self) -> None:
+        """As a service manager does it: such a one is asked in the network where it was opened, wherever the front is."""
+        self.front = self.started("--policy", self.policy, "--tcp", "fd:near", before=(sys.executable, "-c", PASSING, "127.0.0.1", "near"))
+        with Client(socket.create_connection(self.front.listening("tcp:"), DEADLINE)) as client:
+            self.assertIn("nodes", client.ask(op="show"))
+
+    def test_a_passed_socket_is_looked_at(self) -> None:
+        for host, name, why in (("127.0.0.1", "far", "no socket 'near' was passed"), ("0.0.0.0", "near", "no address of the loopback")):
+            with self.assertRaisesRegex(AssertionError, why):
+                self.started("--policy", self.policy, "--tcp", "fd:near", before=(sys.executable, "-c", PASSING, host, name))
 
     def test_only_the_loopback(self) -> None:
         with self.assertRaisesRegex(AssertionError, "no address of the loopback"):

@@ -9,8 +9,8 @@ import sys
 import tempfile
 import unittest
 
-from case import CLIENT
-from resetd_front.peers import Peer, names_of
+from case import CLIENT, ROOT
+from resetd_front.peers import Peer, group_number, names_of
 from resetd_front.policy import BadPolicy, Policy, read, without_policy
 from resetd_front.requests import OPS, Request
 
@@ -93,14 +93,27 @@ class Policies(unittest.TestCase):
         self.assertFalse(may(self.policy(""), Peer("root", 0), Request("show", {})))
 
     def test_without_a_policy(self) -> None:
-        policy = without_policy(500, 600)
+        policy = without_policy(500, (600, 601))
         for op in OPS:
             request = Request(op, {})
             self.assertTrue(may(policy, Peer("root", 0), request))
             self.assertTrue(may(policy, Peer("resetd", 500), request))
-            self.assertEqual(may(policy, Peer("x", 7, frozenset({600})), request), op in ("show", "watch"))
+            for group in (600, 601):
+                self.assertEqual(may(policy, Peer("x", 7, frozenset({group})), request), op in ("show", "watch"))
             self.assertFalse(may(policy, Peer("x", 7), request))
             self.assertFalse(may(policy, Peer("c", names=frozenset({"root"})), request))
+
+    def test_the_policy_that_is_shipped(self) -> None:
+        """One group orders, the other looks, and only root ends the server. Groups of this machine stand for its own."""
+        with open(f"{ROOT}/examples/front.toml", encoding="utf-8") as file:
+            policy = self.policy(file.read().replace('"resetd"', '"daemon"').replace('"resetd-look"', '"games"'))
+        orders, looks = (Peer("x", 7, frozenset({group_number(name)})) for name in ("daemon", "games"))
+        for op in OPS:
+            request = Request(op, {})
+            self.assertTrue(may(policy, Peer("root", 0), request))
+            self.assertEqual(may(policy, orders, request), op != "close")
+            self.assertEqual(may(policy, looks, request), op in ("show", "watch"))
+            self.assertFalse(may(policy, Peer("x", 7), request))
 
     def test_the_names_of_a_certificate(self) -> None:
         self.assertEqual(names_of({"subject": ((("commonName", "c"),), (("organizationName", "o"),)),

@@ -13,7 +13,7 @@ from collections.abc import Callable, Iterator
 from dataclasses import dataclass
 
 from .. import __version__
-from ..address import Tcp, addresses_of
+from ..address import SERVER, Tcp, addresses_of
 from ..answers import Away, NotTaken
 from ..device import file_system, kernel_lines, said
 from ..port import patiently
@@ -45,9 +45,9 @@ def parts(control: Control) -> Iterator[Part]:
     yield Part("steps-before.txt", "the steps of the half before", lambda: steps_text(words.store, True))
     for name, path in memories(control):
         yield Part(name, f"what resetctl health remembers ({path})", lambda path=path: bytes_of(path))  # type: ignore[misc]
-    yield Part("journal.txt", f"the last {MOST_LINES} lines of the units {words.unit} and {words.unit}-health",
+    yield Part("journal.txt", f"the last {MOST_LINES} lines of the units {words.unit}, {words.unit}-front and {words.unit}-health",
                lambda: said("journalctl", "--no-pager", "--quiet", "--output", "short-iso-precise", "--lines", MOST_LINES,
-                            "--unit", words.unit, "--unit", f"{words.unit}-health"))
+                            "--unit", words.unit, "--unit", f"{words.unit}-front", "--unit", f"{words.unit}-health"))
     yield Part("versions.txt", "versions, and checksums of the program and the library", lambda: versions(words.store))
     yield Part("process.txt", "the server's limits, and the state of each of its threads", lambda: process_text(words.store))
     yield Part("filesystem.txt", "mount, space and device of the store", lambda: file_system(words.store))
@@ -55,7 +55,7 @@ def parts(control: Control) -> Iterator[Part]:
 
 
 def why_text(control: Control) -> str:
-    port = next((str(each) for each in addresses_of(control.words.address) if isinstance(each, Tcp)), None)  # not a front's
+    port = next((str(each) for each in addresses_of(control.words.address) if isinstance(each, Tcp)), SERVER)  # not a front's
     findings = list(looked_at(control.words.store, None, port, control.seconds))
     return "".join(f"{each.about:8s} {each.text}\n" for each in findings) + told_start(findings) + "\n"
 

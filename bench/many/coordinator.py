@@ -1,0 +1,154 @@
+"""The program over a store of its own, whose syncs are counted and may wait, and what stands before it."""
+
+import asyncio
+import contextlib
+import json
+import os
+import pathlib
+import re
+import shutil
+import struct
+import subprocess
+import sys
+import tempfile
+import time
+
+ROOT = pathlib.Path(__file__).resolve().parent.parent.parent
+sys.path.insert(0, str(ROOT / "client"))
+from resetd_client.inotify import Inotify  # noqa: E402
+
+MOST_BYTES = 1 << 20  # of an answer
+PROXY = """
+global
+  maxconn 2000
+defaults
+  mode tcp
+  timeout connect 2s
+  timeout client 20s
+  timeout server 60s
+  timeout queue 60s
+frontend services
+  bind unix@{path} mode 600
+  tcp-request inspect-delay 2s
+  tcp-request content accept if {{ req.payload(0,0),hex -m end 0A }}
+  tcp-request content reject
+  default_backend coordinator
+backend coordinator
+  retries 10
+  server one {address} maxconn 1
+"""
+
+
+def counting_library(folder):
+    """What is loaded ahead of the C library, so that syncs are counted and may wait."""
+    library, source = f"{folder}/syncs.so", (ROOT / "bench" / "serve" / "syncs.c.txt").read_text(encoding="utf-8")
+    subprocess.run([os.environ.get("CC", "cc"), "-O1", "-shared", "-fPIC", "-x", "c", "-", "-o", library], input=source, text=True, check=True)
+    return library
+
+
+class Server:
+    """`resetd serve`, and what is started before it."""
+
+    def __init__(self, program, library, nodes, links, micros=0):
+        self.folder = tempfile.mkdtemp(prefix="resetd-front-bench-")
+        os.mkdir(f"{self.folder}/log")
+        self.path, self.signals, self.before = f"{self.folder}/socket", f"{self.folder}/log/signals", None
+        text = "".join([*(f"[[node]]\nid = {n}\ngroup = 1\n" for n in range(1, nodes + 1)), *(f"[[link]]\na = {a}\nb = {b}\n" for a, b in links)])
+        pathlib.Path(f"{self.folder}/topology").write_text(text, encoding="ascii")
+        subprocess.run([program, "init", f"{self.folder}/store", f"{self.folder}/topology"], check=True, capture_output=True)
+        pathlib.Path(f"{self.folder}/count").write_bytes(bytes(8))
+        with open(self.signals, "wb") as signals:
+            self.process = subprocess.Popen(
+                [program, "serve", f"{self.folder}/store", "127.0.0.1:0"], stdin=subprocess.DEVNULL, stdout=signals,
+                env={**os.environ, "LD_PRELOAD": library, "SYNC_COUNT": f"{self.folder}/count", "SYNC_WAITS": str(micros)})
+        while not (lines := pathlib.Path(self.signals).read_text(encoding="ascii").splitlines()):
+            time.sleep(0.01)
+        self.address = lines[0].split()[1]
+
+    def start_front(self, client=15):
+        self._start(sys.executable, str(ROOT / "client" / "resetd-front"), "serve", "--server", self.address, "--socket", self.path,
+                    "--state", f"{self.folder}/front", "--audit", f"{self.folder}/audit", "--signals", self.signals, "--client", str(client))
+
+    def start_haproxy(self):
+        pathlib.Path(f"{self.folder}/haproxy.cfg").write_text(PROXY.format(path=self.path, address=self.address), encoding="ascii")
+        self._start("haproxy", "-db", "-f", f"{self.folder}/haproxy.cfg")
+
+    def _start(self, *words):
+        self.before = subprocess.Popen(words, stdout=subprocess.DEVNULL, stderr=subprocess.DEVNULL)
+        while not os.path.exists(self.path):
+            time.sleep(0.01)
+
+    def syncs(self):
+        return struct.unpack("Q", pathlib.Path(f"{self.folder}/count").read_bytes())[0]
+
+    def resident(self):
+        """The memory of what stands before it, in bytes."""
+        status = pathlib.Path(f"/proc/{self.before.pid}/status").read_text(encoding="ascii")
+        return int(re.search(r"VmRSS:\s+(\d+)", status)[1]) * 1024
+
+    def __enter__(self):
+        return self
+
+    def __exit__(self, *_):
+        for process in filter(None, (self.before, self.process)):
+            process.kill()
+            process.wait()
+        shutil.rmtree(self.folder)
+
+    async def port(self):
+        host, port = self.address.split(":")
+        return await asyncio.open_connection(host, int(port), limit=MOST_BYTES)
+
+    async def at_socket(self):
+        """A connection to what stands before it."""
+        for _ in range(1_000):
+            with contextlib.suppress(OSError):
+                return await asyncio.open_unix_connection(self.path, limit=MOST_BYTES)
+            await asyncio.sleep(0.01)
+        raise SystemExit(f"{self.path} takes no connection")
+
+
+async def ask(connection, *requests):
+    reader, writer = connection
+    writer.write(b"".join(json.dumps(each).encode() + b"\n" for each in requests))
+    return [json.loads(await reader.readline()) for _ in requests]
+
+
+async def once(open_connection, *requests):
+    """The answers over a connection of its own, tried again until they come."""
+    while True:
+        try:
+            connection = await open_connection()
+            answers = await ask(connection, *requests)
+            connection[1].close()
+            return answers
+        except (OSError, ValueError):
+            await asyncio.sleep(0.01)
+
+
+class Signals:
+    """Wakes who waits for a node's signal, within an event loop."""
+
+    def __init__(self, path):
+        self.file, self.have, self.changed = open(path, "rb"), {}, asyncio.Event()
+        self.inotify = Inotify()
+        self.inotify.watch(os.path.dirname(path))
+        asyncio.get_running_loop().add_reader(self.inotify.fileno(), self.read)
+        self.read()
+
+    def read(self):
+        self.inotify.drain()
+        for line in self.file.readlines():
+            words = line.split()
+            if words[0] == b"signal":
+                self.have[int(words[1])] = int(words[2])
+        self.changed.set()
+        self.changed = asyncio.Event()
+
+    async def wait(self, node, epoch):
+        while self.have.get(node, 0) < epoch:
+            await self.changed.wait()
+
+    def close(self):
+        asyncio.get_running_loop().remove_reader(self.inotify.fileno())
+        self.file.close()

@@ -1,0 +1,61 @@
+"""What goes at once and what waits, by what the front knows at that moment."""
+
+from __future__ import annotations
+
+import json
+import tempfile
+import unittest
+
+import case  # noqa: F401
+from resetd_front.building import Asked, Hold, Place, Verdict
+from resetd_front.judging import HOLD_SECONDS, Judging
+from resetd_front.own_orders import OwnOrders
+from resetd_front.requests import Request
+from resetd_front.views import Views
+
+
+class Confirms(unittest.TestCase):
+    """Nodes 1, 2 and 3 are linked; a reset has gone through node 1 and is at node 3. Node 4 is alone."""
+
+    def setUp(self) -> None:
+        temporary = tempfile.TemporaryDirectory()
+        self.addCleanup(temporary.cleanup)
+        self.own = OwnOrders(15, temporary.name)
+        self.addCleanup(self.own.close)
+        self.own.found(7)
+        self.views = Views()
+        self.note("abort")
+
+    def note(self, mode: str) -> None:
+        """A look has shown node 3 in this mode."""
+        nodes = [[1, 1, "ready", 0, 1, 0], [2, 1, "ready", 1, 1, 0], [3, 1, mode, 2, 0, 0], [4, 1, "ready", 0, 1, 0]]
+        view = {"accepted": 9, "links": [[1, 2, 5], [2, 3, 6]], "nodes": nodes, "settled": 9}
+        self.views.note(json.dumps(view, separators=(",", ":")).encode())
+
+    def judged(self, request: Request, waited: float = 0.0) -> tuple[Verdict, bool]:
+        """The verdict of a line that has waited for so long, and whether it is held for the end of a reset."""
+        judging = Judging(self.own, self.views, False, 100.0 + waited)
+        return judging(Asked("x", request, 100.0)), judging.wants_end
+
+    def test_those_of_a_reset_wait_for_its_end(self) -> None:
+        for members in ({"node": 1, "epoch": 1}, {"node": 2, "epoch": 1}, {"node": 1, "epoch": 1, "client": 3, "number": 8}):
+            self.assertEqual(self.judged(Request("confirm", members)), (Hold.HOLD, True))
+        self.note("ready")
+        for members in ({"node": 1, "epoch": 1}, {"node": 1, "epoch": 1, "client": 3, "number": 8}):
+            self.assertEqual(self.judged(Request("confirm", members)), (Place.ORDER, False))
+
+    def test_not_for_long(self) -> None:
+        """A reset may stand still."""
+        confirm = Request("confirm", {"node": 1, "epoch": 1})
+        self.assertEqual(self.judged(confirm, 0.9 * HOLD_SECONDS), (Hold.HOLD, True))
+        self.assertEqual(self.judged(confirm, 1.1 * HOLD_SECONDS), (Place.ORDER, False))
+
+    def test_others_do_not_wait(self) -> None:
+        for request in (Request("confirm", {"node": 4, "epoch": 1}), Request("reset", {"node": 1}),
+                        Request("drop", {"a": 1, "b": 2, "client": 3, "number": 8})):
+            self.assertEqual(self.judged(request), (Place.ORDER, False))
+        self.assertEqual(self.judged(Request("show", {})), (Place.LOOK, False))
+
+
+if __name__ == "__main__":
+    unittest.main()
