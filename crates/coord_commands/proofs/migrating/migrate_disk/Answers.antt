@@ -1,4 +1,4 @@
-use Rattle.std.proofs.Common.{◌≡◌, ◌⊎◌, ⊎_elim, ◌+◌, ◌∙◌, List, ℕ, true, inl, inr, ap, sym, subst, arith, string_bytes}
+use Rattle.std.proofs.Common.{◌≡◌, ⊎_elim, ◌+◌, ◌∙◌, List, ℕ, true, inl, inr, ap, sym, subst, arith, string_bytes}
 use Rattle.coord_disk.proofs.MomentLemmas.{and_then, weaker}
 use Rattle.coord_disk.specs.Model.Present.{IsImage, Present}
 use Rattle.coord_store.specs.Facade.{Kept, Recovered, has_stopped, risen}
