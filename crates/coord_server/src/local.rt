@@ -7,10 +7,9 @@ use coord_engine::Port;
 use coord_types::{NodeId, Packet};
 use crossbeam_channel::Sender;
 use std::alloc::Global;
-use std::array;
 use std::marker::Model;
-use std::mem;
 use std::sync::{Mutex, Wait};
+use std::{array, mem};
 
 /// How many workers there are. A node belongs to the worker with the node's number modulo this.
 pub const WORKERS: u8 = 8;

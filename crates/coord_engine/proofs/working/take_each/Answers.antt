@@ -11,7 +11,7 @@ loop-packet-preserved g c =
     let came = take k c.args.packets.now in
     let one_more = take_more c.args.packets.now k c.packet-item.result c.loop-packet-test.true ∙ ap (λ p. came ++ p ∷ []) (sym c.packet-item.is) in
     subst (λ ps. Works b c.args.share.now c.args.hand.now ps c.try_waiting.new.share (record c.take.new.hand { waiting = c.try_waiting.new.waiting })) (sym one_more)
-      (works_last b c.args.share.now c.loop-packet.share c.take.new.share c.try_waiting.new.share c.args.hand.now c.loop-packet.hand c.take.new.hand came c.try_waiting.new.waiting c.packet-item.result c.loop-packet.invariant c.take.ensures c.try_waiting.ensures)
+    (works_last b c.args.share.now c.loop-packet.share c.take.new.share c.try_waiting.new.share c.args.hand.now c.loop-packet.hand c.take.new.hand came c.try_waiting.new.waiting c.packet-item.result c.loop-packet.invariant c.take.ensures c.try_waiting.ensures)
 
 pub returns : goal.returns
 returns g c =
