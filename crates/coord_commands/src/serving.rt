@@ -69,7 +69,7 @@ pub fn serve_in<
     report(serve_at(rt, folder, file, place, output), errors)
 }
 
-#[tactic(auto, using(crate::proofs::Opening::served_to_end, crate::proofs::Opening::keeps_to_the_way))]
+#[tactic(auto, using(crate::proofs::Opening::served_to_end))]
 fn serve_at<S: Net + Threads + Wait + Clock + Sync + AllocGlobal, F: Folder, W: Write + Send>(
     rt: &S,
     folder: &mut F,

@@ -1,6 +1,6 @@
 use Rattle.std.proofs.Common.{◌≡◌, Err, rules, subst, sym}
 use Rattle.coord_commands.proofs.Endings.{err_last}
-use Rattle.coord_commands.proofs.Opening.{ended, lost, not_bound, served_to_end}
+use Rattle.coord_commands.proofs.Opening.{ended, keeps_to_the_way, lost, not_bound, served_to_end}
 use Rattle.coord_commands.specs.Faults.{fault_of_server}
 use Rattle.coord_commands.specs.Serving.{EndsServing}
 use Rattle.coord_commands.proofs.serving.serve_at.Goals as goal
@@ -25,6 +25,15 @@ returns-in-Ok-served-clause-served g c =
     let served = c.in-Ok-served.ensures in
     served_to_end g.F.Disk.Disk.model.keeps_model g.F.Disk.Disk.model.present (g.F.Folder.holds c.args.folder.now c.args.file.now) (g.F.Folder.holds c.close.new.self c.args.file.now) c.left.result store.world c.in-Ok-served.closed c.in_ok-store.ensures.opened.world
     (served.lives store.world lived.0 lived.2) (c.left.ensures.bytes served.going) c.close.ensures
+
+pub returns-in-Ok-served-clause-moments : goal.returns-in-Ok-served-clause-moments
+returns-in-Ok-served-clause-moments g c =
+    let store = c.in_ok-store.store in
+    let ended = c.in_ok-ended-in-Ok in
+    let lived = ended.ensures.lives in
+    let served = c.in-Ok-served.ensures in
+    keeps_to_the_way g.F.Disk.Disk.model (g.F.Folder.holds c.args.folder.now c.args.file.now) (g.F.Folder.holds c.close.new.self c.args.file.now) store ended.ended c.in-Ok-served.closed c.left.result c.in_ok-store.ensures.opened
+    (served.lives store.world lived.0 lived.2) ended.ensures.moments served.closed.0 c.left.ensures.disk c.close.ensures
 
 -- it has ended with a fault
 pub returns-in-Err-served-clause-fault : goal.returns-in-Err-served-clause-fault
