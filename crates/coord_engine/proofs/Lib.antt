@@ -6,6 +6,7 @@ pub mod Moments
 pub mod Naming
 pub mod Notes
 pub mod PacketNotes
+pub mod Past
 mod Puts
 pub mod Showing
 pub mod Since

@@ -5,6 +5,7 @@ pub mod Flushing
 pub mod Named
 pub mod WorkedNames
 pub mod Pacing
+pub mod Past
 pub mod Port
 pub mod State
 pub mod Threads

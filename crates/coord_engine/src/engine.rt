@@ -4,9 +4,11 @@ ghost use Rattle.std.specs.Prelude.{◌≡◌, ◌<◌, [], length, Err, None, O
 ghost use Rattle.std.specs.Sync.Mutex.{mutex_guard_value};
 ghost use Rattle.coord_ledger.specs.declared.mark.Mark.TheVariants.{New};
 ghost use Rattle.coord_ledger.specs.ledger.Calls.{releases_in};
+ghost use Rattle.coord_world.specs.protocol.Next.{fold};
 ghost use Rattle.coord_engine.specs.Calls.{IsTold};
 ghost use Rattle.coord_engine.specs.Closing.{IsSince, RefusesClosing};
 ghost use Rattle.coord_engine.specs.Flights.{AnswersBegin, AnswersFlush, ComesBack, Commits};
+ghost use Rattle.coord_engine.specs.Past.{FliesOnTheWay, IsPastOf, LeavesFlown, StaysOnTheWay};
 ghost use Rattle.coord_engine.specs.State.{based_on, most_shares};
 ghost use Rattle.coord_engine.specs.Threads.{AnswersShow, AnswersTicket, AtSomeMoment, Closes, SendsAgain, Submits};
 
@@ -22,9 +24,11 @@ use std::sync::ledger::Blank;
 use std::sync::{Condvar, Mutex, MutexGuard, Wait};
 use std::time::Clock;
 
-/// Commits a flight.
+/// Commits a flight. A crash at any moment of the call leaves the world from before its steps, or the
+/// one after them.
 fn commit<D: Disk>(flight: &mut Flight<D>) -> Result<(), CommitFault>
-    ensures { flight.old.mark ≡ New → Commits D.model.failures flight.old result flight.new }
+    ensures commits { flight.old.mark ≡ New → Commits D.model.failures flight.old result flight.new }
+    ensures moments { flight.old.mark ≡ New → LeavesFlown D.model flight.old flight.new result }
 {
     flight.commit()
 }
@@ -58,8 +62,8 @@ pub struct Engine<D: Disk, L: Origin> {
 }
 
 impl<D: Disk, L: Origin> Engine<D, L> {
-    /// Makes an engine over a ledger whose store is at home. `L` names that ledger: its base, and
-    /// the steps that it has accepted. The blank has 65,536 parts. No clause can say what lies
+    /// Makes an engine over a ledger whose store is at home. `L` names that ledger: its base, the
+    /// steps that it has accepted, and its disk as it is. The blank has 65,536 parts. No clause can say what lies
     /// behind a lock; so the contract is that of `Guarded::new`, and `close` says what it gives
     /// back in terms of `L`.
     pub fn new(alloc: Global, blank: Blank, ledger: Ledger<D>) -> Self
@@ -68,6 +72,7 @@ impl<D: Disk, L: Origin> Engine<D, L> {
         requires home { ledger.out ≡ None }
         requires base { ledger.log.base ≡ L.base }
         requires before { ledger.log.trail ≡ L.before }
+        requires disk { IfSome ledger.disk (IsPastOf D.model L.disk) }
     {
         Engine {
             guarded: Mutex::new(Guarded::new(alloc, blank, ledger)),
@@ -223,7 +228,8 @@ impl<D: Disk, L: Origin> Engine<D, L> {
 
     /// Sends the next flight out.
     pub(crate) fn begin<R: Wait>(&self, rt: &R) -> Result<Option<Flight<D>>, AllocError>
-        ensures { AnswersBegin (based_on D.model.keeps_model D.model.present L.base L.before) result }
+        ensures answer { AnswersBegin (based_on D.model.keeps_model D.model.present L.base L.before) result }
+        ensures way { IfOk result (λ begun. IfSome begun (FliesOnTheWay D.model L.disk L.base)) }
     {
         let mut guarded = self.guarded.lock(rt);
         guarded.count_leaving();
@@ -233,6 +239,7 @@ impl<D: Disk, L: Origin> Engine<D, L> {
 
     /// Takes a flight back. Where it is refused, for memory, it is tried again behind a rest.
     pub(crate) fn end<R: Wait + Clock>(&self, rt: &R, flight: Flight<D>) -> Releases
+        requires way { FliesOnTheWay D.model L.disk L.base flight }
         ensures released { result ≡ releases_in flight flight.mark }
         ensures back { AtSomeMoment (based_on D.model.keeps_model D.model.present L.base L.before)
             (ComesBack flight) }
@@ -262,7 +269,9 @@ impl<D: Disk, L: Origin> Engine<D, L> {
 
     /// Takes the engine apart, where no flight is out, all shares are there, and their notes are
     /// what was accepted since the engine was made. What is left has the base of the ledger that
-    /// the engine was made over, and a trail that begins with that ledger's. It takes no memory.
+    /// the engine was made over, and a trail that begins with that ledger's. A crash at any moment
+    /// since then left only worlds on the way from that base to the one after the trail. It takes no
+    /// memory.
     pub fn close(
         self,
         shares: Vec<Share<L>>,
@@ -270,6 +279,8 @@ impl<D: Disk, L: Origin> Engine<D, L> {
         requires { L.parts ≡ 65536 }
         ensures since { IfOk result (λ closed.
             IsSince L.base L.before shares.items closed.base closed.trail.items) }
+        ensures way { IfOk result (λ closed. StaysOnTheWay D.model L.disk L.base
+            (fold closed.base closed.trail.items) closed.store.disk) }
         ensures closed { IfOk result (λ closed.
             AtSomeMoment (based_on D.model.keeps_model D.model.present L.base L.before)
             (Closes closed.store closed.base closed.trail.items closed.settled shares.items)) }

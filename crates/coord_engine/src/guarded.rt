@@ -4,6 +4,7 @@
 //! calls it.
 
 ghost use Rattle.std.specs.Prelude.{◌≡◌, ◌<◌, [], IfNone, IfSome, None};
+ghost use Rattle.coord_engine.specs.Past.{IsPastOf};
 ghost use Rattle.coord_engine.specs.State.{CanHold, based_on, guarded_over, most_shares, with_finish, with_share};
 
 mod closing;
@@ -27,8 +28,9 @@ const MOST_SHARES: u32 = 65_535;
 /// The value under the lock. Contracts see `GuardedState` (`specs/State.antt`).
 ///
 /// Its type keeps, beside what the ledger's type keeps, that the trail is that of the ledger that
-/// `L` names, grown by as many steps as all shares have noted, and that no flight is out once the
-/// ledger has stopped.
+/// `L` names, grown by as many steps as all shares have noted, that no flight is out once the ledger
+/// has stopped, and that a crash at any moment since the engine was made left only worlds on the way
+/// of its steps (`specs/Past.antt`).
 #[derive(Drop)]
 pub struct Guarded<D: Disk, L: Origin> {
     alloc: Global,
@@ -46,6 +48,7 @@ pub struct Guarded<D: Disk, L: Origin> {
 
 impl<D: Disk, L: Origin> Model for Guarded<D, L> {
     ghost use Rattle.std.specs.Prelude.{◌≡◌, ◌+◌, ◌≤◌, length, take, IfSome, None};
+    ghost use Rattle.coord_engine.specs.Past.{StaysOnTheWay, last_world};
     ghost use Rattle.coord_engine.specs.State.{GuardedState, most_shares};
 
     ghost Value = { GuardedState D };
@@ -65,7 +68,8 @@ impl<D: Disk, L: Origin> Model for Guarded<D, L> {
         × (length g.ledger.log.trail ≡ g.start + g.book.total)
         × (g.ledger.log.base ≡ L.base) × (g.start ≡ length L.before) ×
         (take g.start g.ledger.log.trail ≡ L.before)
-        × IfSome g.ledger.log.doubt (λ _. g.ledger.out ≡ None) };
+        × IfSome g.ledger.log.doubt (λ _. g.ledger.out ≡ None)
+        × IfSome g.ledger.disk (StaysOnTheWay D.model L.disk L.base (last_world g.ledger.log g.ledger.log.doubt)) };
 }
 
 impl<D: Disk, L: Origin> Guarded<D, L> {
@@ -76,8 +80,11 @@ impl<D: Disk, L: Origin> Guarded<D, L> {
         requires home { ledger.out ≡ None }
         requires base { ledger.log.base ≡ L.base }
         requires before { ledger.log.trail ≡ L.before }
+        requires disk { IfSome ledger.disk (IsPastOf D.model L.disk) }
         ensures { result ≡ guarded_over ledger }
     {
+        ledger.lemma_log_is_consistent();
+        ledger.lemma_images_give_settled();
         let (book, rest) = blank.open::<L>();
         let start = ledger.trail().len();
         Guarded {

@@ -3,6 +3,7 @@
 ghost use Rattle.std.specs.Prelude.{List, []};
 ghost use Rattle.coord_types.specs.declared.steps.Step.{Step};
 ghost use Rattle.coord_world.specs.protocol.NumberedWorld.{World, no_world};
+ghost use Rattle.coord_engine.specs.Past.{Past, no_past};
 
 use std::marker::Brand;
 use std::sync::ledger::Ledger as Count;
@@ -11,17 +12,22 @@ use std::sync::ledger::Ledger as Count;
 /// by `Engine::new` and told by `Engine::close`, since no clause can say what lies behind a lock.
 ///
 /// An engine is made in code that is generic over this name and called with `Brand`, which picks
-/// the base and the steps of the ledger at hand.
+/// the base, the steps and the disk's past of the ledger at hand.
 pub trait Origin: Count {
     /// The world before the ledger's first step.
     ghost base: { World };
 
     /// The steps that the ledger had accepted.
     ghost before: { List Step };
+
+    /// Its disk, as it was then.
+    ghost disk: { Past };
 }
 
 impl Origin for Brand {
     ghost base = { no_world 1 };
 
     ghost before = { [] };
+
+    ghost disk = { no_past };
 }

@@ -1,6 +1,7 @@
 //! One life of a server: an engine with its threads, from a store to what is left of it.
 
-ghost use Rattle.std.specs.Prelude.{◌≡◌, [], false, length, IfErr, IfOk, None};
+ghost use Rattle.std.specs.Prelude.{◌≡◌, [], false, length, IfErr, IfOk, IfSome, None};
+ghost use Rattle.coord_engine.specs.Past.{IsPastOf};
 ghost use Rattle.coord_engine.specs.State.{based_on};
 ghost use Rattle.coord_store.specs.Kept.{has_stopped};
 ghost use Rattle.coord_engine.specs.Closing.{IsSince};
@@ -80,6 +81,7 @@ fn serve_ledger<
     requires home { ledger.out ≡ None }
     requires base { ledger.log.base ≡ L.base }
     requires before { (ledger.log.trail ≡ L.before) × (L.before ≡ []) }
+    requires disk { IfSome ledger.disk (IsPastOf D.model L.disk) }
     ensures life { IfOk result
         (IsLife (based_on D.model.keeps_model D.model.present L.base L.before) C.talked C.failed setting.now.life_steps callers) }
     ensures nothing { IfErr result (LeavesNothing D.model.keeps_model D.model.present) }

@@ -1,6 +1,7 @@
 //! What the tests do with an engine.
 
-ghost use Rattle.std.specs.Prelude.{◌≡◌};
+ghost use Rattle.std.specs.Prelude.{◌≡◌, IfSome};
+ghost use Rattle.coord_engine.specs.Past.{IsPastOf};
 
 use crate::closing::gives_all;
 use crate::handed::{flushes_all, hands_each};
@@ -135,6 +136,7 @@ fn done_over<D: Disk + Send, L: Origin + Send + Sync, R: Threads + Wait + Clock 
     requires parts { (blank.parts ≡ L.parts) × (L.parts ≡ 65536) }
     requires base { ledger.log.base ≡ L.base }
     requires before { ledger.log.trail ≡ L.before }
+    requires disk { IfSome ledger.disk (IsPastOf D.model L.disk) }
 {
     assert!(rt; !ledger.is_out());
     let engine: Engine<D, L> = Engine::new(alloc, blank, ledger);

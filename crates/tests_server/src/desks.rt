@@ -1,6 +1,7 @@
 //! Lines at a desk of an engine, whose replies a desk in front of it sees first.
 
-ghost use Rattle.std.specs.Prelude.{◌≡◌};
+ghost use Rattle.std.specs.Prelude.{◌≡◌, IfSome};
+ghost use Rattle.coord_engine.specs.Past.{IsPastOf};
 ghost use Rattle.std.specs.Thread.{IsSend, IsSync};
 
 use crate::rings::created;
@@ -246,6 +247,7 @@ fn asks_engine<D: Disk + Send, L: Origin + Send + Sync, R: Threads + Wait + Cloc
     requires parts { (blank.parts ≡ L.parts) × (L.parts ≡ 65536) }
     requires base { ledger.log.base ≡ L.base }
     requires before { ledger.log.trail ≡ L.before }
+    requires disk { IfSome ledger.disk (IsPastOf D.model L.disk) }
 {
     assert!(rt; !ledger.is_out());
     let engine: Engine<D, L> = Engine::new(alloc, blank, ledger);

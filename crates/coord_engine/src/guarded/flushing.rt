@@ -1,6 +1,7 @@
 //! Flights go out, and come back.
 
-ghost use Rattle.std.specs.Prelude.{◌≡◌, ◌-◌, false, true, None, Ok, length, IfErr, IfOk, IsSomeAnd, OnErr, OnOk, Some};
+ghost use Rattle.std.specs.Prelude.{◌≡◌, ◌-◌, false, true, None, Ok, length, IfErr, IfOk, IfSome, IsSomeAnd, OnErr, OnOk, Some};
+ghost use Rattle.coord_engine.specs.Past.{FliesOnTheWay};
 ghost use Rattle.coord_engine.specs.State.{with_ledger};
 ghost use Rattle.coord_ledger.specs.ledger.Calls.{RefusesFlight, keeps_store, next_flight, releases_in, taken_back, with_out};
 ghost use Rattle.coord_ledger.specs.ledger.Flights.{IsOut};
@@ -31,12 +32,15 @@ impl<D: Disk, L: Origin> Guarded<D, L> {
             (self.old.ledger.disk ≡ Some flight.disk) ×
             (self.new ≡ with_ledger self.old (with_out self.old.ledger (length flight.steps))))) }
         ensures err { OnErr result (self.new ≡ self.old) }
+        ensures way { IfOk result (λ begun. IfSome begun (FliesOnTheWay D.model L.disk L.base)) }
     {
         self.ledger.begin_flush()
     }
 
-    /// Takes the flight that is out back, as the ledger does.
+    /// Takes the flight that is out back, as the ledger does. A crash at any moment until now must
+    /// have left only worlds on the way to the last one that may be on its disk.
     pub fn end(&mut self, flight: Flight<D>) -> Result<Releases, (Refusal, Flight<D>)>
+        requires way { FliesOnTheWay D.model L.disk L.base flight }
         ensures own { OnOk result (IsOut self.old.ledger flight) }
         ensures taken { OnOk result (self.new ≡
             with_ledger self.old (taken_back self.old.ledger

@@ -29,6 +29,7 @@ impl<D: Disk, L: Origin> Guarded<D, L> {
         if self.finishing {
             return Err(Refusal::Stopped);
         }
+        self.ledger.lemma_log_is_consistent();
         match self.ledger.hand_in(step)? {
             Handed::Accepted(ticket) => {
                 self.book.add(&mut mine.part, 1);

@@ -1,0 +1,79 @@
+-- What an engine's disk was when the engine was made, and what a crash may have left since: worlds on the way of the accepted steps, and nothing else.
+use Rattle.std.specs.Prelude.{◌≡◌, ◌⊎◌, ℕ, ◌+◌, ◌≤◌, Bool, false, true, List, ◌++◌, Option, Some, None, Result, IsErrOf}
+use Rattle.coord_disk.specs.Model.DiskModel.{DiskModel}
+use Rattle.coord_disk.specs.Model.Moments.{LeavesOnly}
+use Rattle.coord_types.specs.declared.steps.Step.{Step}
+use Rattle.coord_store.specs.Facade.{GivesEither, IsOnlyWorld, Recovered}
+use Rattle.coord_store.specs.declared.faults.CommitFault.{CommitFault}
+use Rattle.coord_store.specs.declared.faults.CommitFault.TheVariants.{OutOfMemory}
+use Rattle.coord_world.specs.laws.Trails.{IsTrail}
+use Rattle.coord_world.specs.Facade.{World, fold}
+use Rattle.coord_ledger.specs.declared.mark.Mark.{Mark}
+use Rattle.coord_ledger.specs.declared.mark.Mark.TheVariants.{New, Good, Torn}
+use Rattle.coord_ledger.specs.Facade.{FlightState, Log, settled_world, world_after}
+
+-- A disk at a moment, as later ones are compared with it: whether it kept the model, the moment, and what a crash might have left since each earlier one. It names no type of disks, so it can be a ghost of an engine's name.
+pub record Past : Type 1 where
+  pub keeps_model : Bool
+  pub clock : ℕ
+  pub left_since : ℕ → List ℕ → Type 0
+
+-- of no disk
+abbrev pub no_past : Past
+no_past = record { keeps_model = false; clock = 0; left_since = λ t image. ⊥ }
+
+-- of a disk as it is now
+abbrev pub past_of : {D : Type 0} → DiskModel D → D → Past
+past_of m disk = record { keeps_model = m.keeps_model disk; clock = m.clock disk; left_since = m.left_since disk }
+
+-- of the disk that is at home
+abbrev pub past_in : {D : Type 0} → DiskModel D → Option D → Past
+past_in m None = no_past
+past_in m (Some disk) = past_of m disk
+
+-- so it was with this disk
+pub record IsPastOf {D : Type 0} (m : DiskModel D) (first : Past) (disk : D) : Type 0 where
+  pub model : first.keeps_model ≡ m.keeps_model disk
+  pub clock : first.clock ≡ m.clock disk
+  pub left : (t : ℕ) (image : List ℕ) → m.left_since disk t image → first.left_since t image
+  pub no_more : (t : ℕ) (image : List ℕ) → first.left_since t image → m.left_since disk t image
+
+-- These bytes give a world on the way from one world to another: the one after the first steps of a trail that leads there. Each world on a trail is legal.
+pub record IsOnTheWay (base end : World) (bytes : List ℕ) : Type 0 where
+  pub steps : List Step
+  pub others : List Step
+  pub trail : IsTrail base (steps ++ others)
+  pub leads : fold base (steps ++ others) ≡ end
+  pub recovered : Recovered bytes (fold base steps)
+
+-- A crash at any moment since a disk was so, up to now, left only bytes that have P: `LeavesOnly`, from what the disk was.
+pub record HasLeft {D : Type 0} (m : DiskModel D) (first : Past) (now : D) (P : List ℕ → Type 0) : Type 0 where
+  pub later : first.clock ≤ m.clock now
+  pub each : (image : List ℕ) → m.left_since now first.clock image → P image
+  pub before : (t : ℕ) (image : List ℕ) → t ≤ first.clock → m.left_since now t image → first.left_since t image ⊎ P image
+
+-- The disk keeps the model as it did at first, and if so, a crash at any moment since left only worlds on the way between these.
+pub record StaysOnTheWay {D : Type 0} (m : DiskModel D) (first : Past) (base end : World) (now : D) : Type 0 where
+  pub same_model : m.keeps_model now ≡ first.keeps_model
+  pub moments : first.keeps_model ≡ true → HasLeft m first now (IsOnTheWay base end)
+
+-- the last world that may be on the disk of a ledger: the settled one; once it has stopped, the one after the steps in doubt
+abbrev pub last_world : Log → Option ℕ → World
+last_world log None = settled_world log
+last_world log (Some b) = world_after log (log.settled + b)
+
+-- and on the disk of a flight: the one before its steps while it is new, then the one after them
+abbrev pub flown_world : Mark → World → List Step → World
+flown_world New w steps = w
+flown_world Good w steps = fold w steps
+flown_world Torn w steps = fold w steps
+
+-- the disk of a flight has stayed on the way
+abbrev pub FliesOnTheWay : {D : Type 0} → DiskModel D → Past → World → FlightState D → Type 0
+FliesOnTheWay m first base f = StaysOnTheWay m first base (flown_world f.mark f.world f.steps) f.disk
+
+-- A new flight was committed with this answer: its disk keeps the model as before, and a crash at any moment of the call left the world from before its steps or the one after them; where there was no memory, the one from before.
+pub record LeavesFlown {D : Type 0} (m : DiskModel D) (left now : FlightState D) (answer : Result (Unit {0}) CommitFault) : Type 0 where
+  pub same_model : m.keeps_model now.disk ≡ m.keeps_model left.disk
+  pub moments : m.keeps_model left.disk ≡ true → LeavesOnly m left.disk now.disk (GivesEither left.world (fold left.world left.steps))
+  pub unwritten : m.keeps_model left.disk ≡ true → IsErrOf answer OutOfMemory → LeavesOnly m left.disk now.disk (IsOnlyWorld left.world)
