@@ -1,4 +1,5 @@
 pub mod Ends
+pub mod Moments
 pub mod OneHistory
 pub mod Starts
 pub mod Told

@@ -19,20 +19,20 @@ use Rattle.coord_server.specs.declared.server_end.ServerEnd.{ServerEnd}
 -- ---- one life
 
 -- what a life that began with a world and left this tells of its trail and its store
-record Tells {D : Type 0} (world : World) (left : Closed D) : Type 0 where
-  from : left.base ≡ world
-  steps : IsTrail world left.trail.items
-  done : ℕ
-  within : done ≤ length left.trail.items
-  counted : left.settled ≡ world.count + done
-  kept : left.store.world ≡ fold world (take done left.trail.items)
+pub record Tells {D : Type 0} (world : World) (left : Closed D) : Type 0 where
+  pub from : left.base ≡ world
+  pub steps : IsTrail world left.trail.items
+  pub done : ℕ
+  pub within : done ≤ length left.trail.items
+  pub counted : left.settled ≡ world.count + done
+  pub kept : left.store.world ≡ fold world (take done left.trail.items)
 
 -- a history tells so: the log under the lock was consistent, and its settled world is the store's
-tells : {D : Type 0} (b : Basis D) (desk : List Note) (left : Closed D) → IsOneHistory b desk left → Tells b.base left
+pub tells : {D : Type 0} (b : Basis D) (desk : List Note) (left : Closed D) → IsOneHistory b desk left → Tells b.base left
 tells b desk left h1 = grind arith
 
 -- and a life of which all is settled leaves the world after its trail
-leaves_all : {D : Type 0} (world : World) (left : Closed D) → Tells world left → left.settled ≡ left.base.count + length left.trail.items → left.store.world ≡ fold world left.trail.items
+pub leaves_all : {D : Type 0} (world : World) (left : Closed D) → Tells world left → left.settled ≡ left.base.count + length left.trail.items → left.store.world ≡ fold world left.trail.items
 leaves_all world left t all =
     let same : left.base.count ≡ world.count = ap (λ (w : World). w.count) t.from in
     let whole : t.done ≡ length left.trail.items = omega (arith, t.counted, all, same) in

@@ -1,12 +1,14 @@
 //! One life of a server: an engine with its threads, from a store to what is left of it.
 
 ghost use Rattle.std.specs.Prelude.{◌≡◌, [], false, length, IfErr, IfOk, IfSome, None};
-ghost use Rattle.coord_engine.specs.Past.{IsPastOf};
+ghost use Rattle.coord_engine.specs.Past.{IsPastOf, StaysOnTheWay};
 ghost use Rattle.coord_engine.specs.State.{based_on};
 ghost use Rattle.coord_store.specs.Kept.{has_stopped};
 ghost use Rattle.coord_engine.specs.Closing.{IsSince};
 ghost use Rattle.coord_engine.specs.Threads.{AtSomeMoment, Closes};
 ghost use Rattle.coord_server.specs.Ending.{IsLife, IsNotClosed, LeavesNothing};
+ghost use Rattle.coord_server.specs.Moments.{AtEachMoment};
+ghost use Rattle.coord_world.specs.protocol.Next.{fold};
 
 use crate::life_end::LifeEnd;
 use crate::printing::Opening;
@@ -54,6 +56,7 @@ pub fn serve_life<
     requires { has_stopped store ≡ false }
     ensures life { IfOk result
         (IsLife (based_on D.model.keeps_model D.model.present store.world []) C.talked C.failed setting.now.life_steps callers) }
+    ensures moments { IfOk result (λ life. AtEachMoment D.model store life.closed) }
     ensures nothing { IfErr result (LeavesNothing D.model.keeps_model D.model.present) }
 {
     let Ok(ledger) = Ledger::adopt(setting.alloc, store) else {
@@ -84,6 +87,8 @@ fn serve_ledger<
     requires disk { IfSome ledger.disk (IsPastOf D.model L.disk) }
     ensures life { IfOk result
         (IsLife (based_on D.model.keeps_model D.model.present L.base L.before) C.talked C.failed setting.now.life_steps callers) }
+    ensures way { IfOk result (λ life. StaysOnTheWay D.model L.disk L.base
+        (fold life.closed.base life.closed.trail.items) life.closed.store.disk) }
     ensures nothing { IfErr result (LeavesNothing D.model.keeps_model D.model.present) }
 {
     let engine: Engine<D, L> = Engine::new(setting.alloc, blank, ledger);
@@ -121,6 +126,8 @@ fn closed_life<D: Disk, L: Origin, C: Drop>(
         AtSomeMoment (based_on D.model.keeps_model D.model.present L.base L.before)
         (Closes life.closed.store life.closed.base life.closed.trail.items life.closed.settled
         completed.shares.items) × (life.callers ≡ completed.callers) × (life.left ≡ completed.left)) }
+    ensures way { IfOk result (λ life. StaysOnTheWay D.model L.disk L.base
+        (fold life.closed.base life.closed.trail.items) life.closed.store.disk) }
     ensures nothing { IfErr result
         (IsNotClosed (based_on D.model.keeps_model D.model.present L.base L.before) completed.shares.items) }
 {

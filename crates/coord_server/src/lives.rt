@@ -6,6 +6,7 @@ ghost use Rattle.coord_store.specs.Kept.{has_stopped};
 ghost use Rattle.coord_server.specs.Ending.{LeavesNothing};
 ghost use Rattle.coord_server.specs.declared.life_end.LifeEnd.TheVariants as LifeEndAs;
 ghost use Rattle.coord_server.specs.Lives.{EndsLives, EndsOneHistory, HasLived, IsOver};
+ghost use Rattle.coord_server.specs.Moments.{AtEachMoment};
 
 use crate::life::{Life, serve_life};
 use crate::life_end::LifeEnd;
@@ -54,6 +55,7 @@ pub fn serve_lives<
     requires { has_stopped store ≡ false }
     ensures lives { IfOk result (HasLived D.model.keeps_model D.model.present C.talked C.failed most store.world callers) }
     ensures whole { IfOk result (λ ended. EndsOneHistory store.world ended.closed) }
+    ensures moments { IfOk result (λ ended. AtEachMoment D.model store ended.closed) }
     ensures nothing { IfErr result (LeavesNothing D.model.keeps_model D.model.present) }
 {
     let Outlet {
@@ -86,6 +88,7 @@ fn serve_and_print<
     requires { has_stopped store ≡ false }
     ensures lived { IfOk result
         (HasLived D.model.keeps_model D.model.present C.talked C.failed setting.now.life_steps store.world callers) }
+    ensures moments { IfOk result (λ ended. AtEachMoment D.model store ended.closed) }
     ensures nothing { IfErr result (LeavesNothing D.model.keeps_model D.model.present) }
 {
     thread::scope(
@@ -95,6 +98,7 @@ fn serve_and_print<
             requires { IsSend D.row × IsSend W.row × IsSync R.row × (has_stopped store ≡ false) }
             ensures lived { IfOk result
                 (HasLived D.model.keeps_model D.model.present C.talked C.failed setting.entry.now.life_steps store.world callers) }
+            ensures moments { IfOk result (λ ended. AtEachMoment D.model store ended.closed) }
             ensures nothing { IfErr result (LeavesNothing D.model.keeps_model D.model.present) }
         {
             let printing = start_printing(scope, setting.rt, printing);
@@ -130,6 +134,7 @@ fn print_and_live<
     ensures printed { OnOk result (is_some printing ≡ true) }
     ensures lived { IfOk result
         (HasLived D.model.keeps_model D.model.present C.talked C.failed setting.now.life_steps store.world callers) }
+    ensures moments { IfOk result (λ ended. AtEachMoment D.model store ended.closed) }
     ensures nothing { IfErr result (LeavesNothing D.model.keeps_model D.model.present) }
 {
     let Some(printing) = printing else {
@@ -153,6 +158,7 @@ fn live<D: Disk + Send, C: Callers + Drop, W: Write + Drop, R: Threads + Wait + 
     requires { has_stopped store ≡ false }
     ensures lived { IfOk result
         (EndsLives D.model.keeps_model D.model.present C.talked C.failed setting.now.life_steps store.world callers) }
+    ensures moments { IfOk result (λ life. AtEachMoment D.model store life.closed) }
     ensures nothing { IfErr result (LeavesNothing D.model.keeps_model D.model.present) }
 {
     let mut store = store;

@@ -7,6 +7,7 @@ ghost use Rattle.coord_store.specs.Kept.{ImagesGive, has_stopped};
 ghost use Rattle.coord_store.specs.Recovered.{Recovered};
 ghost use Rattle.coord_server.specs.Ending.{LeavesNothing, fault_at_end};
 ghost use Rattle.coord_server.specs.Lives.{EndsOneHistory, EndsWith, HasLived, HasLivedToClose, life_steps};
+ghost use Rattle.coord_server.specs.Moments.{AtEachMoment};
 
 use crate::lives::serve_lives;
 use crate::{ServerEnd, ServerFault};
@@ -40,6 +41,7 @@ pub fn serve_store<
     ensures going { IfOk result (λ closed. has_stopped closed.store ≡ false) }
     ensures lives { IfOk result (HasLivedToClose D.model.keeps_model D.model.present store.world) }
     ensures whole { IfOk result (EndsOneHistory store.world) }
+    ensures moments { IfOk result (AtEachMoment D.model store) }
     ensures images { IfOk result (λ closed. D.model.keeps_model closed.store.disk ≡ true →
         (image : List ℕ) → IsImage (D.model.present closed.store.disk) image →
         Recovered image closed.store.world) }
@@ -68,6 +70,7 @@ fn serve_accepted<
     ensures going { IfOk result (λ closed. has_stopped closed.store ≡ false) }
     ensures lives { IfOk result (HasLivedToClose D.model.keeps_model D.model.present store.world) }
     ensures whole { IfOk result (EndsOneHistory store.world) }
+    ensures moments { IfOk result (AtEachMoment D.model store) }
     ensures images { IfOk result (λ closed. D.model.keeps_model closed.store.disk ≡ true →
         (image : List ℕ) → IsImage (D.model.present closed.store.disk) image →
         Recovered image closed.store.world) }
@@ -119,6 +122,7 @@ pub fn serve_callers<
     ensures lives { IfOk result
         (HasLived D.model.keeps_model D.model.present C.talked C.failed life_steps store.world callers) }
     ensures whole { IfOk result (λ ended. EndsOneHistory store.world ended.closed) }
+    ensures moments { IfOk result (λ ended. AtEachMoment D.model store ended.closed) }
     ensures images { IfOk result (λ ended. D.model.keeps_model ended.closed.store.disk ≡ true →
         ImagesGive D.model ended.closed.store) }
     ensures nothing { IfErr result (LeavesNothing D.model.keeps_model D.model.present) }
