@@ -2,20 +2,25 @@
 use Rattle.std.proofs.Common.{◌≡◌, ◌≢◌, ◌⊎◌, ℕ, ◌+◌, Bool, true, false, List, Option, Some, None, IfSome, inl, inr, refl, sym, ap, ◌∙◌, subst, arith, if◌then◌else◌}
 use Rattle.std.proofs.lemmas.Bool.Decides.{nat_tests}
 use Rattle.coord_disk.specs.Model.DiskModel.{DiskModel}
-use Rattle.coord_disk.specs.Model.Present.{Present, whole}
+use Rattle.coord_disk.proofs.MomentLemmas.{and_then}
+use Rattle.coord_disk.specs.Model.Moments.{AddsNothing, LeavesOnly}
+use Rattle.coord_disk.specs.Model.Present.{IsImage, Present, whole}
+use Rattle.coord_engine.specs.Facade.{IsOnTheWay}
 use Rattle.coord_engine.specs.declared.closed.Closed.{Closed}
 use Rattle.coord_server.specs.Lives.{EndsWith, HasLivedToClose}
+use Rattle.coord_server.specs.Moments.{AtEachMoment}
 use Rattle.coord_store.specs.Facade.{Kept, Recovered}
 use Rattle.coord_store.specs.Refused.{failed_in}
 use Rattle.coord_store.specs.declared.faults.StoreFault.{StoreFault}
 use Rattle.coord_store.specs.declared.faults.StoreFault.TheVariants.{Device}
+use Rattle.coord_world.specs.protocol.Next.{fold}
 use Rattle.coord_world.specs.protocol.NumberedWorld.{World}
 use Rattle.coord_commands.specs.Folders.{bytes_of, known_of, reads}
 use Rattle.coord_server.specs.declared.fault.ServerFault.{ServerFault}
 use Rattle.coord_server.specs.declared.fault.ServerFault.TheVariants as of_server
 use Rattle.coord_commands.specs.Faults.{fault_of_server}
 use Rattle.coord_commands.specs.Inspection.{IsOfOpening}
-use Rattle.coord_commands.specs.Serving.{EndsServing, GivesWorld, IsNotOpened, IsOfServing, IsOpened, IsPutBack, IsServedToEnd}
+use Rattle.coord_commands.specs.Serving.{EndsServing, GivesWorld, IsNotOpened, IsOfServing, IsOpened, IsPutBack, IsServedToEnd, KeepsToTheWay}
 use Rattle.coord_commands.specs.declared.fault.Fault.{Fault}
 use Rattle.coord_commands.specs.declared.fault.Fault.TheVariants.{Socket, Store}
 use Rattle.coord_commands.proofs.Raising.{closed, if_both, unread}
@@ -68,8 +73,23 @@ module _ {D : Type 0} (model : DiskModel D) where
   }
 
   pub opened : (before : Option Present) (taken : D) (store : Kept D) → known_of model.keeps_model model.present taken ≡ before → (model.keeps_model taken ≡ true → Recovered (model.present taken).read store.world)
-      → model.failures store.disk ≡ model.failures taken + 0 → (model.keeps_model taken ≡ true → model.present store.disk ≡ whole (model.present taken).read) → IsOpened model before store
-  opened before taken store was world failures same = grind (arith, nat_tests, if_keeps)
+      → model.failures store.disk ≡ model.failures taken + 0 → model.keeps_model store.disk ≡ model.keeps_model taken → AddsNothing model taken store.disk → (model.keeps_model taken ≡ true → model.present store.disk ≡ whole (model.present taken).read) → IsOpened model before store
+  opened before taken store was world failures same_model moments same = grind (arith, nat_tests, if_keeps)
+
+  -- it was opened, served to a close, and put back
+  pub keeps_to_the_way : (before after : Option Present) (store : Kept D) (closed : Closed D) (back : D) → IsOpened model before store → HasLivedToClose model.keeps_model model.present store.world closed → AtEachMoment model store closed
+      → back ≡ closed.store.disk → IfSome after (λ known. known_of model.keeps_model model.present back ≡ Some known) → KeepsToTheWay model before after
+  keeps_to_the_way before after store closed back is lived moments same put = record {
+    taken = is.taken;
+    back = back;
+    was = is.was;
+    is = put;
+    began = store.world;
+    left = closed;
+    opened = is.world;
+    lived = lived;
+    any_moment = λ keeps. subst (λ d. LeavesOnly model is.taken d (λ image. IsImage (model.present is.taken) image ⊎ IsOnTheWay store.world (fold closed.base closed.trail.items) image)) (sym same) (and_then model is.taken store.disk closed.store.disk _ _ (is.any_moment keeps) (moments.moments (is.same_model ∙ keeps)));
+  }
 
   -- it was opened, and put back
   pub not_bound : (before after : Option Present) (store : Kept D) (back : D) → IsOpened model before store → back ≡ store.disk → IfSome after (λ known. known_of model.keeps_model model.present back ≡ Some known) → EndsServing model before after Socket

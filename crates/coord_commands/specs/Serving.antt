@@ -4,8 +4,10 @@ use Rattle.std.specs.Io.KnownBytes.{Keeps}
 use Rattle.std.specs.Net.Grammar.{IsSocketV4Text}
 use Rattle.std.specs.declared.net.socket_addr.SocketAddrV4.{SocketAddrV4}
 use Rattle.coord_disk.specs.Model.DiskModel.{DiskModel}
-use Rattle.coord_disk.specs.Model.Present.{Present}
+use Rattle.coord_disk.specs.Model.Moments.{AddsNothing, LeavesOnly}
+use Rattle.coord_disk.specs.Model.Present.{IsImage, Present}
 use Rattle.coord_drill.specs.Drilled.{WritesFirstPart}
+use Rattle.coord_engine.specs.Facade.{IsOnTheWay}
 use Rattle.coord_engine.specs.declared.closed.Closed.{Closed}
 use Rattle.coord_server.specs.Lives.{EndsWith, HasLivedToClose}
 use Rattle.coord_server.specs.declared.fault.ServerFault.{ServerFault}
@@ -13,6 +15,7 @@ use Rattle.coord_store.specs.Facade.{Kept, Recovered}
 use Rattle.coord_store.specs.Refused.{failed_in}
 use Rattle.coord_store.specs.declared.faults.StoreFault.{StoreFault}
 use Rattle.coord_store.specs.declared.faults.StoreFault.TheVariants.{Device}
+use Rattle.coord_world.specs.protocol.Next.{fold}
 use Rattle.coord_world.specs.protocol.NumberedWorld.{World}
 use Rattle.coord_commands.specs.Faults.{fault_line, fault_of_server, fault_status}
 use Rattle.coord_commands.specs.Folders.{known_of, reads}
@@ -61,6 +64,8 @@ module _ {D : Type 0} (model : DiskModel D) where
     pub was : known_of model.keeps_model model.present taken ≡ before
     pub world : IfSome (reads before) (λ known. Recovered known store.world)
     pub failures : model.failures store.disk ≡ model.failures taken
+    pub same_model : model.keeps_model store.disk ≡ model.keeps_model taken
+    pub any_moment : AddsNothing model taken store.disk
     pub same : model.keeps_model taken ≡ true → (model.present store.disk).read ≡ (model.present taken).read
 
   -- it was opened and put back: no socket could be bound
@@ -86,6 +91,18 @@ pub record IsServedToEnd {D : Type 0} (keeps_model : D → Bool) (present : D �
   pub opened : IfSome bytes (λ known. Recovered known began)
   pub lived : HasLivedToClose keeps_model present began left
   pub closed : IfSome after (λ known. Recovered known left.store.world)
+
+-- The disk of a name was taken, served until a line closed it, and put back. At every moment in between, whatever it may hold is what it may have held when it was taken, or a legal world after the first of the steps that were accepted: it lies on the way from the world that was opened to the one after all of them.
+pub record KeepsToTheWay {D : Type 0} (model : DiskModel D) (before after : Option Present) : Type 0 where
+  pub taken : D
+  pub back : D
+  pub was : known_of model.keeps_model model.present taken ≡ before
+  pub is : IfSome after (λ known. known_of model.keeps_model model.present back ≡ Some known)
+  pub began : World
+  pub left : Closed D
+  pub opened : IfSome (reads before) (λ known. Recovered known began)
+  pub lived : HasLivedToClose model.keeps_model model.present began left
+  pub any_moment : model.keeps_model taken ≡ true → LeavesOnly model taken back (λ image. IsImage (model.present taken) image ⊎ IsOnTheWay began (fold left.base left.trail.items) image)
 
 -- it was closed, and the disk put back
 pub record IsServed (word : List ℕ) (bytes after : Option (List ℕ)) (status : ℕ) (old new : Option (List ℕ)) : Type 0 where

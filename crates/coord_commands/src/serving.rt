@@ -5,7 +5,7 @@ ghost use Rattle.std.specs.Io.KnownBytes.{Keeps};
 ghost use Rattle.std.specs.Net.Grammar.{IsSocketV4Text};
 ghost use Rattle.std.specs.declared.net.socket_addr.SocketAddrV4.{SocketAddrV4};
 ghost use Rattle.coord_commands.specs.Folders.{bytes_of, reads};
-ghost use Rattle.coord_commands.specs.Serving.{EndsServing, IsNotOpened, IsOfServing, IsOpened, IsServedToEnd, Serves};
+ghost use Rattle.coord_commands.specs.Serving.{EndsServing, IsNotOpened, IsOfServing, IsOpened, IsServedToEnd, KeepsToTheWay, Serves};
 ghost use Rattle.coord_store.specs.Kept.{has_stopped};
 ghost use Rattle.coord_store.specs.Recovered.{Recovered};
 
@@ -57,6 +57,8 @@ pub fn serve_in<
         (E.contents errors.new) }
     ensures closed { result ≡ 0 → IsServedToEnd F.Disk.model.keeps_model F.Disk.model.present
         (reads (F.holds folder.old file.now)) (reads (F.holds folder.new file.now)) }
+    ensures moments { result ≡ 0 → KeepsToTheWay F.Disk.model (F.holds folder.old file.now)
+        (F.holds folder.new file.now) }
     ensures usage { ((a : SocketAddrV4) → ¬ IsSocketV4Text address.now a) → (result ≡ 2) ×
         (folder.new ≡ folder.old) × Keeps (W.contents output.old) (W.contents output.new) }
 {
@@ -76,6 +78,8 @@ fn serve_at<S: Net + Threads + Wait + Clock + Sync + AllocGlobal, F: Folder, W: 
 ) -> Result<(), Fault>
     ensures served { OnOk result (IsServedToEnd F.Disk.model.keeps_model F.Disk.model.present
         (reads (F.holds folder.old file.now)) (reads (F.holds folder.new file.now))) }
+    ensures moments { OnOk result (KeepsToTheWay F.Disk.model (F.holds folder.old file.now)
+        (F.holds folder.new file.now)) }
     ensures fault { IfErr result (EndsServing F.Disk.model (F.holds folder.old file.now)
         (F.holds folder.new file.now)) }
 {
@@ -115,8 +119,9 @@ fn opened<F: Folder>(alloc: Global, folder: &mut F, file: &str) -> Result<Store<
 /// The disk of a store that was served and has not stopped.
 fn left<D: Disk>(closed: Closed<D>) -> D
     requires { has_stopped closed.store ≡ false }
-    ensures { IfSome (bytes_of D.model.keeps_model D.model.present result) (λ known.
+    ensures gives { IfSome (bytes_of D.model.keeps_model D.model.present result) (λ known.
         Recovered known closed.store.world) }
+    ensures disk { result ≡ closed.store.disk }
 {
     closed.store.into_disk()
 }

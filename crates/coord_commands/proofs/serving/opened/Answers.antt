@@ -18,7 +18,7 @@ returns-in_err-disk-clause-fault g c =
 
 pub returns-in-Ok-clause-opened : goal.returns-in-Ok-clause-opened
 returns-in-Ok-clause-opened g c =
-    opened g.F.Disk.Disk.model (g.F.Folder.holds c.args.folder.now c.args.file.now) c.in_ok-disk.disk c.in-Ok.store c.in_ok-disk.ensures.taken c.in-Ok.ensures.world c.in-Ok.ensures.runs.failures c.in-Ok.ensures.bytes
+    opened g.F.Disk.Disk.model (g.F.Folder.holds c.args.folder.now c.args.file.now) c.in_ok-disk.disk c.in-Ok.store c.in_ok-disk.ensures.taken c.in-Ok.ensures.world c.in-Ok.ensures.runs.failures c.in-Ok.ensures.runs.model c.in-Ok.ensures.any_moment c.in-Ok.ensures.bytes
 
 pub returns-in-Err-clause-fault : goal.returns-in-Err-clause-fault
 returns-in-Err-clause-fault g c =
