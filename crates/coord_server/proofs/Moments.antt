@@ -29,9 +29,9 @@ module _ {D : Type 0} (m : DiskModel D) where
   joined_moments first now end new more come trail leads run keeps =
       weaker m first.disk new _ _ (and_then m first.disk now.disk new _ _ (come.moments keeps) run)
       (λ bytes either. ⊎_elim
-        (λ early. subst (λ w. IsOnTheWay first.world w bytes) leads (farther first.world now.world bytes more trail early))
-        (λ late. from_before first.world now.world end bytes come.steps come.trail come.leads late)
-        either)
+      (λ early. subst (λ w. IsOnTheWay first.world w bytes) leads (farther first.world now.world bytes more trail early))
+      (λ late. from_before first.world now.world end bytes come.steps come.trail come.leads late)
+      either)
 
   -- behind the lives so far, one more
   pub after_life : (first now : Kept D) (left : Closed D) (desk : List Note) → ComesFrom m first now → IsOneHistory (based_on m.keeps_model m.present now.world []) desk left → AtEachMoment m now left → AtEachMoment m first left
