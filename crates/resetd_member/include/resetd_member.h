@@ -8,8 +8,8 @@
  * from malloc, and has given all of it back when it returns. Calls from several threads at once are
  * safe, as long as none writes what another one reads.
  *
- * Each function that returns a number returns RESETD_OK or one of the numbers below it. Then it has
- * written nothing that counts, and what is kept stays.
+ * Each function that returns a number returns RESETD_OK or one of the numbers below it. Where it is not
+ * RESETD_OK, what the call wrote does not count, and the orders that it was given stay as they were.
  */
 #ifndef RESETD_MEMBER_H
 #define RESETD_MEMBER_H
