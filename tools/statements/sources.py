@@ -10,7 +10,7 @@ import re
 
 WORD = re.compile(r"[A-Za-z_][\w']*(?:-[A-Za-z_][\w']*)*(?:\.[A-Za-z_][\w'-]*)*")
 USE = re.compile(r"(pub )?\buse (Rattle\.[\w.]+?)(?:\.\{([^}]*)\}| as (\S+?))?;?(?:\s|$)")
-FUNCTION = re.compile(r"^( *)(pub |pub\([a-z]+\) )?(?:const )?(?:unsafe )?fn (\w+)", re.M)
+FUNCTION = re.compile(r'^( *)(pub |pub\([a-z]+\) )?(?:const )?(?:unsafe )?(?:extern "C" )?fn (\w+)', re.M)
 BLOCK = re.compile(r"^(?:pub(?:\([a-z]+\))? )?(?:impl|trait|struct|enum)\b[^;{]*(?:\{|;)", re.M)
 DEFINED = re.compile(r"^( *)((?:abbrev |opaque |pub |record |data )*)(\S+)")
 CLAUSE = re.compile(r"(requires|ensures)(?:\s+(\w+))?\s*\{")
