@@ -3,7 +3,7 @@ pub use Rattle.coord_world.proofs.listings.RowsOfWorldFit.{rows_have_few_aborts,
 pub use Rattle.coord_tables.proofs.KeyedLists.{all_weaker}
 pub use Rattle.coord_tables.proofs.LinkLanes.{lane-apart, lane-mirrored}
 pub use Rattle.coord_tables.proofs.SortedEntries.{is_less}
-pub use Rattle.coord_world.proofs.legal.EmptyWorld.{no_lane}
+pub use Rattle.coord_world.proofs.legal.EmptyWorld.{no_lane, no_world_in_range, no_world_legal}
 pub use Rattle.coord_world.proofs.Acceptance.{fresh_count, itself, fresh_number, fresh_order, verdict_fresh, verdict_kind}
 pub use Rattle.coord_tables.proofs.Cases.{both, by_test, same_or_apart, some_value}
 pub use Rattle.coord_world.proofs.release.KeptReplies.{kept_reply_law}

@@ -1,0 +1,33 @@
+-- All starts of a store are one history.
+use Rattle.std.specs.Prelude.{◌≡◌, ℕ, ◌+◌, ◌≤◌, List, length, Some, slice_get}
+use Rattle.std.specs.List.{AllByRecursion}
+use Rattle.coord_types.specs.declared.limits.TheConstants.{MAX_VERSIONS}
+use Rattle.coord_world.specs.Facade.{StepOutcome, World, no_world}
+use Rattle.coord_world.specs.laws.Trails.{IsSound}
+use Rattle.coord_ledger.specs.machine.After.{releases_of}
+use Rattle.coord_ledger.specs.promises.Parts.{IsPartOf, released_first}
+use Rattle.coord_following.specs.Histories.{IsHistory}
+use Rattle.coord_starts.specs.Starts.{AreStarts, Start, left_by, released_of, replied_of, turns_of}
+use Rattle.coord_starts.specs.Told.{IsReplyTo, KeepsLast, led, outcomes, steps_of}
+
+-- What the starts of a store have made of an empty world.
+pub record IsOneHistory (w : World) (starts : List Start) : Type 0 where
+  -- The steps that were kept are one history, each of them fresh over the world after those before it, and the last
+  -- start left the legal world after all of them.
+  pub history : IsHistory w (turns_of w starts)
+  pub left : left_by w starts ≡ led w (turns_of w starts)
+  pub sound : IsSound (left_by w starts)
+  -- The numbers have no gap: the step at each place is answered with the number of that place, from 1 on.
+  pub numbered : (i : ℕ) (o : StepOutcome) → slice_get (outcomes w (turns_of w starts)) i ≡ Some o → o.reply.step ≡ i + 1
+  pub counted : (left_by w starts).count ≡ length (steps_of (turns_of w starts))
+  -- No number that was told ever names another step: each reply that was collected in any start is that of the step
+  -- which has its number in the end.
+  pub replied : AllByRecursion (IsReplyTo 0 (outcomes w (turns_of w starts))) (replied_of w starts)
+  -- All that was released in all starts stands in what the kept steps give out, in order, and no item of it twice.
+  pub released : IsPartOf (released_first (released_of w starts)) (releases_of (outcomes w (turns_of w starts)))
+  -- The reply that is kept for a client is that of its last kept order.
+  pub kept : (c : ℕ) → KeepsLast w (turns_of w starts) c
+
+-- Whatever the starts of a store were, from the making of the store on.
+abbrev pub StartsAreOne : Type 0
+StartsAreOne = (version : ℕ) (starts : List Start) → 1 ≤ version → version ≤ MAX_VERSIONS → AreStarts (no_world version) starts → IsOneHistory (no_world version) starts

@@ -1,0 +1,80 @@
+-- What a store goes through in all its starts.
+--
+-- In a start the store is opened, and a ledger over it is asked, or the store is raised to version 2. The start ends
+-- when its process does, or the power is cut. The next one opens what the disk gives then: the world after as many
+-- steps as a crash may keep. A start that is cut off within a commit is one whose commit was answered by a failure of
+-- the device: both leave the steps of that commit, or none of them.
+use Rattle.std.specs.Prelude.{◌≡◌, ℕ, List, [], ◌∷◌, ◌++◌, map, take}
+use Rattle.std.specs.List.{AllByRecursion}
+use Rattle.coord_types.specs.declared.steps.Reply.{Reply}
+use Rattle.coord_world.specs.Facade.{World}
+use Rattle.coord_ledger.specs.declared.events.Answer.{Answer}
+use Rattle.coord_ledger.specs.declared.events.Event.{Event}
+use Rattle.coord_ledger.specs.declared.release.Release.{Release}
+use Rattle.coord_ledger.specs.machine.Answers.{IsOneOf, kept}
+use Rattle.coord_ledger.specs.machine.Consistent.{EventInRange}
+use Rattle.coord_ledger.specs.machine.Machine.{Machine, adopted}
+use Rattle.coord_ledger.specs.machine.Runs.{Answered, run}
+use Rattle.coord_following.specs.Histories.{Turn, Takes, IsTurn, Raises as raising}
+use Rattle.coord_starts.specs.Told.{led}
+
+pub data Start : Type 0 where
+  -- a ledger is asked these events and answers so, and then so many steps of its trail are kept
+  Serves : List Event → List Answer → ℕ → Start
+  -- the store is raised to version 2
+  Raises : Start
+
+-- the ledger's machine where such a start ends
+abbrev pub at_end : World → List Event → List Answer → Machine
+at_end w events given = run (adopted w) events given
+
+-- each event has an answer that it may have, and a crash may then keep so many steps
+pub record MayServe (w : World) (events : List Event) (given : List Answer) (n : ℕ) : Type 0 where
+  pub named : AllByRecursion EventInRange events
+  pub answered : Answered (adopted w) events given
+  pub kept : IsOneOf n (kept (at_end w events given))
+
+-- what a start from this world may be
+abbrev pub IsStart : World → Start → Type 0
+IsStart w (Serves events given n) = MayServe w events given n
+IsStart w Raises = IsTurn w raising
+
+-- the turns that it adds to the store's history: the steps that are kept
+abbrev pub turns_in : World → Start → List Turn
+turns_in w (Serves events given n) = map Takes (take n (at_end w events given).log.trail)
+turns_in w Raises = raising ∷ []
+
+-- each start begins with the world that the one before it left
+abbrev pub AreStarts : World → List Start → Type 0
+AreStarts w [] = Unit {0}
+AreStarts w (s ∷ starts) = IsStart w s × AreStarts (led w (turns_in w s)) starts
+
+-- the whole history of the store
+abbrev pub turns_of : World → List Start → List Turn
+turns_of w [] = []
+turns_of w (s ∷ starts) = turns_in w s ++ turns_of (led w (turns_in w s)) starts
+
+-- the world that the last start left
+abbrev pub left_by : World → List Start → World
+left_by w [] = w
+left_by w (s ∷ starts) = left_by (led w (turns_in w s)) starts
+
+-- ---- what was told
+
+abbrev pub replied_in : World → Start → List Reply
+replied_in w (Serves events given n) = (at_end w events given).replied
+replied_in w Raises = []
+
+abbrev pub released_in : World → Start → List Release
+released_in w (Serves events given n) = (at_end w events given).released
+released_in w Raises = []
+
+-- all replies that were collected, in all starts
+abbrev pub replied_of : World → List Start → List Reply
+replied_of w [] = []
+replied_of w (s ∷ starts) = replied_in w s ++ replied_of (led w (turns_in w s)) starts
+
+-- and all that was released
+abbrev pub released_of : World → List Start → List Release
+released_of w [] = []
+released_of w (s ∷ starts) = released_in w s ++ released_of (led w (turns_in w s)) starts

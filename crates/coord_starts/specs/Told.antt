@@ -1,0 +1,53 @@
+-- What the turns of a history give out and leave.
+use Rattle.std.specs.Prelude.{◌≡◌, ◌⊎◌, ℕ, ◌+◌, List, [], ◌∷◌, ◌++◌, length, Some, map}
+use Rattle.std.specs.List.{AllByRecursion}
+use Rattle.coord_types.specs.Table.{get}
+use Rattle.coord_types.specs.declared.steps.Reply.{Reply}
+use Rattle.coord_types.specs.declared.steps.Session.{Session}
+use Rattle.coord_types.specs.declared.steps.Step.{Step}
+use Rattle.coord_types.specs.declared.steps.Step.TheVariants.{Order}
+use Rattle.coord_world.specs.Facade.{StepOutcome, World, next, outputs, reply}
+use Rattle.coord_world.specs.laws.KeptReplies.{IsNotBy}
+use Rattle.coord_world.specs.laws.Raised.{raised}
+use Rattle.coord_following.specs.Histories.{Turn, Takes, Raises, turned}
+
+-- the world after all turns
+abbrev pub led : World → List Turn → World
+led w [] = w
+led w (t ∷ turns) = led (turned w t) turns
+
+-- the steps among the turns
+abbrev pub steps_of : List Turn → List Step
+steps_of [] = []
+steps_of (Takes s ∷ turns) = s ∷ steps_of turns
+steps_of (Raises ∷ turns) = steps_of turns
+
+-- what each of these steps is answered and gives out
+abbrev pub outcomes : World → List Turn → List StepOutcome
+outcomes w [] = []
+outcomes w (Takes s ∷ turns) = record { reply = reply w s; outputs = outputs w s } ∷ outcomes (next w s) turns
+outcomes w (Raises ∷ turns) = outcomes (raised w) turns
+
+-- The reply is that of the step with its number, where so many steps came before these.
+pub record IsReplyTo (count : ℕ) (given : List StepOutcome) (r : Reply) : Type 0 where
+  pub before : List StepOutcome
+  pub outcome : StepOutcome
+  pub rest : List StepOutcome
+  pub among : given ≡ before ++ outcome ∷ rest
+  pub same : outcome.reply ≡ r
+  pub number : r.step ≡ count + length before + 1
+
+-- what client c's last order among these turns leaves: its number, its command and its reply
+pub record IsLastOrder (w : World) (turns : List Turn) (c : ℕ) (o : Session) : Type 0 where
+  pub before : List Turn
+  pub rest : List Turn
+  pub order : turns ≡ before ++ Takes (Order c o.number o.command) ∷ rest
+  pub last : AllByRecursion (IsNotBy c) (steps_of rest)
+  pub replied : o.reply ≡ reply (led w before) (Order c o.number o.command)
+
+-- The world after the turns keeps for a client what its last order left, or what was kept before where there is no order
+-- of the client.
+abbrev pub KeepsLast : World → List Turn → ℕ → Type 0
+KeepsLast w turns c =
+    ((o : Session) × ((get (led w turns).sessions c ≡ Some o) × IsLastOrder w turns c o))
+    ⊎ ((get (led w turns).sessions c ≡ get w.sessions c) × AllByRecursion (IsNotBy c) (steps_of turns))
