@@ -104,7 +104,7 @@ pub record IsServedToEnd {D : Type 0} (keeps_model : D → Bool) (present : D �
   pub lived : HasLivedToClose keeps_model present began left
   pub closed : IfSome after (λ known. Recovered known left.store.world)
 
--- The disk of a name was taken, served until a line closed it, and put back. At every moment in between, whatever it may hold is what it may have held when it was taken, or a legal world after the first of the steps that were accepted: it lies on the way from the world that was opened to the one after all of them.
+-- The disk of a name was taken, served until a line closed it, and put back. At every moment in between, whatever it may hold is what it may have held when it was taken, or a legal world on the way from the world that was opened to the one after all accepted steps.
 pub record KeepsToTheWay {D : Type 0} (model : DiskModel D) (before after : Option Present) : Type 0 where
   pub taken : D
   pub back : D

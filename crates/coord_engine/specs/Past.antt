@@ -1,4 +1,4 @@
--- What an engine's disk was when the engine was made, and what a crash may have left since: worlds on the way of the accepted steps, and nothing else.
+-- What an engine's disk was when the engine was made, and what a crash may have left since: worlds on the way from its base to the one after all accepted steps.
 use Rattle.std.specs.Prelude.{◌≡◌, ◌⊎◌, ℕ, ◌+◌, ◌≤◌, Bool, false, true, List, ◌++◌, Option, Some, None, Result, IsErrOf}
 use Rattle.coord_disk.specs.Model.DiskModel.{DiskModel}
 use Rattle.coord_disk.specs.Model.Moments.{LeavesOnly}

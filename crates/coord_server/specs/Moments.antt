@@ -9,7 +9,7 @@ use Rattle.coord_world.specs.Facade.{fold}
 use Rattle.coord_engine.specs.Facade.{IsOnTheWay}
 use Rattle.coord_engine.specs.declared.closed.Closed.{Closed}
 
--- At every moment from this store on to what is left of its server, whatever the disk may hold is a legal world after the first of the accepted steps: it lies on the way from the store's world to the one after all of them. The disk keeps the model as it did.
+-- At every moment from this store on to what is left of its server, whatever the disk may hold is a legal world on the way from the store's world to the one after all accepted steps: after the first steps of a trail that leads there. That this trail is the accepted steps themselves is not said. The disk keeps the model as it did.
 pub record AtEachMoment {D : Type 0} (m : DiskModel D) (store : Kept D) (left : Closed D) : Type 0 where
   pub same_model : m.keeps_model left.store.disk ≡ m.keeps_model store.disk
   pub moments : m.keeps_model store.disk ≡ true → LeavesOnly m store.disk left.store.disk (IsOnTheWay store.world (fold left.base left.trail.items))
