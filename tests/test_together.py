@@ -180,10 +180,14 @@ class Refused(Served):
             return replies, before, behind
 
     def close(self, server: Serving) -> Ended:
-        """Closes the server. How many allocations come before differs a little, so the refused one may be of the first close."""
+        """Closes the server. How many allocations come before differs a little, so the refused one may be of the first close,
+        which may have been carried out all the same."""
         with contextlib.suppress(AssertionError, OSError, ValueError):
             return server.close()
-        return server.close()
+        try:
+            return server.close()
+        except OSError:
+            return server.ended()
 
     def replies(self, connection: Connection) -> list[Answer]:
         """All that come. A connection that lacked memory to begin is reset, since it was not read."""
