@@ -11,6 +11,8 @@ import socket
 import subprocess
 import sys
 import threading
+from collections.abc import Iterable, Iterator
+from typing import Self
 
 from support.case import Case, tool
 from support.memberlib import PATH, Library, Order, Orders, Refused
@@ -19,37 +21,46 @@ from support.program import PROGRAM, ROOT
 sys.path.insert(0, f"{ROOT}/client")
 from resetd_client import Due, Link, Node, View  # noqa: E402
 from resetd_client.gateway import Desk  # noqa: E402
-from resetd_client.party import are_parted, digest_of, is_same_run, tag_of  # noqa: E402
+from resetd_client.party import Party, are_parted, digest_of, is_same_run, tag_of  # noqa: E402
 from resetd_client.rule import Kept, judge, shown_to  # noqa: E402
 from resetd_client.starts import Shelf, Starts  # noqa: E402
 
 STATES = 25_000  # at random, of each of four seeds
 EXAMPLES = f"{ROOT}/examples/members"
 HEADER = f"{ROOT}/crates/resetd_member/include"
+# What is shown, the member's node, what it keeps, the digests of its history, and the epoch that stands with its work.
+State = tuple[View, int, Kept, list[str], int | None]
 
 
-def line_of(view):
+def line_of(view: View) -> bytes:
     """The line that shows a view."""
     return (json.dumps(view.members(), separators=(",", ":")) + "\n").encode()
 
 
-def start_text(node, kept):
+def row_of(view: View, node: int) -> Node:
+    """The row of a node that is there."""
+    row = view.node(node)
+    assert row is not None
+    return row
+
+
+def start_text(node: int, kept: Kept) -> bytes:
     """The file of a start, as the Python library writes it."""
     party = None if kept.party is None else sorted(kept.party)
     return (json.dumps({str(node): {"begun": kept.begun, "party": party}}) + "\n").encode()
 
 
-def kept_in(text, node):
+def kept_in(text: bytes, node: int) -> Kept:
     """What a file of a start keeps."""
     row = json.loads(text or b"{}").get(str(node), {"begun": None, "party": None})
     return Kept(row["begun"], None if row["party"] is None else frozenset(row["party"]))
 
 
-def history_text(digests, torn=""):
+def history_text(digests: Iterable[str], torn: str = "") -> bytes:
     return "".join(f"{digest}\n" for digest in digests).encode() + torn.encode()
 
 
-def small_views():
+def small_views() -> Iterator[View]:
     """Two nodes, each in each state of two epochs, and the link between them: none, the first or the second."""
     rows = list(itertools.product(("ready", "abort", "converge"), (0, 1), (0, 1)))
     for (mode, epoch, confirmed), (other_mode, other_epoch, other_confirmed), link in itertools.product(rows, rows, (0, 1, 2)):
@@ -57,12 +68,12 @@ def small_views():
         yield View(3, 3, nodes, (Link(1, 2, link),) if link else ())
 
 
-def small_states():
+def small_states() -> Iterator[State]:
     """Each small view with each small state that may be kept, and work of that epoch or none."""
     for view in small_views():
         party = view.party(1)
-        others = [party | {"3 0"}, party - {"2 0", "2 1"}]
-        for begun, kept, has, has_work in itertools.product((None, 0, 1), (None, party, *others), (False, True), (False, True)):
+        parties: list[Party | None] = [None, party, party | {"3 0"}, party - {"2 0", "2 1"}]
+        for begun, kept, has, has_work in itertools.product((None, 0, 1), parties, (False, True), (False, True)):
             if has_work or begun is not None:
                 yield view, 1, Kept(begun, kept), [digest_of(party)] if has else [], begun if has_work else None
 
@@ -70,10 +81,10 @@ def small_states():
 class Random:
     """States of up to six nodes with any links, epochs and histories."""
 
-    def __init__(self, seed):
+    def __init__(self, seed: int) -> None:
         self.random = random.Random(seed)
 
-    def view(self):
+    def view(self) -> View:
         draw, most = self.random, self.random.choice((1, 2, 2, 3, 3, 4, 6, 6) * 4 + (64,))
         numbers = sorted(draw.sample(range(1, 65), draw.randint(1, most)))
         epochs = draw.choice((2, 12, 1 << 40))
@@ -83,14 +94,14 @@ class Random:
         chosen = sorted(draw.sample(pairs, min(len(pairs), draw.randint(0, 2 * len(numbers)), 128)))
         return View(99, 99, rows, tuple(Link(a, b, draw.randrange(1, epochs + 99)) for a, b in chosen))
 
-    def party(self, view, row):
+    def party(self, view: View, row: Node) -> Party | None:
         """None, what is shown, or some more or fewer than that."""
         draw, shown = self.random, view.party(row.node)
         more = frozenset(f"{draw.randint(1, 64)} {draw.randrange(99)}" for _ in range(draw.randrange(3)))
         fewer = frozenset(line for line in shown if draw.random() < 0.8)
         return draw.choice((None, None, shown, shown | more, fewer | more or None))
 
-    def state(self):
+    def state(self) -> State:
         draw, view = self.random, self.view()
         row = draw.choice(view.nodes)
         kept = Kept(draw.choice((None, row.epoch, row.epoch, row.confirmed, draw.randrange(99))), self.party(view, row))
@@ -103,21 +114,22 @@ class Random:
 class Shows:
     """A port that shows one line, and carries out each order."""
 
-    def __init__(self, line):
-        self.line, self.ordered, self.looks, self.looked_twice = line, None, 0, threading.Event()
+    def __init__(self, line: bytes) -> None:
+        self.line, self.looks, self.looked_twice = line, 0, threading.Event()
+        self.ordered: str | None = None
         self._listener = socket.create_server(("127.0.0.1", 0))
-        self.number = self._listener.getsockname()[1]
+        self.number: int = self._listener.getsockname()[1]
 
-    def __enter__(self):
+    def __enter__(self) -> Self:
         threading.Thread(target=self._serve, daemon=True).start()
         return self
 
-    def __exit__(self, *_):
+    def __exit__(self, *_: object) -> None:
         with contextlib.suppress(OSError):
             self._listener.shutdown(socket.SHUT_RDWR)
         self._listener.close()
 
-    def _serve(self):
+    def _serve(self) -> None:
         with contextlib.suppress(OSError):
             while True:
                 connection, _ = self._listener.accept()
@@ -125,7 +137,7 @@ class Shows:
                     for line in connection.makefile("rb"):
                         connection.sendall(self._answer(json.loads(line)["op"]))
 
-    def _answer(self, op):
+    def _answer(self, op: str) -> bytes:
         if op != "show":
             self.ordered = self.ordered or op
             return b'{"kind":"done","step":1}\n'
@@ -138,15 +150,15 @@ class Shows:
 class Members(Case):
     takes = 120
 
-    def setUp(self):
+    def setUp(self) -> None:
         super().setUp()
         self.needs("the proved library: make lib makes it", os.path.exists(PATH), is_optional=True)
         self.library = Library()
 
-    def judged_alike(self, state, torn=""):
+    def judged_alike(self, state: State, torn: str = "") -> str:
         """Both libraries, of one state: what is due, what is kept, the line of the history, and the tag."""
         view, node, kept, history, work = state
-        row = view.node(node)
+        row = row_of(view, node)
         begun = kept.begun if kept.begun == work else None
         wanted = judge(Kept(begun, kept.party), set(history), shown_to(view, row))
         line, file = line_of(view), b"" if kept == Kept() else start_text(node, kept)
@@ -156,37 +168,38 @@ class Members(Case):
         changes = wanted.due is Due.BEGIN or wanted.due is Due.TALK and kept.party is None
         self.assertEqual(told.start, start_text(node, wanted.kept) if changes else b"", state)
         if wanted.due is Due.TALK:
+            assert wanted.kept.party is not None
             for word in ("", "blue"):
                 tag = self.library.tag(line, node, told.start or file, word.encode())
                 self.assertEqual(tag.decode(), tag_of(wanted.kept.party, view.party(node), word), state)
         return told.due
 
-    def test_small_states(self):
+    def test_small_states(self) -> None:
         """All of them."""
         dues = [self.judged_alike(state) for state in small_states()]
         self.assertGreater(len(dues), 15_000)
         self.assertEqual(set(dues), {due.name for due in Due})
 
-    def random_states(self, seed):
-        states, dues = Random(seed), {}
+    def random_states(self, seed: int) -> None:
+        states, dues = Random(seed), dict[str, int]()
         for _ in range(STATES):
             due = self.judged_alike(states.state(), states.random.choice(("", "", "", "a", "f" * 64, "?")))
             dues[due] = dues.get(due, 0) + 1
         self.assertGreater(min(dues.get(due.name, 0) for due in Due), STATES // 50, dues)
 
-    def test_random_states_1(self):
+    def test_random_states_1(self) -> None:
         self.random_states(1)
 
-    def test_random_states_2(self):
+    def test_random_states_2(self) -> None:
         self.random_states(2)
 
-    def test_random_states_3(self):
+    def test_random_states_3(self) -> None:
         self.random_states(3)
 
-    def test_random_states_4(self):
+    def test_random_states_4(self) -> None:
         self.random_states(4)
 
-    def alike_in(self, state, due, after, history):
+    def alike_in(self, state: State, due: Due, after: Kept, history: bytes) -> None:
         """A member of another kind was shown a state: what was due to it, and what its files keep now, are as the proved
         library says. (One that begins has gone on.)"""
         view, node, kept, digests, work = state
@@ -196,7 +209,7 @@ class Members(Case):
             self.assertEqual(after, kept_in(told.start, node) if told.start else kept, state)
             self.assertEqual(history, history_text(digests) + told.line, state)
 
-    def test_the_files_of_the_python_library(self):
+    def test_the_files_of_the_python_library(self) -> None:
         """Its starts, over files: they hold the same bytes."""
         states = Random(5)
         for turn in range(1_000):
@@ -206,14 +219,14 @@ class Members(Case):
             self.write(f"{turn}/starts.json", b"" if kept == Kept() else start_text(node, kept))
             self.write(f"{turn}/starts.history", history_text(digests, states.random.choice(("", "torn"))))
             shelf = Shelf(f"{folder}/starts.json")
-            due = Starts(shelf, node, work).due(view, view.node(node))
+            due = Starts(shelf, node, work).due(view, row_of(view, node))
             shelf.keep()
             text = self.read(f"{turn}/starts.json")
             self.alike_in(state, due, kept_in(text, node), self.read(f"{turn}/starts.history").removesuffix(b"torn"))
             if text and due is Due.TALK:
                 self.assertEqual(text, start_text(node, kept_in(text, node)))
 
-    def test_a_gateway(self):
+    def test_a_gateway(self) -> None:
         """The members behind it have begun what it told them, or have lost it."""
         states = Random(6)
         for turn in range(300):
@@ -229,11 +242,11 @@ class Members(Case):
             if work is not None:
                 self.write(f"{turn}/a/begun", told)
             shelf = Shelf(f"{folder}/starts.json")
-            due = Desk(node, shelf, folder, ["a"]).due(view, view.node(node))
+            due = Desk(node, shelf, folder, ["a"]).due(view, row_of(view, node))
             shelf.keep()
             self.alike_in(state, due, kept_in(self.read(f"{turn}/starts.json"), node), self.read(f"{turn}/starts.history"))
 
-    def test_a_member_in_bash(self):
+    def test_a_member_in_bash(self) -> None:
         """examples/plain_member, over its own files."""
         states = Random(7)
         for turn in range(60):
@@ -252,31 +265,31 @@ class Members(Case):
                 os.killpg(member.pid, signal.SIGKILL)
                 member.wait()
             run = f"{folder}/run"
-            due = {"confirm": Due.BEGIN, "reset": Due.RESET}.get(port.ordered, Due.TALK if os.path.exists(run) else Due.WAIT)
+            due = {"confirm": Due.BEGIN, "reset": Due.RESET}.get(port.ordered or "", Due.TALK if os.path.exists(run) else Due.WAIT)
             first, *party = self.read(f"{turn}/kept").decode().splitlines()
             after = Kept(None if first == "-1" else int(first), frozenset(party) if party else None)
             self.alike_in(state, due, after, self.read(f"{turn}/history"))
             if due is Due.TALK:
                 told = self.library.tag(line_of(view), node, start_text(node, after)).decode() or "-"
-                self.assertEqual(self.read(f"{turn}/run").decode(), f"{view.node(node).epoch} {told}\n", state)
+                self.assertEqual(self.read(f"{turn}/run").decode(), f"{row_of(view, node).epoch} {told}\n", state)
 
-    def test_begun(self):
+    def test_begun(self) -> None:
         for node, epoch in ((1, 0), (64, (1 << 64) - 1), (7, 12)):
             self.assertEqual(self.library.begun(node, epoch), start_text(node, Kept(epoch)))
 
-    def test_tags_that_came(self):
+    def test_tags_that_came(self) -> None:
         tags = ["", "torn", "-", "a-b-c"]
         tags += [tag_of(frozenset({a, "x"}), frozenset({b}), word) for a in "12" for b in "12" for word in ("", "w")]
         for own, other in itertools.product(tags, tags):
             self.assertEqual(self.library.is_same_run(own.encode(), other.encode()), is_same_run(own, other), (own, other))
             self.assertEqual(self.library.are_parted(own.encode(), other.encode()), are_parted(own, other), (own, other))
 
-    def refuses(self, status, *words):
+    def refuses(self, status: int, show: bytes, node: int, start: bytes = b"", history: bytes = b"") -> None:
         with self.assertRaises(Refused) as refused:
-            self.library.judge(*words)
-        self.assertEqual(refused.exception.status, status, words)
+            self.library.judge(show, node, start, history)
+        self.assertEqual(refused.exception.status, status, (show, node, start, history))
 
-    def test_what_does_not_read(self):
+    def test_what_does_not_read(self) -> None:
         line = line_of(View(1, 1, (Node(1, 1, "ready", 0, 0, 0),), ()))
         for torn in (b"", line[:40], b"{}\n", b'{"fault":"BadJson"}\n', b'{"name":"Stopped","refused":1}\n', b"7\n"):
             self.refuses(3, torn, 1)
@@ -290,7 +303,7 @@ class Members(Case):
             self.refuses(7, line, node)
         self.refuses(9, line, 1, b"\xff")
 
-    def test_the_order_book(self):
+    def test_the_order_book(self) -> None:
         """One order from its first line to its last answer, and the number of the next."""
         orders = Orders()
         self.assertEqual(self.library.order_line(orders, 3), b"")
@@ -315,33 +328,33 @@ class Members(Case):
 class InOtherLanguages(Case):
     takes = 100
 
-    def keeps_the_rule(self, compiler, *words):
+    def keeps_the_rule(self, compiler: str, *words: str) -> None:
         """The compiler makes a member of the library, and tools/try_member finds nothing wrong with it."""
         self.needs("the proved library: make lib makes it", os.path.exists(PATH), is_optional=True)
-        self.needs(f"the compiler {compiler}", shutil.which(compiler), is_optional=True)
+        self.needs(f"the compiler {compiler}", shutil.which(compiler) is not None, is_optional=True)
         made = subprocess.run([compiler, *words], capture_output=True, text=True, cwd=EXAMPLES, timeout=600)
         self.assertEqual((made.returncode, made.stderr), (0, ""))
         tried = subprocess.run([tool("try_member"), self.path("member"), "{node}", "{host}", "{port}", "{folder}"],
                                capture_output=True, text=True, env={**os.environ, "RESETD": PROGRAM, "TMPDIR": self.folder})
         self.assertEqual(tried.returncode, 0, tried.stdout + tried.stderr)
 
-    def test_c(self):
+    def test_c(self) -> None:
         self.keeps_the_rule("cc", "-Wall", "-Wextra", "-O1", "-I", HEADER, "-o", self.path("member"), "member.c",
                             PATH.replace(".so", ".a"))
 
-    def test_rust(self):
+    def test_rust(self) -> None:
         self.keeps_the_rule("rustc", "--edition", "2024", "-O", "-o", self.path("member"), "member.rs",
                             "-L", os.path.dirname(PATH), "-l", "static=resetd_member")
 
 
 class Vectors(Case):
-    def test_vectors(self):
+    def test_vectors(self) -> None:
         """docs/member-vectors.json is what the proved library says, and the Python library says the same."""
         self.needs("the proved library: make lib makes it", os.path.exists(PATH), is_optional=True)
         checked = subprocess.run([tool("member_vectors")], capture_output=True, text=True)
         self.assertEqual((checked.returncode, checked.stderr), (0, ""))
 
-    def test_vectors_in_python(self):
+    def test_vectors_in_python(self) -> None:
         with open(f"{ROOT}/docs/member-vectors.json", encoding="utf-8") as file:
             cases = json.load(file)
         for case in cases:
@@ -349,7 +362,7 @@ class Vectors(Case):
             start = json.loads(case["start"] or "{}").get("1", {"begun": None, "party": None})
             party = None if start["party"] is None else frozenset(start["party"])
             begun = start["begun"] if start["begun"] == case["work"] else None
-            judged = judge(Kept(begun, party), case["history"], shown_to(view, view.node(1)))
+            judged = judge(Kept(begun, party), case["history"], shown_to(view, row_of(view, 1)))
             self.assertEqual((judged.due.name.lower(), judged.digest), (case["due"], case["digest"]), case)
-            tag = tag_of(judged.kept.party, view.party(1)) if judged.due is Due.TALK else None
+            tag = tag_of(judged.kept.party, view.party(1)) if judged.due is Due.TALK and judged.kept.party is not None else None
             self.assertEqual(tag, case["tag"], case)

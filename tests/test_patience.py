@@ -129,10 +129,10 @@ class Patience(Case):
         environment = preloaded.environment(self.folder, CALLS=log, WAITS=1, STILL=1, CLOCK=self.clock(0))
         with self.serving(env=environment) as server, server.connect() as connection:
             self.expect_times(log, [SILENCE])
-            for ahead, (part, times) in enumerate((
-                    (b'{"op":', [LINE]), (b'"resend"', [LINE - 1]), (b'}\n', [-REPLY, SILENCE]),
-                    (b'{"op":"resend"}\n', []), (b"x" * 600, [LINE]),
-                    (b"\n", [SILENCE]), (b'{"op":"close"', [LINE]), (b"}\n", [DISCARD])), 1):
+            parts: list[tuple[bytes, list[int]]] = [
+                (b'{"op":', [LINE]), (b'"resend"', [LINE - 1]), (b'}\n', [-REPLY, SILENCE]), (b'{"op":"resend"}\n', []),
+                (b"x" * 600, [LINE]), (b"\n", [SILENCE]), (b'{"op":"close"', [LINE]), (b"}\n", [DISCARD])]
+            for ahead, (part, times) in enumerate(parts, 1):
                 self.clock(ahead)
                 connection.send(part)
                 if part.endswith(b"\n"):

@@ -102,7 +102,7 @@ class Tools(Run):
         """By mypy --strict, in each folder."""
         self.needs("mypy (apt-get install mypy)", shutil.which("mypy") is not None, is_optional=True)
         printed = self.expect(tool("check_types"), ends_with="bench: Success: ")
-        self.assertEqual(printed.count(": Success: no issues found in "), 5)
+        self.assertEqual(printed.count(": Success: no issues found in "), 6)
 
     def test_what_the_documents_show(self) -> None:
         self.expect(tool("test_documents"), "--quick", "--program", PROGRAM,

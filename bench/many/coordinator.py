@@ -12,11 +12,17 @@ import subprocess
 import sys
 import tempfile
 import time
+from collections.abc import Awaitable, Callable, Sequence
+from typing import Any, Self
 
 ROOT = pathlib.Path(__file__).resolve().parent.parent.parent
 sys.path.insert(0, str(ROOT / "client"))
 from resetd_client.inotify import Inotify  # noqa: E402
 
+Json = dict[str, Any]  # what is read of a line
+Links = Sequence[tuple[int, int]]
+Connection = tuple[asyncio.StreamReader, asyncio.StreamWriter]
+Opening = Callable[[], Awaitable[Connection]]  # what opens a connection
 MOST_BYTES = 1 << 20  # of an answer
 PROXY = """
 global
@@ -39,7 +45,7 @@ backend coordinator
 """
 
 
-def counting_library(folder):
+def counting_library(folder: str) -> str:
     """What is loaded ahead of the C library, so that syncs are counted and may wait."""
     library, source = f"{folder}/syncs.so", (ROOT / "bench" / "serve" / "syncs.c.txt").read_text(encoding="utf-8")
     subprocess.run([os.environ.get("CC", "cc"), "-O1", "-shared", "-fPIC", "-x", "c", "-", "-o", library], input=source, text=True, check=True)
@@ -49,10 +55,11 @@ def counting_library(folder):
 class Server:
     """`resetd serve`, and what is started before it."""
 
-    def __init__(self, program, library, nodes, links, micros=0):
+    def __init__(self, program: str, library: str, nodes: int, links: Links, micros: int = 0) -> None:
         self.folder = tempfile.mkdtemp(prefix="resetd-front-bench-")
         os.mkdir(f"{self.folder}/log")
-        self.path, self.signals, self.before = f"{self.folder}/socket", f"{self.folder}/log/signals", None
+        self.path, self.signals = f"{self.folder}/socket", f"{self.folder}/log/signals"
+        self.before: subprocess.Popen[bytes] | None = None
         text = "".join([*(f"[[node]]\nid = {n}\ngroup = 1\n" for n in range(1, nodes + 1)), *(f"[[link]]\na = {a}\nb = {b}\n" for a, b in links)])
         pathlib.Path(f"{self.folder}/topology").write_text(text, encoding="ascii")
         subprocess.run([program, "init", f"{self.folder}/store", f"{self.folder}/topology"], check=True, capture_output=True)
@@ -65,41 +72,44 @@ class Server:
             time.sleep(0.01)
         self.address = lines[0].split()[1]
 
-    def start_front(self, client=15):
+    def start_front(self, client: int = 15) -> None:
         self._start(sys.executable, str(ROOT / "client" / "resetd-front"), "serve", "--server", self.address, "--socket", self.path,
                     "--state", f"{self.folder}/front", "--audit", f"{self.folder}/audit", "--signals", self.signals, "--client", str(client))
 
-    def start_haproxy(self):
+    def start_haproxy(self) -> None:
         pathlib.Path(f"{self.folder}/haproxy.cfg").write_text(PROXY.format(path=self.path, address=self.address), encoding="ascii")
         self._start("haproxy", "-db", "-f", f"{self.folder}/haproxy.cfg")
 
-    def _start(self, *words):
+    def _start(self, *words: str) -> None:
         self.before = subprocess.Popen(words, stdout=subprocess.DEVNULL, stderr=subprocess.DEVNULL)
         while not os.path.exists(self.path):
             time.sleep(0.01)
 
-    def syncs(self):
-        return struct.unpack("Q", pathlib.Path(f"{self.folder}/count").read_bytes())[0]
+    def syncs(self) -> int:
+        return int(struct.unpack("Q", pathlib.Path(f"{self.folder}/count").read_bytes())[0])
 
-    def resident(self):
+    def resident(self) -> int:
         """The memory of what stands before it, in bytes."""
+        assert self.before
         status = pathlib.Path(f"/proc/{self.before.pid}/status").read_text(encoding="ascii")
-        return int(re.search(r"VmRSS:\s+(\d+)", status)[1]) * 1024
+        found = re.search(r"VmRSS:\s+(\d+)", status)
+        assert found
+        return int(found[1]) * 1024
 
-    def __enter__(self):
+    def __enter__(self) -> Self:
         return self
 
-    def __exit__(self, *_):
+    def __exit__(self, *_: object) -> None:
         for process in filter(None, (self.before, self.process)):
             process.kill()
             process.wait()
         shutil.rmtree(self.folder)
 
-    async def port(self):
+    async def port(self) -> Connection:
         host, port = self.address.split(":")
         return await asyncio.open_connection(host, int(port), limit=MOST_BYTES)
 
-    async def at_socket(self):
+    async def at_socket(self) -> Connection:
         """A connection to what stands before it."""
         for _ in range(1_000):
             with contextlib.suppress(OSError):
@@ -108,13 +118,13 @@ class Server:
         raise SystemExit(f"{self.path} takes no connection")
 
 
-async def ask(connection, *requests):
+async def ask(connection: Connection, *requests: Json) -> list[Json]:
     reader, writer = connection
     writer.write(b"".join(json.dumps(each).encode() + b"\n" for each in requests))
     return [json.loads(await reader.readline()) for _ in requests]
 
 
-async def once(open_connection, *requests):
+async def once(open_connection: Opening, *requests: Json) -> list[Json]:
     """The answers over a connection of its own, tried again until they come."""
     while True:
         try:
@@ -129,14 +139,14 @@ async def once(open_connection, *requests):
 class Signals:
     """Wakes who waits for a node's signal, within an event loop."""
 
-    def __init__(self, path):
-        self.file, self.have, self.changed = open(path, "rb"), {}, asyncio.Event()
+    def __init__(self, path: str) -> None:
+        self.file, self.have, self.changed = open(path, "rb"), dict[int, int](), asyncio.Event()
         self.inotify = Inotify()
         self.inotify.watch(os.path.dirname(path))
         asyncio.get_running_loop().add_reader(self.inotify.fileno(), self.read)
         self.read()
 
-    def read(self):
+    def read(self) -> None:
         self.inotify.drain()
         for line in self.file.readlines():
             words = line.split()
@@ -145,10 +155,10 @@ class Signals:
         self.changed.set()
         self.changed = asyncio.Event()
 
-    async def wait(self, node, epoch):
+    async def wait(self, node: int, epoch: int) -> None:
         while self.have.get(node, 0) < epoch:
             await self.changed.wait()
 
-    def close(self):
+    def close(self) -> None:
         asyncio.get_running_loop().remove_reader(self.inotify.fileno())
         self.file.close()

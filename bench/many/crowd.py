@@ -8,14 +8,15 @@ import select
 import socket
 import statistics
 import time
+from collections.abc import Sequence
 
-from coordinator import Server, ask, once
+from coordinator import Connection, Json, Opening, Server, ask, once
 from waves import CHORDS, NODES, SHOW
 
 
-async def latencies(open_connection, requests):
+async def latencies(open_connection: Opening, requests: Sequence[Json]) -> list[float]:
     """Milliseconds of requests one after the other over one connection, in ascending order."""
-    connection, took = await open_connection(), []
+    connection, took = await open_connection(), list[float]()
     for request in requests:
         began = time.monotonic()
         await ask(connection, request)
@@ -23,13 +24,13 @@ async def latencies(open_connection, requests):
     return sorted(took)
 
 
-def orders(client, first, count):
+def orders(client: int, first: int, count: int) -> list[Json]:
     return [{"op": "reset", "client": client, "number": number, "node": 1} for number in range(first, first + count)]
 
 
-def one_order(program, library, count):
+def one_order(program: str, library: str, count: int) -> tuple[float, float]:
     """The medians of an order at the port and through the front, in milliseconds: the middle ones of five turns each."""
-    at_port, through = [], []
+    at_port, through = list[float](), list[float]()
     with Server(program, library, 1, []) as server:
         server.start_front()
         for turn in range(5):
@@ -39,9 +40,9 @@ def one_order(program, library, count):
     return statistics.median(at_port), statistics.median(through)
 
 
-async def beside(server, count):
+async def beside(server: Server, count: int) -> float:
     """The 99th percentile of another's look beside 200 silent clients, 10 that never read and one that floods."""
-    kept = [await server.at_socket() for _ in range(200)]
+    kept: list[Connection | socket.socket] = [await server.at_socket() for _ in range(200)]
     for _ in range(10):
         deaf = socket.socket(socket.AF_UNIX)
         deaf.connect(server.path)
@@ -50,7 +51,7 @@ async def beside(server, count):
         with contextlib.suppress(BlockingIOError):
             deaf.send(b'{"op":"show"}\n' * 2_000)
 
-    async def flood():
+    async def flood() -> None:
         reader, writer = await server.at_socket()
         while True:
             writer.write(b'{"op":"show"}\n' * 64)
@@ -62,13 +63,13 @@ async def beside(server, count):
     return took[int(count * 0.99)]
 
 
-def hostile(program, library, count):
+def hostile(program: str, library: str, count: int) -> float:
     with Server(program, library, NODES, CHORDS) as server:
         server.start_front()
         return asyncio.run(beside(server, count))
 
 
-def connected(server, count):
+def connected(server: Server, count: int) -> list[socket.socket]:
     """So many connections, none of which says anything."""
     most = resource.getrlimit(resource.RLIMIT_NOFILE)[1]
     resource.setrlimit(resource.RLIMIT_NOFILE, (most, most))
@@ -81,16 +82,16 @@ def connected(server, count):
     return kept
 
 
-def settled_memory(server):
+def settled_memory(server: Server) -> int:
     """The front's memory once it has taken all that came."""
     asyncio.run(once(server.at_socket, SHOW))
     time.sleep(0.5)
     return server.resident()
 
 
-def await_views(connections, epoch):
+def await_views(connections: Sequence[socket.socket], epoch: int) -> None:
     """Reads what comes until each connection has a view in which node 1 has this epoch."""
-    poller, rest = select.epoll(), {}
+    poller, rest = select.epoll(), dict[int, tuple[socket.socket, bytes]]()
     for connection in connections:
         poller.register(connection, select.EPOLLIN)
         rest[connection.fileno()] = (connection, b"")
@@ -105,7 +106,7 @@ def await_views(connections, epoch):
     poller.close()
 
 
-def told_after(server, connections, epoch):
+def told_after(server: Server, connections: Sequence[socket.socket], epoch: int) -> float:
     """Milliseconds from node 1's signal line to the last watcher told."""
     with open(server.signals, "rb") as signals:
         signals.seek(0, 2)
@@ -117,13 +118,13 @@ def told_after(server, connections, epoch):
         return 1000 * (time.monotonic() - began)
 
 
-def watch(connections):
+def watch(connections: Sequence[socket.socket]) -> None:
     for connection in connections:
         connection.sendall(b'{"op":"watch"}\n')
     await_views(connections, 0)
 
 
-def many(program, library, count, times):
+def many(program: str, library: str, count: int, times: int) -> tuple[float, float, float]:
     """Bytes of memory of an idle connection and of one that watches, and milliseconds until the last watcher is told."""
     with Server(program, library, NODES, CHORDS) as server:
         server.start_front()

@@ -8,25 +8,30 @@ import statistics
 import subprocess
 import sys
 import time
+from collections.abc import Callable, Coroutine, Iterator, Sequence
+from typing import Any
 
-from coordinator import ROOT, Server, once
+from coordinator import ROOT, Json, Server, once
 from waves import CHORDS, NODES
 
 HERE = os.path.dirname(os.path.abspath(__file__))
 CLIENT = 16  # which asks for the resets
+Order = Callable[[int], Coroutine[Any, Any, list[Json]]]  # of a reset, by its number
 
 
 class Lines:
     """What members print, each over a pipe: the moment of each one's last line of a kind."""
 
-    def __init__(self, processes):
-        self.moments, self.poller, self.pipes = [{} for _ in processes], select.poll(), {}
+    def __init__(self, processes: Sequence[subprocess.Popen[bytes]]) -> None:
+        self.moments: list[dict[str, int]] = [{} for _ in processes]
+        self.poller, self.pipes = select.poll(), dict[int, dict[str, int]]()
         for moments, process in zip(self.moments, processes):
+            assert process.stdout
             self.poller.register(process.stdout, select.POLLIN)
             self.pipes[process.stdout.fileno()] = moments
         self.rest = dict.fromkeys(self.pipes, b"")
 
-    def await_all(self, kind, since):
+    def await_all(self, kind: str, since: int) -> int:
         """Waits until each has a line of a kind after a moment, and answers the last one's moment."""
         while not all(moments.get(kind, 0) > since for moments in self.moments):
             if not (ready := self.poller.poll(120_000)):
@@ -42,7 +47,7 @@ class Lines:
 
 
 @contextlib.contextmanager
-def started(commands, others=()):
+def started(commands: Sequence[Sequence[str]], others: Sequence[Sequence[str]] = ()) -> Iterator[Lines]:
     """Processes for as long as they are needed; of the first ones what they print is read."""
     processes = [subprocess.Popen([sys.executable, *words], stdout=subprocess.PIPE, stderr=subprocess.DEVNULL) for words in commands]
     quiet = [subprocess.Popen([sys.executable, *words], stdout=subprocess.DEVNULL, stderr=subprocess.DEVNULL) for words in others]
@@ -54,7 +59,7 @@ def started(commands, others=()):
             process.wait()
 
 
-def resets(order, lines, count):
+def resets(order: Order, lines: Lines, count: int) -> tuple[float, float]:
     """Milliseconds from the order of a reset until all talk: the median of some resets, and the most. `order` takes the
     number of the reset."""
     lines.await_all("talks", 0)
@@ -67,12 +72,12 @@ def resets(order, lines, count):
     return statistics.median(took), max(took)
 
 
-def at_port(server, before):
+def at_port(server: Server, before: int) -> Order:
     """Orders of a reset at the port, by a client that has so many orders before."""
     return lambda number: once(server.port, {"op": "reset", "client": CLIENT, "number": before + number, "node": 1})
 
 
-def gateway(program, library, count):
+def gateway(program: str, library: str, count: int) -> tuple[float, float]:
     """64 members behind `examples/gateway`, over a ring with chords."""
     with Server(program, library, NODES, CHORDS) as server:
         folder = f"{server.folder}/gateway"
@@ -83,13 +88,13 @@ def gateway(program, library, count):
             return resets(at_port(server, NODES + len(CHORDS)), lines, count)
 
 
-def services(program, library, nodes, count, is_front):
+def services(program: str, library: str, nodes: int, count: int, is_front: bool) -> tuple[float, float]:
     """So many services, each with a client of its own, over a ring; at the port or through a front."""
     links = [(node, node % nodes + 1) for node in range(1, nodes + 1)]
     with Server(program, library, nodes, links) as server:
         if is_front:
             server.start_front(CLIENT)
-        order = (lambda _: once(server.at_socket, {"op": "reset", "node": 1})) if is_front else at_port(server, nodes + len(links))
+        order: Order = (lambda _: once(server.at_socket, {"op": "reset", "node": 1})) if is_front else at_port(server, nodes + len(links))
         address = f"unix:{server.path}" if is_front else server.address
         for node in range(1, nodes + 1):
             os.mkdir(f"{server.folder}/{node}")
@@ -98,7 +103,7 @@ def services(program, library, nodes, count, is_front):
             return resets(order, lines, count)
 
 
-def one(program, library, count):
+def one(program: str, library: str, count: int) -> tuple[float, float]:
     """Milliseconds from a signal line to its member's begin, with its work on the disk: the median, and the most."""
     with Server(program, library, 1, []) as server:
         os.mkdir(f"{server.folder}/1")

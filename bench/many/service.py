@@ -6,17 +6,17 @@ import time
 
 sys.dont_write_bytecode = True
 sys.path.insert(0, os.path.join(os.path.dirname(os.path.abspath(__file__)), "..", "..", "client"))
-from resetd_client import Member, Orders, Port, files, wakes_of  # noqa: E402
+from resetd_client import Member, Orders, Port, Run, files, wakes_of  # noqa: E402
 
 node, address, folder, signals = sys.argv[1:]
 
 
-def begin(epoch):
+def begin(epoch: int) -> None:
     files.keep(f"{folder}/work", f"epoch {epoch}\n")
     print(f"begins {time.monotonic_ns()}", flush=True)
 
 
-def on_run(run):
+def on_run(run: Run | None) -> None:
     if run:
         print(f"talks {time.monotonic_ns()}", flush=True)
 

@@ -3,38 +3,40 @@
 import asyncio
 import statistics
 import time
+from typing import Any
 
-from coordinator import Server, Signals, ask, once
+from coordinator import Connection, Json, Links, Server, Signals, ask, once
 
 NODES = 64
-CHORDS = sorted({tuple(sorted((n, (n + d - 1) % NODES + 1))) for n in range(1, NODES + 1) for d in (1, 2)})
+PAIRS = [(n, (n + d - 1) % NODES + 1) for n in range(1, NODES + 1) for d in (1, 2)]
+CHORDS = sorted({(min(pair), max(pair)) for pair in PAIRS})
 TREE = [((n + 13) // 15, n) for n in range(2, NODES + 1)]
 WAYS = {"front": "each its own connection, through the front", "one": "one connection that confirms for all",
         "port": "each its own connection, to the port", "haproxy": "each its own connection, through HAProxy"}
 CLIENTS = range(1, 15)  # of the services; 15 is the front's, 16 asks for resets
-SHOW = {"op": "show"}
+SHOW: Json = {"op": "show"}
 
 
 class Group:
     """Services that confirm as soon as they have their signals."""
 
-    def __init__(self, server, way):
+    def __init__(self, server: Server, way: str, links: Links) -> None:
         self.server, self.way, self.signals = server, way, Signals(server.signals)
         self.open = server.port if way in ("one", "port") else server.at_socket
         self.numbers, self.locks = dict.fromkeys(range(1, 17), 0), [asyncio.Lock() for _ in range(17)]
-        self.numbers[16] = NODES + len(CHORDS if server.is_ring else TREE)
-        self.own = []
+        self.numbers[16] = NODES + len(links)
+        self.own: list[Connection] = []
 
-    async def connect(self):
+    async def connect(self) -> None:
         """Through a front a service stays connected."""
         self.own = [await self.server.at_socket() for _ in range(NODES)] if self.way == "front" else []
 
-    def numbered(self, client, **order):
+    def numbered(self, client: int, **order: Any) -> Json:
         """An order with the client's next number."""
         self.numbers[client] += 1
         return {**order, "client": client, "number": self.numbers[client]}
 
-    async def service(self, node, epoch):
+    async def service(self, node: int, epoch: int) -> list[Json]:
         await self.signals.wait(node, epoch)
         confirm = {"op": "confirm", "node": node, "epoch": epoch}
         if self.way == "front":
@@ -43,12 +45,12 @@ class Group:
         async with self.locks[client := 1 + node % len(CLIENTS)]:
             return await once(self.open, self.numbered(client, **confirm))
 
-    async def gateway(self, epoch):
+    async def gateway(self, epoch: int) -> list[Json]:
         for node in range(1, NODES + 1):
             await self.signals.wait(node, epoch)
         return await once(self.open, SHOW, *(self.numbered(1, op="confirm", node=node, epoch=epoch) for node in range(1, NODES + 1)))
 
-    async def reset(self, epoch):
+    async def reset(self, epoch: int) -> None:
         """A reset, and all that it brings."""
         await once(self.open, self.numbered(16, op="reset", node=1))
         works = [self.gateway(epoch)] if self.way == "one" else [self.service(node, epoch) for node in range(1, NODES + 1)]
@@ -57,10 +59,10 @@ class Group:
                 raise SystemExit(f"{self.way}: {answers[-1]}")
 
 
-async def measured(server, way, count):
-    group = Group(server, way)
+async def measured(server: Server, way: str, links: Links, count: int) -> tuple[float, float]:
+    group = Group(server, way, links)
     await group.connect()
-    took, syncs = [], []
+    took, syncs = list[float](), list[int]()
     for epoch in range(1, count + 1):
         before, began = server.syncs(), time.monotonic()
         await group.reset(epoch)
@@ -71,12 +73,11 @@ async def measured(server, way, count):
     return statistics.median(took), statistics.median(syncs)
 
 
-def wave(program, library, links, way, micros, count):
+def wave(program: str, library: str, links: Links, way: str, micros: int, count: int) -> tuple[float, float]:
     """Milliseconds and syncs, the medians of so many resets; each sync waits so many microseconds more."""
     with Server(program, library, NODES, links, micros) as server:
-        server.is_ring = links is CHORDS
         if way == "front":
             server.start_front()
         elif way == "haproxy":
             server.start_haproxy()
-        return asyncio.run(measured(server, way, count))
+        return asyncio.run(measured(server, way, links, count))

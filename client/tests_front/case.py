@@ -19,7 +19,7 @@ import termios
 import time
 import unittest
 from collections.abc import Callable
-from typing import Any, TypeVar
+from typing import Any, Literal, TypeVar
 
 sys.dont_write_bytecode = True
 HERE = os.path.dirname(os.path.abspath(__file__))
@@ -33,7 +33,7 @@ DEADLINE = 120.0  # seconds, which only a hang takes
 T = TypeVar("T")
 
 
-def until(what: str, holds: Callable[[], T], seconds: float = DEADLINE) -> T:
+def until(what: str, holds: Callable[[], T | Literal[False] | None], seconds: float = DEADLINE) -> T:
     """Waits until a call gives something true, and answers that."""
     end = time.monotonic() + seconds
     while not (found := holds()):
@@ -156,7 +156,7 @@ class Front:
         with open(self.audit, "rb") as file:
             return [json.loads(line) for line in file.read().split(b"\n")[:-1]]
 
-    def await_audited(self, what: str, holds: Callable[[dict[str, Any]], bool]) -> dict[str, Any]:
+    def await_audited(self, what: str, holds: Callable[[dict[str, Any]], Any]) -> dict[str, Any]:
         return until(what, lambda: next((line for line in self.audited() if holds(line)), {}))
 
     def kill(self) -> None:

@@ -25,7 +25,8 @@ class Session:
     """What a server keeps of one client. An order of an odd epoch is refused."""
 
     def __init__(self) -> None:
-        self.number, self.order, self.reply = 0, -1, {"kind": ""}
+        self.number, self.order = 0, -1
+        self.reply: dict[str, Any] = {"kind": ""}
         self.carried_out: list[int] = []
 
     def answer(self, number: int, epoch: int) -> dict[str, Any]:
@@ -156,7 +157,8 @@ class Counts(unittest.TestCase):
         self.assertEqual([outcome.answer for outcome in own.answered(line, text, refused(OUT_OF_TURN))], [text])
 
     def test_what_says_nothing_of_the_number(self) -> None:
-        for answer in ({"name": "Stopped", "refused": 1}, {"name": "PendingFull", "refused": 20}, {"fault": "OutOfMemory"}):
+        answers: list[dict[str, Any]] = [{"name": "Stopped", "refused": 1}, {"name": "PendingFull", "refused": 20}, {"fault": "OutOfMemory"}]
+        for answer in answers:
             own = self.own_in(answer)
             line = Line(Request("reset", {"node": 1}), Place.ORDER, [], number=1, sent=1)
             self.assertEqual([outcome.answer for outcome in own.answered(line, b"x", answer)], [b"x"])

@@ -113,7 +113,7 @@ class Watching(Case):
     def test_other_lines_over_the_same_connection(self) -> None:
         client, _ = self.watcher()
         client.send({"op": "reset", "node": 1}, b"fly\n")
-        answers = []
+        answers: list[dict[str, Any]] = []
         while len(answers) < 2:
             answer = json.loads(client.line())
             if "nodes" not in answer:

@@ -2,6 +2,7 @@
 
 import ctypes
 import os
+from collections.abc import Callable
 from typing import NamedTuple
 
 from .program import ROOT
@@ -43,31 +44,31 @@ class Told(NamedTuple):
 class Refused(Exception):
     """A call gave nothing; `status` says why."""
 
-    def __init__(self, status):
+    def __init__(self, status: int) -> None:
         super().__init__(f"status {status}")
         self.status = status
 
 
-def sized(text):
+def sized(text: bytes) -> tuple[ctypes.c_void_p, ctypes.c_size_t]:
     """A text as a pointer and a count."""
     return ctypes.cast(ctypes.c_char_p(text), ctypes.c_void_p), ctypes.c_size_t(len(text))
 
 
-def word(number):
+def word(number: int) -> ctypes.c_uint8:
     return ctypes.c_uint8(number)
 
 
 class Library:
     """The functions of resetd_member.h, over bytes."""
 
-    def __init__(self, path=PATH):
+    def __init__(self, path: str = PATH) -> None:
         self._calls = ctypes.CDLL(path)
         for name in ("is_same_run", "are_parted"):
             getattr(self._calls, f"resetd_{name}").restype = ctypes.c_bool
         self._out = ctypes.create_string_buffer(MOST_TEXT)
         self._length = ctypes.c_size_t()
 
-    def judge(self, show, node, start=b"", history=b"", work=None):
+    def judge(self, show: bytes, node: int, start: bytes = b"", history: bytes = b"", work: int | None = None) -> Told:
         judged = Judged()
         self._expect(self._calls.resetd_judge(
             *sized(show), word(node), *sized(start), *sized(history), ctypes.byref(Work(work is not None, work or 0)),
@@ -75,33 +76,33 @@ class Library:
         text = self._out.raw[:judged.start_length + judged.line_length]
         return Told(DUE[judged.due], judged.epoch, text[:judged.start_length], text[judged.start_length:], judged.history_size)
 
-    def begun(self, node, epoch):
+    def begun(self, node: int, epoch: int) -> bytes:
         return self._text(self._calls.resetd_begun, word(node), ctypes.c_uint64(epoch))
 
-    def tag(self, show, node, start, word_of_group=b""):
+    def tag(self, show: bytes, node: int, start: bytes, word_of_group: bytes = b"") -> bytes:
         return self._text(self._calls.resetd_tag, *sized(show), word(node), *sized(start), *sized(word_of_group))
 
-    def is_same_run(self, own, other):
-        return self._calls.resetd_is_same_run(*sized(own), *sized(other))
+    def is_same_run(self, own: bytes, other: bytes) -> bool:
+        return bool(self._calls.resetd_is_same_run(*sized(own), *sized(other)))
 
-    def are_parted(self, own, other):
-        return self._calls.resetd_are_parted(*sized(own), *sized(other))
+    def are_parted(self, own: bytes, other: bytes) -> bool:
+        return bool(self._calls.resetd_are_parted(*sized(own), *sized(other)))
 
-    def write_down(self, orders, order):
+    def write_down(self, orders: Orders, order: Order) -> None:
         self._expect(self._calls.resetd_write_down(ctypes.byref(orders), ctypes.byref(order)))
 
-    def order_line(self, orders, client):
+    def order_line(self, orders: Orders, client: int) -> bytes:
         return self._text(self._calls.resetd_order_line, ctypes.byref(orders), word(client))
 
-    def hear(self, orders, line):
+    def hear(self, orders: Orders, line: bytes) -> int:
         meaning = ctypes.c_uint32()
         self._expect(self._calls.resetd_hear(ctypes.byref(orders), *sized(line), ctypes.byref(meaning)))
         return meaning.value
 
-    def _text(self, call, *words):
+    def _text(self, call: Callable[..., int], *words: object) -> bytes:
         self._expect(call(*words, self._out, ctypes.c_size_t(MOST_TEXT), ctypes.byref(self._length)))
         return self._out.raw[:self._length.value]
 
-    def _expect(self, status):
+    def _expect(self, status: int) -> None:
         if status != OK:
             raise Refused(status)

@@ -10,52 +10,60 @@ import socket
 import subprocess
 import threading
 import time
+from collections.abc import Callable
+from typing import Any
 
 from resetd_client import Due, View
 from resetd_client.party import is_same_run, tag_of
 from resetd_client.rule import Kept, judge, shown_to
 
+from .clients import Json
 from .file_calls import FileCalls
 from .party_trials import Slow
-from .services import Failed, patiently, read
+from .services import Failed, Trial, patiently, read
 
 NODE = 3
-ROWS = {Due.BEGIN: "begins", Due.WAIT: "waits", Due.TALK: "talks", Due.RESET: "asks for a reset", None: "is not shown"}
+# What a member orders: the kind, the node, and the epoch that it confirms.
+Order = tuple[str, int | None, int | None]
+ROWS: dict[Due | None, str] = {Due.BEGIN: "begins", Due.WAIT: "waits", Due.TALK: "talks", Due.RESET: "asks for a reset", None: "is not shown"}
 
 
 class Guess:
     """What the member may have on the disk, and what is then due by the last answer that it got. There are several guesses
     only after it died: between two of its writes nobody else knows which of them were done."""
 
-    def __init__(self, kept=Kept(), history=frozenset()):
+    def __init__(self, kept: Kept = Kept(), history: frozenset[str] = frozenset()) -> None:
         self.kept, self.history = kept, history
-        self.due, self.run, self.steps = None, "", [(kept, history)]
+        self.due: Due | None = None
+        self.run, self.steps = "", [(kept, history)]
         self.is_refused = False  # whether it has refused a tag that needs a reset, if it looks and talks
 
-    def answered(self, view):
+    def answered(self, view: View | None) -> None:
         """The member is shown this, or, where it is None, was started anew. `steps` are the states of the disk on the way."""
         self.due, self.run, self.steps = None, "", [(self.kept, self.history)]
         row = view and view.node(NODE)
-        if not row:
+        if not view or not row:
             return
         judged = judge(self.kept, self.history, shown_to(view, row))
         self.due = judged.due
         if judged.due is Due.TALK:
-            self.history |= {judged.digest} - {None}
+            assert judged.kept.party is not None
+            self.history |= {judged.digest} if judged.digest else set()
             self.steps += [(self.kept, self.history), (judged.kept, self.history)]
             self.run = f"{row.epoch} {tag_of(judged.kept.party, view.party(NODE)) or '-'}"
         elif judged.due is Due.BEGIN:
             self.steps += [(Kept(), self.history), (Kept(row.epoch), self.history)]
         self.kept = judged.kept
 
-    def fit(self, view):
+    def fit(self, view: View | None) -> set[Order]:
         """The orders that are due."""
         row = view and view.node(NODE)
-        reset = {("reset", NODE, None)}
-        return {Due.BEGIN: {("confirm", NODE, row and row.epoch)}, Due.RESET: reset,
-                Due.TALK: reset if self.is_refused else set()}.get(self.due, set())
+        if self.due is Due.BEGIN:
+            return {("confirm", NODE, row.epoch if row else None)}
+        asks = self.due is Due.RESET or self.due is Due.TALK and self.is_refused
+        return {("reset", NODE, None)} if asks else set()
 
-    def wrong(self, view, orders, run, has_heeded):
+    def wrong(self, view: View | None, orders: list[Order], run: str, has_heeded: bool) -> str | None:
         """What the member did that does not fit this guess; None if all fits. `has_heeded` says that it has taken the file
         `refused` away."""
         if not set(orders) <= self.fit(view):
@@ -72,45 +80,47 @@ class Guess:
 class Rule:
     """The rule beside the member: what it has to keep, and what is due by the last answer that it got."""
 
-    def __init__(self, folder):
-        self.folder, self.guesses, self.asked = folder, [Guess()], set()
-        self.looks, self.talks, self.wrong = 0, 0, None
+    def __init__(self, folder: str) -> None:
+        self.folder, self.guesses = folder, [Guess()]
+        self.asked: set[tuple[tuple[str, Any], ...]] = set()
+        self.looks, self.talks = 0, 0
+        self.wrong: str | None = None
         self.answered(None)
 
     @property
-    def due(self):
+    def due(self) -> Due | None:
         return self.guesses[0].due
 
     @property
-    def run(self):
+    def run(self) -> str:
         return self.guesses[0].run
 
-    def answered(self, view):
+    def answered(self, view: View | None) -> None:
         """The member is shown this, or it was started anew."""
-        self.view, self.orders = view, []
+        self.view, self.orders = view, list[Order]()
         for guess in self.guesses:
             guess.answered(view)
 
-    def died(self):
+    def died(self) -> None:
         """It is started anew, with the writes for the last answer done up to any of them."""
         steps = dict.fromkeys(step for guess in self.guesses for step in [*guess.steps, (guess.kept, guess.history)])
         self.guesses = [Guess(*step) for step in steps]
         self.answered(None)
 
-    def forgot(self):
+    def forgot(self) -> None:
         """It has lost all its files."""
         self.guesses = [Guess()]
         self.answered(None)
 
-    def refused(self):
+    def refused(self) -> None:
         """It refused a message of another run, whose sender was shown what is shown to it."""
         for guess in self.guesses:
             guess.is_refused = True
 
-    def ordered(self, order):
+    def ordered(self, order: Json) -> None:
         """The member orders something. What it had in hand when it died it may send again, with its number."""
         line = tuple(sorted(order.items()))
-        asked = (order["op"], order.get("node"), order.get("epoch"))
+        asked: Order = (order["op"], order.get("node"), order.get("epoch"))
         is_again = line in self.asked and not any(asked in guess.fit(self.view) for guess in self.guesses)
         self.asked.add(line)
         if is_again or order.get("op") == "confirm" and order.get("epoch") == 0:
@@ -121,7 +131,7 @@ class Rule:
                 self.expect(read(f"{self.folder}/run") == "", "it says that it talks while it confirms")
                 guess.kept = Kept(order["epoch"])
 
-    def looks_again(self):
+    def looks_again(self) -> None:
         """The member has done all that it does for the last answer."""
         self.looks += 1
         run = read(f"{self.folder}/run").strip()
@@ -137,22 +147,26 @@ class Rule:
         self.talks = self.talks + 1 if self.due is Due.TALK else 0
         self.orders = []
 
-    def expect(self, holds, what):
+    def expect(self, holds: bool, what: str) -> None:
         if not holds and not self.wrong:
             self.wrong = f"row `{ROWS[self.due]}`: {what}"
+
+
+# What becomes of a request: whether more is answered on its connection.
+Spoil = Callable[[socket.socket, bytes], bool]
 
 
 class Between:
     """A port in front of the coordinator's, for the member alone. `spoil` says what becomes of the next requests."""
 
-    def __init__(self, trial, rule):
-        self.trial, self.rule, self.spoil = trial, rule, []
-        self.on_confirm = None
+    def __init__(self, trial: Trial, rule: Rule) -> None:
+        self.trial, self.rule, self.spoil = trial, rule, list[Spoil]()
+        self.on_confirm: Callable[[], None] | None = None
         self.lives, self.lock = 0, threading.RLock()  # how often the member died: what one asked that is dead tells nothing
         self.listener = socket.create_server(("127.0.0.1", 0))
         threading.Thread(target=self.serve, daemon=True).start()
 
-    def serve(self):
+    def serve(self) -> None:
         while True:
             try:
                 connection, _ = self.listener.accept()
@@ -168,9 +182,10 @@ class Between:
                 except OSError:
                     pass
 
-    def answer(self, connection, line, lives):
+    def answer(self, connection: socket.socket, line: bytes, lives: int) -> bool:
         """Whether more is answered on this connection."""
-        request, spoiled = json.loads(line), None
+        request: Json = json.loads(line)
+        spoiled: Spoil | None = None
         with self.lock:
             if lives != self.lives:
                 return False
@@ -191,20 +206,21 @@ class Between:
         connection.sendall(text + b"\n")
         return True
 
-    def died(self):
+    def died(self) -> None:
         with self.lock:
             self.lives += 1
             self.rule.died()
 
-    def direct(self, line):
-        return patiently(lambda: self.trial.port.raw(json.loads(line)), 20).encode()
+    def direct(self, line: bytes) -> bytes:
+        request: Json = json.loads(line)
+        return patiently(lambda: self.trial.port.raw(request), 20).encode()
 
 
-def away(connection, text):
+def away(connection: socket.socket, text: bytes) -> bool:
     return False
 
 
-def torn(connection, text):
+def torn(connection: socket.socket, text: bytes) -> bool:
     connection.sendall(text[:len(text) // 2])
     return False
 
@@ -212,43 +228,44 @@ def torn(connection, text):
 class Tried:
     """The member's process, and the group around it."""
 
-    def __init__(self, trial, command):
-        self.trial, self.command, self.process = trial, command, None
+    def __init__(self, trial: Trial, command: list[str]) -> None:
+        self.trial, self.command = trial, command
         self.folder = f"{trial.folder}/foreign"
         self.rule = Rule(self.folder)
         self.between = Between(trial, self.rule)
         self.others = Slow(trial, (1, 2))
         self.calls = FileCalls(trial.folder)
 
-    def start(self):
+    def start(self) -> None:
         host, port = self.between.listener.getsockname()
         words = {"node": NODE, "host": host, "port": port, "address": f"{host}:{port}", "folder": self.folder,
                  "signals": self.trial.server.signals}
         with open(f"{self.trial.folder}/foreign.lines", "ab") as lines:
-            self.process = subprocess.Popen([word.format(**words) for word in self.command], stdin=subprocess.DEVNULL,
-                                            stdout=lines, stderr=lines, start_new_session=True, env=self.calls.environment())
+            self.process: subprocess.Popen[bytes] = subprocess.Popen(
+                [word.format(**words) for word in self.command], stdin=subprocess.DEVNULL, stdout=lines, stderr=lines,
+                start_new_session=True, env=self.calls.environment())
 
-    def kill(self):
+    def kill(self) -> None:
         """Kills it, where it did not kill itself."""
         with contextlib.suppress(ProcessLookupError):
             os.killpg(self.process.pid, signal.SIGKILL)
         self.process.wait()
         self.between.died()
 
-    def stop(self):
+    def stop(self) -> None:
         os.killpg(self.process.pid, signal.SIGSTOP)
 
-    def go_on(self):
+    def go_on(self) -> None:
         os.killpg(self.process.pid, signal.SIGCONT)
 
-    def dies_on_its_way(self, what):
+    def dies_on_its_way(self, what: str) -> bool:
         """Whether it dies before it talks with the others."""
-        def holds():
+        def holds() -> bool:
             return self.process.poll() is not None or self.talks_with_all()
         self.until(what, holds, may_end=True)
         return self.process.poll() is not None
 
-    def until(self, what, holds, may_end=False):
+    def until(self, what: str, holds: Callable[[], bool], may_end: bool = False) -> None:
         """Waits until something holds, while the member keeps the rule."""
         until = time.monotonic() + self.trial.words.seconds
         while True:
@@ -263,38 +280,39 @@ class Tried:
                 raise Failed(f"{what}, within {self.trial.words.seconds} s: {self.trial.told()}; due to it is {self.rule.due}")
             time.sleep(0.02)
 
-    def looks(self, what, times=2):
+    def looks(self, what: str, times: int = 2) -> None:
         """The member looks so often, and does each time what is due."""
         before = self.rule.looks
         self.until(what, lambda: self.rule.looks >= before + times)
 
-    def talks_now(self):
+    def talks_now(self) -> bool:
         """Whether it talks by what is shown now."""
         view = self.trial.port.show()
         rule = self.rule
-        return rule.talks > 1 and rule.due is Due.TALK and rule.view.nodes == view.nodes
+        return rule.talks > 1 and rule.due is Due.TALK and rule.view is not None and rule.view.nodes == view.nodes
 
-    def talks_with_all(self):
+    def talks_with_all(self) -> bool:
         """Whether all three are in one run, each with what is shown now."""
         self.others.look(1, 2)
-        runs = [member.run for member in self.others.members.values()]
-        return self.talks_now() and all(runs) and all(is_same_run(run.tag, self.rule.run.split(" ")[1]) for run in runs)
+        runs = [member.run for member in self.others.members.values() if member.run]
+        return (self.talks_now() and len(runs) == len(self.others.members)
+                and all(is_same_run(run.tag, self.rule.run.split(" ")[1]) for run in runs))
 
-    def all_talk(self, what):
+    def all_talk(self, what: str) -> None:
         self.until(what, self.talks_with_all)
 
 
-def unlink(trial):
+def unlink(trial: Trial) -> None:
     for other in (1, 2):
         trial.order("drop", a=NODE, b=other)
 
 
-def link(trial):
+def link(trial: Trial) -> None:
     for other in (1, 2):
         trial.order("join", a=NODE, b=other)
 
 
-def of_resets(tried):
+def of_resets(tried: Tried) -> None:
     trial = tried.trial
     tried.all_talk("at first")
     trial.reset(1)
@@ -304,7 +322,7 @@ def of_resets(tried):
     tried.looks("the coordinator is away, and its answers are torn", 6)
 
 
-def of_links(tried):
+def of_links(tried: Tried) -> None:
     trial = tried.trial
     trial.order("drop", a=1, b=2)
     trial.order("drop", a=1, b=NODE)
@@ -321,7 +339,7 @@ def of_links(tried):
     tried.all_talk("after it came back")
 
 
-def of_nodes(tried):
+def of_nodes(tried: Tried) -> None:
     trial = tried.trial
     for _ in range(2):
         unlink(trial)
@@ -332,18 +350,18 @@ def of_nodes(tried):
         tried.all_talk("after its node was added again")
 
 
-def of_confirms(tried):
+def of_confirms(tried: Tried) -> None:
     """A confirm by hand; a kill where it is about to confirm, once with the confirm lost."""
     trial = tried.trial
     tried.kill()
     trial.reset(1)
     trial.expect_quiet()
-    trial.order("confirm", node=NODE, epoch=trial.port.show().node(NODE).epoch)
+    trial.order("confirm", node=NODE, epoch=trial.epoch(NODE))
     tried.start()
     tried.all_talk("after somebody else confirmed for it")
     died = threading.Event()
 
-    def dies():
+    def dies() -> None:
         tried.between.on_confirm = None
         tried.kill()
         died.set()
@@ -355,7 +373,7 @@ def of_confirms(tried):
     tried.all_talk("after it died before its confirm")
 
 
-def of_restores(tried):
+def of_restores(tried: Tried) -> None:
     """A store is put back, with its node unconfirmed, to where it has talked in the epoch that it is to begin."""
     trial = tried.trial
     tried.kill()
@@ -371,7 +389,7 @@ def of_restores(tried):
     tried.all_talk("after a store was put back")
 
 
-def of_files(tried):
+def of_files(tried: Tried) -> None:
     tried.kill()
     shutil.rmtree(tried.folder)
     tried.rule.forgot()
@@ -379,39 +397,48 @@ def of_files(tried):
     tried.all_talk("after it lost all its files")
 
 
-def of_second_hand(tried):
+def of_second_hand(tried: Tried) -> None:
     """Member 2 is taken off its links, reset alone, linked again, and taken off again, while it is stopped. Member 1 first
     talks in between, with a start of 2 that it never hears of. Then both are shown the same, and talk in two runs."""
     trial, others = tried.trial, tried.others
     trial.reset(1)
     trial.expect_quiet()
     others.look(1, 2)
-    tried.until("after a reset, before member 1 has looked again", lambda: others.look(2) or tried.talks_now())
+
+    def talks_beside_2() -> bool:
+        others.look(2)
+        return tried.talks_now()
+    tried.until("after a reset, before member 1 has looked again", talks_beside_2)
     tried.stop()
     for other in (1, NODE):
         trial.order("drop", a=2, b=other)
     trial.order("reset", node=2)
     trial.expect_quiet()
-    others.while_it_begins.append(lambda trial: [trial.order("join", a=2, b=other) for other in (1, NODE)])
+
+    def join_again(trial: Trial) -> None:
+        for other in (1, NODE):
+            trial.order("join", a=2, b=other)
+    others.while_it_begins.append(join_again)
     others.look(2, 1)
     for other in (1, NODE):
         trial.order("drop", a=2, b=other)
     others.look(1)
     tried.go_on()
     tried.looks("another one was taken off its links, reset alone, linked and taken off again, while it was stopped", 3)
+    run = others.members[1].run
+    assert run is not None
     with open(f"{tried.folder}/refused.new", "w", encoding="utf-8") as file:
-        file.write(f"{others.members[1].run.tag}\n")
+        file.write(f"{run.tag}\n")
     with tried.between.lock:
         tried.rule.refused()
         os.replace(f"{tried.folder}/refused.new", f"{tried.folder}/refused")
     tried.until("it refused a message of another run, whose sender is shown the same, so it asks for a reset",
                 lambda: not tried.rule.guesses[0].is_refused)
-    for other in (1, NODE):
-        trial.order("join", a=2, b=other)
+    join_again(trial)
     tried.all_talk("after that one came back")
 
 
-def of_kills(tried):
+def of_kills(tried: Tried) -> None:
     """It dies in front of each file call that a reset takes it to, in turn."""
     if not tried.calls.can_see:
         return
@@ -428,10 +455,10 @@ def of_kills(tried):
         tried.all_talk(f"after it died at file call {call} behind a reset")
 
 
-EVENTS = (of_resets, of_links, of_second_hand,  of_nodes, of_confirms, of_restores, of_kills, of_files)
+EVENTS = (of_resets, of_links, of_second_hand, of_nodes, of_confirms, of_restores, of_kills, of_files)
 
 
-def lead(trial, command):
+def lead(trial: Trial, command: list[str]) -> str:
     """Leads a member through the events. Raises Failed where it does not keep the rule."""
     tried = Tried(trial, command)
     tried.start()
