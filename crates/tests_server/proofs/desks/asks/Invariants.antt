@@ -1,3 +1,4 @@
+use Rattle.coord_disk.specs.Disks.Memory.{in_memory}
 use Rattle.coord_engine.specs.Facade.{past_in}
 use Rattle.tests_server.proofs.desks.asks.Given as goal
 
@@ -5,4 +6,4 @@ abbrev pub ghosts-asks_engine-L-Ledger : goal.ghosts-asks_engine-L-Ledger
 ghosts-asks_engine-L-Ledger g a = record { name = a.blank.name; parts = a.blank.parts }
 
 abbrev pub ghosts-asks_engine-L-Origin : goal.ghosts-asks_engine-L-Origin
-ghosts-asks_engine-L-Origin g a = record { base = a.ledger.log.base; before = a.ledger.log.trail; disk = past_in g.D.Disk.model a.ledger.disk }
+ghosts-asks_engine-L-Origin g a = record { base = a.ledger.log.base; before = a.ledger.log.trail; disk = past_in in_memory a.ledger.disk }
