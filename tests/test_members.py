@@ -333,6 +333,13 @@ class InOtherLanguages(Case):
         self.keeps_the_rule("rustc", "--edition", "2024", "-O", "-o", self.path("member"), "member.rs",
                             "-L", os.path.dirname(PATH), "-l", "static=resetd_member")
 
+    def test_go(self) -> None:
+        self.needs("the compiler go", shutil.which("go") is not None, is_optional=True)
+        folders = [f"{name}={self.path(name)}" for name in ("GOCACHE", "GOPATH", "GOTMPDIR")]
+        os.mkdir(self.path("GOTMPDIR"))
+        self.keeps_the_rule("env", *folders, f"CGO_CFLAGS=-I{HEADER}", f"CGO_LDFLAGS={PATH.replace('.so', '.a')}",
+                            "go", "build", "-o", self.path("member"), "member.go", "resetd_member.go")
+
 
 class Vectors(Case):
     def test_vectors(self):
