@@ -137,7 +137,7 @@ install-lib:
 	install -D -m 644 lib/resetd_member.pc.new $(DESTDIR)$(PREFIX)/lib/pkgconfig/resetd_member.pc
 	rm lib/resetd_member.pc.new
 	install -d $(SHARE)/examples/members
-	install -m 644 examples/members/member.c examples/members/member.rs examples/members/resetd_member.rs $(SHARE)/examples/members/
+	install -m 644 $(addprefix examples/members/,member.c member.rs resetd_member.rs member.go resetd_member.go) $(SHARE)/examples/members/
 
 deb: $(PROGRAM)
 	@PROGRAM=$(PROGRAM) tools/deb

@@ -325,6 +325,23 @@ class Members(Case):
         self.assertEqual((orders.last, orders.in_hand.op), (1, 0))
 
 
+class Searches(Case):
+    def said(self, *words: str) -> str:
+        """What tools/member_search says last."""
+        done = subprocess.run([tool("member_search"), "--seconds", "500", *words], capture_output=True, text=True, check=False)
+        self.assertEqual(done.stderr, "")
+        return done.stdout.splitlines()[-1]
+
+    def test_the_search_with_the_proved_judge(self) -> None:
+        """It comes to as many states as the one with the Python judge, and finds the mix where a part is left out."""
+        self.needs("the proved library: make lib makes it", os.path.exists(PATH), is_optional=True)
+        for about, depth in (("all", 5), ("lose", 5), ("restore", 6), ("readd", 8), ("links", 9)):
+            words = ["--about", about, "--depth", str(depth)]
+            self.assertEqual(self.said(*words, "--library", PATH), self.said(*words))
+        weaker = ["--about", "readd", "--without", "dropped"]
+        self.assertIn("mixed after 10 events", self.said(*weaker, "--library", PATH))
+
+
 class InOtherLanguages(Case):
     takes = 100
 
@@ -345,6 +362,13 @@ class InOtherLanguages(Case):
     def test_rust(self) -> None:
         self.keeps_the_rule("rustc", "--edition", "2024", "-O", "-o", self.path("member"), "member.rs",
                             "-L", os.path.dirname(PATH), "-l", "static=resetd_member")
+
+    def test_go(self) -> None:
+        self.needs("the compiler go", shutil.which("go") is not None, is_optional=True)
+        folders = [f"{name}={self.path(name)}" for name in ("GOCACHE", "GOPATH", "GOTMPDIR")]
+        os.mkdir(self.path("GOTMPDIR"))
+        self.keeps_the_rule("env", *folders, f"CGO_CFLAGS=-I{HEADER}", f"CGO_LDFLAGS={PATH.replace('.so', '.a')}",
+                            "go", "build", "-o", self.path("member"), "member.go", "resetd_member.go")
 
 
 class Vectors(Case):
