@@ -25,7 +25,10 @@ class Metrics:
         self._times = prometheus_client.Histogram(
             "resetd_front_answer_seconds", "from a line to its answer", ["op"], buckets=BOUNDS, registry=self._registry)
         self._registry.register(self)
-        front.counts.observe = lambda op, seconds: self._times.labels(op).observe(seconds)
+        front.counts.observe = self._observe
+
+    def _observe(self, op: str, seconds: float) -> None:
+        self._times.labels(op).observe(seconds)
 
     def text(self) -> bytes:
         """The text of /metrics."""
