@@ -8,7 +8,8 @@
 # The logs are made by the program itself, by resets of a ring of 64 nodes with chords, on a file system in
 # memory where there is one, since their syncs are not what is measured. The last one stays a little below
 # 16 MiB: a half has no more than that, and one that is full is left by a checkpoint.
-# Then orders that are sent together: 1, 4, 16, 64 and 256 before the first answer is read, by 16 clients in turn
+# Then one wave over that ring, from the reset to its last signal line, over a file and over one whose syncs wait a
+# millisecond first. Then orders that are sent together: 1, 4, 16, 64 and 256 before the first answer is read, by 16 clients in turn
 # and by one, over the file and over one whose syncs wait a millisecond first, with the syncs that each takes; by
 # turns with another program, where one is given. It needs a C compiler, $CC or cc.
 # Where SHORTER names a number, the logs are so many times shorter than they are named: for a trial of this script.
@@ -29,4 +30,5 @@ echo "files in $folder, on $system"
 python3 -B "$here/bench/serve/measure.py" "$program" "$scratch" "$swift" "${SHORTER:-1}"
 
 "${CC:-cc}" -O2 -shared -fPIC -x c -o "$scratch/syncs.so" "$here/bench/serve/syncs.c.txt"
+python3 -B "$here/bench/serve/wave.py" "$program" "$scratch" "$scratch/syncs.so"
 python3 -B "$here/bench/serve/together.py" "$scratch" "$scratch/syncs.so" "program=$program" $other

@@ -57,9 +57,9 @@ def tell(server: Server, name: int) -> None:
     """The least times of several rounds."""
     rounds = [(start(server), check(server), read(server.store)) for _ in range(ROUNDS)]
     started, checked, plain = (min(spent) * 1e3 for spent in zip(*rounds))
-    steps = server.command("check")[1][0].split()[1]
-    print(f"log of {name:2} MiB, {os.path.getsize(server.store):8} bytes, {steps:>7} steps: listens after {started:5.0f} ms; "
-          f"check {checked:5.0f} ms; a plain read {plain:4.1f} ms", flush=True)
+    steps = int(server.command("check")[1][0].split()[1])
+    print(f"log of {name:2} MiB, {os.path.getsize(server.store):8} bytes, {steps:7} steps: listens after {started:5.0f} ms, "
+          f"{started * 1e6 / steps:4.0f} ns a step; check {checked:5.0f} ms; a plain read {plain:4.1f} ms", flush=True)
 
 
 def start(server: Server) -> float:
