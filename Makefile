@@ -14,7 +14,7 @@ help:
 	@echo 'make services  tries what services rest on: restores, members that come again, a work queue, torn and lost lines, 64 members, messages'
 	@echo 'make build     proves every crate, and leaves the program at bin/resetd; nothing is proved again while that is newer than every source'
 	@echo 'make lib       proves the members'"'"' library for C and other languages, and leaves it in lib/: libresetd_member.a, .so, its header and a file for pkg-config'
-	@echo 'make test      the gate: every changed crate from nothing, the must-fail edits, every test and both programs, then make program; it leaves the program at bin/resetd too'
+	@echo 'make test      the gate: every crate from nothing (some kits keep what passed here before), the must-fail edits, every test and both programs, then make program; it leaves the program at bin/resetd too'
 	@echo 'make program   tries the program as people run it (tests/), over a trial build of it, in some minutes'
 	@echo 'make load      the same ten times on a busy machine, where none may fail (TIMES=N for N)'
 	@echo 'make refusals  tries the other wrong bodies, which the prover has to refuse (CRATE=NAME for one crate)'
