@@ -74,6 +74,11 @@ class Seats(unittest.TestCase):
         self.served.has_begun()
         self.assertEqual((self.seat.has_begun("2 2\n"), self.served.wanted()), (False, 2))
 
+    def test_the_same_epoch_of_an_earlier_begin(self) -> None:
+        self.begin("1 1\n")
+        self.seat.tell("1 2\n")
+        self.assertEqual((self.seat.has_begun("1 2\n"), self.served.wanted()), (False, 1))
+
     def test_what_was_lost_before_it_was_begun(self) -> None:
         """The member has still to begin."""
         self.seat.tell("1 1\n")
@@ -373,6 +378,40 @@ class Gateways(Case):
             self.assertEqual(self.all_begin(), [begun] * 3)
 
     @in_memory
+    def test_a_tag_that_was_refused_beside_a_run_that_is_over(self) -> None:
+        self.all_begin()
+        desk, own = self.gateway.desks[1], Served(f"{self.folder}/members/2").tag() or ""
+        desk.end_run()
+        keep(f"{self.folder}/members/2/refused", f"{32 * 'f'}-{own[33:]}\n")
+        self.assertFalse(desk.is_parted())
+
+    def test_nothing_is_told_before_it_is_kept(self) -> None:
+        with mock.patch.object(self.gateway._shelf, "keep", side_effect=OSError("full")):
+            for _ in range(3):
+                self.server.reset(1)
+                self.assertRaises(OSError, self.gateway.look)
+        self.assertEqual([self.begin(node) for node in (1, 2, 3)], [None] * 3)
+
+    def test_a_reset_while_its_members_begin(self) -> None:
+        """It tells them the new epoch, though they have not begun the one before."""
+        self.look()
+        told = self.rows()[0][0]
+        self.server.reset(1)
+        self.assertEqual(self.all_begin(), [told + 1] * 3)
+
+    @in_memory
+    def test_it_looks_again_after_it_asked_for_a_reset(self) -> None:
+        """So its members are told the new epoch by the same look."""
+        self.gateway.look()
+        self.assertEqual([self.begin(node) for node in (1, 2, 3)], [1] * 3)
+
+    def test_a_reset_that_is_asked_for_again_is_told_again(self) -> None:
+        for times in (1, 2):
+            self.all_begin()
+            Served(f"{self.folder}/members/2").has_lost()
+            self.look()
+            self.assertEqual(len([text for text in self.told if text.startswith("node 2: ")]), times, self.told)
+
     def test_a_confirmed_epoch_that_it_never_told(self) -> None:
         self.all_begin()
         self.server.nodes[3] = [1, 5, 5]

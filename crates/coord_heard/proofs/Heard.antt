@@ -8,6 +8,8 @@ use Rattle.serde_json.specs.Written.{outline}
 use Rattle.coord_types.specs.declared.steps.Reply.{Reply}
 use Rattle.coord_types.specs.Names.{kind_name, refusal_name, refusal_number}
 use Rattle.coord_types.specs.declared.refusals.Refusal.{Refusal}
+use Rattle.coord_types.specs.declared.refusals.Refusal.TheVariants.{Stopped, OutOfMemory, Exhausted, OutOfTurn, NumberReused, UnknownNode, NodeExists, HasLinks, SameNode, OtherGroup, LinkExists, NoLink, DegreeFull, LinksFull, BadEpoch, PendingFull}
+use Rattle.coord_types.specs.declared.steps.Kind.TheVariants.{Done, Started, Finished, Joined}
 use Rattle.coord_view.specs.Shown.{Shown}
 use Rattle.coord_admin.specs.Replies.{link_row, node_row, num, reply, reply_line, rows}
 use Rattle.coord_admin.specs.declared.answer.Answer.TheVariants as printed
@@ -51,7 +53,10 @@ unfolding answer_in
 reply_read r is = ap (λ o. or_no_answer (option_and_then answer_of o)) (line_read (reply (printed.Replied r)) (tt, (is, tt)) (omega arith) (reply_same (kind_name r.kind) r.step is))
 
 pub reply_is_read : ReplyIsRead
-reply_is_read = (λ step is. reply_read _ is, (λ step is. reply_read _ is, (λ step is. reply_read _ is, (λ step is. reply_read _ is, tt))))
+reply_is_read = (
+  λ step is. reply_read (record { step = step; kind = Done }) is,
+  (λ step is. reply_read (record { step = step; kind = Started }) is, (λ step is. reply_read (record { step = step; kind = Finished }) is, (λ step is. reply_read (record { step = step; kind = Joined }) is, tt))),
+)
 
 refusal_same : (name : List ℕ) (n : ℕ) → n < 2 ^ 64
     → IsSame (object (member (codes "name") (string name) (member (codes "refused") (num n) no_members)))
@@ -65,6 +70,4 @@ unfolding answer_in
 refusal_read r = ap (λ o. or_no_answer (option_and_then answer_of o)) (line_read (reply (printed.Refused r)) (tt, (few r, tt)) (omega arith) (refusal_same (refusal_name r) (refusal_number r) (few r)))
 
 pub refusal_is_read : RefusalIsRead
-refusal_is_read =
-    let r = refusal_read in
-    (r _, (r _, (r _, (r _, (r _, (r _, (r _, (r _, (r _, (r _, (r _, (r _, (r _, (r _, (r _, (r _, tt))))))))))))))))
+refusal_is_read = (refusal_read Stopped, (refusal_read OutOfMemory, (refusal_read Exhausted, (refusal_read OutOfTurn, (refusal_read NumberReused, (refusal_read UnknownNode, (refusal_read NodeExists, (refusal_read HasLinks, (refusal_read SameNode, (refusal_read OtherGroup, (refusal_read LinkExists, (refusal_read NoLink, (refusal_read DegreeFull, (refusal_read LinksFull, (refusal_read BadEpoch, (refusal_read PendingFull, tt))))))))))))))))

@@ -115,9 +115,9 @@ mutual
       ap (lex between) (append_assoc (comma_if later) (quoted k ++ 58 ∷ (compact_text d ++ members_text true ms)) r ∙ ap (λ l. comma_if later ++ l) (named k (compact_text d) (members_text true ms) r))
       ∙ comma_lexed later (quoted k ++ 58 ∷ (compact_text d ++ (members_text true ms ++ r)))
       ∙ ap (λ l. commas later ++ l)
-          (quoted_lexed k (58 ∷ (compact_text d ++ (members_text true ms ++ r)))
-          ∙ ap (λ l. lexeme.token (token.string k) ∷ colon ∷ l)
-              (lexed d (members_text true ms ++ r) is.0 (members_end ms r) ∙ ap (λ l. lexemes d ++ l) (members_lexed true ms r is.1 e) ∙ sym (append_assoc (lexemes d) (of_members true ms) (lex between r))))
+      (quoted_lexed k (58 ∷ (compact_text d ++ (members_text true ms ++ r)))
+      ∙ ap (λ l. lexeme.token (token.string k) ∷ colon ∷ l)
+      (lexed d (members_text true ms ++ r) is.0 (members_end ms r) ∙ ap (λ l. lexemes d ++ l) (members_lexed true ms r is.1 e) ∙ sym (append_assoc (lexemes d) (of_members true ms) (lex between r))))
       ∙ sym (append_assoc (commas later) (lexeme.token (token.string k) ∷ colon ∷ (lexemes d ++ of_members true ms)) (lex between r))
 
 -- ---- its tokens
