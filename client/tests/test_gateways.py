@@ -16,7 +16,7 @@ from unittest import mock
 from case import Case, in_memory, over_both
 from resetd_client import Away, Clock, Gateway, Served, Wake, keep, patiently, read
 from resetd_client.following import DOUBT_SECONDS
-from resetd_client.seats import Seat
+from resetd_client.seats import Seat, boot
 
 
 class UntilEnded:
@@ -73,6 +73,20 @@ class Seats(unittest.TestCase):
         self.seat.tell("2 2\n")
         self.served.has_begun()
         self.assertEqual((self.seat.has_begun("2 2\n"), self.served.wanted()), (False, 2))
+
+    def test_work_goes_down_with_what_is_begun(self) -> None:
+        """In one file, whole and on the disk: a file and its folder are synced."""
+        self.assertIsNone(self.served.work())
+        self.seat.tell("1 1\n")
+        self.served.wanted()
+        with mock.patch("os.fsync", side_effect=os.fsync) as synced:
+            self.served.has_begun("some\nwork\n")
+        self.assertEqual((synced.call_count, self.served.work(), self.served.wanted()), (2, "some\nwork\n", None))
+        self.assertEqual((self.seat.has_begun("1 1\n"), self.seat.number, read(f"{self.folder}/begun")), (True, 1, "1 1\nsome\nwork\n"))
+        self.seat.set_run(f"1 tag 1 {boot()}\n")
+        self.assertEqual(self.served.tag(), "tag")
+        self.served.has_lost()
+        self.assertEqual((self.seat.has_lost("1 1\n"), self.served.work(), self.served.tag()), (True, None, None))
 
     def test_the_same_epoch_of_an_earlier_begin(self) -> None:
         self.begin("1 1\n")
