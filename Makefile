@@ -128,8 +128,11 @@ install: $(PROGRAM) $(if $(wildcard lib/libresetd_member.so),install-lib)
 	install -D -m 644 docs/resetctl.8 $(DESTDIR)$(PREFIX)/share/man/man8/resetctl.8
 	install -D -m 644 docs/resetd-front.8 $(DESTDIR)$(PREFIX)/share/man/man8/resetd-front.8
 
-# The members' library, where make lib has made it.
+# The members' library, where make lib has made it. A trial build of it is never installed.
 install-lib:
+	@if grep -q resetd_member-trial lib/libresetd_member.so lib/libresetd_member.a; then \
+	  echo 'lib/ has a trial build, of which nothing is proved: make lib makes the proved library' >&2; exit 1; \
+	fi
 	install -D -m 644 lib/libresetd_member.a $(DESTDIR)$(PREFIX)/lib/libresetd_member.a
 	install -D -m 644 lib/libresetd_member.so $(DESTDIR)$(PREFIX)/lib/libresetd_member.so
 	install -D -m 644 lib/resetd_member.h $(DESTDIR)$(PREFIX)/include/resetd_member.h

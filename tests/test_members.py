@@ -1,4 +1,5 @@
-"""The proved library of the members' rule, beside the Python one; and members in other languages that call it."""
+"""The library of the members' rule for C, beside the Python one; and members in other languages that call it. RESETD_MEMBER
+names a library that is tried; tests/run makes a trial build of it."""
 
 import contextlib
 import itertools
@@ -149,10 +150,10 @@ class Shows:
 
 class Members(Case):
     takes = 120
+    programs = ("RESETD_MEMBER",)
 
     def setUp(self) -> None:
         super().setUp()
-        self.needs("the proved library: make lib makes it", os.path.exists(PATH), is_optional=True)
         self.library = Library()
 
     def judged_alike(self, state: State, torn: str = "") -> str:
@@ -326,6 +327,8 @@ class Members(Case):
 
 
 class Searches(Case):
+    programs = ("RESETD_MEMBER",)
+
     def said(self, *words: str) -> str:
         """What tools/member_search says last."""
         done = subprocess.run([tool("member_search"), "--seconds", "500", *words], capture_output=True, text=True, check=False)
@@ -334,7 +337,6 @@ class Searches(Case):
 
     def test_the_search_with_the_proved_judge(self) -> None:
         """It comes to as many states as the one with the Python judge, and finds the mix where a part is left out."""
-        self.needs("the proved library: make lib makes it", os.path.exists(PATH), is_optional=True)
         for about, depth in (("all", 5), ("lose", 5), ("restore", 6), ("readd", 8), ("links", 9)):
             words = ["--about", about, "--depth", str(depth)]
             self.assertEqual(self.said(*words, "--library", PATH), self.said(*words))
@@ -344,10 +346,10 @@ class Searches(Case):
 
 class InOtherLanguages(Case):
     takes = 100
+    programs = ("RESETD", "RESETD_MEMBER")
 
     def keeps_the_rule(self, compiler: str, *words: str) -> None:
         """The compiler makes a member of the library, and tools/try_member finds nothing wrong with it."""
-        self.needs("the proved library: make lib makes it", os.path.exists(PATH), is_optional=True)
         self.needs(f"the compiler {compiler}", shutil.which(compiler) is not None, is_optional=True)
         made = subprocess.run([compiler, *words], capture_output=True, text=True, cwd=EXAMPLES, timeout=600)
         self.assertEqual((made.returncode, made.stderr), (0, ""))
@@ -372,9 +374,10 @@ class InOtherLanguages(Case):
 
 
 class Vectors(Case):
+    programs = ("RESETD_MEMBER",)
+
     def test_vectors(self) -> None:
         """docs/member-vectors.json is what the proved library says, and the Python library says the same."""
-        self.needs("the proved library: make lib makes it", os.path.exists(PATH), is_optional=True)
         checked = subprocess.run([tool("member_vectors")], capture_output=True, text=True)
         self.assertEqual((checked.returncode, checked.stderr), (0, ""))
 

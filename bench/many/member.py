@@ -6,16 +6,15 @@ import time
 
 sys.dont_write_bytecode = True
 sys.path.insert(0, os.path.join(os.path.dirname(os.path.abspath(__file__)), "..", "..", "client"))
-from resetd_client import Served, files  # noqa: E402
+from resetd_client import Served  # noqa: E402
 
 folder = sys.argv[1]
 served, talks = Served(folder), False
 while True:
     epoch = served.wanted()
     if epoch is not None:
-        files.keep(f"{folder}/work", f"epoch {epoch}\n")
         print(f"begins {time.monotonic_ns()}", flush=True)
-        served.has_begun()
+        served.has_begun(f"epoch {epoch}\n")
     if served.tag() is not None and not talks:
         print(f"talks {time.monotonic_ns()}", flush=True)
     talks = served.tag() is not None

@@ -1,11 +1,11 @@
 """The folder of a member behind a gateway, from either side.
 
-It has files of one line each, each put in place as a whole:
+It has files of one line each (but `begun`), each put in place as a whole:
 
     wanted    EPOCH NUMBER       the gateway wants this epoch begun. The number is greater each time, since an epoch can
                                  come again
-    begun     EPOCH NUMBER       the member has begun just that, and keeps it with its work; or `lost EPOCH NUMBER`, if the
-                                 work that it began for this is gone
+    begun     EPOCH NUMBER       the member has begun just that, and keeps it with its work, which may stand below this line;
+                                 or `lost EPOCH NUMBER`, if the work that it began for this is gone
     run       EPOCH TAG NUMBER BOOT   the run that the group is in, for a member that has begun NUMBER; absent while somebody
                                  is not through. TAG is `-` for a node that is connected with nobody. BOOT names the time
                                  from one start of the machine to the next (/proc/sys/kernel/random/boot_id)
@@ -32,9 +32,15 @@ BOOT = "/proc/sys/kernel/random/boot_id"
 WAIT_SECONDS = 1.0
 
 
-def number_of(line: str | None) -> int:
-    """The number of a line of `wanted` or `begun`; 0 for one that is missing or does not read."""
-    found = LINE.fullmatch(line or "")
+def line_of(text: str | None) -> str:
+    """The first line of a text, with its end; the empty text for none."""
+    line, end, _ = (text or "").partition("\n")
+    return line + end
+
+
+def number_of(text: str | None) -> int:
+    """The number of the first line of `wanted` or `begun`; 0 for one that is missing or does not read."""
+    found = LINE.fullmatch(line_of(text))
     return int(found.group(1)) if found else 0
 
 
@@ -61,11 +67,11 @@ class Seat:
 
     def has_begun(self, told: str) -> bool:
         """Whether the member has begun what it was told."""
-        return self._read("begun") == told
+        return line_of(self._read("begun")) == told
 
     def has_lost(self, told: str) -> bool:
         """Whether the member says that the work of what it was told is gone."""
-        return self._read("begun") == f"lost {told}"
+        return line_of(self._read("begun")) == f"lost {told}"
 
     def tell(self, told: str) -> None:
         """Tells the member what to begin. Before that it may talk no more."""
@@ -118,15 +124,22 @@ class Served:
         self._told = wanted
         return int(wanted.split()[0])
 
-    def has_begun(self) -> None:
-        """Says that the member has begun what `wanted` told last, and that this stands with the work on the disk."""
-        files.keep(os.path.join(self._folder, "begun"), self._told)
+    def has_begun(self, work: str = "") -> None:
+        """Says that the member has begun what `wanted` told last, and that this stands with the work on the disk. `work`
+        goes down with it, in one file at once: so neither can be there without the other, and a begin costs two syncs, where
+        it costs four with the work in a file of its own, synced before this call."""
+        files.keep(os.path.join(self._folder, "begun"), self._told + work)
+
+    def work(self) -> str | None:
+        """What was given to `has_begun`; None where nothing is begun, or its work was lost."""
+        line, _, work = self._read("begun").partition("\n")
+        return work if number_of(f"{line}\n") and not line.startswith("lost") else None
 
     def has_lost(self) -> None:
         """Says that the work of what was begun is gone. The gateway then tells the member to begin anew, after a reset."""
         begun = self._read("begun")
         if number_of(begun) and not begun.startswith("lost"):
-            files.keep(os.path.join(self._folder, "begun"), f"lost {begun}")
+            files.keep(os.path.join(self._folder, "begun"), f"lost {line_of(begun)}")
 
     def tag(self) -> str | None:
         """The tag of the run that the group is in; None while somebody is not through, and for a member that is connected

@@ -16,7 +16,7 @@ from unittest import mock
 from case import Case, in_memory, over_both
 from resetd_client import Away, Clock, Gateway, Served, Wake, keep, patiently, read
 from resetd_client.following import DOUBT_SECONDS
-from resetd_client.seats import Seat
+from resetd_client.seats import Seat, boot
 
 
 class UntilEnded:
@@ -73,6 +73,25 @@ class Seats(unittest.TestCase):
         self.seat.tell("2 2\n")
         self.served.has_begun()
         self.assertEqual((self.seat.has_begun("2 2\n"), self.served.wanted()), (False, 2))
+
+    def test_work_goes_down_with_what_is_begun(self) -> None:
+        """In one file, whole and on the disk: a file and its folder are synced."""
+        self.assertIsNone(self.served.work())
+        self.seat.tell("1 1\n")
+        self.served.wanted()
+        with mock.patch("os.fsync", side_effect=os.fsync) as synced:
+            self.served.has_begun("some\nwork\n")
+        self.assertEqual((synced.call_count, self.served.work(), self.served.wanted()), (2, "some\nwork\n", None))
+        self.assertEqual((self.seat.has_begun("1 1\n"), self.seat.number, read(f"{self.folder}/begun")), (True, 1, "1 1\nsome\nwork\n"))
+        self.seat.set_run(f"1 tag 1 {boot()}\n")
+        self.assertEqual(self.served.tag(), "tag")
+        self.served.has_lost()
+        self.assertEqual((self.seat.has_lost("1 1\n"), self.served.work(), self.served.tag()), (True, None, None))
+
+    def test_the_same_epoch_of_an_earlier_begin(self) -> None:
+        self.begin("1 1\n")
+        self.seat.tell("1 2\n")
+        self.assertEqual((self.seat.has_begun("1 2\n"), self.served.wanted()), (False, 1))
 
     def test_what_was_lost_before_it_was_begun(self) -> None:
         """The member has still to begin."""
@@ -373,6 +392,40 @@ class Gateways(Case):
             self.assertEqual(self.all_begin(), [begun] * 3)
 
     @in_memory
+    def test_a_tag_that_was_refused_beside_a_run_that_is_over(self) -> None:
+        self.all_begin()
+        desk, own = self.gateway.desks[1], Served(f"{self.folder}/members/2").tag() or ""
+        desk.end_run()
+        keep(f"{self.folder}/members/2/refused", f"{32 * 'f'}-{own[33:]}\n")
+        self.assertFalse(desk.is_parted())
+
+    def test_nothing_is_told_before_it_is_kept(self) -> None:
+        with mock.patch.object(self.gateway._shelf, "keep", side_effect=OSError("full")):
+            for _ in range(3):
+                self.server.reset(1)
+                self.assertRaises(OSError, self.gateway.look)
+        self.assertEqual([self.begin(node) for node in (1, 2, 3)], [None] * 3)
+
+    def test_a_reset_while_its_members_begin(self) -> None:
+        """It tells them the new epoch, though they have not begun the one before."""
+        self.look()
+        told = self.rows()[0][0]
+        self.server.reset(1)
+        self.assertEqual(self.all_begin(), [told + 1] * 3)
+
+    @in_memory
+    def test_it_looks_again_after_it_asked_for_a_reset(self) -> None:
+        """So its members are told the new epoch by the same look."""
+        self.gateway.look()
+        self.assertEqual([self.begin(node) for node in (1, 2, 3)], [1] * 3)
+
+    def test_a_reset_that_is_asked_for_again_is_told_again(self) -> None:
+        for times in (1, 2):
+            self.all_begin()
+            Served(f"{self.folder}/members/2").has_lost()
+            self.look()
+            self.assertEqual(len([text for text in self.told if text.startswith("node 2: ")]), times, self.told)
+
     def test_a_confirmed_epoch_that_it_never_told(self) -> None:
         self.all_begin()
         self.server.nodes[3] = [1, 5, 5]

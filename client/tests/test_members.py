@@ -12,6 +12,7 @@ from unittest import mock
 
 from case import Case, in_memory, over_both
 from resetd_client import Clock, Follower, Member, OutOfRun, Port, Run, Stream, View, read
+from resetd_client.member import MOST_REFUSED, is_one_run
 
 
 class MemberCase(Case):
@@ -48,6 +49,18 @@ class MemberCase(Case):
 
 
 class Members(MemberCase):
+    def test_runs_of_two_epochs_are_two(self) -> None:
+        """Also where neither has a tag."""
+        self.assertTrue(is_one_run(Run(1, ""), Run(1, "")))
+        self.assertFalse(is_one_run(Run(1, ""), Run(2, "")))
+
+    def test_it_remembers_no_more_refused_tags_than_a_group_has_members(self) -> None:
+        member = self.in_a_run()
+        for number in range(100):
+            with suppress(OutOfRun), member.in_run(f"{number:032}-{number:032}"):
+                self.fail("it took a message of another run")
+        self.assertEqual(len(member._refused), MOST_REFUSED)
+
     def test_a_new_member_asks_for_a_reset(self) -> None:
         member = self.member()
         self.look(member)

@@ -10,7 +10,7 @@ from collections.abc import Callable
 from unittest import mock
 
 import case  # noqa: F401
-from resetd_client import Due, Shelf, Starts, View, keep, read
+from resetd_client import Due, Shelf, Starts, Unreadable, View, keep, read
 from resetd_client.history import History
 from resetd_client.party import digest_of
 from test_rule import DIGEST, PARTY, THROUGH, in_reset, view_of
@@ -80,6 +80,27 @@ class Kept(Case):
         starts.note_begun(5)
         shelf.keep()
         self.assertEqual(json.loads(read(self.path) or ""), {"1": {"begun": 5, "party": None}})
+
+    def test_what_is_put_twice_is_written(self) -> None:
+        shelf, starts = self.begun(4)
+        starts.note_begun(5)
+        starts.note_begun(5)
+        shelf.keep()
+        self.assertEqual(json.loads(read(self.path) or "")["1"]["begun"], 5)
+
+    def test_an_epoch_is_a_number(self) -> None:
+        for begun in ("true", "1.0", '"1"'):
+            keep(self.path, f'{{"1": {{"begun": {begun}, "party": null}}}}\n')
+            self.assertRaises(Unreadable, Shelf, self.path)
+
+    def test_the_history_grows_by_each_party(self) -> None:
+        """Also by one process."""
+        shelf, _ = self.begun(4)
+        digests = [f"{number:064}" for number in range(3)]
+        for digest in digests:
+            shelf.history.add(digest)
+            shelf.keep()
+        self.assertEqual(read(f"{self.folder}/start.history"), "".join(f"{digest}\n" for digest in digests))
 
     def test_the_tag_is_of_the_first_party(self) -> None:
         shelf, starts = self.begun(4)
@@ -222,6 +243,15 @@ class Earlier(Case):
         """Nor by another start of this version."""
         for starts in (self.of(3, THROUGH), Starts(Shelf(self.path), 1, None)):
             self.assertEqual(self.due(starts, UNCONFIRMED), Due.RESET)
+
+    def test_a_party_of_one_goes_into_no_history(self) -> None:
+        self.of(3, view_of((1, 3, 3)))
+        self.assertEqual(read(f"{self.folder}/start.history"), None)
+
+    def test_what_it_knew_counts_no_more_once_a_greater_epoch_is_shown(self) -> None:
+        """Though the store goes back behind that."""
+        starts = self.of(6, view_of((1, 6, 6), (2, 6, 6)))
+        self.assertEqual([self.due(starts, view) for view in (view_of((1, 7, 6), (2, 7, 7)), UNCONFIRMED)], [Due.BEGIN, Due.BEGIN])
 
     def test_the_next_write_is_of_this_version(self) -> None:
         starts = self.of(3, THROUGH)

@@ -6,6 +6,7 @@
  * the client library; `orders`; and, while the group is in a run, `run`, with the epoch and the tag (- for a
  * member that is alone). Whoever refuses a message of another run writes its tag into `refused`. */
 #define _POSIX_C_SOURCE 200809L
+#include <errno.h>
 #include <fcntl.h>
 #include <inttypes.h>
 #include <netdb.h>
@@ -22,8 +23,7 @@
 struct text { uint8_t *bytes; size_t length; };
 
 static uint8_t node;
-static const char *host, *port;
-static char start_file[32], history_file[32];
+static char start_file[32], history_file[32], *host, *port;
 
 static void rest(long milliseconds) { nanosleep(&(struct timespec){0, milliseconds * 1000000}, NULL); }
 
@@ -31,13 +31,13 @@ static void need(int holds, const char *what) {
   if (!holds) { perror(what); exit(1); }
 }
 
-static struct text read_file(const char *path) { /* no bytes, where there is no file */
-  struct stat info;
+static struct text read_file(const char *path) { /* no bytes, where there is no file; one that can't be read ends the member */
+  struct stat info = {.st_size = 0};
   int file = open(path, O_RDONLY);
-  size_t size = file >= 0 && fstat(file, &info) == 0 ? (size_t)info.st_size : 0;
-  struct text text = {malloc(size + 1), 0};
+  need(file >= 0 ? fstat(file, &info) == 0 : errno == ENOENT, path);
+  struct text text = {malloc((size_t)info.st_size + 1), 0};
   need(text.bytes != NULL, path);
-  for (ssize_t n; text.length < size && (n = read(file, text.bytes + text.length, size - text.length)) > 0;) text.length += n;
+  for (ssize_t n; file >= 0 && (n = read(file, text.bytes + text.length, (size_t)info.st_size - text.length)) != 0; text.length += n) need(n > 0, path);
   text.bytes[text.length] = 0;
   if (file >= 0) close(file);
   return text;

@@ -2,7 +2,7 @@
 //
 // usage: member NODE HOST PORT FOLDER    (made by rustc -O member.rs -L FOLDER_OF_THE_LIBRARY -l static=resetd_member)
 use std::fs::{self, File, OpenOptions};
-use std::io::{BufRead, BufReader, Read, Result, Write};
+use std::io::{BufRead, BufReader, ErrorKind, Read, Result, Write};
 use std::net::TcpStream;
 use std::os::unix::fs::FileExt;
 use std::{env, process, thread, time::Duration};
@@ -20,7 +20,7 @@ fn text(call: impl FnOnce(*mut u8, usize, &mut usize) -> u32) -> Vec<u8> {
 }
 
 /// The bytes of a file; none, where there is no file.
-fn read(path: &str) -> Vec<u8> { fs::read(path).unwrap_or_default() }
+fn read(path: &str) -> Result<Vec<u8>> { fs::read(path).or_else(|why| if why.kind() == ErrorKind::NotFound { Ok(Vec::new()) } else { Err(why) }) }
 
 /// Writes behind the first bytes of a file, in the place of all that is there; then it is on the disk.
 fn write_at(path: &str, size: usize, bytes: &[u8]) -> Result<()> {
@@ -74,7 +74,7 @@ impl Member {
     /// One that had no answer comes first; if it is the same, it counts as this one.
     fn order(&self, op: u8, epoch: u64) -> Result<()> {
         let (mut orders, wanted) = (Orders::default(), Order { op, a: self.node, b: 0, epoch });
-        if let [last, op, a, b, epoch] = numbers(&read("orders"))[..] {
+        if let [last, op, a, b, epoch] = numbers(&read("orders")?)[..] {
             orders = Orders { last, in_hand: Order { op: op as u8, a: a as u8, b: b as u8, epoch } };
         }
         let is_same = orders.in_hand == wanted;
@@ -92,13 +92,13 @@ impl Member {
     }
 
     fn talk(&self, epoch: u64, view: &[u8]) -> Result<()> {
-        let start = read(&format!("start-{}.json", self.node));
+        let start = read(&format!("start-{}.json", self.node))?;
         let tag = text(|out, room, length| unsafe {
             resetd_tag(view.as_ptr(), view.len(), self.node, start.as_ptr(), start.len(), b"".as_ptr(), 0, out, room, length)
         });
         let run = format!("{epoch} {}\n", if tag.is_empty() { "-" } else { std::str::from_utf8(&tag).unwrap() });
-        if read("run") != run.as_bytes() { keep("run", run.as_bytes())? }
-        let refused = read("refused").trim_ascii().to_vec();
+        if read("run")? != run.as_bytes() { keep("run", run.as_bytes())? }
+        let refused = read("refused")?.trim_ascii().to_vec();
         let _ = fs::remove_file("refused");
         let is_parted = unsafe { resetd_are_parted(tag.as_ptr(), tag.len(), refused.as_ptr(), refused.len()) };
         if is_parted { self.order(ORDER_RESET, 0) } else { Ok(()) }
@@ -106,7 +106,7 @@ impl Member {
 
     fn look(&self) -> Result<()> {
         let (start_file, history_file) = (format!("start-{}.json", self.node), format!("start-{}.history", self.node));
-        let (start, history, work) = (read(&start_file), read(&history_file), numbers(&read("work")));
+        let (start, history, work) = (read(&start_file)?, read(&history_file)?, numbers(&read("work")?));
         let work = Work { is_there: !work.is_empty(), epoch: work.first().copied().unwrap_or(0) };
         let (view, mut out, mut judged) = (self.ask(b"{\"op\":\"show\"}\n"), vec![0; MOST_TEXT], Judged::default());
         let (show, room) = ((view.as_ptr(), view.len()), (out.as_mut_ptr(), out.len()));

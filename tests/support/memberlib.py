@@ -1,4 +1,4 @@
-"""The proved library of the members' rule (`make lib`), as Python calls it."""
+"""The library of the members' rule for C, as Python calls it: what RESETD_MEMBER names, else the proved one (`make lib`)."""
 
 import ctypes
 import os

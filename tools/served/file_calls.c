@@ -1,71 +1,102 @@
-/* Loaded in front of the C library: ends the process group right in front of the Nth call by which one of its processes
- * changes files, counted over all of them. The file that FILE_CALLS names holds N (0 for never) and the count so far. */
+/* usage: file_calls COUNTS COMMAND..
+ *
+ * Runs a command, and ends its process group right in front of the Nth system call by which one of its processes changes
+ * files, counted over all of them. The file COUNTS holds N (0 for never) and the count so far. A filter of the kernel
+ * (seccomp) stops each process at these calls alone, for a process that traces them (ptrace); so it sees what is called
+ * past the C library, too. The command keeps the number of the process that was started. */
 #define _GNU_SOURCE
-#include <dlfcn.h>
 #include <errno.h>
 #include <fcntl.h>
+#include <linux/filter.h>
+#include <linux/seccomp.h>
 #include <signal.h>
-#include <stdarg.h>
+#include <stddef.h>
 #include <stdint.h>
+#include <stdio.h>
 #include <stdlib.h>
-#include <sys/file.h>
+#include <sys/prctl.h>
+#include <sys/ptrace.h>
 #include <sys/stat.h>
 #include <sys/syscall.h>
+#include <sys/user.h>
+#include <sys/wait.h>
 #include <unistd.h>
 
-static void count_one(void) {
-  const char *path = getenv("FILE_CALLS");
-  uint64_t at[2] = {0, 0};
-  int was = errno, file = path ? (int)syscall(SYS_openat, AT_FDCWD, path, O_RDWR | O_CLOEXEC) : -1;
-  if (file < 0) { errno = was; return; }
-  syscall(SYS_flock, file, LOCK_EX);
-  if (syscall(SYS_pread64, file, at, sizeof at, (off_t)0) == sizeof at) {
-    at[1]++;
-    if (at[1] == at[0]) syscall(SYS_kill, 0, SIGKILL);
-    syscall(SYS_pwrite64, file, at, sizeof at, (off_t)0);
-  }
-  syscall(SYS_close, file);
-  errno = was;
+static const unsigned changing[] = {
+  SYS_write, SYS_writev, SYS_pwrite64, SYS_pwritev, SYS_sendfile, SYS_copy_file_range, SYS_ftruncate, SYS_truncate, SYS_fallocate, SYS_fsync,
+  SYS_fdatasync, SYS_sync_file_range, SYS_rename, SYS_renameat, SYS_renameat2, SYS_unlink, SYS_unlinkat, SYS_link, SYS_linkat, SYS_symlink,
+  SYS_symlinkat, SYS_mkdir, SYS_mkdirat, SYS_rmdir, SYS_open, SYS_openat, SYS_creat,
+};
+enum { CALLS = sizeof changing / sizeof changing[0] };
+
+static void need(int holds, const char *what) {
+  if (!holds) { perror(what); exit(125); }
 }
 
-static int is_of_a_file(int file) {
+static void filter_calls(void) {
+  struct sock_filter rules[CALLS + 3] = {BPF_STMT(BPF_LD | BPF_W | BPF_ABS, offsetof(struct seccomp_data, nr))};
+  for (unsigned n = 0; n < CALLS; n++)
+    rules[1 + n] = (struct sock_filter)BPF_JUMP(BPF_JMP | BPF_JEQ | BPF_K, changing[n], CALLS - n, 0);
+  rules[CALLS + 1] = (struct sock_filter)BPF_STMT(BPF_RET | BPF_K, SECCOMP_RET_ALLOW);
+  rules[CALLS + 2] = (struct sock_filter)BPF_STMT(BPF_RET | BPF_K, SECCOMP_RET_TRACE);
+  need(prctl(PR_SET_NO_NEW_PRIVS, 1, 0, 0, 0) == 0, "no new privileges");
+  need(prctl(PR_SET_SECCOMP, SECCOMP_MODE_FILTER, &(struct sock_fprog){CALLS + 3, rules}) == 0, "seccomp");
+}
+
+static int changes_files(pid_t process) { /* a write to what is no file does not, nor does an open that makes none */
+  struct user_regs_struct call;
   struct stat info;
-  return fstat(file, &info) == 0 && S_ISREG(info.st_mode);
+  char path[64];
+  if (ptrace(PTRACE_GETREGS, process, 0, &call) != 0) return 0;
+  if (call.orig_rax == SYS_open) return (call.rsi & (O_CREAT | O_TRUNC)) != 0;
+  if (call.orig_rax == SYS_openat) return (call.rdx & (O_CREAT | O_TRUNC)) != 0;
+  if (call.orig_rax != SYS_write && call.orig_rax != SYS_writev) return 1;
+  snprintf(path, sizeof path, "/proc/%d/fd/%d", (int)process, (int)call.rdi);
+  return stat(path, &info) == 0 && S_ISREG(info.st_mode);
 }
 
-#define NEXT(name) ((__typeof__(&name))dlsym(RTLD_NEXT, #name))
-#define COUNTED(type, name, parameters, arguments, changes) \
-  type name parameters { \
-    if (changes) count_one(); \
-    return NEXT(name) arguments; \
+static int is_the_last(int counts) { /* counts one call more */
+  uint64_t at[2] = {0, 0};
+  need(pread(counts, at, sizeof at, 0) == sizeof at, "counts");
+  at[1]++;
+  need(pwrite(counts, &at[1], sizeof at[1], sizeof at[0]) == sizeof at[1], "counts");
+  return at[1] == at[0];
+}
+
+static void follow(int counts, pid_t group) { /* until none of the processes is left */
+  int status;
+  for (pid_t process; (process = waitpid(-1, &status, __WALL)) > 0 || errno == EINTR;) {
+    if (process <= 0 || !WIFSTOPPED(status)) continue;
+    int signal = WSTOPSIG(status), event = status >> 16;
+    if (event == PTRACE_EVENT_SECCOMP && changes_files(process) && is_the_last(counts)) kill(-group, SIGKILL);
+    else if (event == PTRACE_EVENT_STOP && signal != SIGTRAP) ptrace(PTRACE_LISTEN, process, 0, 0); /* the group is stopped */
+    else ptrace(PTRACE_CONT, process, 0, event ? 0 : signal);
   }
+}
 
-COUNTED(ssize_t, write, (int file, const void *bytes, size_t size), (file, bytes, size), is_of_a_file(file))
-COUNTED(ssize_t, pwrite, (int file, const void *bytes, size_t size, off_t at), (file, bytes, size, at), is_of_a_file(file))
-COUNTED(ssize_t, pwrite64, (int file, const void *bytes, size_t size, off64_t at), (file, bytes, size, at), is_of_a_file(file))
-COUNTED(int, ftruncate, (int file, off_t size), (file, size), 1)
-COUNTED(int, ftruncate64, (int file, off64_t size), (file, size), 1)
-COUNTED(int, fsync, (int file), (file), 1)
-COUNTED(int, fdatasync, (int file), (file), 1)
-COUNTED(int, rename, (const char *from, const char *to), (from, to), 1)
-COUNTED(int, renameat, (int folder, const char *from, int other, const char *to), (folder, from, other, to), 1)
-COUNTED(int, renameat2, (int folder, const char *from, int other, const char *to, unsigned how), (folder, from, other, to, how), 1)
-COUNTED(int, unlink, (const char *path), (path), 1)
-COUNTED(int, unlinkat, (int folder, const char *path, int how), (folder, path, how), 1)
+static void trace(pid_t process, int told, int counts) { /* in a process of its own, which nobody waits for */
+  long options = PTRACE_O_EXITKILL | PTRACE_O_TRACESECCOMP | PTRACE_O_TRACECLONE | PTRACE_O_TRACEFORK | PTRACE_O_TRACEVFORK;
+  if (fork() != 0) _exit(0);
+  setsid();
+  need(ptrace(PTRACE_SEIZE, process, 0, options) == 0 && write(told, "", 1) == 1, "ptrace");
+  close(told);
+  follow(counts, process);
+  _exit(0);
+}
 
-#define OPENED(name, first, passed) \
-  int name(first const char *path, int how, ...) { \
-    va_list rest; \
-    va_start(rest, how); \
-    mode_t mode = how & (O_CREAT | O_TMPFILE) ? va_arg(rest, mode_t) : 0; \
-    va_end(rest); \
-    if (how & (O_CREAT | O_TRUNC)) count_one(); \
-    return NEXT(name)(passed path, how, mode); \
-  }
-#define NO_FOLDER
-#define COMMA ,
-
-OPENED(open, , NO_FOLDER)
-OPENED(open64, , NO_FOLDER)
-OPENED(openat, int folder COMMA, folder COMMA)
-OPENED(openat64, int folder COMMA, folder COMMA)
+int main(int count, char **words) {
+  int told[2], counts = count > 2 ? open(words[1], O_RDWR | O_CLOEXEC) : -1;
+  char byte;
+  need(counts >= 0 && pipe2(told, O_CLOEXEC) == 0, "usage: file_calls COUNTS COMMAND..");
+  prctl(PR_SET_PTRACER, PR_SET_PTRACER_ANY, 0, 0, 0);
+  pid_t own = getpid(), tracer = fork();
+  need(tracer >= 0, "fork");
+  if (tracer == 0) trace(own, told[1], counts);
+  close(told[1]);
+  waitpid(tracer, NULL, 0);
+  if (read(told[0], &byte, 1) != 1) return 125; /* no ptrace here */
+  filter_calls();
+  execvp(words[2], words + 2);
+  perror(words[2]);
+  return 127;
+}

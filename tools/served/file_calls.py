@@ -10,20 +10,17 @@ NEVER = 0
 
 
 class FileCalls:
-    """A small library in front of the C library (file_calls.c) counts the calls of all the member's processes. It is made
-    where there is a C compiler. A program that calls the system by itself, as a static one does, is not seen."""
+    """A program around the member (file_calls.c) counts the system calls of all its processes, whatever language they are
+    written in. It is made where there is a C compiler for x86-64, and the kernel lets it trace its processes."""
 
     def __init__(self, folder: str) -> None:
-        self.why = "there is no C compiler"
-        self._library, self._counts = f"{folder}/file_calls.so", f"{folder}/file_calls"
+        self._program, self._counts = f"{folder}/file_calls", f"{folder}/file_calls.counts"
         self.die_at(NEVER)
-        compiler = shutil.which("cc")
-        self._is_made = compiler is not None and subprocess.run(
-            [compiler, "-O1", "-shared", "-fPIC", "-o", self._library, f"{FOLDER}/file_calls.c", "-ldl"], check=False).returncode == 0
+        self.why = self._make()
 
-    def environment(self) -> dict[str, str]:
-        """In which the member is started."""
-        return {**os.environ, "LD_PRELOAD": self._library, "FILE_CALLS": self._counts} if self._is_made else dict(os.environ)
+    def around(self, command: list[str]) -> list[str]:
+        """The words that start the member."""
+        return [self._program, self._counts, *command] if self.can_see else command
 
     def die_at(self, call: int) -> None:
         """The member dies in front of this call, counted from now on."""
@@ -32,11 +29,14 @@ class FileCalls:
 
     @property
     def can_see(self) -> bool:
-        """Whether any call was seen."""
-        if self._is_made and not self._count():
-            self.why = "it does not call the C library"
-        return self._is_made and self._count() > 0
+        return not self.why
 
-    def _count(self) -> int:
-        with open(self._counts, "rb") as file:
-            return int(struct.unpack("=QQ", file.read(16))[1])
+    def _make(self) -> str:
+        """Makes the program: why there is none, or nothing."""
+        compiler = shutil.which("cc")
+        if compiler is None:
+            return "there is no C compiler"
+        words = [compiler, "-O1", "-o", self._program, f"{FOLDER}/file_calls.c"]
+        made = subprocess.run(words, capture_output=True, check=False).returncode == 0
+        tried = made and subprocess.run([self._program, self._counts, "true"], capture_output=True, check=False).returncode == 0
+        return "" if tried else "no process may trace another one here"

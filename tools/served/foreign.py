@@ -235,6 +235,7 @@ class Tried:
         self.between = Between(trial, self.rule)
         self.others = Slow(trial, (1, 2))
         self.calls = FileCalls(trial.folder)
+        self.kills = 0  # in front of its file calls
 
     def start(self) -> None:
         host, port = self.between.listener.getsockname()
@@ -242,8 +243,8 @@ class Tried:
                  "signals": self.trial.server.signals}
         with open(f"{self.trial.folder}/foreign.lines", "ab") as lines:
             self.process: subprocess.Popen[bytes] = subprocess.Popen(
-                [word.format(**words) for word in self.command], stdin=subprocess.DEVNULL, stdout=lines, stderr=lines,
-                start_new_session=True, env=self.calls.environment())
+                self.calls.around([word.format(**words) for word in self.command]), stdin=subprocess.DEVNULL, stdout=lines,
+                stderr=lines, start_new_session=True)
 
     def kill(self) -> None:
         """Kills it, where it did not kill itself."""
@@ -257,6 +258,21 @@ class Tried:
 
     def go_on(self) -> None:
         os.killpg(self.process.pid, signal.SIGCONT)
+
+    def starts_without(self, name: str, what: str) -> None:
+        """Starts it anew with a folder in the place of a file, which no program can read; then with the file again."""
+        path, aside = f"{self.folder}/{name}", f"{self.trial.folder}/aside"
+        self.kill()
+        os.rename(path, aside)
+        os.mkdir(path)
+        self.start()
+        before = self.rule.looks
+        self.until(what, lambda: self.process.poll() is not None or self.rule.looks >= before + 2, may_end=True)
+        self.kill()
+        os.rmdir(path)
+        os.rename(aside, path)
+        self.start()
+        self.all_talk(f"{what}: after it can be read again")
 
     def dies_on_its_way(self, what: str) -> bool:
         """Whether it dies before it talks with the others."""
@@ -389,6 +405,18 @@ def of_restores(tried: Tried) -> None:
     tried.all_talk("after a store was put back")
 
 
+def of_unreadable(tried: Tried) -> None:
+    """A file of its own can't be read: it ends, or does what was due with the file. Once it talks, and once a store is put
+    back to where it has talked in the epoch that is shown."""
+    for name in sorted(os.listdir(tried.folder)):
+        if name in ("run", "refused") or name.endswith(".new") or not os.path.isfile(f"{tried.folder}/{name}"):
+            continue
+        tried.starts_without(name, f"its file {name} can't be read")
+        tried.kill()
+        tried.trial.put_back(f"{tried.trial.folder}/copy")
+        tried.starts_without(name, f"its file {name} can't be read, and a store was put back")
+
+
 def of_files(tried: Tried) -> None:
     tried.kill()
     shutil.rmtree(tried.folder)
@@ -449,13 +477,16 @@ def of_kills(tried: Tried) -> None:
         has_died = tried.dies_on_its_way(f"a reset, and a kill at file call {call}")
         tried.calls.die_at(0)
         if not has_died:
+            if call == 1:
+                raise Failed("a reset: it changes no file")
             return
+        tried.kills += 1
         tried.kill()
         tried.start()
         tried.all_talk(f"after it died at file call {call} behind a reset")
 
 
-EVENTS = (of_resets, of_links, of_second_hand, of_nodes, of_confirms, of_restores, of_kills, of_files)
+EVENTS = (of_resets, of_links, of_second_hand, of_nodes, of_confirms, of_restores, of_unreadable, of_kills, of_files)
 
 
 def lead(trial: Trial, command: list[str]) -> str:
@@ -469,5 +500,5 @@ def lead(trial: Trial, command: list[str]) -> str:
         if tried.process.poll() is None:
             tried.kill()
         tried.between.listener.close()
-    kills = "" if tried.calls.can_see else f" ({tried.calls.why}: no kill between two of its file calls)"
-    return f"{tried.rule.looks} looks, and each time it did what was due{kills}"
+    kills = f"{tried.kills} kills in front of its file calls" if tried.calls.can_see else f"no such kill, since {tried.calls.why}"
+    return f"{tried.rule.looks} looks, and each time it did what was due; {kills}"

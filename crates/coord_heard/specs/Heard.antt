@@ -1,0 +1,60 @@
+-- The line that the server prints of a view, of a reply and of a refusal is read as that.
+use Rattle.std.specs.Prelude.{◌≡◌, ◌≤◌, ◌<◌, ◌^◌, ℕ, List, Option, Some, None, Ok}
+use Rattle.std.specs.List.{AllByRecursion}
+use Rattle.coord_types.specs.declared.limits.TheConstants.{MAX_GROUPS, MAX_NODES}
+use Rattle.coord_types.specs.declared.steps.Reply.{Reply}
+use Rattle.coord_view.specs.Shown.{Shown}
+use Rattle.coord_view.specs.declared.view.LinkView.{LinkView}
+use Rattle.coord_view.specs.declared.view.NodeView.{NodeView}
+use Rattle.coord_orders.specs.declared.meaning.Answer.TheVariants as heard
+use Rattle.coord_admin.specs.Replies.{reply_line}
+use Rattle.coord_admin.specs.declared.answer.Answer.TheVariants as printed
+use Rattle.coord_wire.specs.AnswerLine.{answer_in, kinds, refusals}
+use Rattle.coord_wire.specs.ShowLine.{shown_in}
+
+-- ---- the numbers of a view are those of its types
+
+abbrev pub IsWord : ℕ → Type 0
+IsWord n = n < 2 ^ 64
+
+abbrev pub IsIn : ℕ → ℕ → Type 0
+IsIn most n = (1 ≤ n) × (n ≤ most)
+
+abbrev pub IsParent : Option ℕ → Type 0
+IsParent None = Unit {0}
+IsParent (Some u) = IsIn MAX_NODES u
+
+pub record IsNode (v : NodeView) : Type 0 where
+  pub node : IsIn MAX_NODES v.node
+  pub group : IsIn MAX_GROUPS v.group
+  pub parent : IsParent v.parent
+  pub epoch : IsWord v.epoch
+  pub confirmed : IsWord v.confirmed
+
+pub record IsLink (l : LinkView) : Type 0 where
+  pub a : IsIn MAX_NODES l.a
+  pub b : IsIn MAX_NODES l.b
+  pub inc : IsWord l.inc
+
+pub record IsView (v : Shown) : Type 0 where
+  pub accepted : IsWord v.accepted
+  pub settled : IsWord v.settled
+  pub nodes : AllByRecursion IsNode v.nodes
+  pub links : AllByRecursion IsLink v.links
+
+-- ---- what is read
+
+-- of each view
+abbrev pub ShownIsRead : Type 0
+ShownIsRead = (v : Shown) → IsView v → shown_in (reply_line (printed.Shown v)) ≡ Ok v
+
+-- of each reply to an order
+abbrev pub IsReadOf : Reply → Type 0
+IsReadOf r = answer_in (reply_line (printed.Replied r)) ≡ Ok (heard.Replied r)
+
+abbrev pub ReplyIsRead : Type 0
+ReplyIsRead = AllByRecursion (λ row. (step : ℕ) → IsWord step → IsReadOf (record { step = step; kind = row.1 })) kinds
+
+-- of each refusal that an order may get
+abbrev pub RefusalIsRead : Type 0
+RefusalIsRead = AllByRecursion (λ row. answer_in (reply_line (printed.Refused row.1)) ≡ Ok (heard.Refused row.1)) refusals
