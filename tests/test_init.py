@@ -84,7 +84,7 @@ class Init(Case):
         for number, (text, count) in enumerate(READ):
             with self.subTest(text=text[:60]):
                 self.assertEqual(self.init(text, f"store{number}"), Ended(0, f"created {count}\n", ""))
-        # it is read, and its order is refused
+        # a link of a node with itself is read, and its order is refused
         self.assertEqual(self.init("link = [{a = 1, b = 1}]", "linked"), faulted(1, "6 UnknownNode"))
 
     def test_the_largest_network(self) -> None:

@@ -83,7 +83,7 @@ TOLD = [
                       [link(1, 2, 4), link(1, 3, 5), link(2, 3, 6)])),
 ]
 ASKED = [node(1, ABORT, awaits=[2], version=2), node(2, version=2)]
-# And of worlds of version 2.
+# Worlds of version 2, and what `check` says of them.
 TOLD_OF_DISTANCES = [
     # a miscount comes before an Abort that carries 2 from distance 0, though it is of the other lane
     ("violated 2 1 A", world(4, ASKED, [link(1, 2, 3, (0, 0, [abort(2, 2)]), (0, 1, []))])),
