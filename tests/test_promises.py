@@ -14,7 +14,7 @@ CONNECTIONS = "crates/coord_admin/specs/Connections.antt"
 
 
 class Copied(Case):
-    takes = 20
+    takes = 40
 
     def copy(self) -> pathlib.Path:
         """A copy of what the list is made of."""
@@ -70,6 +70,17 @@ class Promises(Copied):
         status, said = self.compare(copy)
         self.assertEqual(status, 1, said)
         self.assertIn("a row names `serve_everybody`, which is not in coord_admin or below", said)
+
+    def test_a_row_without_a_title_of_its_own(self) -> None:
+        for title in ("", "its faults", "Exact checker"):
+            with self.subTest(title):
+                copy = self.copy()
+                table = copy / "docs/PROMISES.md"
+                table.write_text(table.read_text() + f"\n| {title} | nothing | coord_check `check` (`legal`) |\n")
+                status, said = self.compare(copy)
+                self.assertEqual(status, 1, said)
+                self.assertIn("a row has no title of its own", said)
+                shutil.rmtree(copy)
 
     def test_a_row_that_names_a_clause_of_another_function(self) -> None:
         copy = self.copy()

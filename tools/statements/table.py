@@ -14,8 +14,7 @@ TABLE = "docs/PROMISES.md"
 
 
 class Row(NamedTuple):
-    """A row: what it is called, behind the row that it leans on; what it says; and of each function that it cites, the clauses
-    that it names."""
+    """A row: what it is called, what it says, and of each function that it cites, the clauses that it names."""
 
     title: str
     words: str
@@ -31,14 +30,13 @@ class Table:
         self.wrong: list[str] = []
         self.rows: list[Row] = []
         self.names = self.all_names()
-        above = ""
         for line in (repository.root / TABLE).read_text().splitlines():
             cells = [cell.strip() for cell in line.strip().strip("|").split("|")]
             if line.startswith("|") and len(cells) == 3 and cells[2] not in ("---", "Carried by"):
                 title, words, carried = cells
-                leans = not title or title[0].islower()
-                above = above if leans else title
-                self.rows.append(Row(f"{above}, {title}".rstrip(", ") if leans else title, words, self.read(carried)))
+                if not title or title[0] in "." or title[0].islower() or title in [row.title for row in self.rows]:
+                    self.wrong.append(f"{TABLE}: a row has no title of its own: {line[:80]}")
+                self.rows.append(Row(title, words, self.read(carried)))
 
     def all_names(self) -> dict[str, set[str]]:
         """What a row may name of each crate."""
