@@ -27,6 +27,8 @@ class Table:
     def __init__(self, repository: Repository):
         self.repository = repository
         self.named: set[tuple[str, str]] = set()
+        # the definitions and the types that rows name
+        self.defined: set[str] = set()
         self.wrong: list[str] = []
         self.rows: list[Row] = []
         self.names = self.all_names()
@@ -70,6 +72,8 @@ class Table:
                 functions = functions if depth else []
             elif name not in self.repository.crates:
                 found = self.look_up(crates or self.repository.crates, name, cell)
+                if not found and (name[0].isupper() or not self.is_clause(name)) and "::" not in name:
+                    self.defined.add(name)
                 if depth == 0:
                     functions += found
                     cites |= {function.key: cites.get(function.key, set()) for function in found}
@@ -78,6 +82,11 @@ class Table:
                 for function in functions if depth else []:
                     cites[function.key] |= {name} & {*function.ensured}
         return cites
+
+    def is_clause(self, name: str) -> bool:
+        """Whether a clause or a ghost member is called so."""
+        labels = {label.split()[-1] for function in self.repository.functions for label, _ in function.clauses}
+        return name in labels | {ghost.name for ghost in self.repository.ghosts}
 
     def look_up(self, crates: list[str], name: str, cell: str) -> list[Function]:
         """The functions that a name means. It has to be of these crates or of those below them."""
