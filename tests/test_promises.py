@@ -139,7 +139,7 @@ class Broken(Copied):
         self.assertIn("no wrong body of refusals/ breaks coord_orders book::OrderBook::hear, which a row cites", said)
 
     def test_a_function_that_is_listed_as_not_tried(self) -> None:
-        """And was tried, or is in no row."""
+        """The list has a function that was tried, and one that is in no row."""
         copy = self.copy()
         with open(copy / "refusals/not-tried.txt", "a", encoding="utf-8") as file:
             file.write("coord_check search::check\ncoord_check search::nothing\n")
