@@ -38,7 +38,7 @@ class Connections(Case):
             self.assertEqual(server.close().status, 0)
 
     def test_fifteen_hundred_that_say_nothing(self) -> None:
-        """They come and go. There is no end to those who may come."""
+        """Clients come and go. There is no end to those who may come."""
         with self.serving() as server:
             host, port = server.address.split(":")
             for _ in range(1_500):
@@ -151,7 +151,7 @@ class Connections(Case):
             self.assertEqual(server.close().status, 0)
 
     def test_a_client_that_says_it_sends_no_more(self) -> None:
-        """It still has all its answers, and then the connection ends."""
+        """The client still has all its answers, and then the connection ends."""
         with self.serving() as server, server.connect() as connection:
             connection.send({"op": "resend"}, {"op": "resend"}, b'{"op":"sh')
             connection.socket.shutdown(socket.SHUT_WR)
@@ -166,7 +166,7 @@ class Connections(Case):
                     self.assertEqual(connection.rest(), [])
 
     def test_an_order_of_a_client_that_left_is_kept(self) -> None:
-        """It had no answer; sent again, it has the answer of its one step."""
+        """The order had no answer; sent again, it has the answer of its one step."""
         with Serving(self.made(ring(8))) as server:
             for number in range(1, 11):
                 with server.connect() as connection:

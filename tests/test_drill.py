@@ -107,7 +107,7 @@ class LongRuns(Case):
         self.assertEqual(drill_text("add 1 1\nadd 2 1"), Ended(0, "done 1\ndone 2\n", ""))
 
     def test_lines_that_are_bad(self) -> None:
-        """They are counted from 1, skipped ones too."""
+        """Lines are counted from 1, skipped ones too."""
         bad = ["add 1", "add  1 1", " add 1 1", "add 1 1 ", "add 1 1\r", "fly", "add 65 1", "#" * 513]
         text = "".join(f"{line}\n" for line in ["# a comment", "", *bad]) + "#" * 512
         self.assertEqual(drill_text(text), Ended(0, "".join(f"bad line {line}\n" for line in range(3, 11)), ""))

@@ -67,7 +67,7 @@ class Ends(Case):
         self.assertEqual(ran("serve", store, "192.0.2.1:4170"), faulted(3, "Socket"))
 
     def test_the_address_that_is_named(self) -> None:
-        """It can be had again at once by the next start."""
+        """The address can be had again at once by the next start."""
         store = self.made(topology([(1, 1)]))
         with Serving(store) as server:
             address = server.address
@@ -81,7 +81,7 @@ class Ends(Case):
                 self.assertEqual(server.close().status, 0)
 
     def test_an_address_of_several(self) -> None:
-        """It listens at the one that is named, says so, and is at no other."""
+        """The server listens at the address that is named, says so, and is at no other."""
         store = self.made(topology([(1, 1)]))
         with Serving(store, address="127.255.255.254:0") as server:
             self.assertEqual(server.address.split(":")[0], "127.255.255.254")

@@ -36,7 +36,7 @@ class Made(Case):
                 self.assertEqual(stat.S_IMODE(os.stat(self.path(command)).st_mode), 0o600)
 
     def test_one_that_another_process_makes_meanwhile(self) -> None:
-        """It stays as it is."""
+        """The file stays as it is."""
         self.needs("a C compiler", preloaded.has_compiler())
         other = self.made(ONE, "other")
         before = self.read("other")
@@ -59,7 +59,7 @@ class ReadOnly(Case):
         return Ended(done.returncode, done.stdout.decode(), done.stderr.decode())
 
     def test_a_store(self) -> None:
-        """It is checked and shown, and neither served nor raised."""
+        """The store is checked and shown, and neither served nor raised."""
         path = self.made(ONE)
         before = self.read("store")
         os.chmod(path, 0o400)
@@ -194,11 +194,11 @@ class Called(Case):
         self.expect_refused(COMMANDS[1:], READ_FAILS=1)
 
     def test_a_file_that_ends_too_soon(self) -> None:
-        """It is cut while it is read."""
+        """The file is cut while it is read."""
         self.expect_refused(COMMANDS[1:], [errno.EIO], READ_ENDS=1)
 
     def test_a_write_that_is_interrupted(self) -> None:
-        """It is made again, and nobody hears of it."""
+        """The call is made again, and nobody hears of it."""
         for number in (1, 2, 3):
             words = ["init", self.path(f"store{number}"), self.write("topology", ONE)]
             environment = self.environment(ERROR=errno.EINTR, WRITE_FAILS=number)

@@ -84,7 +84,7 @@ class Init(Case):
         for number, (text, count) in enumerate(READ):
             with self.subTest(text=text[:60]):
                 self.assertEqual(self.init(text, f"store{number}"), Ended(0, f"created {count}\n", ""))
-        # it is read, and its order is refused
+        # a link of a node with itself is read, and its order is refused
         self.assertEqual(self.init("link = [{a = 1, b = 1}]", "linked"), faulted(1, "6 UnknownNode"))
 
     def test_the_largest_network(self) -> None:
@@ -109,7 +109,7 @@ class Init(Case):
                 self.assertEqual(ran("check", self.path(f"store{number}")), Ended(0, "legal 0\n", ""))
 
     def test_more_entries_than_there_may_be(self) -> None:
-        """They are no fault of the text, be they all alike: the first order that is refused is told."""
+        """Too many entries are no fault of the text, be they all alike: the first order that is refused is told."""
         pair = "node = [{id = 1, group = 1}, {id = 2, group = 1}]\n"
         for name, text in (("7 NodeExists", "node = [" + "{id=1,group=1}," * 300 + "]"),
                            ("11 LinkExists", pair + "link = [" + "{a=1,b=2}," * 300 + "]"),

@@ -42,7 +42,7 @@ class Descriptors(Case):
         self.fail("a client was served without a descriptor")
 
     def test_too_few_to_begin(self) -> None:
-        """It has all that it needs before it says that it listens: it serves, or says why it does not, and ends."""
+        """The server has all that it needs before it says that it listens: it serves, or says why it does not, and ends."""
         store, ends = self.made(topology([(1, 1)])), set[tuple[str, str, int]]()
         before = self.read("store")
         for most in range(4, 13):
@@ -74,7 +74,7 @@ class Descriptors(Case):
             self.assertEqual((error, ended), (error, faulted(3, "Socket")))
 
     def test_an_address_that_is_not_told(self) -> None:
-        """It can't be printed, so nobody is served."""
+        """The address can't be printed, so nobody is served."""
         self.needs("a C compiler", preloaded.has_compiler())
         environment = {**os.environ, **preloaded.environment(self.folder, NAME_FAILS=1)}
         store = self.made(topology([(1, 1)]))

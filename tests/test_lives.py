@@ -88,7 +88,7 @@ class Lives(Served):
             self.assertEqual(signals, [(1, epoch) for epoch in range(1, len(signals) + 1)])
 
     def test_a_close_behind_many_lives(self) -> None:
-        """Its answer can be read though lines stand behind it, and all is settled."""
+        """The answer to a close can be read though lines stand behind it, and all is settled."""
         with Serving(self.made(topology([(1, 1)])), program=SHORT) as server:
             for number in range(1, 101):
                 server.order(number, "reset", node=1)
@@ -99,7 +99,7 @@ class Lives(Served):
             self.assertEqual((ended.status, ended.told, len(ended.printed.splitlines())), (0, "", 101))
 
     def test_an_output_that_is_not_read(self) -> None:
-        """It holds up no answer, and no next life: what a life has released is printed in later ones."""
+        """A slow output holds up no answer, and no next life: what a life has released is printed in later ones."""
         with Piped(self.made(topology([(1, 1)])), program=SHORT) as server:
             count = 20 * SHORT_STEPS
             for first in range(1, count, SHORT_STEPS):

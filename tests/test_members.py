@@ -211,7 +211,7 @@ class Members(Case):
             self.assertEqual(history, history_text(digests) + told.line, state)
 
     def test_the_files_of_the_python_library(self) -> None:
-        """Its starts, over files: they hold the same bytes."""
+        """The starts of a member, over files: they hold the same bytes."""
         states = Random(5)
         for turn in range(1_000):
             view, node, kept, digests, work = state = states.state()
@@ -336,7 +336,7 @@ class Searches(Case):
         return done.stdout.splitlines()[-1]
 
     def test_the_search_with_the_proved_judge(self) -> None:
-        """It comes to as many states as the one with the Python judge, and finds the mix where a part is left out."""
+        """The search comes to as many states as the one with the Python judge, and finds the mix where a part is left out."""
         for about, depth in (("all", 5), ("lose", 5), ("restore", 6), ("readd", 8), ("links", 9)):
             words = ["--about", about, "--depth", str(depth)]
             self.assertEqual(self.said(*words, "--library", PATH), self.said(*words))

@@ -52,7 +52,7 @@ class Orders(Served):
             self.assertEqual(server.signals(), [(65 - client, 1) for client in range(1, 17)])
 
     def test_one_link_of_several(self) -> None:
-        """It goes alone, and is another one when it is joined again."""
+        """A link goes alone, and is another one when it is joined again."""
         with Serving(self.made(ring(5))) as server:
             before = server.show()["links"]
             for number, (a, b) in enumerate(((3, 4), (5, 1)), 1):
@@ -289,7 +289,7 @@ class Stores(Served):
         self.assertEqual(ran("show", server.store).printed, f"view {2**40} {2**40}\nnode 1 1 ready 0 {left} 0\n")
 
     def test_the_longest_world(self) -> None:
-        """It is shown whole, and each lane has a packet and a receipt to be sent again. It takes no further step."""
+        """The world is shown whole, and each lane has a packet and a receipt to be sent again. It takes no further step."""
         with Serving(self.write("store", stores.store(stores.longest_world(), version=2))) as server, \
                 server.connect() as connection:
             for _ in range(2):

@@ -53,7 +53,7 @@ class Patience(Case):
         return Serving(self.made(ring(nodes) if nodes > 2 else topology([(1, 1)])), env=env)
 
     def expect_within(self, seconds: float, begun: float, server: Serving, early: float = 0) -> None:
-        """It took as long as that since before the client did its part, and the server serves the next client."""
+        """The wait took as long as that since before the client did its part, and the server serves the next client."""
         took = time.monotonic() - begun
         self.assertGreaterEqual(took, seconds - early)
         self.assertLess(took, seconds + LATE)
@@ -231,7 +231,7 @@ class Patience(Case):
             self.assertLessEqual(self.served_to_the_end(connection, HALVES[1] + HALVES[0]), 1)
 
     def test_a_line_that_begins_behind_a_slow_one(self) -> None:
-        """It has its own time, which begins with its own first byte, though that came with the end of the other."""
+        """The next line has its own time, which begins with its own first byte, though that came with the end of the other."""
         self.needs("a C compiler", preloaded.has_compiler())
         environment = preloaded.environment(self.folder, CLOCK=self.clock(0), STILL=1)
         with self.serving(env=environment) as server, server.connect() as connection:

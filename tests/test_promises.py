@@ -1,4 +1,5 @@
-"""The list of what is promised, what breaks it, and how `refusals/run` finds the function of a wrong body."""
+"""The list of what is promised, what breaks it, that one name means one thing, and how `refusals/run` finds the function of
+a wrong body."""
 
 import importlib.machinery
 import importlib.util
@@ -14,12 +15,12 @@ CONNECTIONS = "crates/coord_admin/specs/Connections.antt"
 
 
 class Copied(Case):
-    takes = 20
+    takes = 40
 
     def copy(self) -> pathlib.Path:
         """A copy of what the list is made of."""
         copy = pathlib.Path(self.folder) / "repository"
-        for part in ("crates.txt", "docs/PROMISES.md", "docs/promises.lock", "tools/promises"):
+        for part in ("crates.txt", "docs/PROMISES.md", "docs/names.txt", "docs/promises.lock", "tools/names", "tools/promises"):
             (copy / part).parent.mkdir(parents=True, exist_ok=True)
             shutil.copy(f"{ROOT}/{part}", copy / part)
         for part in ("refusals", "tools/statements"):
@@ -30,9 +31,9 @@ class Copied(Case):
                     shutil.copytree(f"{ROOT}/crates/{crate}/{part}", copy / "crates" / crate / part)
         return copy
 
-    def compare(self, copy: pathlib.Path) -> tuple[int, str]:
+    def compare(self, copy: pathlib.Path, script: str = "promises") -> tuple[int, str]:
         """The status and the lines of the comparison."""
-        ran = subprocess.run([copy / "tools/promises"], capture_output=True, text=True, check=False)
+        ran = subprocess.run([copy / "tools" / script], capture_output=True, text=True, check=False)
         return ran.returncode, ran.stdout + ran.stderr
 
     def change(self, copy: pathlib.Path, file: str, old: str, new: str) -> None:
@@ -70,6 +71,17 @@ class Promises(Copied):
         status, said = self.compare(copy)
         self.assertEqual(status, 1, said)
         self.assertIn("a row names `serve_everybody`, which is not in coord_admin or below", said)
+
+    def test_a_row_without_a_title_of_its_own(self) -> None:
+        for title in ("", "its faults", "Exact checker"):
+            with self.subTest(title):
+                copy = self.copy()
+                table = copy / "docs/PROMISES.md"
+                table.write_text(table.read_text() + f"\n| {title} | nothing | coord_check `check` (`legal`) |\n")
+                status, said = self.compare(copy)
+                self.assertEqual(status, 1, said)
+                self.assertIn("a row has no title of its own", said)
+                shutil.rmtree(copy)
 
     def test_a_row_that_names_a_clause_of_another_function(self) -> None:
         copy = self.copy()
@@ -127,7 +139,7 @@ class Broken(Copied):
         self.assertIn("no wrong body of refusals/ breaks coord_orders book::OrderBook::hear, which a row cites", said)
 
     def test_a_function_that_is_listed_as_not_tried(self) -> None:
-        """And was tried, or is in no row."""
+        """The list has a function that was tried, and one that is in no row."""
         copy = self.copy()
         with open(copy / "refusals/not-tried.txt", "a", encoding="utf-8") as file:
             file.write("coord_check search::check\ncoord_check search::nothing\n")
@@ -135,6 +147,50 @@ class Broken(Copied):
         self.assertEqual(status, 1, said)
         self.assertIn("not-tried.txt: coord_check search::check: a wrong body breaks it now", said)
         self.assertIn("not-tried.txt: coord_check search::nothing: no row cites such a function", said)
+
+
+class Names(Copied):
+    """One name means one thing."""
+
+    DEFINED = "\nabbrev pub {0} : Type 0\n{0} = Unit {{0}}\n"
+
+    def define(self, copy: pathlib.Path, file: str, name: str) -> None:
+        with open(copy / file, "a", encoding="utf-8") as specs:
+            specs.write(self.DEFINED.format(name))
+
+    def test_each_name_has_one_meaning_or_a_reason(self) -> None:
+        ran = subprocess.run([tool("names")], capture_output=True, text=True, check=False)
+        self.assertEqual(ran.returncode, 0, ran.stdout[-3_000:])
+
+    def test_a_cited_name_that_another_crate_defines_too(self) -> None:
+        copy = self.copy()
+        self.define(copy, "crates/coord_config/specs/Keys.antt", "IsWave")
+        status, said = self.compare(copy, "names")
+        self.assertEqual(status, 1, said)
+        self.assertIn("cites `IsWave`, which 2 crates define: coord_config.specs.Keys, coord_world.specs.laws.Waves", said)
+
+    def test_a_name_of_a_crate_below(self) -> None:
+        copy = self.copy()
+        self.define(copy, "crates/coord_commands/specs/Words.antt", "next_size")
+        status, said = self.compare(copy, "names")
+        self.assertEqual(status, 1, said)
+        self.assertIn("next_size is defined in coord_commands.specs.Words and coord_ledger.specs.machine.Answers", said)
+
+    def test_a_name_of_a_crate_aside(self) -> None:
+        """Two crates of which neither stands on the other may each have it."""
+        copy = self.copy()
+        self.define(copy, "crates/coord_member/specs/Rule.antt", "next_size")
+        status, said = self.compare(copy, "names")
+        self.assertEqual(status, 0, said)
+
+    def test_a_listed_name_that_is_no_double(self) -> None:
+        copy = self.copy()
+        with open(copy / "docs/names.txt", "a", encoding="utf-8") as names:
+            names.write(": next_size\n")
+        status, said = self.compare(copy, "names")
+        self.assertEqual(status, 1, said)
+        self.assertIn("docs/names.txt: next_size is no double any more", said)
+        self.assertIn("docs/names.txt: next_size has no reason", said)
 
 
 class Heads(Case):

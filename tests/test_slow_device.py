@@ -90,7 +90,7 @@ class SlowDevice(Case):
             self.assertEqual(server.close().status, 0)
 
     def test_callers_that_do_not_come_again(self) -> None:
-        """They are waited for as long as a sixteenth of their flight took, by a clock that is put forward in its midst."""
+        """Callers are waited for as long as a sixteenth of their flight took, by a clock that is put forward in its midst."""
         self.needs("a C compiler", preloaded.has_compiler())
         calls, clock = self.path("calls"), self.write("clock", bytes(8))
         settings = preloaded.environment(self.folder, SYNC_MILLIS=500, CALLS=calls, CLOCK=clock)

@@ -28,7 +28,7 @@ class SlowOutput(Case):
                     self.assertEqual(connection.reply(), {"kind": "finished", "step": number + 1})
 
     def test_an_output_that_is_not_read(self) -> None:
-        """It holds up no answer. After the close the server ends only once all is printed."""
+        """A slow output holds up no answer. After the close the server ends only once all is printed."""
         with Piped(self.made(topology([(1, 1)], half=stores.HALF))) as server:
             self.reset(server, range(1, MANY_SIGNALS + 1))
             self.assertEqual(server.ask({"op": "close"}), {"kind": "closed"})

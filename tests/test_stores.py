@@ -83,7 +83,7 @@ TOLD = [
                       [link(1, 2, 4), link(1, 3, 5), link(2, 3, 6)])),
 ]
 ASKED = [node(1, ABORT, awaits=[2], version=2), node(2, version=2)]
-# And of worlds of version 2.
+# Worlds of version 2, and what `check` says of them.
 TOLD_OF_DISTANCES = [
     # a miscount comes before an Abort that carries 2 from distance 0, though it is of the other lane
     ("violated 2 1 A", world(4, ASKED, [link(1, 2, 3, (0, 0, [abort(2, 2)]), (0, 1, []))])),
@@ -123,7 +123,7 @@ class Refused(Case):
                     self.assertEqual(self.read("store"), content)
 
     def test_a_file_that_is_not_there(self) -> None:
-        """It is made, and is no store."""
+        """The file is made, and is no store."""
         for command, more in COMMANDS.items():
             with self.subTest(command=command):
                 self.assertEqual(ran(command, self.path(command), *more), faulted(1, "NoMagic"))
@@ -213,7 +213,7 @@ class Checked(Case):
                     self.assertEqual(self.check(snapshot, version), Ended(int(line[0] == "v"), f"{line}\n", ""))
 
     def test_a_distance_that_differs(self) -> None:
-        """It is told behind a fault of an earlier letter, though that is of the other end."""
+        """A distance is told behind a fault of an earlier letter, though that is of the other end."""
         rows = [node(2, ABORT, awaits=[64], version=2), node(64, version=2)]
         queue = (0, 0, [abort(3, 2)])
         self.assertEqual(self.check(world(4, rows, [link(2, 64, 3, queue)]), 2), Ended(1, "violated 2 64 H\n", ""))
@@ -272,7 +272,7 @@ class Migrated(Case):
                 self.assertEqual(ran("show", path), Ended(0, "view 1 1\nnode 64 1 ready 0 0 0\n", ""))
 
     def test_one_in_which_a_reset_came_to_its_end(self) -> None:
-        """It has one batch a step: two nodes, their link, the reset, and the steps of its wave."""
+        """The store has one batch a step: two nodes, their link, the reset, and the steps of its wave."""
         started = [add(1), add(2, number=2), order(3, 2, 1, 2), order(4, 4, 1)]
         ended = [take(1, 2, 3, 1, abort()), take(2, 1, 3, 1, ACK), clear(1, 2, 3, 1), take(1, 2, 3, 2, IS_READY)]
         self.assertEqual(ran("migrate", self.store_of(started)), faulted(1, "NotQuiet 1"))

@@ -67,7 +67,7 @@ class Together(Served):
             self.expect_closed(server, 11)
 
     def test_as_many_as_a_flight_takes(self) -> None:
-        """They come in several reads. One packet may be taken up while it still comes in, so two more are let pass."""
+        """The packets come in several reads. One packet may be taken up while it still comes in, so two more are let pass."""
         with self.serving(ALONE) as server:
             self.resets(server, range(1, 2))
             self.assertLessEqual(self.flights(server, lambda: self.resets(server, range(2, 258))), 3)
@@ -200,7 +200,7 @@ class Refused(Served):
         self.expect_answers(ALL_THREADS)
 
     def test_each_allocation_of_the_thread_that_answers(self) -> None:
-        """They come in the same order each time, so that none is left out."""
+        """The allocations come in the same order each time, so that none is left out."""
         self.expect_answers(FIRST_THREAD)
 
     def expect_answers(self, threads: range) -> None:

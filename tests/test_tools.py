@@ -66,7 +66,7 @@ class Tools(Run):
         self.expect(tool("test_services"), "--program", PROGRAM, "--seconds", "300", "second-hand", ends_with="services lose no reset")
 
     def test_the_search_of_the_members_rule(self) -> None:
-        """It ends with nothing left to try; and it finds the mix where a part of the rule is left out."""
+        """The search ends with nothing left to try, and finds the mix where a part of the rule is left out."""
         search = [tool("member_search"), "--seconds", "800", "--about"]
         self.expect(*search, "links", ends_with="links, 3 members: nothing is mixed after 20 events, 12580 states")
         weaker = subprocess.run([*search, "readd", "--without", "dropped"], stdin=subprocess.DEVNULL, capture_output=True, text=True,

@@ -70,7 +70,7 @@ def hostile(program: str, library: str, count: int) -> float:
 
 
 def connected(server: Server, count: int) -> list[socket.socket]:
-    """So many connections, none of which says anything."""
+    """As many connections as asked for, none of which says anything."""
     most = resource.getrlimit(resource.RLIMIT_NOFILE)[1]
     resource.setrlimit(resource.RLIMIT_NOFILE, (most, most))
     kept = []

@@ -89,7 +89,7 @@ def gateway(program: str, library: str, count: int) -> tuple[float, float]:
 
 
 def services(program: str, library: str, nodes: int, count: int, is_front: bool) -> tuple[float, float]:
-    """So many services, each with a client of its own, over a ring; at the port or through a front."""
+    """As many services as asked for, each with a client of its own, over a ring; at the port or through a front."""
     links = [(node, node % nodes + 1) for node in range(1, nodes + 1)]
     with Server(program, library, nodes, links) as server:
         if is_front:

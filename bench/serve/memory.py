@@ -51,7 +51,7 @@ class Caller:
         self.connection: Connection | None = None
 
     def order(self, count: int, stays: bool) -> None:
-        """So many orders, all sent before the first reply is read."""
+        """As many orders as asked for, all sent before the first reply is read."""
         lines = [b'{"op":"reset","client":1,"number":%d,"node":1}\n' % (self.number + place + 1) for place in range(count)]
         done = 0
         while done < count:

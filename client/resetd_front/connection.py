@@ -16,7 +16,7 @@ class Home(Protocol):
     """What a connection asks of the front."""
 
     def came(self, connection: Connection) -> None:
-        """It is there, and its peer is known."""
+        """The connection is there, and its peer is known."""
 
     def works(self, connection: Connection) -> int:
         """How many of its lines have no answer that was given out."""
@@ -31,11 +31,11 @@ class Home(Protocol):
         """All that was sent has gone out."""
 
     def gone(self, connection: Connection) -> None:
-        """It is over."""
+        """The connection is over."""
 
 
 class Connection(asyncio.Protocol):
-    """It reads no further while as many lines as it may have are in the works, or while its client takes no answers."""
+    """The connection reads no further while as many lines as it may have are in the works, or its client takes no answers."""
 
     __slots__ = ("home", "number", "since", "last", "peer", "why", "stuck_since", "left", "_peer_of", "_transport", "_input",
                  "_is_long", "_is_ended", "_is_paused", "_is_reading", "_holds_open")

@@ -199,7 +199,7 @@ class Upstream:
             for outcome in self._own.answered(line, text, answer):
                 self._settle(outcome.line, outcome.answer)
         elif line.sent > 1 and answer.get("refused") == Refusal.OUT_OF_TURN:
-            # it may have been carried out when it was sent before, and another order of its client behind it
+            # the order may have been carried out when it was sent before, and another order of its client behind it
             self._events.unanswered(line.asked)
         else:
             self._events.answered(self._pairing.give(line, text), line)

@@ -38,7 +38,7 @@ class Watchers:
         return iter(list(self._all))
 
     def add(self, watcher: Watcher) -> None:
-        """It has the newest view already."""
+        """The watcher has the newest view already."""
         self._all[watcher] = None
 
     def remove(self, watcher: Watcher) -> None:

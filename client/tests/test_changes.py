@@ -105,7 +105,7 @@ class Files(unittest.TestCase):
         self.expect_woken(files, lambda: self.write(f"{self.folder}/inner/file"))
 
     def test_a_wait_that_nothing_ends(self) -> None:
-        """It lasts as long as is said. The files are looked at twice, at its beginning and at its end, where the system
+        """The wait lasts as long as is said. The files are looked at twice, at its beginning and at its end, where the system
         tells of changes."""
         files = Changes([self.path])
         files.take()

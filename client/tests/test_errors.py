@@ -76,7 +76,7 @@ class Unread(Case):
             file.write(text)
 
     def test_orders_that_do_not_read(self) -> None:
-        """They say what to do, and the folder is free again."""
+        """The errors say what to do, and the folder is free again."""
         path = f"{self.folder}/orders/order.json"
         for text in (b"no", b"[]", b"{}", b'"x"', b'{"answered": false, "number": 1, "order": 3}', b"\xff\xfe"):
             self.write(path, text)

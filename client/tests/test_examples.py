@@ -21,7 +21,7 @@ def ran(*words: str) -> tuple[int, str, str]:
 
 class Lines(Case):
     def test_ask(self) -> None:
-        """Its statuses, and an address of a front."""
+        """The statuses of an example, and an address of a front."""
         front = of_unix(self.server, f"{self.folder}/front")
         self.addCleanup(front.close)
         show, fly = '{"op":"show"}', '{"op":"fly"}'

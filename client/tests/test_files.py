@@ -67,7 +67,7 @@ class Kept(unittest.TestCase):
         self.assertEqual([call[:2] for call in calls[2:]], [("sync", os.path.dirname(self.path))])
 
     def test_a_link_in_the_place_of_the_new_text(self) -> None:
-        """It is not followed: what it leads to stays as it is."""
+        """A link is not followed: what it leads to stays as it is."""
         with open(f"{self.path}.other", "w", encoding="utf-8") as file:
             file.write("other")
         os.symlink(f"{self.path}.other", f"{self.path}.new")
@@ -75,7 +75,7 @@ class Kept(unittest.TestCase):
         self.assertEqual((read(f"{self.path}.other"), read(self.path)), ("other", None))
 
     def test_a_folder_that_is_held(self) -> None:
-        """It is waited for as long as is said, and a wait in vain keeps no descriptor."""
+        """The folder is waited for as long as is said, and a wait in vain keeps no descriptor."""
         folder = os.path.dirname(self.path)
         lock = hold(folder)
         before = os.listdir("/proc/self/fd")

@@ -276,7 +276,7 @@ class Gateways(Case):
         self.assertEqual((counts, len(self.tags()), None in self.tags()), ([2, 5, 0], 1, False))
 
     def test_what_is_begun_while_it_looks(self) -> None:
-        """It is kept before it is confirmed."""
+        """What is begun is kept before it is confirmed."""
         tell, confirm = self.gateway._tell_members, self.gateway._confirm
 
         def told(*words: Any) -> None:

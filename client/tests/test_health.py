@@ -86,7 +86,7 @@ class Watching(Case):
             since.keep()
 
     def test_the_oldest_step_that_waits(self) -> None:
-        """It counts, and not the last flight that came back. A count that went back is another store's."""
+        """The oldest step counts, and not the last flight that came back. A count that went back is another store's."""
         self.expect("since", [(0, 9, 7, 0, []), (4, 11, 8, 0, []), (6, 12, 8, 0, ["4 steps have waited for the disk for 6 s"]),
                               (8, 12, 9, 0, []), (9, 13, 10, 0, ["3 steps have waited for the disk for 5 s"]), (20, 9, 8, 0, []),
                               (30, 10, 9, 0, [])])

@@ -356,7 +356,7 @@ class Lives(MemberCase):
         self.assertEqual((len(self.runs), self.runs[1], member.run), (2, None, None))
 
     def test_a_reset_from_another_thread(self) -> None:
-        """It is asked for at once, and once."""
+        """A reset is asked for at once, and once."""
         with self.followed() as member:
             self.expect(lambda: self.begun == [1])
             self.confirm_other()

@@ -163,7 +163,7 @@ class Numbers(Case):
         self.assertLess(self.server.connections - before, 20)
 
     def test_a_count_that_was_found_is_kept(self) -> None:
-        """So the next process has not to look for it."""
+        """The next process has not to look for the count."""
         first = self.orders()
         first.order("reset", node=1)
         self.server.settled()
@@ -177,7 +177,7 @@ class Numbers(Case):
         self.assertEqual((len(self.server.seen) - before, self.server.last(1)), (1, 2))
 
     def test_a_refusal_of_another_kind_ends_the_search(self) -> None:
-        """It says nothing of the count."""
+        """Such a refusal says nothing of the count."""
         self.server.faults = ["", '{"name":"Exhausted","refused":3}']
         with self.assertRaises(Refused) as caught:
             find_count(self.port, 3)

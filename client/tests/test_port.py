@@ -110,7 +110,7 @@ class Strange(unittest.TestCase):
             raise each
 
     def test_one_that_is_silent_and_one_that_leaves(self) -> None:
-        """They are told apart, since another client may keep the one connection of a server."""
+        """The two are told apart, since another client may keep the one connection of a server."""
         ended = threading.Event()
         self.addCleanup(ended.set)
 

@@ -184,7 +184,7 @@ class Cuts(Case):
         self.assertIn((False, True), outcomes)
 
     def test_a_line_that_was_torn(self) -> None:
-        """It is passed over, and the next one takes its place; a whole one that does not read is told."""
+        """A torn line is passed over, and the next one takes its place; a whole one that does not read is told."""
         path = f"{self.folder}/a.history"
         lines = [digest_of(frozenset({str(place)})) for place in range(3)]
         for torn in ("", lines[1][:20], lines[1], "\0" * 200):

@@ -135,7 +135,7 @@ class Told(Case):
         self.assertFalse(following.is_alive())
 
     def test_resetctl_watch(self) -> None:
-        """It looks when the front tells of a change, and not by itself."""
+        """A member looks when the front tells of a change, and not by itself."""
         pictures: list[str] = []
 
         def note(picture: list[str]) -> None:

@@ -34,7 +34,7 @@ class Beside(Case):
         self.others_are_served()
 
     def test_one_that_never_reads(self) -> None:
-        """It is ended after a while."""
+        """The connection is ended after a while."""
         self.front.kill()
         self.front = self.started("--stuck", "1")
         client = self.client()

@@ -146,7 +146,7 @@ class Without(Case):
     nodes = 2
 
     def test_without_what_the_page_needs(self) -> None:
-        """It says so, and does the rest."""
+        """The front says so, and does the rest."""
         self.front.kill()
         for module in MODULES:
             os.mkdir(f"{self.folder}/{module}")

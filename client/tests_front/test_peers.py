@@ -234,7 +234,7 @@ class Certificates(Ruled):
         return client
 
     def refused(self, name: str | None, why: str, **how: Any) -> None:
-        """It is not let in, and the audit says why."""
+        """The peer is not let in, and the audit says why."""
         before = len(self.handshakes())
         with self.assertRaises(OSError):
             self.connected(name, **how).ask(op="show")

@@ -90,7 +90,7 @@ class Watching(Case):
         self.view_where(client, lambda view: all(row[4] == 1 for row in view["nodes"]))
 
     def test_one_that_does_not_read_holds_nobody_up(self) -> None:
-        """It gets few views, and the newest in the end; another gets them all the while."""
+        """A slow client gets few views, and the newest in the end; another gets them all the while."""
         with socket.socket(socket.AF_UNIX) as slow:
             slow.setsockopt(socket.SOL_SOCKET, socket.SO_RCVBUF, 1)
             slow.connect(self.front.path)

@@ -178,8 +178,8 @@ int nanosleep(const struct timespec *time, struct timespec *left) {
     return syscall(SYS_nanosleep, time, left);
 }
 #ifdef __x86_64__
-// So is for how many microseconds a thread has waited for another one, where that time passed and nobody came. (The C library's
-// own `syscall` can't be looked up yet where the first call comes.)
+// For how many microseconds a thread has waited for another one, where that time passed and nobody came, is counted. (The C
+// library's own `syscall` can't be looked up yet where the first call comes.)
 long syscall(long number, ...) {
     long each[6], status;
     va_list words;

@@ -115,7 +115,7 @@ class Serving:
         return [(int(node), int(epoch)) for _, node, epoch in rows]
 
     def await_signals(self, count: int) -> list[tuple[int, int]]:
-        """So many signals, or more, once they are printed."""
+        """As many signals as asked for, or more, once they are printed."""
         return until(f"signal {count}", lambda: len(found := self.signals()) >= count and found)
 
     def connect(self, buffer: int | None = None) -> Connection:

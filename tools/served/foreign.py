@@ -102,18 +102,18 @@ class Rule:
             guess.answered(view)
 
     def died(self) -> None:
-        """It is started anew, with the writes for the last answer done up to any of them."""
+        """The member is started anew, with the writes for the last answer done up to any of them."""
         steps = dict.fromkeys(step for guess in self.guesses for step in [*guess.steps, (guess.kept, guess.history)])
         self.guesses = [Guess(*step) for step in steps]
         self.answered(None)
 
     def forgot(self) -> None:
-        """It has lost all its files."""
+        """The member has lost all its files."""
         self.guesses = [Guess()]
         self.answered(None)
 
     def refused(self) -> None:
-        """It refused a message of another run, whose sender was shown what is shown to it."""
+        """The member refused a message of another run, whose sender was shown what is shown to it."""
         for guess in self.guesses:
             guess.is_refused = True
 
@@ -467,7 +467,7 @@ def of_second_hand(tried: Tried) -> None:
 
 
 def of_kills(tried: Tried) -> None:
-    """It dies in front of each file call that a reset takes it to, in turn."""
+    """The member dies in front of each file call that a reset takes it to, in turn."""
     if not tried.calls.can_see:
         return
     trial = tried.trial

@@ -70,7 +70,7 @@ class Killer(threading.Thread):
                 return
 
     def end(self) -> int | None:
-        """It looks no more. With how many threads it has met the server, if it has."""
+        """The watcher looks no more. With how many threads it has met the server, if it has."""
         self.is_told = True
         self.join()
         return self.met

@@ -12,7 +12,7 @@ MEMBER = f"{ROOT}/tools/served/queue_member.py"
 
 
 class QueueRing:
-    """So many members, who hand items round. `words` are what each is started with: an address and a file of signals, and
+    """As many members as asked for, who hand items round. `words` are what each is started with: an address and a file of signals, and
     what it is without."""
 
     def __init__(self, folder: str, nodes: int, address: str, signals: str, *without: str) -> None:

@@ -6,7 +6,7 @@ import sys
 
 
 class Screen:
-    """It moves where the output is a terminal and neither NO_COLOR nor CI is set; else it has lines alone."""
+    """The picture moves where the output is a terminal and neither NO_COLOR nor CI is set; else it has lines alone."""
 
     def __init__(self) -> None:
         self.moves = sys.stdout.isatty() and not os.environ.get("NO_COLOR") and not os.environ.get("CI")

@@ -14,8 +14,7 @@ TABLE = "docs/PROMISES.md"
 
 
 class Row(NamedTuple):
-    """A row: what it is called, behind the row that it leans on; what it says; and of each function that it cites, the clauses
-    that it names."""
+    """A row: what it is called, what it says, and of each function that it cites, the clauses that it names."""
 
     title: str
     words: str
@@ -28,17 +27,18 @@ class Table:
     def __init__(self, repository: Repository):
         self.repository = repository
         self.named: set[tuple[str, str]] = set()
+        # the definitions and the types that rows name
+        self.defined: set[str] = set()
         self.wrong: list[str] = []
         self.rows: list[Row] = []
         self.names = self.all_names()
-        above = ""
         for line in (repository.root / TABLE).read_text().splitlines():
             cells = [cell.strip() for cell in line.strip().strip("|").split("|")]
             if line.startswith("|") and len(cells) == 3 and cells[2] not in ("---", "Carried by"):
                 title, words, carried = cells
-                leans = not title or title[0].islower()
-                above = above if leans else title
-                self.rows.append(Row(f"{above}, {title}".rstrip(", ") if leans else title, words, self.read(carried)))
+                if not title or title[0] in "." or title[0].islower() or title in [row.title for row in self.rows]:
+                    self.wrong.append(f"{TABLE}: a row has no title of its own: {line[:80]}")
+                self.rows.append(Row(title, words, self.read(carried)))
 
     def all_names(self) -> dict[str, set[str]]:
         """What a row may name of each crate."""
@@ -72,6 +72,8 @@ class Table:
                 functions = functions if depth else []
             elif name not in self.repository.crates:
                 found = self.look_up(crates or self.repository.crates, name, cell)
+                if not found and (name[0].isupper() or not self.is_clause(name)) and "::" not in name:
+                    self.defined.add(name)
                 if depth == 0:
                     functions += found
                     cites |= {function.key: cites.get(function.key, set()) for function in found}
@@ -80,6 +82,11 @@ class Table:
                 for function in functions if depth else []:
                     cites[function.key] |= {name} & {*function.ensured}
         return cites
+
+    def is_clause(self, name: str) -> bool:
+        """Whether a clause or a ghost member is called so."""
+        labels = {label.split()[-1] for function in self.repository.functions for label, _ in function.clauses}
+        return name in labels | {ghost.name for ghost in self.repository.ghosts}
 
     def look_up(self, crates: list[str], name: str, cell: str) -> list[Function]:
         """The functions that a name means. It has to be of these crates or of those below them."""

@@ -13,7 +13,7 @@ MOST_SECONDS = 1_000_000_000.0  # some thirty years
 
 
 def span(text: str) -> float:
-    """So many seconds, from 0 on."""
+    """Seconds, from 0 on."""
     try:
         seconds = float(text)
     except ValueError:
@@ -24,7 +24,7 @@ def span(text: str) -> float:
 
 
 def some_seconds(text: str) -> float:
-    """So many seconds, and more than 0."""
+    """Seconds, more than 0."""
     if (seconds := span(text)) == 0:
         raise argparse.ArgumentTypeError("it takes more than 0 seconds")
     return seconds

@@ -55,11 +55,11 @@ module _ {D P : Type 0} (answers : D → Request → Answer → D → Type 0) (p
   pub goes-all : (d e h : D) (lines : List Line) (told more : List Answer) (posted : List P) → (g : GoesOn answers posts d lines told posted e) → AllGet answers g.2 g.1 more h → AllGet answers d lines (told ++ more) h
   goes-all d e h lines told more posted g k = rw g.3 (all-append answers g.0 g.1 told more d g.2 h g.4 k)
 
-  -- or not all of them
+  -- those that waited do not all have their replies
   pub goes-broken : (d e h : D) (lines left : List Line) (told : List Answer) (posted : List P) (text : List ℕ) → (g : GoesOn answers posts d lines told posted e) → BreaksOff answers g.2 (g.1 ++ left) text h → BreaksOff answers d (lines ++ left) (reply_lines told ++ text) h
   goes-broken d e h lines left told posted text g k = breaks-behind answers d g.2 h (lines ++ left) (g.1 ++ left) g.0 told text g.4 (ap (λ l. l ++ left) g.3 ∙ append_assoc g.0 g.1 left) k
 
-  -- and the next one has closed the desk
+  -- those that waited have their replies, and the next line has closed the desk
   pub goes-closed : (d e f h : D) (all lines : List Line) (line : Line) (behind : List ℕ) (told more : List Answer) (posted : List P) → (g : GoesOn answers posts d lines told posted e) → all ≡ lines ++ line ∷ lines_on (Some []) behind → AllGet answers g.2 g.1 more f → Gets answers f line Closed h
       → Closes answers d all (reply_lines told ++ (reply_lines more ++ reply_line Closed)) h
   goes-closed d e f h all lines line behind told more posted g same k gets =
@@ -100,7 +100,7 @@ module _ {D P : Type 0} (answers : D → Request → Answer → D → Type 0) (p
     λ left. (told, line, [], left, f, e, w.0, [], w.2.0, (lines, refl, h), inl w.1, refl, inl refl, w.2.2, refl),
   )
 
-  -- or that line has closed the desk
+  -- a line behind those that have their replies has closed the desk
   pub line-closed : (f e : D) (a b c : C) (line : Line) (told : List Answer) (x : Answer) → is_closed x ≡ true → Gets answers f line x e → exchanged a [] (reply_lines told) b → exchanged b [] (reply_line x) c → Gets answers f line Closed e × exchanged a [] (reply_lines told ++ reply_line Closed) c
   line-closed f e a b c line told x closed gets written now =
       let same = closes-told x closed in (

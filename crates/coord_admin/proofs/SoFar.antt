@@ -35,7 +35,7 @@ module _ {D P : Type 0} (answers : D → Request → Answer → D → Type 0) (p
     pub so-far-no-more : (d e : D) (a b c : C) (seen bytes : List ℕ) (count : ℕ) (line : Line) (posted : List P) → SoFar d a seen line posted e b → exchanged b (take count bytes) [] c → count ≡ 0 → SoFar d a seen line posted e c
     so-far-no-more d e a b c seen bytes count line posted s nothing none = (s.0, s.1, s.2, no-more exchanged turn a b c seen bytes (reply_lines s.1) count s.3 nothing none, s.4)
 
-    -- or failed
+    -- a read brought nothing or failed, and nothing was written
     pub so-far-still : (d e : D) (a b c : C) (seen : List ℕ) (line : Line) (posted : List P) → SoFar d a seen line posted e b → exchanged b [] [] c → SoFar d a seen line posted e c
     so-far-still d e a b c seen line posted s nothing = (s.0, s.1, s.2, still exchanged turn a b c seen (reply_lines s.1) s.3 nothing, s.4)
 
@@ -60,7 +60,7 @@ module _ {D P : Type 0} (answers : D → Request → Answer → D → Type 0) (p
         let n = now g.2 g.1 g.5 in
         (s.0, s.1 ++ n.0, goes-all answers posts d e h s.0 s.1 n.0 posted g n.1, told-all exchanged turn a b c seen s.1 n.0 s.3 n.2, s.4)
 
-    -- its replies were not written whole
+    -- the replies to the lines that waited were not written whole
     pub so-far-broken : (d e h : D) (a b c : C) (seen : List ℕ) (line : Line) (posted : List P) → SoFar d a seen line posted e b
         → ((d : D) (lines : List Line) → AwaitReplies posts d lines posted e → (part : List ℕ) × exchanged b [] part c × ((left : List Line) → BreaksOff answers d (lines ++ left) part h)) → (text : List ℕ) × exchanged a seen text c × BreaksOff answers d (lines_of seen) text h
     so-far-broken d e h a b c seen line posted s now =
@@ -104,7 +104,7 @@ module _ {D P : Type 0} (answers : D → Request → Answer → D → Type 0) (p
           closes-behind answers d g.2 h (lines_of (seen ++ bytes_read)) (g.1 ++ lines_on line bytes_read) g.0 s.1 n.0 g.4 (lines-with-all d e a b seen bytes_read line posted s) n.2,
         )
 
-    -- or the reply to one was not written whole
+    -- the reply to one of the lines that were read was not written whole
     pub so-far-cut : (d e h : D) (a b c f : C) (seen bytes_read : List ℕ) (line : Line) (posted : List P) → SoFar d a seen line posted e b → exchanged b bytes_read [] c
         → ((d : D) (waiting : List Line) → AwaitReplies posts d waiting posted e → (text : List ℕ) × exchanged c [] text f × BreaksOff answers d (waiting ++ lines_on line bytes_read) text h) → (text : List ℕ) × exchanged a (seen ++ bytes_read) text f × BreaksOff answers d (lines_of (seen ++ bytes_read)) text h
     so-far-cut d e h a b c f seen bytes_read line posted s heard now =

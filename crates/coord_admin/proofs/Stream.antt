@@ -98,7 +98,7 @@ text-on told a out more text later line so_far is cut =
 pub part-at_end : (told : List Answer) (out part text : List ℕ) → reply_lines told ≡ out ++ text → IsFirstPart part text → IsFirstPart (out ++ part) (reply_lines told)
 part-at_end told out part text so_far p = (p.0, so_far ∙ ap (λ l. out ++ l) p.1 ∙ sym (append_assoc out part p.0))
 
--- nor was a text with one more line; what is told of the others is not known
+-- a text with one more line was not written whole; what is told of the others is not known
 pub part-within : (answers told : List Answer) (a : Answer) (out part text line : List ℕ) (i : ℕ) → AreWritten (take (i + 1) answers) (told ++ a ∷ []) → reply_lines told ≡ out ++ text → line ≡ reply_line a → IsFirstPart part (text ++ line)
     → (all : List Answer) × AreWritten answers all × IsFirstPart (out ++ part) (reply_lines all)
 part-within answers told a out part text line i w so_far is p =
@@ -279,7 +279,7 @@ module _ {D : Type 0} (answers : D → Request → Answer → D → Type 0) {C :
   broken-at d f e a b c bytes_read lines done left line told h written same w =
       (reply_lines told ++ w.2.0, told-on exchanged turn a b c bytes_read (reply_lines told) w.2.0 written w.2.1, (told, line, [], left, f, e, w.0, [], w.2.0, (done, same, h), w.1, refl, inl refl, w.2.2, refl))
 
-  -- it has ended, but that could not be told
+  -- the stream has ended, but that could not be told
   pub broken-end : (d e : D) (a b c : C) (bytes_read seen : List ℕ) (line : Line) (done : List Line) (told : List Answer) → IsWithin line → AllGet answers d done told e → exchanged a bytes_read (reply_lines told) b
       → ((more : List ℕ) → lines_of (seen ++ more) ≡ done ++ lines_on line more) → WritesPart exchanged b c (reply_line (Faulted Unfinished)) → (text : List ℕ) × exchanged a bytes_read text c × BreaksOff answers d (lines_of seen) text e
   broken-end d e a b c bytes_read seen line done told within h written lines part =

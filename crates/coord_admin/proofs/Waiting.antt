@@ -87,11 +87,11 @@ module _ {D P : Type 0} (answers : D → Request → Answer → D → Type 0) (p
   all-answered d e f lines posted results h replied =
       all-ordered answers d f lines h.0 results h.1 (answers_in_turn answers posts replies is_answered stays_apart d e f h.0 posted results h.2 replied)
 
-  -- and all that was told of it was written
+  -- all that was told of the orders that were posted was written
   pub whole-written : (d e f : D) (lines : List Line) (posted : List P) (results : List (Result Reply Refusal)) (told : List Answer) → AwaitReplies posts d lines posted e → AllReplied replies e posted results f → AreWritten (map order_answer results) told → AllGet answers d lines told f
   whole-written d e f lines posted results told h replied w = all-told answers d f lines (map order_answer results) told (all-answered d e f lines posted results h replied) w
 
-  -- or a first part of it
+  -- a first part of what was told of the orders that were posted was written
   pub part-written : (d e f : D) (lines : List Line) (posted : List P) (results : List (Result Reply Refusal)) (told : List Answer) (part : List ℕ) → length posted ≤ MAX_BATCH_STEPS → 0 < length posted → AwaitReplies posts d lines posted e → AllReplied replies e posted results f
       → AreWritten (map order_answer results) told → IsFirstPart part (reply_lines told) → (left : List Line) → BreaksOff answers d (lines ++ left) part f
   part-written d e f [] posted results told part few some h replied w is_part left = absurd (omega (arith, as-many posts d e [] h.0 posted h.1 h.2, some))

@@ -16,7 +16,7 @@ pub enum Answer {
     Refused(Refusal),
     /// The settled world.
     Shown(View),
-    /// So many packets were given out again.
+    /// The number of packets that were given out again.
     Resent(u64),
     /// The desk was closed.
     Closed,

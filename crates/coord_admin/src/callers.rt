@@ -30,10 +30,10 @@ pub trait Callers {
     /// Nothing has come in or gone out over a connection yet.
     ghost begins: { Self.Line → Type 0 };
 
-    /// It was asked for the next client, and no client will come any more.
+    /// The callers were asked for the next client, and no client will come any more.
     ghost failed: { Self → Self → Type 0 } = { λ _ _. ⊤ };
 
-    /// It was told that this connection was served, and how that ended.
+    /// The callers were told that this connection was served, and how that ended.
     ghost ended: { Self → Self.Line → Result Ended ServeFault → Self → Type 0 } = { λ _ _ _ _. ⊤ };
 
     /// At which address they call.

@@ -23,7 +23,7 @@ pub trait Duplex {
     /// A read or a write of it has failed.
     ghost has_failed: { Self → Type 0 } = { λ _. ⊤ };
 
-    /// It was asked for what comes next, and told whether a line has begun.
+    /// The connection was asked for what comes next, and told whether a line has begun.
     ghost asked: { Self → Bool → Self → Type 0 } = { λ _ _ _. ⊤ };
 
     /// Reads what has come in next to the front of the buffer, and answers how many bytes that are;

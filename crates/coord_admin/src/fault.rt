@@ -18,13 +18,13 @@ pub enum LineFault {
     Unfinished,
     /// The line has more than 512 bytes.
     TooLong,
-    /// It is no UTF-8.
+    /// The line is no UTF-8.
     BadText,
-    /// It is no JSON that `serde_json` reads.
+    /// The line is no JSON that `serde_json` reads.
     BadJson,
-    /// It is no object with a text as its `op`, or its members are not those of its `op`.
+    /// The line is no object with a text as its `op`, or its members are not those of its `op`.
     BadRequest,
-    /// Its `op` is none of those that there are.
+    /// The line's `op` is none of those that there are.
     UnknownOp,
     /// There was not enough memory. Perhaps the request was carried out: the same order with the
     /// same number tells.
@@ -62,7 +62,7 @@ pub enum ServeFault {
 }
 
 impl ServeFault {
-    /// Its number, from 1 to 4.
+    /// The fault's number, from 1 to 4.
     pub fn number(self) -> u8
         ensures { result ≡ fault_number self }
     {
@@ -74,7 +74,7 @@ impl ServeFault {
         }
     }
 
-    /// Its name, as it is printed.
+    /// The fault's name, as it is printed.
     pub fn name(self) -> &'static str
         ensures { result.now ≡ fault_name self }
     {

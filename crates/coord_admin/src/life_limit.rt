@@ -57,7 +57,7 @@ pub fn next_in_life<C: Callers, D: Desk>(
 /// Why nothing more was read from a connection.
 #[derive(Clone, Copy)]
 pub enum Unread {
-    /// It could not be read.
+    /// What comes next could not be read.
     Failed,
     /// The life of the desk is over.
     Over,

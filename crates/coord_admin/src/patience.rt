@@ -28,7 +28,7 @@ pub const DISCARD_READS: u64 = 128;
 /// How often in turn a failure to accept that may pass is tried again.
 pub const ACCEPT_TRIES: u64 = 100;
 
-/// After how many milliseconds it is tried again.
+/// After how many milliseconds `accept` is tried again.
 pub const ACCEPT_REST_MILLIS: u64 = 100;
 
 /// How long a client is waited for, for each thing that it does.

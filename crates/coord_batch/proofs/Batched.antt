@@ -94,9 +94,7 @@ pub how_many_fits : (most n : ℕ) → most < 256 → n ≤ most → (how_many m
 unfolding how_many
 how_many_fits most n small few = (omega (arith, small, few), grind (arith, nat_tests, few))
 
--- ---- which steps and batches their formats can spell: those whose numbers are in range
-
--- ---- commands
+-- ---- which commands their formats can spell
 
 case_in_range : (t : ℕ) (x : Command) → (command_case t).Fits x → CommandInRange x
 unfolding command_case
@@ -115,7 +113,7 @@ command_fits (Drop a b) range = ((3, Drop a b), ((omega arith, refl), ((a, b), (
 command_fits (Reset u) range = ((4, Reset u), ((omega arith, refl), (u, node_fits u range, refl)), refl)
 command_fits (Confirm u e) range = ((5, Confirm u e), ((omega arith, refl), ((u, e), (node_fits u range.0, range.1), refl)), refl)
 
--- ---- steps
+-- ---- which steps
 
 data_in_range : (version : ℕ) (p : DataPacket) → (data_packet version).Fits p → StepFits version (Take p)
 unfolding data_packet
@@ -150,7 +148,7 @@ step_fits version (Order c n x) range = ((0, Order c n x), ((omega arith, refl),
 step_fits version (Take p) range = ((1, Take p), ((omega arith, refl), (p, data_fits version p range, refl)), refl)
 step_fits version (Clear r) range = ((2, Clear r), ((omega arith, refl), (r, receipt_fits version r range, refl)), refl)
 
--- ---- batches
+-- ---- which batches
 
 each_in_range : (version : ℕ) (front taken : List Step) → FitBehind (λ _. step version) front taken → AllByRecursion (StepFits version) taken
 unfolding FitBehind

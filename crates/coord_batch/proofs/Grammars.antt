@@ -37,7 +37,7 @@ guard_ok : {A : Type 0} (b : Bool) (d : Flaw) (x y : A) → cond b (Err d) (Ok x
 guard_ok true d x y e = absurd cc
 guard_ok false d x y e = (refl, cc)
 
--- or one that held
+-- a test that held
 held_ok : {A : Type 0} (b : Bool) (d : Flaw) (x y : A) → cond b (Ok x) (Err d) ≡ Ok y → (b ≡ true) × (x ≡ y)
 held_ok true d x y e = (refl, cc)
 held_ok false d x y e = absurd cc

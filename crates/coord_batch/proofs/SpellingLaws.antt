@@ -9,10 +9,10 @@ use Rattle.coord_batch.proofs.Batched.{batch_fits, step_fits}
 use Rattle.coord_batch.proofs.Grammars.{IsGrammar, prefix_free}
 use Rattle.coord_batch.proofs.StepGrammars.{batch_grammar, step_grammar}
 
--- ---- of any grammar
+-- ---- the laws of any grammar
 
 module _ {A : Type 0} (f : ℕ → Format A) (grammar : (v : ℕ) → IsGrammar (f v)) (version : ℕ) (known : is_version version ≡ true) where
-  -- it is read as what its version says
+  -- bytes of a known version are read as what that version says
   decodes : (bytes : List ℕ) → decoded f version bytes ≡ or_fault (length bytes) (whole (f version) bytes)
   decodes bytes = ap (λ (b : Bool). cond b (or_fault (length bytes) (whole (f version) bytes)) (Err bad_version)) known
 
@@ -28,7 +28,7 @@ module _ {A : Type 0} (f : ℕ → Format A) (grammar : (v : ℕ) → IsGrammar 
       let behind : length bytes - length (b ∷ rest) ≡ length ((f version).text x) = omega (arith, length-append ((f version).text x) (b ∷ rest)) in
       decodes bytes ∙ ap (λ r. or_fault (length bytes) (r >>= ended)) ((grammar version).again x (b ∷ rest) fits) ∙ rw (some, behind) refl
 
--- ---- of steps and batches
+-- ---- the laws of steps and batches
 
 pub steps_prefix_free : StepsArePrefixFree
 steps_prefix_free version s t rest more first second same = prefix_free (step version) (step_grammar version) s t rest more (step_fits version s first) (step_fits version t second) same

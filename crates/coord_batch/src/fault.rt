@@ -23,7 +23,7 @@ pub enum FaultKind {
 }
 
 impl FaultKind {
-    /// Its number, from 1 to 5.
+    /// The fault's number, from 1 to 5.
     pub fn number(self) -> u8
         ensures { result ≡ fault_number self }
     {

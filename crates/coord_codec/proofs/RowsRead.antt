@@ -61,9 +61,7 @@ few_keys key last most (x ∷ xs) within below sorted all =
     let above : last + 1 ≤ key x = grind (arith, nat_tests, first.0) in
     omega (arith, above, few_keys key (key x) most xs all.0 rest.0 rest.1 all.1)
 
--- ---- what one more row changes of what the rows that were read say of the next one
-
--- ---- groups
+-- ---- what one more row changes of the groups that the next one may have
 
 -- what is there already, else this
 abbrev or_else : {A : Type 0} → Option A → Option A → Option A
@@ -97,11 +95,11 @@ module _ (groups : List (Option ℕ)) (rows : List NodeRow) (r : NodeRow) (least
   group_kept : (g : ℕ) → get_or groups (r.id - 1) None ≡ Some g → (u : ℕ) → 1 ≤ u → u ≤ 64 → get_or groups (u - 1) None ≡ group_of (rows ++ r ∷ []) u
   group_kept g some u low high = grind (arith, by_test, else_none, group_push)
 
-  -- so the group is known where it was noted in either way
+  -- the group of a node is known where it was noted, and where the node had it already
   pub group_noted : (new : List (Option ℕ)) → (get_or groups (r.id - 1) None ≡ None → new ≡ set groups (r.id - 1) (Some r.group)) → (IsSome (get_or groups (r.id - 1) None) → new ≡ groups) → (u : ℕ) → 1 ≤ u → u ≤ 64 → get_or new (u - 1) None ≡ group_of (rows ++ r ∷ []) u
   group_noted new fresh kept u low high = grind (arith, group_set, group_kept)
 
--- ---- the last ends
+-- ---- what one more row changes of the last ends
 
 pub first_push : (rows : List LinkRow) (r : LinkRow) → (last_ends (rows ++ r ∷ [])).0 ≡ r.a
 first_push rows r = ap (λ (e : ℕ × ℕ). e.0) (last_push (λ (l : LinkRow). (l.a, l.b)) (0, 0) rows r)
@@ -109,7 +107,7 @@ first_push rows r = ap (λ (e : ℕ × ℕ). e.0) (last_push (λ (l : LinkRow). 
 pub second_push : (rows : List LinkRow) (r : LinkRow) → (last_ends (rows ++ r ∷ [])).1 ≡ r.b
 second_push rows r = ap (λ (e : ℕ × ℕ). e.1) (last_push (λ (l : LinkRow). (l.a, l.b)) (0, 0) rows r)
 
--- ---- degrees
+-- ---- what one more row changes of degrees
 
 abbrev one : Bool → ℕ
 one b = cond b 1 0

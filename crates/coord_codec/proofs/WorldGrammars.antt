@@ -69,9 +69,7 @@ pub world_text : (r : Rows) → (world r.version).text r ≡ to_be_bytes w64 r.c
 unfolding world at_most
 world_text r = λ i. to_be_bytes w64 r.count ++ (nodes_text r.version r.count r.nodes i ++ (links_text r.version r.count r.nodes r.links i ++ clients_text r.count i r.clients))
 
--- ---- the formats of the parts
-
--- ---- fields
+-- ---- the formats of fields
 
 mode_again : (n : ℕ) → n < 3 → mode_number (mode_from n) ≡ n
 mode_again n h1 = grind arith
@@ -99,7 +97,7 @@ kind_grammar : (x : Command) → IsGrammar (kind x)
 unfolding kind
 kind_grammar x = such_grammar (answers x) _ (made_grammar kind_from kind_number (such_that (λ n. ltb n 4) byte) (such_grammar (λ n. ltb n 4) byte byte_grammar) (λ n fits. kind_again n (grind (arith, fits.1))))
 
--- ---- rows
+-- ---- the formats of rows
 
 node_row_grammar : (version count : ℕ) (front : List NodeRow) → IsGrammar (node_row version count front)
 unfolding node_row
@@ -193,7 +191,7 @@ world_only version bytes result w ranges known range spelled answers =
 world_fits : (w : World) → InRange w → (world w.version).Fits (rows_of w)
 world_fits w range = rows_fit (rows_of w) (rows_of_world_fit w range)
 
--- its version is one
+-- the version of a world that is spelled is one that there is
 known : (w : World) → InRange w → is_version w.version ≡ true
 known w range = grind (arith, nat_tests, range.first, range.last)
 

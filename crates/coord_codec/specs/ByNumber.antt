@@ -23,6 +23,6 @@ entry_at m u = one_or_none (option_map (λ x. (u, x)) (get m u))
 abbrev pub node_text : ℕ → ℕ × NodeState → List ℕ
 node_text version e = (node_row version 0 []).text (rows.node_row e)
 
--- and a client's last order
+-- how a client's last order is written
 abbrev pub session_text : ℕ → ℕ × Session → List ℕ
 session_text version e = (client_row 0 []).text (rows.client_row e)

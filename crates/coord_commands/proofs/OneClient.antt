@@ -37,7 +37,7 @@ no_repeat w settled c n x r last e =
     next_no_repeat (get w.sessions c) n x (judged w settled (Order c (n + 1) x)) r last
     (judged_no_repeat (kind (state w) (Order c (n + 1) x)) ((is_exhausted w, Exhausted) ∷ against w settled (Order c (n + 1) x)) r) e
 
--- and is its last one then
+-- the order that was taken last is its client's last one
 pub last_after : (w : World) (c n : ℕ) (x : Command) → last_number (get (next w (Order c n x)).sessions c) ≡ n
 last_after w c n x = grind (arith, nat_tests, get-insert)
 

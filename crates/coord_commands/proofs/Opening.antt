@@ -48,7 +48,7 @@ pub gives_some : (o : Option (List ℕ)) (w : World) → IfSome o (λ known. Rec
 gives_some None w is = tt
 gives_some (Some known) w is = (w, is)
 
--- then the bytes give a world before and after it
+-- where a server was served and put back, the bytes give a world before and after
 pub gave : {D : Type 0} (keeps_model : D → Bool) (present : D → Present) (bytes after : Option (List ℕ)) → IsServedToEnd keeps_model present bytes after → GivesWorld bytes × GivesWorld after
 gave keeps_model present bytes after is = (gives_some bytes is.began is.opened, gives_some after is.left.store.world is.closed)
 
@@ -79,7 +79,7 @@ module _ {D : Type 0} (model : DiskModel D) where
       → model.failures store.disk ≡ model.failures taken + 0 → model.keeps_model store.disk ≡ model.keeps_model taken → AddsNothing model taken store.disk → (model.keeps_model taken ≡ true → model.present store.disk ≡ whole (model.present taken).read) → IsOpened model before store
   opened before taken store was world failures same_model moments same = grind (arith, nat_tests, if_keeps)
 
-  -- it was opened, served to a close, and put back
+  -- a store that was opened, served to a close and put back keeps to the way
   pub keeps_to_the_way : (before after : Option Present) (store : Kept D) (end : ServerEnd D Patience) (closed : Closed D) (back : D) → IsOpened model before store → HasLivedToClose model.keeps_model model.present store.world closed → AtEachMoment model store end.closed
       → closed ≡ end.closed → back ≡ closed.store.disk → IfSome after (λ known. known_of model.keeps_model model.present back ≡ Some known) → KeepsToTheWay model before after
   keeps_to_the_way before after store end closed back is lived moments of_end same put =
@@ -96,7 +96,7 @@ module _ {D : Type 0} (model : DiskModel D) where
         any_moment = λ keeps. subst (λ d. LeavesOnly model is.taken d (λ image. IsImage (model.present is.taken) image ⊎ IsOnTheWay store.world (fold closed.base closed.trail.items) image)) (sym same) (and_then model is.taken store.disk closed.store.disk _ _ (is.any_moment keeps) (here.moments (is.same_model ∙ keeps)));
       }
 
-  -- it was opened, and put back
+  -- a disk whose store was opened and put back, since no socket could be bound
   pub not_bound : (before after : Option Present) (store : Kept D) (back : D) → IsOpened model before store → back ≡ store.disk → IfSome after (λ known. known_of model.keeps_model model.present back ≡ Some known) → EndsServing model before after Socket
   not_bound before after store back is same put =
       let failures : model.failures back ≡ model.failures is.taken + 0 = omega (arith, ap model.failures same, is.failures) in

@@ -19,7 +19,7 @@ pub if_present : (keeps : Bool) (disk : Present) (P : Present → Type 0) → (k
 if_present true disk P holds = holds refl
 if_present false disk P holds = tt
 
--- and of two disks
+-- what holds of two disks that keep the model, holds of what is known of them
 pub if_both : (keeps keeps' : Bool) (disk disk' : Present) (P : Present → Present → Type 0) → (keeps ≡ true → keeps' ≡ true → P disk disk') → IfSome (if keeps then Some disk else None) (λ old. IfSome (if keeps' then Some disk' else None) (λ new. P old new))
 if_both keeps keeps' disk disk' P h1 = grind (arith, nat_tests)
 
@@ -149,7 +149,7 @@ pub raised_named : {A D : Type 0} (model : DiskModel D) (ended : Result A Fault)
 raised_named model (Ok line) before after taken back was is raises = record { taken = taken; back = back; was = was; is = is; raises = raises }
 raised_named model (Err fault) before after taken back was is raises = inr (record { taken = taken; back = back; was = was; is = is; raises = raises })
 
--- so where the line is not written then
+-- a raising that was carried out, and whose line could not be written, ends with the writer's fault
 pub raised_unwritten : {D : Type 0} (model : DiskModel D) (before after : Option Present) → RaisesNamed model 0 before after → (fault : Fault) → IsOfWriting fault →
     EndsRaising model before after fault
 raised_unwritten model before after h1 fault h2 = grind (arith, nat_tests)

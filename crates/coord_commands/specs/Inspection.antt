@@ -26,7 +26,7 @@ pub record IsViolatedLine (bytes : Option (List ℕ)) (line : List ℕ) : Type 0
 abbrev pub IsCheckedLine : Option (List ℕ) → List ℕ → Type 0
 IsCheckedLine bytes line = IsLegalLine bytes line ⊎ IsViolatedLine bytes line
 
--- they give a world, of which these are the lines
+-- the bytes give a world, of which these are the lines
 pub record IsShown (bytes : Option (List ℕ)) (lines : List ℕ) : Type 0 where
   pub world : World
   pub given : IfSome bytes (λ known. Recovered known world)
@@ -49,6 +49,6 @@ pub record IsViolated (bytes : Option (List ℕ)) (status : ℕ) (old new : Stre
 abbrev pub Checks : Option (List ℕ) → ℕ → Streams → Streams → Type 0
 Checks bytes status old new = Succeeds (IsLegalLine bytes) status old new ⊎ (IsViolated bytes status old new ⊎ Fails (IsOfOpening bytes) (IsCheckedLine bytes) status old new)
 
--- and what `show` does
+-- what `show` does, where these are the bytes of the disk
 abbrev pub Shows : Option (List ℕ) → ℕ → Streams → Streams → Type 0
 Shows bytes status old new = Ends (IsOfOpening bytes) (IsShown bytes) status old new

@@ -12,7 +12,7 @@ use Rattle.coord_commands.specs.Printed.{migrated_line}
 use Rattle.coord_commands.specs.declared.fault.Fault.{Fault}
 use Rattle.coord_commands.specs.declared.fault.Fault.TheVariants.{Write, OutOfMemory, Store}
 
--- it reads as before
+-- a disk reads as before
 abbrev pub ReadsAsBefore : Option Present → Option Present → Type 0
 ReadsAsBefore before after = IfSome before (λ old. IfSome after (λ new. new.read ≡ old.read))
 
@@ -36,12 +36,13 @@ IsEitherVersion old image = IsImage old image ⊎ ((w : World) × Recovered old.
 abbrev pub GivesEitherVersion : Option Present → Option Present → Type 0
 GivesEitherVersion before after = IfSome before (λ old. IfSome after (λ new. (image : List ℕ) → IsImage new image → IsEitherVersion old image))
 
--- nor does it at any moment from the one disk to the other, in which the device has failed so often
+-- a raising: at no moment from the one disk to the other does a crash leave anything else, and the device has failed so
+-- often meanwhile
 pub record Raises {D : Type 0} (model : DiskModel D) (failed : ℕ) (old new : D) : Type 0 where
   pub any_moment : model.keeps_model old ≡ true → LeavesOnly model old new (IsEitherVersion (model.present old))
   pub failures : model.failures new ≡ model.failures old + failed
 
--- so with the disk of a name, which was taken and put back
+-- a raising of the disk of a name, which was taken and put back
 pub record RaisesNamed {D : Type 0} (model : DiskModel D) (failed : ℕ) (before after : Option Present) : Type 0 where
   pub taken : D
   pub back : D

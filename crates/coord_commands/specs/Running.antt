@@ -34,8 +34,8 @@ pub record HasDrilled (input left : Option (List ℕ)) (status : ℕ) (old new :
   pub end : IsAtEnd left
   pub silent : Keeps old.errors new.errors
 
--- It has failed, and printed a first part of what may be printed to the input that was read. By `broke` a drill over a disk
--- in memory stops so for this fault, where what was read and written ends.
+-- The drill has failed, and printed a first part of what may be printed to the input that was read. By `broke` a drill over
+-- a disk in memory stops so for this fault, where what was read and written ends.
 pub record FailsToDrill (input left : Option (List ℕ)) (status : ℕ) (old new : Streams) : Type 0 where
   pub fault : DrillFault
   pub number : status ≡ fault_status (fault_of_drill fault)
@@ -70,7 +70,7 @@ IsOfWords words OutOfMemory = Unit {0}
 IsOfWords words Usage = takes resetd words ≡ true → task_of words ≡ None
 IsOfWords words fault = ⊥
 
--- then nothing but the fault's line is printed, and nothing is read
+-- where words are refused, nothing but the fault's line is printed, and nothing is read
 pub record RefusesWords (words : List Text) (status : ℕ) (old new : Around) : Type 0 where
   pub fails : Fails (IsOfWords words) (λ _. ⊥) status old.streams new.streams
   pub unread : Keeps old.input new.input

@@ -28,7 +28,7 @@ use Rattle.coord_commands.specs.Migrating.{ReadsAsBefore}
 use Rattle.coord_commands.specs.declared.fault.Fault.{Fault}
 use Rattle.coord_commands.specs.declared.fault.Fault.TheVariants.{Usage, Socket, Write, OutOfMemory, Store, NotClosed}
 
--- they give a world
+-- the bytes give a world
 abbrev pub GivesWorld : Option (List ℕ) → Type 0
 GivesWorld bytes = IfSome bytes (λ known. (w : World) × Recovered known w)
 
@@ -72,7 +72,7 @@ module _ {D : Type 0} (model : DiskModel D) where
     pub any_moment : AddsNothing model taken store.disk
     pub same : model.keeps_model taken ≡ true → (model.present store.disk).read ≡ (model.present taken).read
 
-  -- it was opened and put back: no socket could be bound
+  -- no socket could be bound: the store of the disk was opened, and the disk put back
   abbrev pub IsNotBound : Option Present → Option Present → Fault → Type 0
   IsNotBound before after told = (told ≡ Socket) × GivesWorld (reads before) × IsPutBack 0 before after
 
@@ -116,7 +116,7 @@ pub record KeepsToTheWay {D : Type 0} (model : DiskModel D) (before after : Opti
   pub lived : HasLivedToClose model.keeps_model model.present began left
   pub any_moment : model.keeps_model taken ≡ true → LeavesOnly model taken back (λ image. IsImage (model.present taken) image ⊎ IsOnTheWay began (fold left.base left.trail.items) image)
 
--- it was closed, and the disk put back
+-- the store was served until a line closed it, and the disk put back
 pub record IsServed (word : List ℕ) (bytes after : Option (List ℕ)) (status : ℕ) (old new : Option (List ℕ)) : Type 0 where
   pub number : status ≡ 0
   pub address : IsAddress word
@@ -130,7 +130,7 @@ module _ (of : Fault → Type 0) where
   abbrev pub IsOfServingAt : List ℕ → Fault → Type 0
   IsOfServingAt word told = ((told ≡ Usage) × ¬ IsAddress word) ⊎ (IsAddress word × of told)
 
-  -- it has ended with a fault
+  -- the command has ended with a fault
   pub record IsNotServed (word : List ℕ) (status : ℕ) (old new : Option (List ℕ)) : Type 0 where
     pub fault : Fault
     pub possible : IsOfServingAt word fault

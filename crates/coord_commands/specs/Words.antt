@@ -33,7 +33,7 @@ words_for (migrate file) = 3
 words_for (init file topology) = 4
 words_for (serve file address) = 4
 
--- it is asked for in so many words
+-- what is asked, where the count of words is the one that its command takes
 abbrev pub in_words : ℕ → Asked → Option Asked
 in_words count asked = if words_for asked == count then Some asked else None
 

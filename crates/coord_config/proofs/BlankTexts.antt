@@ -6,7 +6,7 @@ use Rattle.toml.specs.Parse.{parse_document, skip_bom}
 use Rattle.toml.specs.Tables.{no_nodes}
 use Rattle.toml.proofs.Turns.{document_some, lines_end}
 
--- such a text spells the empty table
+-- a text of blanks and comments spells the empty table
 pub parse_document-blank : (text : List ℕ) → IsBlank text → parse_document text ≡ Some no_members
 parse_document-blank text blank =
     document_some text (no_nodes, []) (lines_end (suc (length text)) (no_nodes, []) (skip_bom text) (omega arith) blank)

@@ -26,7 +26,7 @@ abbrev pub table_has_just : List Key → Data → Bool
 table_has_just ks (table ms) = has_only ks ms && has_all ks ms
 table_has_just ks other = true
 
--- so has each item
+-- each of these items is a table with just these keys
 abbrev pub items_have_just : List Key → Items → Bool
 items_have_just ks no_items = true
 items_have_just ks (item d ds) = table_has_just ks d && items_have_just ks ds

@@ -21,7 +21,7 @@ pub enum ConfigFault {
 }
 
 impl ConfigFault {
-    /// Its number, from 1 to 4.
+    /// The fault's number, from 1 to 4.
     pub fn number(self) -> u8
         ensures { result ≡ fault_number self }
     {
@@ -33,7 +33,7 @@ impl ConfigFault {
         }
     }
 
-    /// Its name, as it is printed.
+    /// The fault's name, as it is printed.
     pub fn name(self) -> &'static str
         ensures { result.now ≡ fault_name self }
     {

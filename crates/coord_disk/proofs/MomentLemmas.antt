@@ -24,7 +24,7 @@ module _ {D : Type 0} (m : DiskModel D) where
 
   -- ---- runs that add nothing
 
-  -- So far a crash leaves nothing that it could not have left at first.
+  -- From the first disk to this one a crash has left nothing that it could not have left at first.
   pub record Quiet (first now : D) : Type 0 where
     pub model : m.keeps_model now ≡ m.keeps_model first
     pub any_moment : AddsNothing m first now

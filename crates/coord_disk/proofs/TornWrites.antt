@@ -10,11 +10,11 @@ use Rattle.coord_disk.proofs.Overwritten.{no_shorter, wrote_reads}
 pub torn : (bytes new : List ℕ) (at : ℕ) (p q : Present) → p ≡ whole bytes → WritesWithin at new p q → (c : List ℕ) → IsImage q c → Torn bytes at new c
 torn bytes new at p q is wrote c image = grind (arith, no_shorter)
 
--- it may also have left nothing
+-- a write that may have failed may have left nothing of its bytes
 pub untouched : (bytes new : List ℕ) (at : ℕ) (p : Present) → p ≡ whole bytes → (c : List ℕ) → IsImage p c → Torn bytes at new c
 untouched bytes new at p is c image = grind (arith, no_shorter)
 
--- or all of it
+-- a write that may have failed may have left all of its bytes
 pub overwritten_torn : (bytes new : List ℕ) (at : ℕ) → Torn bytes at new (overwritten bytes at new)
 overwritten_torn bytes new at = wrote_reads at new (whole bytes) (record { no_shorter = omega arith; no_longer = omega arith; kept = λ i lt out. refl })
 

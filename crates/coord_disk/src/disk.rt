@@ -37,7 +37,7 @@ pub trait Disk: Drop {
         ensures call { Syncs model self.old self.new result }
         ensures cause { HasCause (model.failures self.old) (model.failures self.new) result };
 
-    /// Its past fits its present.
+    /// The past of a disk fits its present.
     ghost laws: { IsModel model };
 }
 
@@ -46,7 +46,7 @@ pub trait CrashDisk: Disk {
     /// What a crash may make of it.
     ghost crashes: { Self → Self → Type 0 };
 
-    /// It becomes one of its images, all of it synced.
+    /// The disk becomes one of its images, all of it synced.
     fn crash(self) -> Self
         ensures crashes { crashes self result }
         ensures leaves { Crashes Self.model self result };

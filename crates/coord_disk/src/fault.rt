@@ -7,7 +7,7 @@ use http_server::Log;
 use std::error::Error;
 use std::fmt;
 
-/// The device failed in this call. What it holds now, only its images say.
+/// The device failed in this call. Only its images say what it holds now.
 #[derive(Clone, Copy, Debug, PartialEq, Eq, Hash)]
 pub struct DiskFault;
 

@@ -207,7 +207,7 @@ impl CrashDisk for MemDisk {
 
     ghost crashes = { CrashesByChoice };
 
-    /// It leaves what was chosen.
+    /// The crash leaves what was chosen.
     fn crash(mut self) -> Self
         ensures crashes { CrashesByChoice self result }
         ensures leaves { Crashes in_memory self result }

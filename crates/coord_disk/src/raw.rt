@@ -65,7 +65,7 @@ pub trait RawFile: Drop {
         ensures call { Enters model is_entered self.old self.new result }
         ensures made { made self.old SyncFolder (is_ok result) self.new };
 
-    /// Its past fits its present.
+    /// The past of a file fits its present.
     ghost laws: { IsModel model };
 
     /// As long as its folder may lack the file, nothing of it is synced.

@@ -25,7 +25,7 @@ pub struct Tear {
     kept: usize,
 }
 
-/// A disk behind a fuse.
+/// A disk whose calls all fail once so many have passed.
 pub type FuseDisk<D> = FailingDisk<D, Fuse>;
 
 /// A disk that fails one call.

@@ -78,7 +78,8 @@ pub record IsAnswered (s : DrillState) (a : Asked) (given : List Answer) (told :
   pub printed : told ≡ asked_lines s a given
   pub goes_on : t ≡ after_asked s a given
 
--- so may the line of this number, by what it asks for and these answers; a bad line asks for nothing
+-- the line of this number, by what it asks for, may print this with these answers and leave the drill so; a bad line asks
+-- for nothing
 abbrev pub Responds : DrillState → ℕ → Option Request → List Answer → List ℕ → DrillState → Type 0
 Responds s n None given told t = (given ≡ []) × (told ≡ bad_line n) × (t ≡ s)
 Responds s n (Some r) given told t = IsAnswered s (asked (front_world s.log) r) given told t

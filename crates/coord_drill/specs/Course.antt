@@ -65,7 +65,7 @@ pub record IsKept (m : Machine) (told : List ℕ) (bytes : List ℕ) : Type 0 wh
   pub legal : Legal (world_after m.log steps)
   pub has_told : AllByRecursion (λ n. n ≤ (world_after m.log steps).count) told
 
--- so is whatever a disk may hold
+-- whatever a crash may leave of a disk gives the world after a first part of the accepted steps
 abbrev pub AllKept : Machine → List ℕ → Present → Type 0
 AllKept m told present = (image : List ℕ) → IsImage present image → IsKept m told image
 
@@ -127,7 +127,7 @@ abbrev pub Goes : {D : Type 0} → DiskModel D → (D → D → Type 0) → Plac
 Goes disk crashes p n [] text q = (text ≡ []) × (q ≡ p) × AllKept p.machine p.told (disk.present p.disk)
 Goes disk crashes p n (l ∷ ls) text q = GoesOn (LineGoes disk crashes p n l) (λ next rest. Goes disk crashes next (n + 1) ls rest q) text
 
--- so from a store that was just made on the disk that was given
+-- the course of these lines, from a store that was just made on the disk that was given
 pub record Course {D : Type 0} (disk : DiskModel D) (crashes : D → D → Type 0) (given : D) (lines : List Line) (text : List ℕ) (place : Place D) : Type 0 where
   pub begun : D
   pub made : disk.present begun ≡ made HALF_SIZE 1
@@ -149,7 +149,7 @@ IsLeftBy disk crashes p Crash m mid lost = (lost ≡ mid) ⊎ Reopens disk crash
 IsLeftBy disk crashes p Version2 m mid lost = Raises disk p lost
 IsLeftBy disk crashes p a m mid lost = lost ≡ mid
 
--- It was so for this fault, and the disk has failed where a commit and the fault tell so, and nowhere else.
+-- The line is cut short for this fault, and the disk has failed where a commit and the fault tell so, and nowhere else.
 pub record CutShort {D : Type 0} (disk : DiskModel D) (crashes : D → D → Type 0) (p : Place D) (a : Asked) (why : Fault) (lost : D) : Type 0 where
   pub cause : MayCutShort (opens_disk a) why
   pub given : List Answer  -- so far
@@ -200,7 +200,7 @@ pub record StopsFlushing {D : Type 0} (written now : Option (List ℕ)) (fault :
 abbrev pub StopsWork : {D : Type 0} → DiskModel D → (D → D → Type 0) → Option (List ℕ) → Option (List ℕ) → Fault → D → Place D → List Line → List ℕ → Type 0
 StopsWork disk crashes written now fault lost p others text = StopsAtLine disk crashes written now fault lost p others text ⊎ StopsWriting disk crashes written now fault lost p others text
 
--- or the input did, or the end
+-- what may stop a drill: a line, the writer, the input or its end
 abbrev pub Stops : {D : Type 0} → DiskModel D → (D → D → Type 0) → Option (List ℕ) → Option (List ℕ) → Fault → D → Place D → List Line → List ℕ → Type 0
 Stops disk crashes written now fault lost p others text = StopsReading written now fault lost p others text ⊎ (StopsFlushing written now fault lost p others text ⊎ StopsWork disk crashes written now fault lost p others text)
 
@@ -228,8 +228,8 @@ pub record NotMade {D : Type 0} (disk : DiskModel D) (given : D) (fault : Fault)
 abbrev pub Drills : {D : Type 0} → DiskModel D → (D → D → Type 0) → D → Option (List ℕ) → Option (List ℕ) → Option (List ℕ) → Option (List ℕ) → D → Type 0
 Drills disk crashes given unread rest written now last = (seen text : List ℕ) × Consumes unread rest seen × Ended disk crashes given seen text last × Appends written now text
 
--- It failed: behind some lines of what was read, in too many reads of so many bytes at least; or no store was made, and
--- then nothing was read and nothing written.
+-- The drill failed: behind some lines of what was read, in too many reads of so many bytes at least; or no store was made,
+-- and then nothing was read and nothing written.
 abbrev pub Fails : {D : Type 0} → DiskModel D → (D → D → Type 0) → D → Option (List ℕ) → Option (List ℕ) → Option (List ℕ) → Option (List ℕ) → Fault → D → Type 0
 Fails disk crashes given unread rest written now fault lost =
     ((seen : List ℕ) × Consumes unread rest seen × BrokeOff disk crashes given seen written now fault lost × (fault ≡ TooManyReads → MOST_READS ≤ length seen))

@@ -14,11 +14,11 @@ use Rattle.coord_drill.specs.declared.fault.Fault.TheVariants.{OutOfMemory, Read
 abbrev pub IsOfMemory : Fault → Type 0
 IsOfMemory fault = fault ≡ OutOfMemory
 
--- or the store is refused on the drill's disk
+-- the fault is want of memory, or that the store is refused on the drill's disk
 abbrev pub IsOfDisk : Fault → Type 0
 IsOfDisk fault = IsOfMemory fault ⊎ ((why : StoreFault) × (fault ≡ Store why))
 
--- or one of the writer
+-- the fault is want of memory, or one of the writer
 abbrev pub IsOfWriting : Fault → Type 0
 IsOfWriting fault = IsOfMemory fault ⊎ (fault ≡ Write)
 

@@ -45,7 +45,7 @@ front_of d = front_world d.driver.ledger.log
 abbrev pub IsEmptyLog : Log → Type 0
 IsEmptyLog log = (log ≡ log_over (no_world 1)) ⊎ (log ≡ log_over (no_world 2))
 
--- its steps are settled: the base stays, and what is released is what they give
+-- the steps of a flight are settled: the base stays, and what is released is what they give
 pub record Settles (old : Log) (releases : List Release) (new : Log) : Type 0 where
   pub base : new.base ≡ old.base
   pub released : releases ≡ settling_releases old (new.settled - old.settled)
@@ -67,7 +67,7 @@ landed_answers flown.Nothing count = []
 landed_answers (flown.Settled releases) count = Committed ∷ Finished count ∷ []
 landed_answers (flown.Failed fault) count = Failed fault ∷ Finished count ∷ []
 
--- so with its departure, for so many steps
+-- what the departure of a flight of so many steps, its commit and its return were answered
 abbrev pub flown_answers : Flown → ℕ → ℕ → List Answer
 flown_answers flown.Nothing b count = Nothing ∷ []
 flown_answers r b count = Begun b ∷ landed_answers r count
@@ -88,7 +88,7 @@ abbrev pub released_lines : ℕ → ℕ → List Release → List ℕ
 released_lines version n [] = []
 released_lines version n (r ∷ rs) = if r.step == n then output_line version r.output ++ released_lines version n rs else []
 
--- and the releases behind them
+-- the releases behind those of this step
 abbrev pub behind : ℕ → List Release → List Release
 behind n [] = []
 behind n (r ∷ rs) = if r.step == n then behind n rs else r ∷ rs
@@ -98,7 +98,7 @@ abbrev pub collected_lines : ℕ → ℕ → List Claim → List Release → Lis
 collected_lines version count [] rs = []
 collected_lines version count (c ∷ cs) rs = if nat_le c.step count then reply_line (reply_of c) ++ (released_lines version c.step rs ++ collected_lines version count cs (behind c.step rs)) else []
 
--- and the claims behind them
+-- the claims whose steps are not among the first so many
 abbrev pub waiting : ℕ → List Claim → List Claim
 waiting count [] = []
 waiting count (c ∷ cs) = if nat_le c.step count then waiting count cs else c ∷ cs

@@ -17,6 +17,6 @@ pub record IsBlank (disk : MemDisk) : Type 0 where
 abbrev pub DrillsInMemory : Option (List ℕ) → Option (List ℕ) → Option (List ℕ) → Option (List ℕ) → Type 0
 DrillsInMemory unread rest written now = (given last : MemDisk) × IsBlank given × Drills in_memory CrashesByChoice given unread rest written now last
 
--- or it failed
+-- a drill began on such a disk, and failed
 abbrev pub FailsInMemory : Option (List ℕ) → Option (List ℕ) → Option (List ℕ) → Option (List ℕ) → Fault → Type 0
 FailsInMemory unread rest written now fault = (given lost : MemDisk) × IsBlank given × Fails in_memory CrashesByChoice given unread rest written now fault lost

@@ -12,7 +12,7 @@ use Rattle.coord_drill.specs.declared.fault.Fault.{Fault}
 abbrev pub CarriesLine : {D : Type 0} → DiskModel D → (D → D → Type 0) → Drill D → ℕ → Line → List ℕ → Drill D → Type 0
 CarriesLine {D} disk crashes d n line told new = (p : Place D) → Stands disk d p → (q : Place D) × (Stands disk new q × LineGoes disk crashes p n line told q)
 
--- it was cut short, and this disk given up
+-- the line was cut short, and this disk given up
 abbrev pub CutsLine : {D : Type 0} → DiskModel D → (D → D → Type 0) → Drill D → Line → Fault → D → Type 0
 CutsLine {D} disk crashes d line fault lost = (p : Place D) → Stands disk d p → FirstCutShort disk crashes p (line ∷ []) fault lost
 
@@ -22,7 +22,7 @@ pub record CarriesOut {D : Type 0} (disk : DiskModel D) (crashes : D → D → T
   pub wrote : Appends written now text
   pub goes : (p : Place D) → Stands disk d p → (q : Place D) × (Stands disk new q × Goes disk crashes p n lines text q)
 
--- and the disk was given back
+-- these lines were carried out to their end, and the disk was given back
 pub record EndsWith {D : Type 0} (disk : DiskModel D) (crashes : D → D → Type 0) (d : Drill D) (n : ℕ) (lines : List Line) (written now : Option (List ℕ)) (last : D) : Type 0 where
   pub text : List ℕ
   pub wrote : Appends written now text
@@ -41,7 +41,7 @@ pub record Breaks {D : Type 0} (disk : DiskModel D) (crashes : D → D → Type 
 abbrev pub BreaksOff : {D : Type 0} → DiskModel D → (D → D → Type 0) → Drill D → ℕ → List Line → Option (List ℕ) → Option (List ℕ) → Fault → D → Type 0
 BreaksOff disk crashes d n lines written now fault lost = Breaks disk crashes d n lines (StopsWork disk crashes written now fault lost)
 
--- or the input did, or the end
+-- a line, the writer, the input or its end stopped these lines
 abbrev pub EndsEarly : {D : Type 0} → DiskModel D → (D → D → Type 0) → Drill D → ℕ → List Line → Option (List ℕ) → Option (List ℕ) → Fault → D → Type 0
 EndsEarly disk crashes d n lines written now fault lost = Breaks disk crashes d n lines (Stops disk crashes written now fault lost)
 

@@ -50,7 +50,7 @@ pub record Led {D : Type 0} (disk : DiskModel D) (crashes : D → D → Type 0) 
   pub moments : (old : D) → disk_held d ≡ Some old → disk.keeps_model old ≡ true → LedDisk disk crashes s events given old (disk_held new)
   pub failed : (n : ℕ) → HasFailed disk.failures (disk_held d) n → HasFailed disk.failures (disk_held new) (n + failed_until events given)
 
--- so whatever machine it represents
+-- these events have led from one driver to another, whatever machine the first represents
 abbrev pub Leads : {D : Type 0} → DiskModel D → (D → D → Type 0) → DriverState D → List Event → List Answer → DriverState D → Type 0
 Leads disk crashes d events given new = (s : Machine) → IsConsistent s → Represents d s → Led disk crashes s events given d new
 
@@ -63,7 +63,7 @@ pub record Begins {D : Type 0} (d : DriverState D) : Type 0 where
 abbrev pub IsRun : {D : Type 0} → DiskModel D → (D → D → Type 0) → DriverState D → List Event → List Answer → DriverState D → Type 0
 IsRun disk crashes d events given new = Led disk crashes (started d.ledger) events given d new
 
--- so a flight does
+-- a flight has led from one driver to another
 abbrev pub GoesBy : {D : Type 0} → DiskModel D → (D → D → Type 0) → DriverState D → List Answer → DriverState D → Type 0
 GoesBy disk crashes d given new = Leads disk crashes d (flight_events given) given new
 
@@ -99,7 +99,7 @@ pub record RaisesTo {D : Type 0} (disk : DiskModel D) (crashes : D → D → Typ
   pub failed : disk.failures raised ≡ disk.failures old
   pub moments : has_stopped d.ledger.log ≡ false → disk.keeps_model old ≡ true → LeavesOnly disk old raised (GivesRaised d)
 
--- it was given up at a moment of that, for this fault
+-- the driver was given up at a moment of the raising, for this fault
 pub record RaisesPart {D : Type 0} (disk : DiskModel D) (d : DriverState D) (why : Fault) (lost : D) : Type 0 where
   pub old : D
   pub there : disk_held d ≡ Some old
@@ -156,8 +156,8 @@ pub record Flies {D : Type 0} (disk : DiskModel D) (crashes : D → D → Type 0
 
 -- ---- where the code's drill is
 
--- It stands at this place, on a disk that keeps the model. What was told of is settled, and as long as no step was
--- accepted its world is empty.
+-- The code's drill stands at this place, on a disk that keeps the model. What was told of is settled, and as long as no step
+-- was accepted its world is empty.
 pub record Stands {D : Type 0} (disk : DiskModel D) (d : Drill D) (p : Place D) : Type 0 where
   pub state : p.state ≡ state_of d
   pub holds : disk_held d.driver ≡ Some p.disk

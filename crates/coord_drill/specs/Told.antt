@@ -28,7 +28,7 @@ step_told s x (Accepted n ∷ given) = if s.holds then [] else flight_told (with
 step_told s x (Repeated n ∷ given) = repeat_told (settled_count s.log) (verdict s.log x)
 step_told s x given = []
 
--- What is asked tells of these. What is sent again was given out by settled steps, and counts for the last of them.
+-- The steps that the answer to a request tells of. What is sent again was given out by settled steps, and counts for the last of them.
 unfoldable pub told_by : DrillState → Asked → List Answer → List ℕ
 told_by s (Submit x) given = step_told s x given
 told_by s Flush given = flight_told s.log given

@@ -19,7 +19,7 @@ next_at (suc k) (x ∷ xs) r is = ap (λ l. delivery_of x.output ∷ l) (next_at
 next_asked : (k : ℕ) (released : List Release) (r : Release) → slice_get (drop k released) 0 ≡ Some r → deliveries_of (take (k + 1) released) ≡ deliveries_of (take k released) ++ delivery_of r.output ∷ []
 next_asked k released r is = let e : k + 1 ≡ suc k = omega arith in ap (λ n. deliveries_of (take n released)) e ∙ next_at k released r is
 
--- and there is one as long as not all were handed over
+-- there is a next release as long as not all were handed over
 pub one_left : (k : ℕ) (released : List Release) → slice_get (drop k released) 0 ≡ None → k < length released → ⊥
 one_left zero [] is lt = omega (arith, lt)
 one_left (suc k) [] is lt = omega (arith, lt)

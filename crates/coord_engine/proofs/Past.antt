@@ -41,7 +41,7 @@ module _ {D : Type 0} (m : DiskModel D) where
     before = λ t c le is. ⊎_elim (λ early. inl (past.no_more t c early)) (λ late. inr late) (left.before t c (omega (arith, past.clock, le)) is);
   }
 
-  -- and behind one run of calls more
+  -- what was left since then, was left behind one run of calls more
   pub and_on : (first : Past) (mid new : D) (P Q R : List ℕ → Type 0) → HasLeft m first mid P → LeavesOnly m mid new Q → ((c : List ℕ) → P c → R c) → ((c : List ℕ) → Q c → R c) → HasLeft m first new R
   and_on first mid new P Q R so_far run early late = grind arith
 
@@ -113,7 +113,7 @@ front_on_way log n bytes is way =
     let cut = trail_is_cut log.base log.trail n is in
     subst (λ w. IsOnTheWay log.base w bytes) cut.whole (farther log.base (world_after log n) bytes (drop n log.trail) cut.others way)
 
--- so is what the disk of a ledger gives
+-- what the disk of a ledger gives is on the way to the last world that may be on it
 settled_on_way : (log : Log) (doubt : Option ℕ) (bytes : List ℕ) → IsTrail log.base log.trail → GivesSettled log doubt bytes → IsOnTheWay log.base (last_world log doubt) bytes
 settled_on_way log None bytes is gives = after_on_way log log.settled bytes is gives
 settled_on_way log (Some b) bytes is (inl gives) = later_on_way log log.settled b bytes is (after_on_way log log.settled bytes is gives)
@@ -171,14 +171,14 @@ module _ {D : Type 0} (m : DiskModel D) where
     either bytes (inl gives) = onward bytes (here bytes gives)
     either bytes (inr gives) = there bytes gives
 
-    -- it has written them
+    -- a flight has written its steps
     flown : (left now : D) → m.keeps_model now ≡ m.keeps_model left → (m.keeps_model left ≡ true → LeavesOnly m left now (GivesEither w (fold w steps))) → StaysOnTheWay m first base w left → StaysOnTheWay m first base (fold w steps) now
     flown left now same run stays = record {
       same_model = same ∙ stays.same_model;
       moments = λ keeps. and_on m first left now _ _ _ (stays.moments keeps) (run (stays.same_model ∙ keeps)) onward either;
     }
 
-    -- or nothing of them
+    -- a flight has written nothing of its steps
     unflown : (left now : D) → m.keeps_model now ≡ m.keeps_model left → (m.keeps_model left ≡ true → LeavesOnly m left now (IsOnlyWorld w)) → StaysOnTheWay m first base w left → StaysOnTheWay m first base w now
     unflown left now same run stays = record {
       same_model = same ∙ stays.same_model;

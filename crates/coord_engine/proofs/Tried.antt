@@ -18,7 +18,7 @@ module _ {D : Type 0} (b : Basis D) (notes next : List Note) where
   tries_stuck [] p waits is tried stays = cc
   tries_stuck (q ∷ waiting) p waits is tried stays = (next, waits, rw (ap (some_is p) is) tried, inl (stays, refl, refl))
 
-  -- or it is done with, and the others are tried
+  -- the first that waits is done with, and the others are tried
   pub tries_on : (waiting : List Packet) (p : Packet) (waits : Bool) (later : List Note) (left : List Packet) → slice_get waiting 0 ≡ Some p → Tries b notes p waits next → waits ≡ false
       → TriesAll b next (drop 1 waiting) later left → TriesAll b notes waiting later left
   tries_on [] p waits later left is tried goes rest = cc

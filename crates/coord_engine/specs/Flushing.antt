@@ -33,7 +33,7 @@ module _ {D P : Type 0} (b : Basis D) (failures : D → ℕ) (carried : P → �
   Follows port (Err OutOfMemory) later = later ≡ port
   Follows port (Err fault) later = ⊥
 
-  -- so many flushes, each behind a moment at which something could be flushed, and followed so
+  -- flushes, this many: each behind a moment at which something could be flushed, and each followed as above
   abbrev pub Flushed : ℕ → P → P → Type 0
   Flushed zero port later = later ≡ port
   Flushed (suc n) port later =

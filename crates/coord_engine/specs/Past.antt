@@ -31,7 +31,7 @@ abbrev pub past_in : {D : Type 0} → DiskModel D → Option D → Past
 past_in m None = no_past
 past_in m (Some disk) = past_of m disk
 
--- so it was with this disk
+-- the disk has this past
 pub record IsPastOf {D : Type 0} (m : DiskModel D) (first : Past) (disk : D) : Type 0 where
   pub model : first.keeps_model ≡ m.keeps_model disk
   pub clock : first.clock ≡ m.clock disk
@@ -62,7 +62,7 @@ abbrev pub last_world : Log → Option ℕ → World
 last_world log None = settled_world log
 last_world log (Some b) = world_after log (log.settled + b)
 
--- and on the disk of a flight: the one before its steps while it is new, then the one after them
+-- the last world that may be on the disk of a flight: the one before its steps while it is new, then the one after them
 abbrev pub flown_world : Mark → World → List Step → World
 flown_world New w steps = w
 flown_world Good w steps = fold w steps

@@ -61,6 +61,6 @@ with_noted g l n = record g { ledger = l; noted = n }
 abbrev pub with_share : {D : Type 0} → GuardedState D → GuardedState D
 with_share g = record g { given = g.given + 1 }
 
--- and no step is accepted any more
+-- the value under the lock once no step is accepted any more
 abbrev pub with_finish : {D : Type 0} → GuardedState D → GuardedState D
 with_finish g = record g { finishing = true }

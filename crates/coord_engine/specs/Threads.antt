@@ -15,7 +15,7 @@ use Rattle.coord_engine.specs.Calls.{AnswersStep, IsTold, engine_verdict}
 use Rattle.coord_engine.specs.Closing.{MayClose}
 use Rattle.coord_engine.specs.State.{Basis, CanHold, GuardedState}
 
--- so it is in some state that the value under the lock can have
+-- this holds in some state that the value under the lock can have
 pub record AtSomeMoment {D : Type 0} (b : Basis D) (P : GuardedState D → Type 0) : Type 0 where
   pub state : GuardedState D
   pub held : CanHold b state
@@ -29,7 +29,7 @@ Submits {D} s answer notes later g = (l : LedgerState D) × AnswersStep s (engin
 abbrev pub Shows : {D : Type 0} → Shown → ℕ → ℕ → GuardedState D → Type 0
 Shows view seen later g = (is_some g.ledger.log.doubt ≡ false) × (seen ≤ settled_count g.ledger.log) × (view ≡ shown (accepted_count g.ledger.log) (settled_world g.ledger.log)) × (later ≡ settled_count g.ledger.log)
 
--- or it was not, for this reason
+-- the settled world was not shown, for this reason
 abbrev pub RefusesShow : {D : Type 0} → Refusal → ℕ → GuardedState D → Type 0
 RefusesShow Stopped seen g = is_some g.ledger.log.doubt ≡ true
 RefusesShow (Behind settled) seen g = (settled ≡ settled_count g.ledger.log) × (settled < seen)

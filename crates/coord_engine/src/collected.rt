@@ -5,10 +5,10 @@ use coord_types::{Refusal, Reply};
 
 /// What is said to a ticket, under the lock.
 pub enum Collected {
-    /// Its step is settled, with this reply.
+    /// The ticket's step is settled, with this reply.
     Settled(Reply),
     /// There will be no reply.
     Refused(Refusal, Ticket),
-    /// Its step is not settled yet.
+    /// The ticket's step is not settled yet.
     Waiting(Ticket),
 }

@@ -46,13 +46,13 @@ fn patience_since<R: Clock>(rt: &R, start: io::Result<Instant>) -> Duration {
 }
 
 impl<D: Disk, L: Origin> Engine<D, L> {
-    /// So many packets are about to be handed to a port. They are counted before the port has them,
-    /// since a worker may be done with one first.
+    /// Counts packets that are about to be handed to a port. They are counted before the port has
+    /// them, since a worker may be done with one first.
     fn take_in_hand<R: Wait>(&self, rt: &R, count: u64) {
         self.guarded.lock(rt).raise_in_hand(count);
     }
 
-    /// So many of those that were counted are in nobody's hand.
+    /// Counts down by the packets that are in nobody's hand any more.
     fn let_go<R: Wait>(&self, rt: &R, count: u64) {
         if count == 0 {
             return;

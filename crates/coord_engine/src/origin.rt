@@ -20,7 +20,7 @@ pub trait Origin: Count {
     /// The steps that the ledger had accepted.
     ghost before: { List Step };
 
-    /// Its disk, as it was then.
+    /// The ledger's disk, as it was then.
     ghost disk: { Past };
 }
 

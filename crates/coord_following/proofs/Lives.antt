@@ -86,7 +86,7 @@ comes w (suc k) (t ∷ turns) x sound history gone there =
     of true true here test rest = absurd (let none : adds x t ≡ 0 = grind (arith, nat_tests, test) in let is = (stays w t x sound.in_range history.0 here none).there in cc)
     of true false here test rest = let some : 1 ≤ adds x t = grind (arith, nat_tests, test) in omega (arith, some)
 
--- it is in a later life, or in the same with no lower epoch confirmed
+-- a node is in a later life, or in the same with no lower epoch confirmed
 abbrev pub IsFurther : ℕ → ℕ → ℕ → ℕ → Type 0
 IsFurther life confirmed later_life later_confirmed = (life < later_life) ⊎ ((life ≡ later_life) × (confirmed ≤ later_confirmed))
 

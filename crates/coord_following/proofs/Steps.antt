@@ -232,7 +232,7 @@ pub record WasThere (w : World) (x y : ℕ) (m : Lane) : Type 0 where
   pub there : lane_at w.links x y ≡ Some lane
   pub same : lane.inc ≡ m.inc
 
--- or the next step made it
+-- a lane of the next world was in the world before, or the next step made it
 abbrev pub IsOld : World → ℕ → ℕ → Lane → Type 0
 IsOld w x y m = WasThere w x y m ⊎ (m.inc ≡ w.count + 1)
 

@@ -81,7 +81,7 @@ linked_shown w i x now sound party linked = of (nat_lt i x) refl
         let less : x < i = lesser i x (grind (arith, nat_tests, more)) (λ same. apart (is_some (lane_at w.links i i)) (lane-apart w.links sound.in_range.turned i) (subst (λ n. is_some (lane_at w.links i n) ≡ true) (sym same) linked)) in
         (Link x i lane.0.inc, party.every_link x i lane.0.inc (x ∷ [], (linked, refl)) (record { turned = less; lane = lane.0; there = lane.1; made = refl }), inr refl)
 
--- so one without is connected with itself alone
+-- a node without a link is connected with itself alone
 itself_alone : (w : World) (i n : ℕ) (now : List Entry) → IsSound w → IsPartyOf w i now → ((link : Entry) → IsOneOf link now → honest.IsLinkOf i link → ⊥) → (path : List ℕ) → IsPath w i path n → i ≡ n
 itself_alone w i n now sound party none [] same = same
 itself_alone w i n now sound party none (x ∷ path) links = absurd (let link = linked_shown w i x now sound party links.0 in none link.0 link.1 link.2)

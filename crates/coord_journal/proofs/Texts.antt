@@ -58,7 +58,7 @@ text_same bytes c d one other =
     (half_in bytes c one.0 one.1 one.2 one.3 t.selector other.0 other.1 (behind_header bytes d other.0 other.1 other.2 t) t.selected (text_header bytes d other.0 other.1 other.2 t))
     (text_half bytes d other.0 other.1 other.2 t)
 
--- and in one half, of which so much is used
+-- bytes are the text of a content in one half at most, of which so much is used
 pub text_place : (bytes : List ℕ) (c d : Content) (m n h k u v : ℕ) → IsTextAt bytes c m h u → IsTextAt bytes d n k v → (m ≡ n) × (h ≡ k) × (u ≡ v)
 text_place bytes c d m n h k u v one other =
     let front = behind_header bytes c m h u one in

@@ -77,7 +77,7 @@ pub fn open<'b, D: Disk>(
         IfErr result (λ refused. RefusesOpen (D.model.present disk).read refused.0) }
     ensures named { IfErr result (λ refused. IsOpenFault refused.0) }
 
-    // It may be added to, and the device reads as before.
+    // The journal may be added to, and the device reads as before.
     ensures ready { D.model.keeps_model disk ≡ true →
         IfOk result (λ opened. IsReady D.model opened.0 (content_of opened.1)) }
     ensures bytes { D.model.keeps_model disk ≡ true → IfOk result (λ opened.

@@ -98,7 +98,7 @@ module _ {D : Type 0} (d : DriverState D) (f : FlightState D) (holds : d.flight 
   counted : (log : Log) (b : ℕ) (k : Mark) → IsOneOf (Finished (settled_count (log_back log b k))) (to_finish (settled_count log) b k)
   counted log b k = grind (arith, nat_tests)
 
-  -- it is back
+  -- the flight is back
   pub simulates_back : (back : LedgerState D) → back ≡ taken_back d.ledger (length f.steps) f.mark f.disk → Simulates d Finish (Finished (settled_count back.log)) (at_home back)
   simulates_back back taken = grind (arith, nat_tests, same, may_finish, counted)
 
@@ -124,7 +124,7 @@ simulates_opened {D} d l model crashes before is images keeps opened =
 
 -- ---- a whole run
 
--- but for a crash it is what the machine makes of it
+-- any event but a crash is what the machine makes of it
 calmly : (t : Machine) (e : Event) (a : Answer) → is_crash e ≡ false → goes_to t e a ≡ after t e a
 calmly t Crash a calm = let no : ⊥ = cc in absurd no
 calmly t e a calm = refl

@@ -7,7 +7,8 @@ use crate::Ticket;
 pub enum Handed {
     /// The step was accepted.
     Accepted(Ticket),
-    /// It is a client's last order, which came again: the ticket is for the reply that was kept.
+    /// The step is a client's last order, which came again: the ticket is for the reply that was
+    /// kept.
     Repeated(Ticket),
 }
 

@@ -43,7 +43,7 @@ pub fn stays_consistent()
     ensures { StaysConsistent }
 {}
 
-/// So does a run of events.
+/// A run of events keeps a consistent machine consistent.
 #[tactic(auto, using(crate::proofs::machine::Consistent::run_is_consistent))]
 pub fn run_is_consistent()
     ensures { RunIsConsistent }

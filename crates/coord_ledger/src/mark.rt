@@ -3,9 +3,9 @@
 /// Whether a flight was committed.
 #[derive(Clone, Copy, PartialEq, Eq)]
 pub enum Mark {
-    /// It may still be committed.
+    /// The flight may still be committed.
     New,
-    /// Its steps are on the disk.
+    /// The flight's steps are on the disk.
     Good,
     /// The device failed: its steps are on the disk or not.
     Torn,

@@ -60,7 +60,7 @@ impl Ticket {
         self.step
     }
 
-    /// Its step, with the number.
+    /// The ticket's step, with the number.
     pub fn note(&self) -> Note
         ensures step { result.step ≡ self.now.step }
         ensures what { result.what ≡ self.now.what }

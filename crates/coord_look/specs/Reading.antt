@@ -48,7 +48,7 @@ is_ready Converge = false
 abbrev pub is_quiet : NodeSet → NodeView → Bool
 is_quiet reached row = not (contains reached row.node) || is_ready row.mode
 
--- nor awaited: its epoch is confirmed
+-- a node that is one of these is in no reset, nor awaited: its epoch is confirmed
 abbrev pub is_through : NodeSet → NodeView → Bool
 is_through reached row = not (contains reached row.node) || (is_ready row.mode && (row.epoch == row.confirmed))
 

@@ -13,6 +13,6 @@ use Rattle.coord_look.specs.Shown.{IsShownTo}
 abbrev pub LookIsShown : Type 0
 LookIsShown = (w : World) (accepted i : ℕ) (own : NodeView) (row : Row) (party : List Entry) → InRange w → find (is_of i) (shown accepted w).nodes ≡ Some own → IsReadOf (shown accepted w) i own row party → IsShownTo w i row party
 
--- and where no row is read, the node is not there
+-- where no row is read, the node is not there
 abbrev pub NoLookIsAbsent : Type 0
 NoLookIsAbsent = (w : World) (accepted i : ℕ) → find (is_of i) (shown accepted w).nodes ≡ None → has w.nodes i ≡ false

@@ -19,7 +19,7 @@ pub record IsOver (made : ℕ → Entry → ℕ) (last : Shown) (kept : Kept) (l
   pub loads : loading ≡ Some t.start.epoch → life < last.life
   pub again : kept.begun ≡ Some t.start.epoch → kept.party ≡ None → life < last.life
 
--- ---- and each event keeps it
+-- ---- each event keeps the claim
 
 -- what is shown of a node, and of another one
 pub shown_of : (last : ℕ → Shown) (i life : ℕ) (row : Row) → with_shown last i life row i ≡ record { life = life; confirmed = row.confirmed }

@@ -14,7 +14,7 @@ use Rattle.coord_member.proofs.Holding.{Past, Lasts, Holds, Rules, crashed, got,
 use Rattle.coord_member.proofs.Unmixed.{by_party, unmixed}
 use Rattle.coord_member.proofs.Besides.{IsOver, begun_over, none_again, shown_of, shown_of_others, stays_over}
 
--- its party is in its node's history, if the node keeps its files, and otherwise ruled out by what is shown
+-- the party of a start is in its node's history, if the node keeps its files, and otherwise ruled out by what is shown
 abbrev by_files : Bool → (ℕ → Entry → ℕ) → Shown → Kept → Option ℕ → Talked → Type 0
 by_files true made last kept loading t = IsOneOf t.party kept.history
 by_files false made last kept loading t = IsOver made last kept loading t
@@ -63,7 +63,7 @@ rules_kept keeps made last w i row now h keep =
       );
     }
 
--- and of one that may lose them
+-- the rules hold of a member that may lose its files
 rules_over : (keeps : ℕ → Bool) (made : ℕ → Entry → ℕ) (last : ℕ → Shown) (w : World) (i life : ℕ) (row : Row) (now : List Entry) → Holds by_party (is_fair keeps made last) w → keeps i ≡ false → IsLater (last i) life row → IsView made i life row.epoch now →
     Rules by_party (is_fair keeps made last) (is_fair keeps made (with_shown last i life row)) w i row now
 rules_over keeps made last w i life row now h loses later view =

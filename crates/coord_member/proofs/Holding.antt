@@ -351,11 +351,11 @@ forgets c past w i lasts h =
 pub record Rules (c : Claim) (past later : Past) (w : World) (i : ℕ) (row : Row) (now : List Entry) : Type 0 where
   pub others : StaysFor past later i
   pub stays : (t : Talked) → IsOneOf t w.talked → t.start.node ≡ i → later i (w.member i).kept (w.member i).loading t
-  -- it begins
+  -- what is claimed of a start stays as the member begins
   pub begins : (t : Talked) → IsOneOf t w.talked → t.start.node ≡ i → nat_lt row.confirmed row.epoch ≡ true → later i (record (w.member i).kept { party = None; begun = None }) (Some row.epoch) t
-  -- it talks for the first time, alone
+  -- what is claimed of a start stays as the member talks for the first time, alone
   pub settles : (t : Talked) → IsOneOf t w.talked → t.start.node ≡ i → later i (record (w.member i).kept { party = Some now }) (w.member i).loading t
-  -- or with others
+  -- what is claimed of a start stays as the member talks for the first time, with others
   pub talks : (t : Talked) → IsOneOf t w.talked → t.start.node ≡ i → later i (record (w.member i).kept { party = Some now; history = (w.member i).kept.history ++ (now ∷ []) }) (w.member i).loading t
   pub first : (s : Start) → s.node ≡ i → s.epoch ≡ row.epoch → row.epoch ≡ row.confirmed → (w.member i).loading ≡ None →
       later i (record (w.member i).kept { party = Some now; history = (w.member i).kept.history ++ (now ∷ []) }) (w.member i).loading (record { start = s; party = now })

@@ -47,7 +47,7 @@ pub record WorkedRun : Type 0 where
       ((run new_world worked).member 1).cone
       ≡ record { node = 2; epoch = 1; serial = 2 } ∷ record { node = 1; epoch = 2; serial = 3 } ∷ []
   pub tag : ((run new_world worked).member 1).tag ≡ Some behind
-  -- it talks by that party once, and by another one again
+  -- the member talks by that party once, and by another one again
   pub once : ((run new_world talked_once).member 1).tag ≡ Some before
   pub refused : ((run new_world put_back).member 1).tag ≡ None
   pub asks : due ((run new_world put_back).member 1).kept (talks 1) before ≡ Reset

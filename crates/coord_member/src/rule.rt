@@ -10,13 +10,14 @@ use crate::view::{Entry, Row};
 /// What a member has to do.
 #[derive(Clone, Copy, PartialEq, Eq, Debug)]
 pub enum Due {
-    /// It talks, in the run of its party.
+    /// The member talks, in the run of its party.
     Talk,
-    /// It waits for others, or for a reset that is under way.
+    /// The member waits for others, or for a reset that is under way.
     Wait,
-    /// It begins the epoch that is shown: it drops its work, loads the common start and confirms.
+    /// The member begins the epoch that is shown: it drops its work, loads the common start and
+    /// confirms.
     Begin,
-    /// It asks for a reset.
+    /// The member asks for a reset.
     Reset,
 }
 

@@ -91,7 +91,7 @@ impl Node {
         }
     }
 
-    /// The node that keeps this.
+    /// The node with these fields.
     pub fn restore(fields: NodeFields) -> Self
         ensures { result ≡ record {
           group = fields.group;

@@ -25,7 +25,7 @@ pub struct Line {
 /// What a client keeps, and in memory which of its lines it awaits the answer of.
 #[derive(Clone, Copy, Debug, PartialEq, Eq)]
 pub struct OrderBook {
-    /// It has to be on the disk before a line is sent, and before the next order is written down.
+    /// What has to be on the disk before a line is sent, and before the next order is written down.
     pub kept: Kept,
     /// The serial number of the line that was sent last, if its answer may still come.
     pub awaited: Option<u64>,

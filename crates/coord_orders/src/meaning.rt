@@ -16,9 +16,9 @@ pub enum Answer {
 /// What an answer says of its order.
 #[derive(Clone, Copy, Debug, PartialEq, Eq)]
 pub enum Meaning {
-    /// It was carried out, with this reply.
+    /// The order was carried out, with this reply.
     Done(Reply),
-    /// It was not carried out, and its number is free.
+    /// The order was not carried out, and its number is free.
     NotDone,
     /// Nothing: the same line has to be sent again.
     SendAgain,

@@ -89,7 +89,7 @@ module _ {D : Type 0} (keeps_model : D → Bool) (present : D → Present) {V : 
         rw same going,
       )
 
-  -- and the last one has ended
+  -- the last life has ended
   pub lives_end : (began : World) (v : V) (life : Life D V) (ended : ServerEnd D V) → EndsLives keeps_model present talked failed most began v life
       → IsOver life.left ended.served → ended.closed ≡ life.closed → ended.callers ≡ life.callers → HasLived keeps_model present talked failed most began v ended
   lives_end began v life ended (n, world, u, lives, so) over same same_w = (

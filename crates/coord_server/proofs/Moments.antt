@@ -43,7 +43,7 @@ module _ {D : Type 0} (m : DiskModel D) where
         moments = λ keeps. joined_moments first now (fold left.base left.trail.items) left.store.disk left.trail.items come t.steps (ap (λ w. fold w left.trail.items) (sym t.from)) (moments.moments (come.same_model ∙ keeps)) keeps;
       }
 
-  -- which rests: the next one begins where it ended
+  -- a life that rests: the next one begins where it ended
   pub next_from : (first now next : Kept D) (left : Closed D) (desk : List Note) → ComesFrom m first now → IsOneHistory (based_on m.keeps_model m.present now.world []) desk left → AtEachMoment m now left
       → next ≡ left.store → left.settled ≡ left.base.count + length left.trail.items → ComesFrom m first next
   next_from first now next left desk come history moments same all =

@@ -31,7 +31,7 @@ pub record Tells {D : Type 0} (world : World) (left : Closed D) : Type 0 where
 pub tells : {D : Type 0} (b : Basis D) (desk : List Note) (left : Closed D) → IsOneHistory b desk left → Tells b.base left
 tells b desk left h1 = grind arith
 
--- and a life of which all is settled leaves the world after its trail
+-- a life of which all is settled leaves the world after its trail
 pub leaves_all : {D : Type 0} (world : World) (left : Closed D) → Tells world left → left.settled ≡ left.base.count + length left.trail.items → left.store.world ≡ fold world left.trail.items
 leaves_all world left t all =
     let same : left.base.count ≡ world.count = ap (λ (w : World). w.count) t.from in
@@ -139,7 +139,7 @@ module _ {D : Type 0} (keeps_model : D → Bool) (present : D → Present) {V : 
   lives_are_one began v ended lived =
       one_history began lived.1 (steps_of keeps_model present talked most lived.0 began v lived.1 lived.2 lived.3) ended.closed (lives_go_on keeps_model present talked most lived.0 began lived.1 v lived.2 lived.3) (tells (based_on keeps_model present lived.1 []) lived.4.1.notes ended.closed lived.4.3)
 
-  -- so is what they leave
+  -- what the last life leaves ends one history
   pub ends : (began : World) (v : V) (ended : ServerEnd D V) → HasLived keeps_model present talked failed most began v ended → EndsOneHistory began ended.closed
   ends began v ended lived = (steps_of keeps_model present talked most lived.0 began v lived.1 lived.2 lived.3, lives_are_one began v ended lived)
 

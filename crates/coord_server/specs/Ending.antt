@@ -41,7 +41,7 @@ module _ {D : Type 0} (b : Basis D) {V : Type 0} (talked : V → List Talk → V
   abbrev pub IsClosed : {P : Type 0} → ℕ → P → V → V → DeskState P → Type 0
   IsClosed most port v w desk = ServedToClose (DeskAnswers b) (DeskKeeps b) most talked v (new_desk port) w desk
 
-  -- or until no one came any more
+  -- those who called were served by such a desk until no one came any more
   abbrev pub IsLeft : {P : Type 0} → ℕ → P → V → V → DeskState P → Type 0
   IsLeft most port v w desk = ServedOpen (DeskAnswers b) (DeskKeeps b) most talked v (new_desk port) w desk
 
@@ -56,7 +56,7 @@ module _ {D : Type 0} (b : Basis D) {V : Type 0} (talked : V → List Talk → V
     ServesLife port v w desk (end.Ended (Some fault.Socket)) = (talked v [] w × (desk ≡ new_desk port)) ⊎ ((last : V) × IsLeft most port v last desk × failed last w)
     ServesLife port v w desk (end.Ended (Some other)) = ⊥
 
-    -- and in the last life of a server that ends so: a store that has stopped is met where a life rests
+    -- how the desk went on in the last life of a server that ends so: a store that has stopped is met where a life rests
     abbrev pub Serves : {P : Type 0} → P → V → V → DeskState P → Option ServerFault → Type 0
     Serves port v w desk (Some fault.Device) = ServesLife port v w desk end.Resting
     Serves port v w desk served = ServesLife port v w desk (end.Ended served)

@@ -70,7 +70,7 @@ abbrev pub DeskPosts : {D P : Type 0} → Basis D → DeskState P → Request �
 DeskPosts {D} b d (request.Order client number command) posted e = AtSomeMoment b (Submits {D = D} (step.Order client number command) posted d.notes e.notes) × (e.seen ≡ d.seen) × (e.port ≡ d.port)
 DeskPosts {D} b d request posted e = ⊥
 
--- then its reply is waited for, and nothing more is noted
+-- once an order was accepted its reply is waited for, and nothing more is noted
 abbrev pub DeskReplies : {D P : Type 0} → Basis D → DeskState P → Result Claim Refusal → Result Reply Refusal → DeskState P → Type 0
 DeskReplies {D} b d posted reply e = Replies b posted reply × (e.notes ≡ d.notes) × (e.seen ≡ seen_after reply d.seen) × (e.port ≡ d.port)
 

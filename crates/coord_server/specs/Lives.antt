@@ -51,7 +51,7 @@ module _ {D : Type 0} (keeps_model : D → Bool) (present : D → Present) {V : 
     pub going : has_stopped left.store ≡ false
     pub goes_on : next ≡ left.store.world
 
-  -- so many lives that rest, each of which begins where the one before ended
+  -- a number of lives that rest, each of which begins where the one before ended
   abbrev pub Lives : ℕ → World → V → World → V → Type 0
   Lives zero began v next w = (next ≡ began) × (w ≡ v)
   Lives (suc n) began v next w = (world : World) × (u : V) × Lives n began v world u × Rests world u w next

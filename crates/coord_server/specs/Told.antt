@@ -20,7 +20,7 @@ pub record NamesItsStep {D : Type 0} (b : Basis D) (s : Step) (reply : Reply) (b
   pub noted : (after ≡ before ++ record { step = reply.step; what = s } ∷ []) ⊎ (after ≡ before)
   pub settled : AtSomeMoment b (λ g. IsCollectable g.ledger.log (record { step = reply.step; what = s; kind = reply.kind }))
 
--- so is each reply of a desk
+-- each reply that a desk gives to an order names its step
 abbrev pub RepliesNameSteps : Type 0 → Type 0
 RepliesNameSteps D = (b : Basis D) (s : Step) (reply : Reply) (before after : List Note) → Orders b s (Ok reply) before after → NamesItsStep b s reply before after
 

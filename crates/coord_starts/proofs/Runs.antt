@@ -52,7 +52,7 @@ served model crashes w events given released left keeps old new bytes sound name
     let may : MayServe w events given survives.steps = record { named = named; answered = completed.answered; kept = survives.allowed } in
     record { kept = survives.steps; may = may; all = completed.released_is; left = subst (Recovered bytes) (left_is w events given survives.steps sound may) survives.recovered }
 
--- so of the ledger of a store, which is left at home, once the power of its disk was cut
+-- the ledger of a store, which is left at home, once the power of its disk was cut
 module _ {D : Type 0} (model : DiskModel D) (crashes : D → D → Type 0) (w : World) (events : List Event) (given : List Answer) (released : List Release) (ledger left : LedgerState D) (disk cut : D) (is : ledger ≡ ledger_over w disk) (same : option_map model.keeps_model left.disk ≡ option_map model.keeps_model ledger.disk)
     (ran : (before after : D) → ledger.disk ≡ Some before → left.disk ≡ Some after → Promised (model.keeps_model before) events (Completed model crashes (started ledger) events given released left (model.keeps_model after) before after)) (crash : (before : D) → left.disk ≡ Some before → Crashes model before cut) where
   here : ledger.disk ≡ Some disk
@@ -117,7 +117,7 @@ pub raised_or_not : (w : World) (bytes : List ℕ) → RefusesMigration w Device
 raised_or_not w bytes quiet (inl gives) = not_raised w bytes Device quiet gives
 raised_or_not w bytes quiet (inr gives) = record { start = Raises; is_of = (quiet, inr (refl, refl)); may = (quiet.first, quiet.ready); left = subst (Recovered bytes) (first w quiet.first) gives }
 
--- so of a store's images
+-- a store without a torn commit gives its world alone
 raised_gives : {D : Type 0} (new : Kept D) (v : World) (bytes : List ℕ) → new.world ≡ v → new.torn ≡ None → GivesKept new bytes → Recovered bytes v
 raised_gives new v bytes world none (inl gives) = subst (Recovered bytes) world gives
 raised_gives new v bytes world none (inr torn) = let no : None ≡ Some torn.0 = sym none ∙ torn.1 in absurd cc

@@ -62,7 +62,7 @@ pub record HasRun (version : ℕ) (tasks : List Task) (outcomes : List Outcome) 
   pub may : AreStarts (no_world version) starts
   pub left : Recovered bytes (left_by (no_world version) starts)
 
--- and all of them are one history
+-- the tasks were starts of a store that was just made, and all of them are one history
 pub record IsOneRun (version : ℕ) (tasks : List Task) (outcomes : List Outcome) (bytes : List ℕ) : Type 0 where
   pub run : HasRun version tasks outcomes bytes
   pub one : IsOneHistory (no_world version) run.starts

@@ -74,7 +74,7 @@ abbrev pub replied_of : World → List Start → List Reply
 replied_of w [] = []
 replied_of w (s ∷ starts) = replied_in w s ++ replied_of (led w (turns_in w s)) starts
 
--- and all that was released
+-- all that was released, in all starts
 abbrev pub released_of : World → List Start → List Release
 released_of w [] = []
 released_of w (s ∷ starts) = released_in w s ++ released_of (led w (turns_in w s)) starts

@@ -20,7 +20,7 @@ use std::alloc::Global;
 pub enum Task {
     /// A ledger over it is asked these events.
     Serve(Vec<Event>),
-    /// It is raised to version 2.
+    /// The store is raised to version 2.
     Migrate,
 }
 

@@ -54,7 +54,7 @@ module _ {D : Type 0} (m : DiskModel D) where
   halves_of : (journal : Journal D) (w : World) → Holds m journal w → HasHalves (half_size_of journal) (m.present (disk_of journal)).read
   halves_of journal w holds = (holds.ready.text.selector, holds.ready.text.skipped ++ holds.ready.text.half_bytes, holds.ready.text.header)
 
-  -- and of the same size after a call that keeps that
+  -- halves stay of their size in a call that keeps the journal's
   same_halves : (old new : Journal D) (w v : World) (size : ℕ) → half_size_of new ≡ half_size_of old → Holds m old w → Holds m new v → HasHalves size (m.present (disk_of old)).read → HasHalves size (m.present (disk_of new)).read
   same_halves old new w v size same was is has =
       subst (λ n. HasHalves n (m.present (disk_of new)).read) (same ∙ same_size (m.present (disk_of old)).read (half_size_of old) size (halves_of old w was) has) (halves_of new v is)
@@ -118,7 +118,7 @@ module _ {D T : Type 0} (m : DiskModel D) (old new : Journal D) (w next v : Worl
   untouched (Ok x) keeps same = tt
   untouched (Err fault) keeps same = λ other. ap (λ j. kept j v now) (same other) ∙ ap (λ y. kept old y now) keeps.same_world ∙ ap (λ o. kept old w o) (keeps.unchanged other)
 
--- and of a commit
+-- what a commit does to a store
 module _ {D T : Type 0} (m : DiskModel D) (old new : Journal D) (w v : World) (torn now : Option World) (none : torn ≡ None) (holds : m.keeps_model (disk_of old) ≡ true → torn ≡ None → Holds m old w) (steps : List Step) (body : List ℕ) (takes : Takes w body steps) where
   pub committed : (r : Result T CommitFault) → Concludes (fold w steps) w v torn now r → (Holds m old w → Follows m w (fold w steps) old new r) → (Holds m old w → Stays m w old new r) → Ends m 8 old new r
       → (m.keeps_model (disk_of old) ≡ true → HasRoomFor old (length body) → m.clock (disk_of new) ≤ m.clock (disk_of old) + 4) → (HasRoomFor old (length body) → half_of new ≡ half_of old)

@@ -70,7 +70,7 @@ taken_unrefused w n body steps fault takes (inl spells_none) = spells_none.1 ste
 taken_unrefused w n body steps fault takes (inr stop) =
     unstopped w stop.1 stop.0 stop.4 (subst (AllFresh w w) (one_spelling w body steps stop.1 takes.spells stop.3) takes.fresh)
 
--- nor is one of batches that lead to a world
+-- batches that lead to a world are not refused
 led_unrefused : (start w : World) (bodies : List (List ℕ)) (fault : StoreFault) → Replays start bodies w → RefusesReplay start bodies fault → ⊥
 led_unrefused start w bodies fault led refused =
     let here = refused.reaches in
@@ -82,13 +82,13 @@ batches_unrefused : (content : Content) (w : World) (fault : StoreFault) → Giv
 batches_unrefused content w fault gives refused =
     led_unrefused gives.start w content.batches fault gives.replays (rw (sym (one_start content refused.0 gives.start refused.1 gives.snapshot)) refused.3)
 
--- nor is a snapshot that spells a legal world
+-- a snapshot that spells a legal world is not refused
 snapshot_unrefused : (content : Content) (start : World) (fault : StoreFault) → HasSnapshot content start → Legal start → RefusesSnapshot content fault → ⊥
 snapshot_unrefused content start fault snapshot legal (inl spells_none) = spells_none.1 start snapshot
 snapshot_unrefused content start fault snapshot legal (inr violated) =
     legal_unfaulted violated.0 violated.1 violated.3.in_range (subst Legal (one_start content start violated.0 snapshot violated.3) legal) violated.4
 
--- nor is a text that gives a world
+-- a content that gives a world is not refused
 content_unrefused : (content : Content) (w : World) (fault : StoreFault) → Gives content w → RefusesContent content fault → ⊥
 content_unrefused content w fault gives (inl snapshot) = snapshot_unrefused content gives.start fault gives.snapshot gives.legal snapshot
 content_unrefused content w fault gives (inr batches) = batches_unrefused content w fault gives batches
@@ -103,7 +103,7 @@ begins_with_header : (content : Content) (bytes : List ℕ) → IsText content b
 begins_with_header content bytes is =
     let text = is.3 in (text.selector, is.0, behind_header bytes content is.0 is.1 is.2 text, text_header bytes content is.0 is.1 is.2 text)
 
--- so its journal is refused for want of memory or by the device alone
+-- the journal of such a text is refused for want of memory or by the device alone
 pub journal_unrefused : (bytes : List ℕ) (content : Content) (why : JournalFault) → IsText content bytes → JournalRefuses bytes why → IsPassing (store_fault_of why)
 journal_unrefused bytes content journal.OutOfMemory text refused = inl refl
 journal_unrefused bytes content journal.Device text refused = inr refl

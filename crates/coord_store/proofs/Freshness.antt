@@ -44,7 +44,7 @@ split_at xs i x below is =
 pub drop_at : {A : Type 0} (xs : List A) (i : ℕ) (x : A) → i < length xs → x ≡ get_or xs i x → drop i xs ≡ x ∷ drop (i + 1) xs
 drop_at xs i x below is = drop-cons xs i x below ∙ ap (λ y. y ∷ drop (suc i) xs) (sym is) ∙ ap (λ n. x ∷ drop n xs) (sym (add-one i))
 
--- and its front up to that element
+-- the front of a list up to an element
 pub take-push : {A : Type 0} (xs : List A) (i : ℕ) (x : A) → i < length xs → x ≡ get_or xs i x → take (i + 1) xs ≡ take i xs ++ x ∷ []
 take-push xs i x below is = rw add-one (take-suc xs i x below ∙ ap (λ y. take i xs ++ y ∷ []) (sym is))
 
@@ -95,7 +95,7 @@ fresh_is_out w settled (Clear p) fresh = of_lane (lane w p.from p.to p.inc) (lan
     of_lane None k e = grind (arith, nat_tests, e)
     of_lane (Some l) k e = grind (arith, nat_tests, e)
 
--- and where that is out, a step that a world takes over itself it takes over the settled one
+-- where what a step names is out, a step that a world takes over itself it takes over the settled one
 pub fresh_over : (w settled : World) (s : Step) → has_given_out settled s ≡ true → IsFresh w w s → IsFresh w settled s
 fresh_over w settled (Order c n x) out fresh = fresh
 fresh_over w settled (Take p) out fresh = of_lane (lane w p.from p.to p.inc) (lane w p.from p.to p.inc) (lane settled p.from p.to p.inc) out fresh
@@ -119,7 +119,7 @@ out_below (t ∷ steps) settled zero s below is = by_test (has_given_out settled
 out_below (t ∷ steps) settled (suc i) s below is = by_test (has_given_out settled t) (λ b. suc i < cond b (suc (how_many_out settled steps)) zero → has_given_out settled s ≡ true)
     (λ _ more. out_below steps settled i s (omega (arith, more)) is) (λ _ none. absurd (omega (arith, none))) below
 
--- and the one behind them does not
+-- the step behind those that name what is out does not
 pub out_further : (steps : List Step) (settled : World) (i : ℕ) (s : Step) → i ≤ how_many_out settled steps → i < length steps → s ≡ get_or steps i s → has_given_out settled s ≡ true → i < how_many_out settled steps
 out_further [] settled i s within below is out = absurd (omega (arith, below))
 out_further (t ∷ steps) settled zero s within below is out = by_test (has_given_out settled t) (λ b. has_given_out settled t ≡ b → zero < cond b (suc (how_many_out settled steps)) zero)
@@ -134,11 +134,11 @@ pub each_fresh : (steps : List Step) (settled w : World) → AllByRecursion Step
 each_fresh [] settled w named fresh = tt
 each_fresh (s ∷ steps) settled w named fresh = ((itself w settled s fresh.0, named.0), each_fresh steps settled (next w s) named.1 fresh.1)
 
--- they lead to a legal world within its ranges
+-- the steps lead to a legal world within its ranges
 pub led_soundly : (steps : List Step) (w : World) → IsSound w → EachFresh w steps → IsSound (fold w steps)
 led_soundly steps w sound each = rw (sym (take-length steps)) (trail_keeps_worlds w steps (length steps) (trail_of steps w sound each))
 
--- and in version 1 none of them carries a distance
+-- in version 1 none of the steps carries a distance
 pub all_carried : (steps : List Step) (w : World) → IsSound w → EachFresh w steps → AllByRecursion (CarriesRightly w.version) steps
 all_carried [] w sound each = tt
 all_carried (s ∷ steps) w sound each = (

@@ -67,7 +67,7 @@ module _ {D : Type 0} (m : DiskModel D) where
   pub only_then_either : (old mid new : D) (v w : World) → LeavesOnly m old mid (IsOnlyWorld v) → LeavesOnly m mid new (GivesEither v w) → LeavesOnly m old new (GivesEither v w)
   only_then_either old mid new v w one other = weaker m old new _ _ (and_then m old mid new _ _ one other) (λ bytes either. ⊎_elim (λ first. inl first) (λ second. second) either)
 
-  -- and one that leaves it alone
+  -- a run that leaves one world, and then one that leaves it alone
   pub only_twice : (old mid new : D) (w : World) → LeavesOnly m old mid (IsOnlyWorld w) → LeavesOnly m mid new (IsOnlyWorld w) → LeavesOnly m old new (IsOnlyWorld w)
   only_twice old mid new w one other = weaker m old new _ _ (and_then m old mid new _ _ one other) (λ bytes either. ⊎_elim (λ first. first) (λ second. second) either)
 

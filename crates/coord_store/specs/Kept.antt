@@ -28,7 +28,7 @@ GivesEither v w bytes = Recovered bytes v ⊎ Recovered bytes w
 abbrev pub GivesKept : {D : Type 0} → Kept D → List ℕ → Type 0
 GivesKept kept bytes = Recovered bytes kept.world ⊎ ((w : World) × (kept.torn ≡ Some w) × Recovered bytes w)
 
--- so does each image of its disk
+-- each image of a store's disk gives its world; after a torn commit perhaps the one that the commit was to make
 abbrev pub ImagesGive : {D : Type 0} → DiskModel D → Kept D → Type 0
 ImagesGive m kept = (image : List ℕ) → IsImage (m.present kept.disk) image → GivesKept kept image
 

@@ -68,7 +68,7 @@ impl<D: Disk> Store<D> {
             IfErr result (λ refused. RefusesOpen (D.model.present disk).read refused.0) }
         ensures named { IfErr result (λ refused. IsOpenFault refused.0) }
 
-        // It may be committed to, and the device reads as before.
+        // The store may be committed to, and the device reads as before.
         ensures going { IfOk result (λ store. store.torn ≡ None) }
         ensures bytes { D.model.keeps_model disk ≡ true → IfOk result (λ store.
             D.model.present store.disk ≡ whole (D.model.present disk).read) }

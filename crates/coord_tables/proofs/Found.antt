@@ -12,7 +12,7 @@ use Rattle.coord_tables.specs.Pairs.{pair_cmp}
 pub same_number : (p q : ℕ) → eq_by_cmp nat_cmp p q ≡ true → p ≡ q
 same_number p q h = grind (arith, nat_tests)
 
--- so are pairs
+-- pairs of numbers that tie are equal
 pub same_pair : (p q : ℕ × ℕ) → eq_by_cmp pair_cmp p q ≡ true → p ≡ q
 same_pair p q h = grind arith
 
@@ -24,6 +24,6 @@ get-set m u x q = grind (arith, get-insert)
 pub set_stays : {X : Type 0} (m : Table nat_cmp_total X) (u : ℕ) (x : X) (q : ℕ) → IsSome (get m q) → IsSome (get (table.insert m u x) q)
 set_stays m u x q h1 = grind (arith, get-set)
 
--- and after a removal
+-- who is there after a removal
 pub get-unset : {X : Type 0} (m : Table nat_cmp_total X) (u q : ℕ) → get (table.remove m u) q ≡ cond (eqb q u) None (get m q)
 get-unset m u q = grind (arith, get-remove)

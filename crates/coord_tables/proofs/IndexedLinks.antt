@@ -72,7 +72,7 @@ module _ {t : Links} {rows : List LinkRow} {places : List ℕ} {x y : ℕ} where
   lane_absent l = ap (λ s. option_map (toward x y) (get s (ends x y))) (sym l.stand)
       ∙ ap (option_map (toward x y)) (nothing_noted (map link_entry rows) places (indexed rows places l.are) (ends x y).0 (ends x y).1 l.first l.second l.noted)
 
-  -- so a change of it is none
+  -- where no lane is there, a change of it changes nothing
   pub none_changed : LookedUp t rows places x y None → (f : Lane → Lane) → t ≡ change_lane t x y f
   none_changed l f = lane_none_is t (still_turned l) x y f (lane_absent l)
 

@@ -86,12 +86,12 @@ module _ (t : Links) where
   unfolding lane_at
   lane-linked x y = there (toward x y) (get t (ends x y))
 
-  -- so each lane has its way back
+  -- each lane has its way back
   pub lane-mirrored : (x y : ℕ) → is_some (lane_at t x y) ≡ is_some (lane_at t y x)
   lane-mirrored x y = grind (arith, lane-linked, by_test)
 
   module _ (turned : Turned t) where
-    -- and none goes from a node to itself
+    -- no lane goes from a node to itself
     pub lane-apart : (x : ℕ) → is_some (lane_at t x x) ≡ false
     lane-apart x = grind (arith, lane-linked, by_test)
 
@@ -135,7 +135,7 @@ module _ (t : Links) where
   pub in_order-sorted : is_sorted pair_cmp (lanes_in_order t) ≡ true
   in_order-sorted = is_true _ (with_lanes empty (entries t)).sorted
 
-  -- and what is found among them at two nodes is the lane between these
+  -- the lane between two nodes is what is found at them among the lanes in order
   pub in_order-found : Turned t → (x y : ℕ) → find pair_cmp (x, y) (lanes_in_order t) ≡ lane_at t x y
   unfolding lane_at
   in_order-found turned x y = sym (get-entries (with_lanes empty (entries t)) (x, y)) ∙ with-found (entries t) empty (turned_entries turned) sorted_entries x y
@@ -189,7 +189,7 @@ rows_come_back rows is = ap (map link_row) (entries-from_sorted pair_cmp_total (
 pub rows_tell_links : (s t : Links) → link_rows s ≡ link_rows t → s ≡ t
 rows_tell_links s t same = same_entries_table s t (sym (back_and_there (entries s)) ∙ ap (map link_entry) same ∙ back_and_there (entries t))
 
--- and rise
+-- the rows of links rise
 pub links_rise : (t : Links) → Turned t → LinksRise (link_rows t)
 links_rise t turned = grind (arith, all_mapped, turned_entries, back_and_there, sorted_entries)
 

@@ -82,7 +82,7 @@ row_with r x y m = if nat_lt x y then record r { forth = m } else record r { bac
 abbrev pub link_rows : Links → List LinkRow
 link_rows t = map link_row (entries t)
 
--- the links of rows that rise
+-- the table of rows in ascending order
 abbrev pub links_of : List LinkRow → Links
 links_of rows = from_sorted (map link_entry rows)
 
@@ -98,7 +98,7 @@ lanes_code = code_by (Lane × Lane) (coded× lane_code lane_code) (λ l. (l.fort
 abbrev pub links_code : Coded Links
 links_code = code (coded× coded_ℕ coded_ℕ) lanes_code
 
--- such rows, with a table of the places where they stand
+-- the table of rows in ascending order, with a table of the places where they stand
 pub record AreIndexed (rows : List LinkRow) (places : List ℕ) : Type 0 where
   pub rise : LinksRise rows
   pub few : length rows < 2 ^ 8

@@ -50,7 +50,7 @@ impl<const MOST: u8> Identifier<MOST> {
         }
     }
 
-    /// Its number, from 1 to `MOST`.
+    /// The number, from 1 to `MOST`.
     pub fn number(self) -> u8
         ensures value { result ≡ self.entry }
         ensures least { 1 ≤ self.entry }

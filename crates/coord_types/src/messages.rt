@@ -8,9 +8,9 @@ use std::fmt;
 /// Where a node stands in a reset (`docs/PROTOCOL.md`, "Modes").
 #[derive(Clone, Copy, Debug, PartialEq, Eq)]
 pub enum Mode {
-    /// It takes part in no reset.
+    /// The node takes part in no reset.
     Ready,
-    /// It passed the abort wave on and awaits acknowledgements.
+    /// The node passed the abort wave on and awaits acknowledgements.
     Abort,
     /// All that it awaited has come, and it waits for its parent's Ready.
     Converge,

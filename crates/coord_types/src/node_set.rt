@@ -84,7 +84,7 @@ impl NodeSet {
         self.bits & !other.bits == 0
     }
 
-    /// Its member with the least number. With `without`, a loop meets all members in ascending
+    /// The member with the least number. With `without`, a loop meets all members in ascending
     /// order.
     pub fn first(self) -> Option<NodeId>
         ensures { result ≡ set.first self }

@@ -37,7 +37,7 @@ pub enum Refusal {
 }
 
 impl Refusal {
-    /// Its number, from 1 to 22.
+    /// The refusal's number, from 1 to 22.
     pub fn number(self) -> u8
         ensures { result ≡ refusal_number self }
     {
@@ -67,7 +67,7 @@ impl Refusal {
         }
     }
 
-    /// Its name, as it is printed.
+    /// The refusal's name, as it is printed.
     pub fn name(self) -> &'static str
         ensures { result.now ≡ refusal_name self }
     {

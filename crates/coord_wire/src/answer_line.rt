@@ -16,7 +16,8 @@ use std::alloc::Global;
 pub enum ReadFault {
     /// There was no memory to read it.
     OutOfMemory,
-    /// It is neither a reply to an order nor a refusal of one: a fault, or no line of the server.
+    /// The line is neither a reply to an order nor a refusal of one: a fault, or no line of the
+    /// server.
     NoAnswer,
 }
 

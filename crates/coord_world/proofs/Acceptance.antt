@@ -76,7 +76,7 @@ fresh_judged : (w settled : World) (s : Step) → IsFresh w settled s → judged
 fresh_judged w settled s h1 = grind (arith, nat_tests, h1)
 
 module _ (w settled : World) (s : Step) (fresh : IsFresh w settled s) where
-  -- it passes each test
+  -- a fresh step passes each test
   all_passed : NoneHolds ((is_exhausted w, Exhausted) ∷ against w settled s)
   all_passed = none_holds (Fresh (kind (state w) s)) (Fresh (kind (state w) s)) ((is_exhausted w, Exhausted) ∷ against w settled s) (fresh_judged w settled s fresh)
 
@@ -84,7 +84,7 @@ module _ (w settled : World) (s : Step) (fresh : IsFresh w settled s) where
   pub fresh_count : w.count + 1 ≤ 2 ^ 40
   fresh_count = let more = all_passed.0 in grind (arith, nat_tests)
 
-  -- and those of its kind
+  -- a fresh step passes the tests of its kind
   pub tests_passed : NoneHolds (against w settled s)
   tests_passed = all_passed.1
 
@@ -218,7 +218,7 @@ module _ (w settled : World) (c n : ℕ) (x : Command) (fresh : IsFresh w settle
 data_itself : (o settled : Option Lane) (p : DataPacket) (v r : Verdict) → refused_or v (against_data o settled p) ≡ Ok r → refused_or v (against_data o o p) ≡ Ok r
 data_itself o settled p v r h1 = grind (arith, nat_tests, h1)
 
--- and one that passes those of a receipt has taken its message itself
+-- a lane that passes the tests of a receipt has taken its message itself
 receipt_itself : (o settled : Option Lane) (p : ReceiptPacket) (v r : Verdict) → refused_or v (against_receipt o settled p) ≡ Ok r → refused_or v (against_receipt o o p) ≡ Ok r
 receipt_itself o settled p v r h1 = grind (arith, nat_tests, h1)
 
@@ -250,10 +250,10 @@ judged_fresh w settled (Clear p) k h = h
 pub verdict_kind : (w settled : World) (s : Step) (k : Kind) → accepts w settled s ≡ Ok (Fresh k) → k ≡ kind (state w) s
 verdict_kind w settled s k h = let same = kind_is w settled s k (judged_fresh w settled s k h) in cc
 
--- so the step is fresh
+-- a step that is judged fresh is fresh
 pub verdict_fresh : (w settled : World) (s : Step) (k : Kind) → accepts w settled s ≡ Ok (Fresh k) → IsFresh w settled s
 verdict_fresh w settled s k h = h ∙ ap (λ x. Ok (Fresh x)) (verdict_kind w settled s k h)
 
--- and fresh over the world itself
+-- a step that is judged fresh is fresh over the world itself
 pub verdict_fresh_itself : (w settled : World) (s : Step) (k : Kind) → accepts w settled s ≡ Ok (Fresh k) → IsFresh w w s
 verdict_fresh_itself w settled s k h = itself w settled s (verdict_fresh w settled s k h)

@@ -109,7 +109,7 @@ impl World {
         self.tables.list(self.alloc)
     }
 
-    /// Its version, which no step changes.
+    /// The world's version, which no step changes.
     pub fn version(&self) -> Version
         ensures { result ≡ self.now.version }
     {

@@ -174,7 +174,7 @@ IsTagged show node file word (Err BadNumber) = from_1_to MAX_NODES node ≡ None
 IsTagged show node file word (Err NoText) = ¬ (IsUtf8 show × IsUtf8 file × IsUtf8 word)
 IsTagged show node file word (Err _) = ⊥
 
--- ---- as C hears of it
+-- ---- the judgement as C hears of it
 
 -- the start's text and the history's line stand one behind the other
 abbrev pub out_of : Judgement → List ℕ
@@ -199,7 +199,7 @@ pub record IsJudgedInto (show : List ℕ) (node : ℕ) (file history : List ℕ)
   pub is : IsJudgement show node file history work judgement
   pub out : IsOut judgement room judged
 
--- or there is no room for it
+-- there is no room for the text of the judgement
 pub record IsTooLong (show : List ℕ) (node : ℕ) (file history : List ℕ) (work : Option ℕ) (room : List ℕ) : Type 0 where
   pub judgement : Judgement
   pub is : IsJudgement show node file history work judgement

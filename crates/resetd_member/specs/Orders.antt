@@ -22,7 +22,7 @@ use Rattle.resetd_member.specs.declared.orders.Heard.{Heard}
 use Rattle.resetd_member.specs.declared.status.Fault.{Fault}
 use Rattle.resetd_member.specs.declared.status.Fault.TheVariants.{OutOfMemory, BadLine, BadNumber, InHand}
 
--- ---- as numbers
+-- ---- orders as numbers
 
 abbrev pub node : ℕ → Option ℕ
 node n = from_1_to MAX_NODES n

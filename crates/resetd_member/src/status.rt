@@ -37,7 +37,7 @@ impl From<AllocError> for Fault {
     }
 }
 
-/// Its number. 0 is for none.
+/// The number of a status. 0 is for none.
 pub(crate) fn status_of(fault: Fault) -> u32
     ensures { result ≡ status_of fault }
 {

@@ -136,11 +136,11 @@ fn lines_over_loopback(rt: HostRuntime) {
 /// A client that holds its connection.
 #[derive(Clone, Copy)]
 enum Holder {
-    /// It says nothing.
+    /// The client says nothing.
     Silent,
-    /// It sends a line that never ends, a byte at a time.
+    /// The client sends a line that never ends, a byte at a time.
     Trickles,
-    /// It asks again and again, and reads each answer.
+    /// The client asks again and again, and reads each answer.
     Asks,
 }
 

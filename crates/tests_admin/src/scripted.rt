@@ -18,27 +18,27 @@ const CLOSED: &[u8] = b"{\"kind\":\"closed\"}\n";
 /// What a client does.
 #[derive(Clone, Copy)]
 enum Client {
-    /// It leaves before it is accepted, and the listener tells it so.
+    /// The client leaves before it is accepted, and the listener tells it so.
     Leaves(ErrorKind),
     /// The listener fails with this number of Linux instead.
     Fails(i32),
-    /// Its stream takes no options.
+    /// The client's stream takes no options.
     Unready,
-    /// It says nothing for longer than a read waits.
+    /// The client says nothing for longer than a read waits.
     Silent,
-    /// It closes the desk.
+    /// The client closes the desk.
     Closes,
-    /// It closes the desk, and takes a byte of the answer every thirty milliseconds.
+    /// The client closes the desk, and takes a byte of the answer every thirty milliseconds.
     TakesSlowly,
-    /// It closes the desk, and sends on without end.
+    /// The client closes the desk, and sends on without end.
     SendsOn,
-    /// It sends a line without a pause, of as many pieces as this.
+    /// The client sends a line without a pause, of as many pieces as this.
     Floods(u64),
-    /// So often there is no room in the table of files, and then it closes the desk.
+    /// How often there is no room in the table of files before the client closes the desk.
     Waits(u64),
     /// The same, but that each second time a client has left instead.
     Alternates(u64),
-    /// So many reads of it are interrupted, and then it closes the desk.
+    /// How many reads are interrupted before the client closes the desk.
     Interrupts(u64),
     /// The listener fails.
     Breaks,

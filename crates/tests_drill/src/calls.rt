@@ -54,7 +54,8 @@ fn is_migrated<S: Files<File = File> + Abort + AllocGlobal>(rt: &S, store: &str)
     it.are(rt, status, (0, "migrated 3\n", ""));
 }
 
-/// It is at an address that no host has, so that it ends behind the opening of the file.
+/// A store is not served at an address that no host has: the call ends behind the opening of the
+/// file.
 fn is_not_served<S: Files<File = File> + Net + Threads + Wait + Clock + Sync + Abort + AllocGlobal>(
     rt: &S,
     store: &str,

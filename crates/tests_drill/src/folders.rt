@@ -80,7 +80,7 @@ const RUNS: [Run; 10] = [
     ("resetd serve store 127.0.0.1:0", 0, "", ""),
 ];
 
-/// They stand behind calls, so that a proof about the walk over them does not carry their texts.
+/// The texts stand behind calls, so that a proof about the walk over them does not carry them.
 fn runs() -> &'static [Run] {
     &RUNS
 }
@@ -108,7 +108,7 @@ const PAIR_RUNS: [Run; 6] = [
     ("resetd migrate store", 0, "migrated 3\n", ""),
 ];
 
-/// It is one of version 2 from the first.
+/// A store that is refused as it is made again is one of version 2 from the first.
 #[test]
 fn a_refused_store_stays(rt: HostRuntime) {
     let mut folder = folder_of(&rt, MemDisk::new(rt.alloc()));

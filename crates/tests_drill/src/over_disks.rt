@@ -40,7 +40,7 @@ signal 1 1
 data 1 2 2 ready
 ";
 
-/// Its accepted steps that no crash loses.
+/// The accepted steps that no crash loses.
 const STEPS: u64 = 7;
 
 /// More calls than its disk gets.
@@ -149,7 +149,7 @@ fn a_device_that_fails(rt: HostRuntime) {
     }
 }
 
-/// It is asked for its length, and called for nothing else.
+/// A disk that is not empty is asked for its length, and called for nothing else.
 #[test]
 fn a_disk_that_is_not_empty(rt: HostRuntime) {
     let bytes = b"x".as_slice();

@@ -37,19 +37,19 @@ pub(crate) fn order(number: u64, command: Command) -> Step {
     Step::Order(Client::new(1).unwrap(), number, command)
 }
 
-/// Its order of this number adds a node.
+/// The client's order of this number adds a node.
 pub(crate) fn add(number: u64, id: u8) -> Step
     requires { (1 ≤ id) × (id ≤ 64) }
 {
     order(number, Command::Add(node(id), Group::new(1).unwrap()))
 }
 
-/// Its order of this number resets node 1.
+/// The client's order of this number resets node 1.
 pub(crate) fn reset(number: u64) -> Step {
     order(number, Command::Reset(node(1)))
 }
 
-/// Its first three orders: nodes 1 and 2 are added, and linked.
+/// The client's first three orders: nodes 1 and 2 are added, and linked.
 pub(crate) fn linking() -> [Step; 3] {
     [
         add(1, 1),

@@ -108,7 +108,7 @@ fn synced_at(rt: &impl Host, is_open: bool) -> (bool, bool, bool, usize) {
     (before, passed, then, len)
 }
 
-// It says that it came, passes where the gate is open, and else fails and changes nothing.
+// The sync says that it came, passes where the gate is open, and else fails and changes nothing.
 #[test]
 fn a_sync_waits_at_a_gate(rt: HostRuntime) {
     for is_open in [true, false] {

@@ -23,7 +23,7 @@ const COMMITTED: [u8; 62] = [
 // How long the same is without the body, whose place has a closed gate then.
 const MADE: usize = 33;
 
-// They stand behind calls, so that a proof that hands them on does not carry them.
+// The bytes stand behind calls, so that a proof that hands them on does not carry them.
 fn body() -> [u8; 23] {
     BODY
 }

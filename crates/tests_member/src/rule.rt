@@ -71,7 +71,7 @@ fn begins(rt: HostRuntime) {
     assert!(rt; judged.tag().is_none());
 }
 
-/// It waits for those who are not through, and for the end of a reset.
+/// A member waits for those who are not through, and for the end of a reset.
 #[test]
 fn waits(rt: HostRuntime) {
     let others = Row {
@@ -88,8 +88,8 @@ fn waits(rt: HostRuntime) {
     same(&rt, &looks(&rt, judged.kept, reset, &BOTH).due, &Due::Wait);
 }
 
-/// It talks by the party of its first talk, as long as nobody comes, and asks for a reset where
-/// somebody has come.
+/// A member talks by the party of its first talk, as long as nobody comes, and asks for a reset
+/// where somebody has come.
 #[test]
 fn talks(rt: HostRuntime) {
     let first = looks(&rt, begun(&rt), row(1, 1), &BOTH);

@@ -44,7 +44,7 @@ fn hear(rt: &impl Abort, book: OrderBook, serial: u64, answer: Answer) -> Heard 
     book.hear(serial, answer)
 }
 
-// It is sent with the next number, and no other order is taken meanwhile.
+// An order is sent with the next number, and no other order is taken meanwhile.
 #[test]
 fn an_order_in_hand_has_the_next_number(rt: HostRuntime) {
     let wanted = Line {
@@ -55,7 +55,8 @@ fn an_order_in_hand_has_the_next_number(rt: HostRuntime) {
     same(&rt, &with_reset(&rt).write_down(reset()), &None);
 }
 
-// It is sent again where the server turns it away, and an answer to the line before tells nothing.
+// An order is sent again where the server turns it away, and an answer to the line before tells
+// nothing.
 #[test]
 fn an_order_is_sent_until_its_own_line_is_answered(rt: HostRuntime) {
     let reply = Reply {

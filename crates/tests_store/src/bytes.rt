@@ -100,7 +100,7 @@ const CHANGED: [(usize, u8, Result<u64, StoreFault>); 14] = [
     (57, 2, Err(StoreFault::BadStep { batch: 0, index: 0 })),
 ];
 
-// They stand behind a call, so that a proof about the walk over them does not carry them.
+// The bytes stand behind a call, so that a proof about the walk over them does not carry them.
 fn changes() -> [(usize, u8, Result<u64, StoreFault>); 14] {
     CHANGED
 }

@@ -39,7 +39,7 @@ fn ring() -> [Step; 8]
     ]
 }
 
-// It stands behind a call, so that a proof that looks at it does not carry it.
+// The table stands behind a call, so that a proof that looks at it does not carry it.
 fn raised() -> [u8; 74] {
     RAISED
 }

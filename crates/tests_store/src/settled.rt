@@ -26,7 +26,7 @@ fn taking() -> Step
     })
 }
 
-// It is not taken with the steps that give it out, and is behind them.
+// The take is not taken with the steps that give it out, and is behind them.
 fn takes_behind(rt: &impl Host, store: &mut Store<MemDisk>) {
     let together = [adding(1), adding(2), joining(), resetting(4), taking()];
     same(rt, &store.takes(&together), &Ok(false));

@@ -24,7 +24,7 @@ const PARTY: [Entry; 5] = [
     },
 ];
 
-/// Its lines, and those of the first two without the third.
+/// The lines of each start, and those of the first two without the third.
 fn lines(rt: &impl Host) -> (Vec<String>, Vec<String>) {
     let both = [PARTY[0], PARTY[1], PARTY[3]];
     let all = lines_of(rt.alloc(), &PARTY).expect(rt, "memory");

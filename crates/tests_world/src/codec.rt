@@ -44,7 +44,7 @@ fn finds(rt: &impl Host, form: Form, version: u8, bytes: &[u8], kind: FaultKind,
     );
 }
 
-// So does reading them with each of these changes.
+// Reading these bytes with each of these changes finds its fault.
 fn finds_each(rt: &impl Host, form: Form, version: u8, bytes: &[u8], changes: &[Change]) {
     for Change(place, byte, kind, at) in changes {
         let mut bytes = bytes.to_vec(rt.alloc()).expect(rt, "no bytes");
@@ -55,7 +55,7 @@ fn finds_each(rt: &impl Host, form: Form, version: u8, bytes: &[u8], changes: &[
     }
 }
 
-// They are read in no other version, and in this one with no byte less and none more.
+// The bytes are read in no other version, and in this one with no byte less and none more.
 fn have_one_length(rt: &impl Host, form: Form, version: u8, bytes: &[u8]) {
     for at in 0..bytes.len() {
         finds(rt, form, version, &bytes[..at], FaultKind::Short, at);

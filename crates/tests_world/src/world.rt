@@ -183,7 +183,7 @@ fn linked_last(rt: &impl Host) -> World
     world
 }
 
-// It is one of version 2 once it is raised, with as many links and the same last order.
+// The world is one of version 2 once it is raised, with as many links and the same last order.
 fn is_raised(rt: &impl Host, raised: &World, world: &World) {
     same(rt, &(raised.version().number(), raised.count()), &(2, 3));
     same(rt, &raised.links().len(), &1);

@@ -36,7 +36,7 @@ pub record IsOver {D R : Type 0} (inner : D) (rule : R) (disk : FailingDisk D R)
   pub calls : calls_of disk ≡ 0
   pub failed : failed_of disk ≡ 0
 
--- It means what the disk inside means.
+-- A disk that fails by a rule means what the disk inside means.
 abbrev pub failing : {D R : Type 0} → DiskModel D → DiskModel (FailingDisk D R)
 failing m = seen_through m inner_of (failures_of m)
 

@@ -11,6 +11,6 @@ use Rattle.coord_disk.specs.declared.gate.Gate.{Gate}
 abbrev pub gate_of : Arc AtomicBool Global → Arc AtomicBool Global → Gate
 gate_of entered answered = record { entered = entered; answered = answered }
 
--- It fails syncs alone, where the gate stays closed, and its flags are the same ones.
+-- The gate fails syncs alone, where it stays closed, and its flags are the same ones.
 abbrev pub GateSays : Gate → Call → Bool → Gate → Type 0
 GateSays old call fails new = (fails ≡ true → call ≡ Sync) × (new ≡ old)

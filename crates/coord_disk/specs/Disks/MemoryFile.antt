@@ -7,7 +7,7 @@ use Rattle.coord_disk.specs.declared.memory_file.Syncs.{Syncs}
 use Rattle.coord_disk.specs.Model.RawCalls.{RawCall}
 use Rattle.coord_disk.specs.Model.RawCalls.RawCall.{SyncData, SyncAll, SyncFolder}
 
--- its bytes
+-- the bytes of a file in memory
 abbrev pub disk_of : MemFile → MemDisk
 disk_of file = file.disk
 

@@ -11,13 +11,13 @@ use Rattle.coord_disk.specs.declared.rules.Tear.{Tear}
 abbrev pub fuse_of : ℕ → Fuse
 fuse_of passes = record { left = passes }
 
--- it fails a call where it passes none any more
+-- the fuse fails a call where it passes none any more
 abbrev pub FuseSays : Fuse → Call → Bool → Fuse → Type 0
 FuseSays old call fails new = (fails ≡ (old.left == 0)) × (new.left ≡ old.left - 1)
 
 -- ---- a blip, which fails one call
 
--- so many calls pass before that one; none is left to fail once it was
+-- a blip before which so many calls pass; none is left to fail once one was
 abbrev pub blip_at : ℕ → Blip
 blip_at fails = record { left = Some fails }
 
@@ -45,6 +45,6 @@ tear_at fails kept = record { blip = blip_at fails; kept = kept }
 abbrev pub TearSays : Tear → Call → Bool → Tear → Type 0
 TearSays old call fails new = BlipSays old.blip call fails new.blip × (new.kept ≡ old.kept)
 
--- it tears each write that it fails
+-- the tear tears each write that it fails
 abbrev pub torn_by : Tear → Option ℕ
 torn_by tear = Some tear.kept

@@ -51,7 +51,7 @@ Writes m at bytes old new result = Calls m old new (Written at bytes result)
 abbrev pub Syncs : {D T E : Type 0} → DiskModel D → D → D → Result T E → Type 0
 Syncs m old new result = Calls m old new (Synced result)
 
--- so many bytes from this place on can be read
+-- a disk from which so many bytes can be read from this place on
 abbrev pub HasBytes : {D : Type 0} → DiskModel D → D → ℕ → ℕ → Type 0
 HasBytes m disk at count = m.keeps_model disk ≡ true → at + count ≤ length (m.present disk).read
 

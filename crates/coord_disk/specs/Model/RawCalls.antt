@@ -6,7 +6,7 @@ use Rattle.coord_disk.specs.Model.Present.{Present, FitsNoMore, whole}
 
 pub data RawCall : Type 0 where
   Len : RawCall
-  -- so many bytes from a place on
+  -- a read of so many bytes from a place on
   Read : ℕ → ℕ → RawCall
   -- these bytes at a place
   Write : ℕ → List ℕ → RawCall

@@ -49,7 +49,7 @@ never_begun begun x given h1 = grind arith
 -- ---- a line
 
 module _ (s t : DrillState) (given : List Answer) (told : List ℕ) (empty : s.has_begun ≡ false → IsEmptyLog s.log) (begun : t.has_begun ≡ false) where
-  -- it leaves the log
+  -- an event that leaves the log
   same_log : t.log ≡ s.log → s.has_begun ≡ false → IsEmptyLog t.log
   same_log same before = subst IsEmptyLog (sym same) (empty before)
 

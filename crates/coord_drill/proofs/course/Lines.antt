@@ -81,8 +81,6 @@ module _ {D : Type 0} (disk : DiskModel D) (crashes : D → D → Type 0) (d : D
   cut_by Crash why lost promised (inr part) = cut_crash why lost promised.0 part
   cut_by a why lost promised part = cut_part a why lost refl part.0 part.1
 
--- ---- lines in turn
-
 -- ---- what a line asks for
 
 asked_is : (s : DrillState) (line : List ℕ) (o : Option Request) → is_skipped line ≡ false → asked_by s line ≡ o → asked_in s (Some line) ≡ option_map (asked (front_world s.log)) o
@@ -174,11 +172,11 @@ module _ {D : Type 0} (disk : DiskModel D) (crashes : D → D → Type 0) where
   tells_bad d n old text (Ok x) line same told goes = (bad_line n, (told, λ p at. (p, (rw same at, goes p at))))
   tells_bad d n old text (Err e) line same told goes = tt
 
-  -- it could not be told
+  -- a bad line that could not be told, for want of memory
   pub told_lost : (d : Drill D) (p : Place D) → Stands disk d p → (line : Line) (fault : Fault) (lost : D) → asked_in p.state line ≡ None → IsOfMemory fault → disk_held d.driver ≡ Some lost → FirstCutShort disk crashes p (line ∷ []) fault lost
   told_lost d p at line fault lost none memory there = rw none (memory, cc (there, at.holds))
 
-  -- ---- lines
+  -- ---- lines in turn
 
   pub goes_one : (p q : Place D) (n : ℕ) (l : Line) (told : List ℕ) → LineGoes disk crashes p n l told q → AllKept q.machine q.told (disk.present q.disk) → Goes disk crashes p n (l ∷ []) told q
   goes_one p q n l told goes kept = record { told = told; next = q; rest = []; line = goes; behind = (refl, refl, kept); whole = sym (append-nil told) }

@@ -163,7 +163,7 @@ module _ {D : Type 0} (disk : DiskModel D) (crashes : D → D → Type 0) where
         rw (sym same)
         (weaker disk old lost (GivesRaised d.driver) (λ bytes. IsKept p.machine p.told bytes ⊎ IsKept (adopted (no_world 2)) p.told bytes) leaves (raising_kept empty))
 
-    -- so is the line `version 2`
+    -- each moment of the line `version 2`
     pub reached_raised : (given : List Answer) (told : List ℕ) → IsEmptyLog d.driver.ledger.log → IsAnswered (state_of d) Version2 given told (state_of new) → RaisesTo disk crashes d.driver new.driver → Reached d new p Version2 given
     unfolding told_by
     reached_raised given told empty answered to =

@@ -61,7 +61,7 @@ pub crash_line : (s : DrillState) (count : ℕ) → opened_line count ≡ asked_
 unfolding asked_lines
 crash_line s count = refl
 
--- it is seen from the world that was opened
+-- the drill behind a crash, seen from the world that was opened
 pub crash_after : {D : Type 0} (disk : DiskModel D) (crashes : D → D → Type 0) (v w : DriverState D) (holds begun : Bool) (count : ℕ) → IsRun disk crashes v (event.Crash ∷ []) (Opened count ∷ []) w → IsAnew w → drill_of w.ledger false begun ≡ after_asked (drill_of v.ledger holds begun) Crash (Opened count ∷ [])
 unfolding after_asked
 crash_after disk crashes v w holds begun count h1 h2 = grind (arith, log_behind)

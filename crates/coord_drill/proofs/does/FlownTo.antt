@@ -97,7 +97,7 @@ module _ {D : Type 0} (disk : DiskModel D) (crashes : D → D → Type 0) (v w :
   home : (r : Flown) → Runs r → w.flight ≡ None
   home r h1 = grind (arith, none_out, flight_is)
 
-  -- ---- of a flight that is settled
+  -- ---- the lines of a flight that is settled
 
   module _ (rs : List Release) (run : Runs (flown.Settled rs)) (to : FlownTo log (flown.Settled rs) w.ledger.log) where
     settled : w.ledger.log ≡ with_settled log b

@@ -51,7 +51,7 @@ module _ {D : Type 0} (disk : DiskModel D) (crashes : D → D → Type 0) (d : D
   accepted_ready t tickets begins hands pushed =
       (hands.flight ∙ ready.0, pushed ∙ accepted_held v.ledger w.ledger d.tickets.items x t begins.consistent.log.within ready.1 hands.handed)
 
-  -- else the ledger is as it was
+  -- a step that was not accepted leaves the ledger as it was
   pub kept_ready : (tickets : List Claim) → w.flight ≡ v.flight → w.ledger ≡ v.ledger → tickets ≡ d.tickets.items → IsReadyWith w tickets
   kept_ready tickets flight same kept =
       (flight ∙ ready.0, kept ∙ ready.1 ∙ ap (λ (l : LedgerState D). claims_of (settled_world l.log) (pending l.log)) (sym same))
@@ -104,7 +104,7 @@ module _ {D : Type 0} (disk : DiskModel D) (crashes : D → D → Type 0) (d : D
         (flown.goes_on tickets ∙ (λ i. seen_as (run (record (machine_of (mid_is i)) { tickets = tickets }) (flight_events given) given) (holds i) (begun i))
         ∙ sym (flown_after s x to.kind t.step given to.judged free))
 
-    -- its flight was cut short
+    -- the flight of the step was cut short
     pub cut_flight : (mid : Drill D) (t : Claim) (lost : D) → mid.driver ≡ w → d.holds ≡ false → Hands disk crashes v x (Ok (Accepted t)) w → LeadsPart disk crashes mid.driver flight_events lost → LeadsPart disk crashes v (line_events d.holds (Submit x)) lost
     cut_flight mid t lost there free hands part =
         let hand : Leads disk crashes v (event.Submit x ∷ []) (answer.Accepted t.step ∷ []) mid.driver = subst (Leads disk crashes v (event.Submit x ∷ []) (answer.Accepted t.step ∷ [])) (sym there) hands.moments in

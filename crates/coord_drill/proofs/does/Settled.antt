@@ -54,7 +54,7 @@ own_behind n (o ∷ os) rest all =
 
 -- ---- the steps of a flight
 
--- they keep the version
+-- steps keep the version
 pub fold_version : (w : World) (steps : List Step) → (fold w steps).version ≡ w.version
 fold_version w [] = refl
 fold_version w (s ∷ ss) = fold_version (next w s) ss ∙ same_version w s
@@ -85,7 +85,7 @@ collected_are version w (suc b) (s ∷ ss) =
     ∙ ap (λ l. reply_line (reply w s) ++ (output_lines version (outputs w s) ++ l)) (collected_are version v b ss)
     ∙ sym (append_assoc (reply_line (reply w s)) (output_lines version (outputs w s)) _)
 
--- and the tickets of the others are left
+-- the tickets of the steps that are not settled are left
 pub waiting_are : (w : World) (b : ℕ) (steps : List Step) → waiting (fold w (take b steps)).count (claims_of w steps) ≡ claims_of (fold w (take b steps)) (drop b steps)
 waiting_are w zero [] = refl
 waiting_are w zero (s ∷ ss) =

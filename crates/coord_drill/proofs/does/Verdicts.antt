@@ -71,6 +71,6 @@ abbrev refusal_in : Answer → Refusal
 refusal_in (Refused e) = e
 refusal_in other = OutOfMemory
 
--- nor does a refusal for another reason
+-- a refusal for another reason tells of no want of memory
 pub other_refusal : (e : Refusal) → e ≢ OutOfMemory → Refused e ≢ Refused OutOfMemory
 other_refusal e other same = other (ap refusal_in same)

@@ -17,7 +17,7 @@ first_part-longer a b text rest h = (h.0, h.1, (h.2.0 ++ rest, ap (λ l. l ++ re
 pub first_part-all : (a b : Option (List ℕ)) (text : List ℕ) → Appends a b text → WritesFirstPart a b text
 first_part-all a b text h = (text, h, ([], sym (append-nil text)))
 
--- ---- and not all of it
+-- ---- a text is not written whole
 
 pub short_after : (a b c : Option (List ℕ)) (text rest : List ℕ) → Appends a b text → WritesShort b c rest → WritesShort a c (text ++ rest)
 short_after a b c text rest h more =
@@ -33,6 +33,6 @@ short_first a b text h = (h.0, h.1, (h.2.0, h.2.1))
 pub short_left : (a b : Option (List ℕ)) (text written rest : List ℕ) → Appends a b written → text ≡ written ++ rest → 1 ≤ length rest → WritesShort a b text
 short_left a b text written rest h split some = (written, h, (rest, split, some))
 
--- nor by a call that failed
+-- a text is cut short where a part of it was left, and a call that failed wrote none of that
 pub short_kept : (a b c : Option (List ℕ)) (text written rest : List ℕ) → Appends a b written → Keeps b c → text ≡ written ++ rest → 1 ≤ length rest → WritesShort a c text
 short_kept a b c text written rest h keeps split some = short_left a c text written rest (Appends-kept a b c written h keeps) split some

@@ -103,7 +103,7 @@ module _ {D : Type 0} (disk : DiskModel D) (crashes : D → D → Type 0) where
     goes = λ p stands. let one = carries p stands in (one.0, (one.1.0, goes_one disk crashes p one.0 n line told one.1.1 one.1.0.kept));
   }
 
-  -- its text was not written whole
+  -- the text of a line was not written whole
   pub line_unwritten : (d new : Drill D) (n : ℕ) (line : Line) (told : List ℕ) (a b : Option (List ℕ)) (fault : Fault) (lost : D) → CarriesLine disk crashes d n line told new → WritesShort a b told → IsOfWriting fault → disk_held new.driver ≡ Some lost → BreaksOff disk crashes d n (line ∷ []) a b fault lost
   line_unwritten d new n line told a b fault lost carries short writing there = record {
     ended = line ∷ [];
@@ -115,7 +115,7 @@ module _ {D : Type 0} (disk : DiskModel D) (crashes : D → D → Type 0) where
         (one.0, (goes_one disk crashes p one.0 n line told one.1.1 one.1.0.kept, inr (record { cause = writing; wrote = short; given_back = inl (cc (there, one.1.0.holds)) })));
   }
 
-  -- it was cut short
+  -- a line that was cut short breaks off
   pub line_cut : (d : Drill D) (n : ℕ) (line : Line) (a : Option (List ℕ)) (fault : Fault) (lost : D) → CutsLine disk crashes d line fault lost → BreaksOff disk crashes d n (line ∷ []) a a fault lost
   line_cut d n line a fault lost cuts = record {
     ended = [];
@@ -238,7 +238,7 @@ module _ {D : Type 0} (disk : DiskModel D) (crashes : D → D → Type 0) where
         put q others text (inl line) = inl (record { wrote = subst (Appends a b) line.wrote all; cut = line.cut })
         put q others text (inr short) = inr (record { cause = short.cause; wrote = (short.wrote.0, subst (Appends a b) short.wrote.1 all, short.wrote.2); given_back = short.given_back })
 
-    -- or not all of it, and then the writer's fault is told
+    -- the text of the lines before was not all written, and then the writer's fault is told
     pub breaks_unwritten : (fault later : Fault) (lost : D) → IsOfWriting later → BreaksOff disk crashes d (number + 1) (lines_on line piece) (Some []) (Some items) fault lost → WritesShort a b items → BreaksOff disk crashes d (number + 1) (lines_on line piece) a b later lost
     breaks_unwritten fault later lost writing breaks part = breaks_so d (number + 1) (lines_on line piece) _ _ put breaks
       where

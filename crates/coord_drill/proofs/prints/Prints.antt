@@ -38,7 +38,7 @@ module _ {D : Type 0} (disk : DiskModel D) (crashes : D → D → Type 0) (given
   stops_written a b fault lost q others text (inr (inr (inl line))) = first_part-all a b text line.wrote
   stops_written a b fault lost q others text (inr (inr (inr short))) = short_first a b text short.wrote
 
-  -- and a first part of what may be printed, where it broke off
+  -- a drill that broke off has written a first part of what may be printed
   pub broke_prints : (a b : Option (List ℕ)) (fault : Fault) (lost : D) → BrokeOff disk crashes given input a b fault lost → (text : List ℕ) × IsDrilled input text × WritesFirstPart a b text
   broke_prints a b fault lost broke =
       let more = prints_somehow broke.place.state (1 + length broke.lines) broke.others in
@@ -84,7 +84,7 @@ never_reads why same = let no : ⊥ = cc in no
 pub nothing_seen : (a b : Option (List ℕ)) → b ≡ a → Consumes a b []
 nothing_seen a b same = rw same (Consumes-nil a)
 
--- and nothing written of what may be printed then
+-- where nothing was read, nothing of what may be printed was written
 pub nothing_written : (a b : Option (List ℕ)) → b ≡ a → (text : List ℕ) × IsDrilled [] text × WritesFirstPart a b text
 nothing_written a b same =
     let some = prints_somehow (drill_over (no_world 1)) 1 (lines_of []) in

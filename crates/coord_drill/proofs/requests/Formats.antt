@@ -20,7 +20,7 @@ abbrev pub ArePlain : List Word → Type 0
 ArePlain [] = Unit {0}
 ArePlain (w ∷ ws) = IsPlain w × ArePlain ws
 
--- such words behind such words
+-- words without spaces behind words without spaces
 ArePlain-append : (ws vs : List Word) → ArePlain ws → ArePlain vs → ArePlain (ws ++ vs)
 ArePlain-append [] vs p q = q
 ArePlain-append (w ∷ ws) vs p q = (p.0, ArePlain-append ws vs p.1 q)

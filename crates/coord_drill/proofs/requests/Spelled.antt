@@ -273,7 +273,7 @@ version_format : IsFormat version_fields
 unfolding version_fields
 version_format = by_parts _ _ version_parts two_format
 
--- so do those of requests
+-- the formats of requests are a table
 pub requests_table : (version : ℕ) → IsTable (requests version)
 unfolding other_requests commands
 requests_table version = record {

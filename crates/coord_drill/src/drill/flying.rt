@@ -27,9 +27,9 @@ use std::collections::VecDeque;
 enum Flown {
     /// None went out.
     Nothing,
-    /// Its steps are settled.
+    /// The steps of the flight are settled.
     Settled(Releases),
-    /// It was not committed.
+    /// The flight was not committed.
     Failed(CommitFault),
 }
 

@@ -44,14 +44,14 @@ fn next_steps(steps: &[Step]) -> &[Step]
 }
 
 impl<D: Disk, L: Origin> Guarded<D, L> {
-    /// So many more packets are handed over.
+    /// Counts so many packets more as handed over.
     pub fn raise_in_hand(&mut self, count: u64)
         ensures { self.new ≡ with_in_hand self.old (min (self.old.in_hand + count) (2 ^ 64 - 1)) }
     {
         self.in_hand = self.in_hand.saturating_add(count);
     }
 
-    /// So many are in no hand.
+    /// Counts so many packets as in no hand any more.
     pub fn lower_in_hand(&mut self, count: u64)
         ensures { self.new ≡ with_in_hand self.old (self.old.in_hand - count) }
     {

@@ -41,15 +41,13 @@ module _ {D : Type 0} (d : DriverState D) (s : Machine) (is : IsConsistent s) (r
 
   -- ---- where it begins
 
-  -- its log is the machine's, where their bases are the same
+  -- the driver's log is the machine's, where their bases are the same
   pub log_is : d.ledger.log.base ≡ s.log.base → d.ledger.log ≡ s.log
   log_is same = grind (arith, nat_tests, log_rebased, count_after)
 
-  -- and what is behind the machine's settled steps, where none of its own is settled
+  -- the driver's log is what is behind the machine's settled steps, where none of its own is settled
   pub log_behind : d.ledger.log.settled ≡ 0 → d.ledger.log ≡ rebased s.log s.log.settled
   log_behind none = grind (arith, nat_tests, log_rebased)
-
--- ---- calls
 
 -- ---- flights go out
 
@@ -107,7 +105,7 @@ given_follows d s image represents given =
       recovered = subst (Recovered image) (ap (λ g. world_after g n) (log_rebased d s represents) ∙ sym (world-add s.log by n)) given.recovered;
     }
 
--- so do the images of a disk
+-- what the images of a disk give of the ledger's log, they give of the machine's
 pub images_follow : {D : Type 0} (d : DriverState D) (s : Machine) (keeps_model : Bool) (present : Present) → Represents d s →
     ImagesGive keeps_model present d.ledger.log (kept_by d.ledger.log.settled (option_map flight_out d.flight) d.ledger.log.doubt) → ImagesGive keeps_model present s.log (kept s)
 images_follow d s keeps_model present represents gives model image here = given_follows d s image represents (gives model image here)

@@ -38,7 +38,7 @@ module _ {D : Type 0} (h : Run D) (s : Machine) (is : IsConsistent s) (follows :
       by_answer (Begun n) simulates = same new.ledger.log (ap (λ (m : Machine). m.log) (simulates.leaves s))
       by_answer a simulates = same new.ledger.log (ap (λ (m : Machine). m.log) (simulates.leaves s))
 
-  -- ---- it is committed, or not
+  -- ---- a flight is committed, or not
 
   pub follows_committed : (new : DriverState D) (a : Answer) → new.ledger ≡ d.ledger → Simulates d Commit a new → FollowsTo s Commit a (record h { driver = new })
   follows_committed new a ledger simulates = follows_by (record h { driver = new }) Commit a simulates (by_answer a)
@@ -140,7 +140,7 @@ module _ {D : Type 0} (h : Run D) (s : Machine) (is : IsConsistent s) (follows :
       follows_landed released pushed =
           follows_by (record h { driver = new; released = released }) Finish (Finished count) simulates (landed.0, (landed.1.0, pushed ∙ landed.1.1))
 
-  -- it does not
+  -- a flight that is not taken back leaves the machine as it is
   pub follows_not_landed : (new : DriverState D) (a : Answer) → ((t : Machine) → after t Finish a ≡ t) → Simulates d Finish a new → FollowsTo s Finish a (record h { driver = new })
   follows_not_landed new a stays simulates =
       follows_by (record h { driver = new }) Finish a simulates (subst (Keeps new.ledger.log h.tickets.items h.seen h.released.items) (sym (stays s)) (same new.ledger.log (ap (λ (m : Machine). m.log) (simulates.leaves s ∙ stays (machine_of d s)))))

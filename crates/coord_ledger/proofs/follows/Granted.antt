@@ -18,9 +18,7 @@ use Rattle.coord_world.specs.protocol.NumberedWorld.{state}
 use Rattle.coord_ledger.proofs.machine.Replies.{kinds_of-at}
 use Rattle.coord_ledger.proofs.machine.Logs.{count_after}
 
--- ---- what steps gave out that are not settled
-
--- ---- of each step by itself
+-- ---- what each step gave out that is not settled
 
 pub outputs_of-push : (xs : List Step) (w : World) (s : Step) → outputs_of w (xs ++ s ∷ []) ≡ outputs_of w xs ++ outputs (fold w xs) s ∷ []
 outputs_of-push [] w s = refl
@@ -52,7 +50,7 @@ released_from-push (g ∷ given) n k os is =
     let here = map (release_of n) g in
     ap (λ l. here ++ l) (released_from-push given (n + 1) k os (omega (arith, is))) ∙ sym (append_assoc here (released_from (n + 1) given) (map (release_of k) os))
 
--- ---- as vectors
+-- ---- what steps gave out, as vectors
 
 pub listed-push : (vs : List (Vec Output Global)) (v : Vec Output Global) → listed (vs ++ v ∷ []) ≡ listed vs ++ v.items ∷ []
 listed-push [] v = refl
@@ -75,8 +73,6 @@ listed-drop (suc n) (x ∷ vs) = listed-drop n vs
 -- with the vector that stands at a place
 pub listed_more : (vs : List (Vec Output Global)) (i : ℕ) (v : Vec Output Global) → i < length vs → v ≡ get_or vs i v → take (i + 1) (listed vs) ≡ take i (listed vs) ++ v.items ∷ []
 listed_more vs i v below is = sym (listed-take (i + 1) vs) ∙ ap listed (take-push vs i v below is) ∙ listed-push (take i vs) v ∙ ap (λ l. l ++ v.items ∷ []) (listed-take i vs)
-
--- ---- tickets that are granted
 
 -- ---- places in lists
 

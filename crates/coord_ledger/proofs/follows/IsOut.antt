@@ -53,11 +53,11 @@ module _ {D : Type 0} where
   -- ---- what it releases
 
   module _ (log : Log) (kinds : List Kind) (front settled : World) (out : ℕ) (store : Option (Kept D)) (f : FlightState D) (own : IsOut (ledger_of log out store) f) where
-    -- its steps have given something out, each
+    -- each step of the flight has given something out
     pub given_within : (vs : List (Vec Output Global)) → IsLedger log kinds (listed vs) front settled out store → length f.steps ≤ length vs
     given_within vs is =
         omega (arith, listed-length vs, ap length is.given_is, outputs_of-length (pending log) (settled_world log), ap length own.steps, length-take (length f.steps) (pending log))
 
-    -- and that is what it releases
+    -- what the steps of the flight have given out is what the flight releases
     pub gives_out : (given : List (List Output)) (first size : ℕ) → IsLedger log kinds given front settled out store → first ≡ settled_count log + 1 → size ≡ length f.steps → released_from first (take size given) ≡ releases_of (outs f.world f.steps)
     gives_out given first size is number all = grind (arith, nat_tests, count_after, outputs_of-take, released_are)

@@ -43,7 +43,7 @@ given_with : (log : Log) (s : Step) (given : List (List Output)) (front : World)
     → given ++ outputs front s ∷ [] ≡ outputs_of (settled_world (with_step log s)) (pending (with_step log s))
 given_with log s given front le is same led = grind (arith, nat_tests, front_is, outputs_of-push, pending_with, take-append-le)
 
--- and what is left once the next n steps are settled
+-- what is left to give out once the next n steps are settled
 given_behind : (log : Log) (n : ℕ) (given : List (List Output)) → given ≡ outputs_of (settled_world log) (pending log) → drop n given ≡ outputs_of (settled_world (with_settled log n)) (pending (with_settled log n))
 given_behind log n given same = grind (arith, nat_tests, outputs_of-drop, world-add, drop-drop)
 
@@ -149,7 +149,7 @@ module _ {D : Type 0} where
       → AllFresh settled settled steps
   fresh_next log kinds given front settled out store steps is same = grind (arith, nat_tests, fresh_first)
 
-  -- and where no others are behind them, they lead to the front
+  -- the next steps, where no others are behind them, lead to the front
   pub front_behind : (log : Log) (kinds : List Kind) (given : List (List Output)) (front settled : World) (out : ℕ) (store : Option (Kept D)) (steps : List Step) → IsLedger log kinds given front settled out store → steps ≡ take (length steps) (pending log)
       → length steps ≡ length (pending log) → front ≡ fold (settled_world log) steps
   front_behind log kinds given front settled out store steps is same all =

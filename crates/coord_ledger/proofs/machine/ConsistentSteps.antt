@@ -21,7 +21,7 @@ use Rattle.coord_ledger.proofs.machine.Verdicts.{verdict_accepts, verdict_repeat
 once_later : (w : World) (trail : List Step) (d b : ℕ) (given : List Release) → IsPartOf (released_first given) (releases_of (outs w (take d trail))) → IsPartOf (released_first given) (releases_of (outs w (take (d + b) trail)))
 once_later w trail d b given part = grind (arith, nat_tests, take-add, released_both, part_before)
 
--- and what they give out is released
+-- more steps are settled, and what they give out is released
 once_settled : (w : World) (trail : List Step) (d b : ℕ) (given : List Release) → IsPartOf (released_first given) (releases_of (outs w (take d trail))) →
     IsPartOf (released_first (given ++ releases_of (outs (fold w (take d trail)) (take b (drop d trail))))) (releases_of (outs w (take (d + b) trail)))
 once_settled w trail d b given part =
@@ -74,7 +74,7 @@ told_same log new released replied base settled steps told =
       truly = subst (λ (p : World × List Step). AllByRecursion (IsReplyOf p.0 p.1) replied) (sym (λ i. (base i, steps i))) told.truly;
     }
 
--- and once b more steps are settled
+-- what was told of a log is true once b more steps are settled
 pub told_settled : (log : Log) (b : ℕ) (released : List Release) (replied : List Reply) → IsTold log released replied → IsTold (with_settled log b) released replied
 told_settled log b released replied told =
     let le : settled_count log ≤ settled_count (with_settled log b) = omega arith in
@@ -86,7 +86,7 @@ told_settled log b released replied told =
       truly = truly_later log.base log.trail log.settled b replied told.truly;
     }
 
--- and what they give out is released
+-- what was told of a log is true once b more steps are settled and what they give out is released
 pub told_releasing : (log : Log) (b : ℕ) (released : List Release) (replied : List Reply) → log.settled + b ≤ length log.trail → IsTold log released replied → IsTold (with_settled log b) (released ++ settling_releases log b) replied
 told_releasing log b released replied le told =
     let later = told_settled log b released replied told in
@@ -125,9 +125,7 @@ told_replied log released replied r le fits told =
       truly = all_both (IsReplyOf log.base (settled_steps log)) replied (r ∷ []) told.truly (reply_first log.base log.settled log.trail r le fits, tt);
     }
 
--- ---- steps
-
--- ---- tickets
+-- ---- the tickets of steps
 
 tickets_later : (w : World) (steps more : List Step) (ts : List (Option Reply)) → AllByRecursion (TicketFits w steps) ts → AllByRecursion (TicketFits w (steps ++ more)) ts
 tickets_later w steps more [] all = tt
@@ -144,7 +142,7 @@ ticket_fits w steps [] i all = tt
 ticket_fits w steps (t ∷ ts) zero all = all.0
 ticket_fits w steps (t ∷ ts) (suc i) all = ticket_fits w steps ts i all.1
 
--- ---- submit
+-- ---- a step is submitted
 
 stays_ticket : (s : Machine) (r : Reply) → IsConsistent s → IsReplyOf s.log.base s.log.trail r → IsConsistent (with_ticket s r)
 stays_ticket s r is fits =

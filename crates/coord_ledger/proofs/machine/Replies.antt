@@ -70,7 +70,7 @@ after_count w [] r one = absurd one
 after_count w (s ∷ steps) r (inl same) = omega (arith, ap (λ (q : Reply). q.step) same)
 after_count w (s ∷ steps) r (inr one) = omega (arith, after_count (next w s) steps r one)
 
--- so a reply of a low number is one to an early step
+-- a reply of a low number is one to an early step
 among_first : (w : World) (d : ℕ) (steps : List Step) (r : Reply) → r.step ≤ w.count + d → IsOneOf r (replies w steps) → IsOneOf r (replies w (take d steps))
 among_first w d [] r le one = absurd one
 among_first w zero (s ∷ steps) r le one = absurd (omega (arith, le, after_count w (s ∷ steps) r one))

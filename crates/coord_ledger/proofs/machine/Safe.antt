@@ -37,6 +37,6 @@ finish_keeps_kept s is = finish_keeps s s.flight refl is.doubt
 pub given_survives : (s : Machine) (image : List ℕ) → IsConsistent s → GivesOneOf s.log (kept s) image → Survives s image
 given_survives s image is given = record { steps = given.steps; allowed = given.allowed; recovered = given.recovered; safe = kept_is_safe s given.steps is given.allowed }
 
--- and for all images of a disk
+-- the headline for all images of a disk, from what the store says of it
 pub prefix_from_images : PrefixFromImages
 prefix_from_images s keeps_model present is each model image here = given_survives s image is (each model image here)

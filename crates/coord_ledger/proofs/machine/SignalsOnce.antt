@@ -45,7 +45,7 @@ again_is_new (o ∷ os) = again_is_new os
 pub again_bound : (m : ℕ) (os : List Output) → AllByRecursion (λ r. r.step ≤ m) (map (release_of 0) os)
 again_bound m os = of_one 0 m os (omega arith)
 
--- and the rest has one
+-- what a step gives out has the number of the step
 numbered : (n : ℕ) (os : List Output) → released_first (map (release_of (n + 1)) os) ≡ map (release_of (n + 1)) os
 numbered n [] = refl
 numbered n (o ∷ os) = grind (arith, nat_tests, numbered n os)
@@ -57,9 +57,7 @@ all_numbered w (s ∷ ss) =
     ∙ ap (λ l. l ++ released_first (releases_of (outs (next w s) ss))) (numbered w.count (outputs w s))
     ∙ ap (λ l. map (release_of (w.count + 1)) (outputs w s) ++ l) (all_numbered (next w s) ss)
 
--- ---- signals
-
--- ---- one step
+-- ---- the signals of one step
 
 -- one transition signals once
 of_transition : (v u : ℕ) (d : Transition) → count_by (is_signal_of v) (signals ((u, d) ∷ [])) ≤ cond (u == v) 1 0
@@ -84,7 +82,7 @@ step_signals w (Order c n (Confirm u e)) v fresh = omega arith
 step_signals w (Take p) v fresh = omega (arith, of_transition v p.to (transition w.version p.msg (state w p.to) p.from), at_most_one p.to v)
 step_signals w (Clear p) v fresh = omega arith
 
--- ---- all steps
+-- ---- the signals of all steps
 
 -- 1 for the signal of node u by step n
 abbrev signal_in : ℕ → ℕ → Release → ℕ

@@ -37,7 +37,7 @@ module _ {D : Type 0} (h : Run D) (s : Machine) (is : IsConsistent s) (follows :
 
 -- ---- resend
 
--- so many are released again
+-- as many are released again as the world sends again
 pub resent_count : (w : World) → length (resent w) ≡ length (again w)
 resent_count w = length-map (again w) (release_of 0)
 

@@ -43,13 +43,13 @@ module _ {D E : Type 0} (l left : LedgerState D) (r : Result (Option (FlightStat
   pub begun_err : (e : E) → r ≡ Err e → keeps_store l ≡ false
   begun_err e is = grind (arith, nat_tests)
 
--- ---- and comes back
+-- ---- a flight comes back
 
 module _ {D : Type 0} (l new : LedgerState D) (f : FlightState D) (taken : new ≡ taken_back l (length f.steps) f.mark f.disk) where
   pub same_base : new.log.base ≡ l.log.base
   same_base = grind (arith, nat_tests)
 
-  -- it gives what the steps release that are settled
+  -- a flight that comes back gives what the steps release that are settled
   pub gave : IsOut l f → releases_in f f.mark ≡ settling_releases l.log (new.log.settled - l.log.settled)
   gave own = grind (arith, nat_tests)
 
@@ -66,9 +66,7 @@ pub record Submitted {D : Type 0} (l new : LedgerState D) (f : Option (FlightSta
 pub submitted : {D : Type 0} (l new : LedgerState D) (f : Option (FlightState D)) (x : Step) (r : Result Handed Refusal) → IsConsistentLog l.log → HoldsFlight l f → HandedTo l x r new → Submitted l new f
 submitted l new f x r h1 h2 h3 = grind (arith, nat_tests, own_later)
 
--- ---- what a driver makes of any event, and of a crash
-
--- ---- the event that it was
+-- ---- what a driver makes of the event that a call was
 
 pub answered : {D E : Type 0} (s : Machine) (e what : Event) (r answer : Result Answer E) (h new : Run D) (a : Answer) → IfOk r (λ x. FollowsTo s what x new) → answer ≡ r → answer ≡ Ok a → e ≡ what → h ≡ new → FollowsTo s e a h
 answered s e what r answer h new a to says ok event held = grind (arith, nat_tests)
@@ -81,7 +79,7 @@ pub on_err_map : {A E X Y : Type 0} (r : Result A E) → (X → Y) → OnErr r X
 on_err_map (Ok a) f x = tt
 on_err_map (Err e) f x = f x
 
--- ---- a crash
+-- ---- what a driver makes of a crash
 
 pub some_is : (b : Bool) → Some b ≡ Some true → b ≡ true
 some_is true is = refl

@@ -49,7 +49,7 @@ module _ {D : Type 0} (d : DriverState D) (s : Machine) (f : FlightState D) (is 
       given_survives (after s Commit (Failed fault.Device)) bytes (torn_is_consistent s (length f.steps) is (out New new))
       (given_follows torn (after s Commit (Failed fault.Device)) bytes there (flight_gives d.ledger g bytes its gives))
 
-  -- and where it was refused for memory
+  -- what bytes give while a commit is refused for memory
   pub only_survives : f.mark ≡ New → (bytes : List ℕ) → IsOnlyWorld f.world bytes → Survives s bytes
   only_survives new bytes gives =
       given_survives s bytes is
@@ -111,7 +111,7 @@ module _ {D : Type 0} (model : DiskModel D) (crashes : D → D → Type 0) where
     pub kept_untouched : (s : Machine) (touches : Bool) (e : Event) (was now : Option D) → is_crash e ≡ false → now ≡ was → DiskSurvives model.keeps_model model.present was s → DiskEffect model crashes s touches e was now
     kept_untouched s touches e was now other same survives old holds = record { new = old; holds = same ∙ holds; touched = untouched s touches e old old other refl (survives old holds) }
 
-    -- so it is in each event but a commit and a crash
+    -- an event but a commit and a crash does nothing to the disk
     pub answered_without_disk : (s : Machine) (e what : Event) (a : Answer) (was now : Option D) → e ≡ what → is_crash what ≡ false → found_by_crash s what a ≡ s → now ≡ was → DiskSurvives model.keeps_model model.present was s →
         DiskEffect model crashes (found_by_crash s e a) (touches_disk e a) e was now
     answered_without_disk s e what a was now event other found same survives =

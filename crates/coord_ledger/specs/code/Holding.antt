@@ -86,7 +86,7 @@ carried_world New w steps = w
 carried_world Good w steps = fold w steps
 carried_world Torn w steps = w
 
--- and the one that a torn commit was to make
+-- the world that a torn commit of the store that flies was to make
 abbrev pub carried_torn : Mark → World → List Step → Option World
 carried_torn New w steps = None
 carried_torn Good w steps = None

@@ -16,11 +16,11 @@ rebased_machine s n = record s { log = rebased s.log n }
 abbrev pub RebasedIsConsistent : Type 0
 RebasedIsConsistent = (log : Log) (n : ℕ) → IsConsistentLog log → n ≤ log.settled → IsConsistentLog (rebased log n)
 
--- it may give the same answers
+-- the machine with its base moved may give the same answers
 abbrev pub RebasedAnswersAlike : Type 0
 RebasedAnswersAlike = (s : Machine) (n : ℕ) (e : Event) → IsConsistent s → n ≤ s.log.settled → answers (rebased_machine s n) e ≡ answers s e
 
--- and stays the same machine with its base moved
+-- the machine with its base moved stays, after each event, the same machine with its base moved
 abbrev pub RebasedGoesOn : Type 0
 RebasedGoesOn = (s : Machine) (n : ℕ) (e : Event) (a : Answer) → IsConsistent s → n ≤ s.log.settled → is_crash e ≡ false → IsOneOf a (answers s e) → after (rebased_machine s n) e a ≡ rebased_machine (after s e a) n
 

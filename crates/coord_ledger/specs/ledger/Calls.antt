@@ -75,7 +75,7 @@ keeps_store l = cannot_flush (is_some l.out) l.log
 abbrev pub next_flight : {D : Type 0} → Log → D → FlightState D
 next_flight log disk = record { first = settled_count log + 1; steps = take MAX_BATCH_STEPS (pending log); world = settled_world log; mark = New; disk = disk }
 
--- its store is out with so many steps
+-- the ledger's store is out with so many steps
 abbrev pub with_out : {D : Type 0} → LedgerState D → ℕ → LedgerState D
 with_out l n = record l { out = Some n; disk = None }
 
@@ -103,7 +103,7 @@ GivesFlown New w steps bytes = Recovered bytes w
 GivesFlown Good w steps bytes = Recovered bytes (fold w steps)
 GivesFlown Torn w steps bytes = GivesEither w (fold w steps) bytes
 
--- so does each image of its disk
+-- each image of a flight's disk gives the world before its steps, or the one after them, by its mark
 abbrev pub FlightGives : {D : Type 0} → (D → Present) → FlightState D → Type 0
 FlightGives present f = (image : List ℕ) → IsImage (present f.disk) image → GivesFlown f.mark f.world f.steps image
 
@@ -112,6 +112,7 @@ abbrev pub GivesSettled : Log → Option ℕ → List ℕ → Type 0
 GivesSettled log None bytes = Recovered bytes (settled_world log)
 GivesSettled log (Some b) bytes = GivesEither (settled_world log) (world_after log (log.settled + b)) bytes
 
--- so does each image of a ledger's disk, while its store is at home
+-- each image of a ledger's disk, while its store is at home, gives the settled world; after a stop perhaps the world behind
+-- the steps in doubt
 abbrev pub LedgerGives : {D : Type 0} → (D → Present) → LedgerState D → D → Type 0
 LedgerGives present l disk = (image : List ℕ) → IsImage (present disk) image → GivesSettled l.log l.log.doubt image

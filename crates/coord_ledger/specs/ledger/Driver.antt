@@ -22,7 +22,7 @@ use Rattle.coord_ledger.specs.promises.Broken.{IsGivenBack, wants_memory}
 use Rattle.coord_ledger.specs.promises.Headline.{CrashPrefix, EachMoment, Touches, is_crash}
 use Rattle.coord_ledger.specs.promises.Moments.{Reopens}
 
--- its device has failed so often
+-- the driver's device has failed so often
 abbrev pub HasFailed : {D : Type 0} → (D → ℕ) → Option D → ℕ → Type 0
 HasFailed failures disk n = option_map failures disk ≡ Some n
 

@@ -30,13 +30,13 @@ disk_held d = disk_with d.ledger.disk d.flight
 abbrev pub model_held : {D : Type 0} → (D → Bool) → DriverState D → Option Bool
 model_held keeps_model d = option_map keeps_model (disk_held d)
 
--- it was just made, over this world
+-- a driver that was just made, over this world
 pub record IsAnew {D : Type 0} (d : DriverState D) : Type 0 where
   pub world : World
   pub disk : D
   pub is : d ≡ at_home (ledger_over world disk)
 
--- ---- as the machine answers it
+-- ---- a call of the driver as the machine answers it
 
 -- a step that is handed in
 abbrev pub answer_to : Result Handed Refusal → Answer

@@ -13,7 +13,7 @@ pub record GivesOneOf (log : Log) (counts bytes : List ℕ) : Type 0 where
   pub allowed : IsOneOf steps counts
   pub recovered : Recovered bytes (world_after log steps)
 
--- so does each image of a disk
+-- each image of a disk gives the log's world after one of these numbers of steps
 abbrev pub ImagesGive : Bool → Present → Log → List ℕ → Type 0
 ImagesGive keeps_model present log counts = keeps_model ≡ true → (image : List ℕ) → IsImage present image → GivesOneOf log counts image
 

@@ -56,7 +56,7 @@ log_back log b New = log
 log_back log b Good = with_settled log b
 log_back log b Torn = with_doubt log b
 
--- and what is settled is released
+-- what is released once a flight of b steps is back: if it was committed, what its steps give out too
 abbrev pub released_back : List Release → Log → ℕ → Mark → List Release
 released_back released log b New = released
 released_back released log b Good = released ++ settling_releases log b

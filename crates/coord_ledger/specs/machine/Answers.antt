@@ -29,7 +29,7 @@ to_submit number (Ok (Fresh kind)) = Accepted number ∷ Refused OutOfMemory ∷
 to_submit number (Ok (Repeat reply)) = Repeated reply.step ∷ []
 to_submit number (Err refusal) = Refused refusal ∷ []
 
--- so many steps go out
+-- how many steps the next flight takes
 abbrev pub next_size : Log → ℕ
 next_size log = min MAX_BATCH_STEPS (length (pending log))
 
@@ -77,7 +77,7 @@ kept_with d b New = d ∷ []
 kept_with d b Good = (d + b) ∷ []
 kept_with d b Torn = d ∷ (d + b) ∷ []
 
--- so where a flight is out, or in doubt, or neither
+-- how many steps a crash may keep, where d are settled, and a flight is out, or steps are in doubt, or neither
 abbrev pub kept_by : ℕ → Option FlightOut → Option ℕ → List ℕ
 kept_by d None None = d ∷ []
 kept_by d None (Some b) = d ∷ (d + b) ∷ []

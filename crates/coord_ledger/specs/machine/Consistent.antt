@@ -24,13 +24,13 @@ pub record IsConsistentLog (log : Log) : Type 0 where
   pub few : length (pending log) ≤ MAX_PENDING
   pub fresh : AllFresh (settled_world log) (settled_world log) (pending log)
 
--- so many of the pending steps may be out, in one flight
+-- a flight with so many of the pending steps may be out
 pub record FitsOut (log : Log) (size : ℕ) : Type 0 where
   pub some : 1 ≤ size
   pub most : size ≤ MAX_BATCH_STEPS
   pub within : log.settled + size ≤ length log.trail
 
--- so with those of a flight
+-- a flight that may be out, if there is one
 abbrev pub FlightFits : Log → Option FlightOut → Type 0
 FlightFits log None = Unit {0}
 FlightFits log (Some f) = FitsOut log f.size

@@ -18,12 +18,12 @@ abbrev pub failed_in : RunFaultKind → ℕ
 failed_in OutOfMemory = 0
 failed_in (Store fault) = failed_in_opening fault
 
--- and in an event that is answered so: only a commit tells it
+-- how often the device has failed in an event that is answered so: only a commit tells it
 abbrev pub failed_at : Event → Answer → ℕ
 failed_at Commit (Failed fault) = failed_in_commit fault
 failed_at event answer = 0
 
--- and in events with these answers
+-- how often the device has failed in events with these answers
 abbrev pub failed_until : List Event → List Answer → ℕ
 failed_until [] given = 0
 failed_until (e ∷ es) [] = 0

@@ -121,7 +121,7 @@ SignalledOnce s = (n u : ℕ) → 1 ≤ n → count_by (is_signal n u) s.release
 abbrev pub IsReplyOf : World → List Step → Reply → Type 0
 IsReplyOf w steps reply = IsOneOf reply (map (λ q. q.reply) (outs w steps)) ⊎ ((client : ℕ) × ((last : Session) × ((get w.sessions client ≡ Some last) × (last.reply ≡ reply))))
 
--- so is each that was collected, of the settled steps
+-- each reply that was collected is one to a settled step, or one that the base keeps for a client's last order
 abbrev pub RepliedTruly : Machine → Type 0
 RepliedTruly s = AllByRecursion (IsReplyOf s.log.base (settled_steps s.log)) s.replied
 

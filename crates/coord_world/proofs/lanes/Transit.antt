@@ -44,7 +44,7 @@ counts_from l (inr (next, some)) = let n = some_queue_is l.queue some in grind (
 pub transit-sent : (l : Lane) (ms : List Msg) → Counts l → transit (sent ms l) ≡ transit l ++ ms
 transit-sent l ms h1 = grind (arith, nat_tests, h1)
 
--- and the numbers fit
+-- the numbers of a lane fit once messages join it
 pub counts-sent : (l : Lane) (ms : List Msg) → Counts l → Counts (sent ms l)
 counts-sent l ms counts = counts_from (sent ms l) (elim (counts_cases l counts) [
   | inl same ↦ inl same
@@ -120,7 +120,7 @@ strays-append n (Abort k ∷ xs) ys = omega (arith, strays-append n xs ys)
 strays-append n (Ack ∷ xs) ys = strays-append n xs ys
 strays-append n (Ready ∷ xs) ys = strays-append n xs ys
 
--- they are Aborts
+-- the messages are Aborts
 pub strays_le : (n : ℕ) (xs : List Msg) → strays n xs ≤ aborts xs
 strays_le n [] = omega arith
 strays_le n (Abort k ∷ xs) = grind (arith, strays_le n xs)

@@ -40,7 +40,7 @@ module _ (version : ℕ) where
   no_session : (c : ℕ) → get (no_world version).sessions c ≡ None
   no_session c = get-empty nat_cmp_total c
 
-  -- and so no link
+  -- an empty world has no link
   no_link : (u v : ℕ) → is_linked (no_world version) u v ≡ false
   no_link u v = ap is_some (no_lane u v)
 
@@ -66,7 +66,7 @@ module _ (version : ℕ) where
     one_incarnation = λ u v l k is back. let none = no_lane u v in cc;
   }
 
-  -- and nothing illegal
+  -- an empty world has nothing illegal
   pub no_world_legal : Legal (no_world version)
   no_world_legal = record {
     nodes = λ u r is. let none = no_row u in cc;

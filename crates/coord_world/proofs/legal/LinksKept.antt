@@ -41,7 +41,7 @@ module _ (w : Ideal) (a b : ℕ) (apart : a ≢ b) (free : w.linked a b ≡ fals
   strangers : (x y : ℕ) → w.linked x y ≡ false → (contains (w.state x).pend y ≡ false) × (is_parent (w.state x).parent y ≡ false)
   strangers x y h1 = grind (arith, nat_tests, h1)
 
-  -- so a new link is legal
+  -- a new link is legal
   new_link : (x y : ℕ) → w.linked x y ≡ false → w.linked y x ≡ false → LegalBoth (record { here = end_of w.version (w.state x) y; there = end_of w.version (w.state y) x; out = []; back = [] })
   new_link x y none back = record {
     here = legal_end _ _ y (sound.nodes x);
@@ -174,7 +174,7 @@ module _ (w : Ideal) (a b : ℕ) (with_b : w.linked a b ≡ true) (sound : Sound
   first : Keeps w.version (w.state a) b da
   first = loses w.version (w.state a) b (sound.nodes a)
 
-  -- and so is the second
+  -- the second node keeps what is legal as it loses its neighbour
   second : Keeps w.version (w.state b) a db
   second = loses w.version (w.state b) a (sound.nodes b)
 
@@ -191,11 +191,11 @@ module _ (w : Ideal) (a b : ℕ) (with_b : w.linked a b ≡ true) (sound : Sound
   one_ok = links_kept (without_link w a b) a da cut_ok.mirrored cut_ok.apart (λ x y p q with_y. cut_ok.links x y with_y)
       (λ y with_y. first.elsewhere (link (without_link w a b) a y) y (λ same. absurd (grind (arith, nat_tests))) (in_near a y with_y) refl (cut_ok.links a y with_y))
 
-  -- which the second end does not see
+  -- the second end does not see that the first one has acted
   row_b : one_end.state b ≡ w.state b
   row_b = row_there (without_link w a b) a da b apart
 
-  -- and when the second end has too
+  -- the links are legal when both ends have acted
   both_ok : LegalLinks (dropped w a b)
   both_ok = links_kept one_end b db one_ok.mirrored one_ok.apart (λ x y p q with_y. one_ok.links x y with_y)
       (λ y with_y. second.elsewhere (link one_end b y) y (λ same. absurd (grind (arith, nat_tests))) (in_near b y with_y) (ap (λ r. end_of w.version r y) row_b) (one_ok.links b y with_y))

@@ -44,7 +44,7 @@ ideal_kept w settled (Take p) sound fresh =
     taken_kept (view w) p.from p.to p.msg take.rest front (sym (sound.mirrored p.from p.to) ∙ out) sound
 ideal_kept w settled (Clear p) sound fresh = sound
 
--- and so the step itself
+-- a fresh step keeps a sound view sound
 pub sound_next : (w settled : World) (s : Step) → Sound (view w) → AllCount w → IsFresh w settled s → Sound (view (next w s))
 sound_next w settled s sound counts fresh = subst Sound (sym (view_next w settled s counts fresh)) (ideal_kept w settled s sound fresh)
 
@@ -54,7 +54,7 @@ sound_next w settled s sound counts fresh = subst Sound (sym (view_next w settle
 pub sound_after : (w settled : World) (s : Step) → InRange w → Legal w → IsFresh w settled s → Sound (view (next w s))
 sound_after w settled s range legal fresh = sound_next w settled s (sound_view w range legal) legal.lanes fresh
 
--- and the world itself
+-- a fresh step keeps a legal world legal
 pub legal_next : NextKeepsLegal
 legal_next w settled s range legal fresh =
     let sound = sound_after w settled s range legal fresh in

@@ -31,7 +31,7 @@ module _ (w : Ideal) (u : ℕ) (r : NodeState) (sound : Sound w) where
       same : (x y : ℕ) → w.in_transit x y ≡ (ideal_applied w u (idle r)).in_transit x y
       same x y = grind (arith, nat_tests, contains-empty y, append-nil (w.in_transit x y))
 
-  -- it keeps a world sound where the neighbours and the ends of the links stay
+  -- a changed state keeps a world sound where the neighbours and the ends of the links stay
   pub row_kept : r.neighbours ≡ (w.state u).neighbours → SoundNode r → ((y : ℕ) → w.linked u y ≡ true → end_of w.version r y ≡ end_of w.version (w.state u) y) → Sound (set_state w u r)
   row_kept neighbours node ends = subst Sound (sym set_acts) (transition_kept w u (idle r) (but_of w u sound)
       (λ y with_y. subst LegalBoth (λ i. record { here = sym (ends y with_y) i; there = end_of w.version (w.state y) u; out = sym (nothing y) i; back = w.in_transit y u }) ((links_of w sound).links u y with_y))
@@ -77,7 +77,7 @@ module _ (w : Ideal) (v u : ℕ) where
   way_back_far : (y : ℕ) → y ≢ v → (headed w v u).in_transit y u ≡ w.in_transit y u
   way_back_far y far = grind (arith, nat_tests)
 
-  -- nor what goes to others
+  -- nothing that goes to others changes
   pub way_apart : (x y : ℕ) → y ≢ u → (headed w v u).in_transit x y ≡ w.in_transit x y
   way_apart x y apart = grind (arith, nat_tests)
 
@@ -103,7 +103,7 @@ module _ (w : Ideal) (v u : ℕ) (m : Msg) (rest : List Msg) (front : w.in_trans
     far_is : (y : ℕ) → y ≢ u → y ≢ v → far_after (headed w v u) u d y ≡ far_after w u d y
     far_is y apart far i = record { here = end_of w.version d.state y; there = end_of w.version (w.state y) u; out = way_apart w v u u y apart i ++ added d y; back = way_back_far w v u y far i }
 
-    -- so the world is sound
+    -- the world after a packet was taken is sound
     pub take_kept : d.state.neighbours ≡ (w.state u).neighbours → Keeps w.version (w.state u) v d → LegalBoth near_after → Sound (after_take w v u d)
     take_kept same keeps at_sender = transition_kept (headed w v u) u d headed_but each same keeps.node
       where
@@ -175,11 +175,11 @@ module _ (w : Ideal) (v u : ℕ) (rest : List Msg) (near : contains (w.state u).
     pub awaited : contains taker.pend v ≡ true
     awaited = let count = (sound.links u v near).counted in grind (arith, ap acks front)
 
-    -- so somebody was
+    -- somebody was awaited
     pub some_awaited : is_empty taker.pend ≡ false
     some_awaited = grind (arith, awaited, empty_has taker.pend v)
 
-    -- and the node is in its wave
+    -- the node that takes the acknowledgement is in its wave
     pub waiting : taker.mode ≡ Abort
     waiting = grind (arith, (sound.nodes u).quiet, some_awaited)
 

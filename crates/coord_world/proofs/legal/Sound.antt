@@ -13,19 +13,19 @@ use Rattle.coord_types.specs.NodeSet as set
 
 -- N by itself: what the rules keep of a node
 pub record SoundNode (r : NodeState) : Type 0 where
-  -- it is Abort exactly where it awaits somebody
+  -- a node is Abort exactly where it awaits somebody
   pub awaits : is_abort r.mode ≡ true → is_empty r.pend ≡ false
   pub quiet : is_abort r.mode ≡ false → is_empty r.pend ≡ true
   -- a Ready node has no parent, and a Converge node has one
   pub no_parent : r.mode ≡ Ready → r.parent ≡ None
   pub has_parent : r.mode ≡ Converge → r.parent ≡ None → ⊥
-  -- its parent is a neighbour that it doesn't await
+  -- the parent of a node is a neighbour that the node doesn't await
   pub parent_outside : (v : ℕ) → is_parent r.parent v ≡ true → set.contains r.pend v ≡ false
   pub parent_near : (v : ℕ) → is_parent r.parent v ≡ true → set.contains r.neighbours v ≡ true
-  -- it awaits neighbours alone
+  -- a node awaits neighbours alone
   pub within : (v : ℕ) → set.contains r.pend v ≡ true → set.contains r.neighbours v ≡ true
 
--- and what is kept of its epochs and its distance, in a world of so many steps
+-- what is kept of a node's epochs and its distance, in a world of so many steps
 pub record EpochsFit (count : ℕ) (r : NodeState) : Type 0 where
   pub confirmed : r.confirmed ≤ r.epoch
   pub entered : r.epoch ≤ count

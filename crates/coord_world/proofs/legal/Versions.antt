@@ -23,8 +23,6 @@ use Rattle.coord_world.proofs.ranges.Distances.{within_more}
 use Rattle.coord_types.specs.NodeSet as set
 use Rattle.coord_types.specs.declared.messages.Msg.TheVariants as msg
 
--- ---- of version 1
-
 -- ---- a node that is in a reset has a neighbour, by the rest of N
 
 some_near : (p : ℕ → Bool) (xs : List ℕ) → 1 ≤ length xs → list_all p xs ≡ true → (v : ℕ) × (p v ≡ true)
@@ -42,7 +40,7 @@ has_neighbour Abort parent pend near busy awaits right close within = awaited_ne
 has_neighbour Converge None pend near busy awaits right close within = cc
 has_neighbour Converge (Some p) pend near busy awaits right close within = (p, (both _ _ close).1)
 
--- ---- all distances are 0
+-- ---- all distances of version 1 are 0
 
 module _ (w : World) (range : InRange w) (first : w.version ≡ 1) where
   pub no_distance : (d : ℕ) → d ≤ farthest w.version w.count → d ≡ 0

@@ -80,7 +80,7 @@ module _ (rows : Rows) (fit : RowsFit rows) where
   abbrev Listed : ℕ → ℕ → Type 0
   Listed u v = (g : ℕ) × ((group_of rows.nodes u ≡ Some g) × (group_of rows.nodes v ≡ Some g))
 
-  -- so are the ends of each lane
+  -- the ends of each lane are listed
   both_listed : (u v : ℕ) → is_some (row_between u v rows.links) ≡ true → Listed u v
   both_listed u v is =
       let row = some_value (row_between u v rows.links) is in

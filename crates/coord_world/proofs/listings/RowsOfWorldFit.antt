@@ -157,7 +157,7 @@ module _ (w : World) (range : InRange w) where
   pub links_fit : AllByRecursion (LinkRowFits w.count (map node_row (entries w.nodes))) (link_rows w.links)
   links_fit = each_link (LinkRowFits w.count (map node_row (entries w.nodes))) link_fits
 
-  -- and those that lanes carry
+  -- the distances that lanes carry are in range
   pub carried_fit : AllByRecursion (LanesCarryWithin (farthest w.version w.count)) (link_rows w.links)
   carried_fit = each_link (LanesCarryWithin (farthest w.version w.count)) (λ a b l there. let lanes = both_lanes a b l there in record { forth = range.carried a b l.forth lanes.0; back = range.carried b a l.back lanes.1 })
 

@@ -21,7 +21,7 @@ module _ (w : World) where
   pub lane_left : (a b x y : ℕ) → lane_at (with_command w (Drop a b)).links x y ≡ cond (is_link a b x y) None (lane_at w.links x y)
   lane_left a b x y = lane-parted w.links a b x y
 
-  -- and after one is made
+  -- a lane after a link is made
   pub lane_made : (a b x y : ℕ) → lane_at (with_command w (Join a b)).links x y ≡ cond (is_link a b x y) (Some (new_lane (w.count + 1))) (lane_at w.links x y)
   lane_made a b x y = lane-joined w.links a b (new_lane (w.count + 1)) x y
 

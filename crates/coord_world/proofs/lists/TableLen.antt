@@ -32,7 +32,7 @@ pub len-remove_le : (s : NodeSet) (k : ℕ) → set.len (set.remove s k) ≤ set
 unfolding set.len set.remove
 len-remove_le s k = omega (arith, len-remove s k)
 
--- and one fewer where the node was there
+-- a set without a node has one fewer where the node was there
 pub len-remove_one : (s : NodeSet) (k : ℕ) → set.contains s k ≡ true → set.len (set.remove s k) + 1 ≡ set.len s
 unfolding set.len set.remove set.contains
 len-remove_one s k there = omega (arith, len-remove s k, ap (λ t. cond t 1 0 + len (remove s k)) there)

@@ -40,9 +40,7 @@ carried_within w settled (Take p) range fresh =
     (subst (CarryWithin (farthest w.version w.count)) take.front (range.carried p.from p.to take.lane take.there)).0
 carried_within w settled (Clear p) range fresh = omega arith
 
--- ---- of nodes and lanes
-
--- ---- nodes
+-- ---- distances of nodes
 
 -- each change of a node keeps its distance within the ranges, as the count rises
 carries_distances : (version count n : ℕ) → n ≤ farthest version count → Carries n (λ x r. IsDistant version count r) (λ x r. IsDistant version (count + 1) r)
@@ -67,7 +65,7 @@ distances_next w settled s range fresh =
     rows_next (λ x r. IsDistant w.version w.count r) (λ x r. IsDistant w.version (w.count + 1) r) w range.distances settled s
     (carries_distances w.version w.count (carried_by s) (carried_within w settled s range fresh)) range (new_distant w.version (w.count + 1) s) fresh
 
--- ---- lanes
+-- ---- distances that lanes carry
 
 -- messages within a distance, one behind the others
 within_append : (n : ℕ) (xs ys : List Msg) → CarryWithin n xs → CarryWithin n ys → CarryWithin n (xs ++ ys)

@@ -67,7 +67,7 @@ module _ (P Q : ℕ → NodeState → Type 0) (w : World) (n : ℕ) (carries : C
     same_near : (s : NodeState) → Goes (state w u) (state w u).neighbours n s → Q u s
     same_near s goes = carries.goes u (state w u) s (state w u).neighbours here (omega arith) goes
 
-    -- or that leaves one out
+    -- a transition of the node that leaves a neighbour out
     less_near : (v : ℕ) (s : NodeState) → Goes (state w u) (set.remove (state w u).neighbours v) n s → Q u s
     less_near v s goes = carries.goes u (state w u) s (set.remove (state w u).neighbours v) here (len-remove_le (state w u).neighbours v) goes
 

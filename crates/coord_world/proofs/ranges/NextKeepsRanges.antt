@@ -71,7 +71,7 @@ turned-all_do : (w : World) (ds : List (ℕ × Transition)) → Turned w.links �
 turned-all_do w [] turned = turned
 turned-all_do w (d ∷ ds) turned = turned-all_do (with_transition w d.0 d.1) ds (turned-changed _ w.links turned)
 
--- so does a step
+-- a step leaves the links turned
 pub turned_next : (w settled : World) (s : Step) → Turned w.links → IsFresh w settled s → Turned (next w s).links
 turned_next w settled (Order c n (Add u g)) turned fresh = turned
 turned_next w settled (Order c n (Remove u)) turned fresh = turned

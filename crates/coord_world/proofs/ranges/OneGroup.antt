@@ -23,7 +23,7 @@ record Groups (w z : Ideal) : Type 0 where
   pub same : (x : ℕ) → (z.state x).group ≡ (w.state x).group
   pub linked : (x y : ℕ) → z.linked x y ≡ true → w.linked x y ≡ true
 
--- then linked nodes still have one group
+-- where each node keeps its group and no link is made, linked nodes still have one group
 of_groups : (w z : Ideal) → Groups w z → OneGroup w → OneGroup z
 of_groups w z groups one x y linked = groups.same x ∙ one x y (groups.linked x y linked) ∙ sym (groups.same y)
 

@@ -170,13 +170,13 @@ module _ (w : World) (s : Step) (sound : IsSound w) where
   past_none : (x y inc number : ℕ) → IsNumbered w x y inc number → lane_at (next w s).links x y ≡ None → IsPast (next w s) x y inc number
   past_none x y inc number at none = record { made = let old = inc_within_count x y inc number at in omega arith; past = λ l there is. cc }
 
-  -- so where it makes the lane anew
+  -- where a step makes the lane anew, its front's number is past
   past_made : (x y inc number : ℕ) → IsNumbered w x y inc number → lane_at (next w s).links x y ≡ Some (new_lane (w.count + 1)) → IsPast (next w s) x y inc number
   past_made x y inc number at made =
       let old = inc_within_count x y inc number at in
       record { made = omega arith; past = λ l there is. let same = one_lane _ (new_lane (w.count + 1)) l made there in absurd (let count = ap (λ k. k.inc) same in omega arith) }
 
-  -- and where it clears the front
+  -- where a step clears the front, its number is past
   past_cleared : (x y inc number : ℕ) (at : IsNumbered w x y inc number) → lane_at (next w s).links x y ≡ Some (cleared at.lane) → IsPast (next w s) x y inc number
   past_cleared x y inc number at e =
       let old = inc_within_count x y inc number at in
@@ -200,7 +200,7 @@ module _ (w : World) (s : Step) (sound : IsSound w) where
           inl (record { at = record { lane = sent ms (took k); there = e; inc = ap (λ z. z.inc) same ∙ at.inc; number = ap (λ z. z.base + 1) same ∙ at.number }; rest = front.rest ++ ms; queue = ap (λ z. z.queue ++ ms) same ∙ ap (λ q. q ++ ms) front.queue })
       by_step (LaneStep.is_cleared k q t ends was e) = let same = one_lane _ k at.lane was at.there in inr (past_cleared p.from p.to p.inc p.number at (e ∙ ap (λ z. Some (cleared z)) same))
 
-  -- so with a front's receipt
+  -- a front's receipt stays, or its number is past
   pub receipt_next : (p : ReceiptPacket) → IsFresh w w s → IsFrontReceipt w p → IsFrontReceipt (next w s) p ⊎ IsPast (next w s) p.from p.to p.inc p.number
   receipt_next p fresh receipt = by_step (lane_step w s p.from p.to)
     where
@@ -220,7 +220,7 @@ module _ (w : World) (s : Step) (sound : IsSound w) where
           absurd (let idle = sym (ap (λ z. z.got) same) ∙ taken.idle ∙ ap (λ z. z.base) same in omega (arith, receipt.got))
       by_step (LaneStep.is_cleared k q t ends was e) = let same = one_lane _ k at.lane was at.there in inr (past_cleared p.from p.to p.inc p.number at (e ∙ ap (λ z. Some (cleared z)) same))
 
--- so do the steps of a list
+-- the steps of a list leave a front in front, or its number is past
 pub front_fold : (ss : List Step) (w : World) (p : DataPacket) → IsSound w → EachFresh w ss → IsFront w p → IsFront (fold w ss) p ⊎ IsPast (fold w ss) p.from p.to p.inc p.number
 front_fold [] w p sound each front = inl front
 front_fold (s ∷ ss) w p sound each front = elim (front_next w s sound p front) [

@@ -34,7 +34,7 @@ front_of_steps (s ∷ ss) w p sound each front = elim (front_of_steps ss (next w
   ]
 ]
 
--- so with the receipt of one that was taken
+-- the receipt of a front that was taken was given out by the steps, or was one before them
 pub receipt_of_steps : (ss : List Step) (w : World) (p : ReceiptPacket) → IsSound w → EachFresh w ss → IsFrontReceipt (fold w ss) p → Contains (outputs_of w ss) (Receipted p) ⊎ IsFrontReceipt w p
 receipt_of_steps [] w p sound each receipt = inr receipt
 receipt_of_steps (s ∷ ss) w p sound each receipt = elim (receipt_of_steps ss (next w s) p (sound_next w s sound each.0) each.1 receipt) [
@@ -68,7 +68,7 @@ module _ (base : World) (ss : List Step) (sound : IsSound base) (each : EachFres
   released_receipt : (p : ReceiptPacket) → IsReleased base ss (Receipted p) → IsFrontReceipt (fold base ss) p ⊎ IsPast (fold base ss) p.from p.to p.inc p.number
   released_receipt p gone = elim gone [ inl given ↦ outputs_of_receipt ss base p sound each given | inr before ↦ receipt_fold ss base p sound each (again_receipt base sound.in_range.turned p before) ]
 
-  -- and a front at the end is released
+  -- a front at the end is released
   front_released : (p : DataPacket) → IsFront (fold base ss) p → IsReleased base ss (Sent p)
   front_released p front = elim (front_of_steps ss base p sound each front) [ inl given ↦ inl given | inr before ↦ inr (front_again base sound.in_range.turned p before) ]
 
@@ -116,7 +116,7 @@ module _ (settled : World) (ss : List Step) (sound : IsSound settled) (each : Ea
     pub front_has_sent : IsFront settled p → has_sent (lane settled p.from p.to p.inc) p.number ≡ true
     front_has_sent front = ap (λ o. has_sent o p.number) (lane_numbered settled p.from p.to p.inc p.number front.at) ∙ grind (arith, nat_tests, front.at.number, ap is_nil front.queue)
 
-  -- and of a receipt that the later world clears by, whether its message was taken
+  -- a receipt by which the later world clears: the earlier one shows whether its message was taken
   module _ (p : ReceiptPacket) (is : IsDueReceipt (fold settled ss) p) where
     pub has_receipted_receipt : has_receipted (lane settled p.from p.to p.inc) p.number ≡ true → IsFrontReceipt settled p
     has_receipted_receipt h = of_lane (lane settled p.from p.to p.inc) refl h

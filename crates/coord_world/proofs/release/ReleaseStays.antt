@@ -27,7 +27,7 @@ record KeepsReleases (front earlier later : World) : Type 0 where
   packets : (p : DataPacket) → IsTakeable front p → has_sent (lane earlier p.from p.to p.inc) p.number ≡ true → has_sent (lane later p.from p.to p.inc) p.number ≡ true
   receipts : (p : ReceiptPacket) → IsClearable front p → has_receipted (lane earlier p.from p.to p.inc) p.number ≡ true → has_receipted (lane later p.from p.to p.inc) p.number ≡ true
 
--- it does where steps lead from the one to the other
+-- a later settled world shows a release as the earlier one does, where steps lead from the one to the other
 keeps_releases : (w : World) (mid rest : List Step) → IsSound w → EachFresh w mid → EachFresh (fold w mid) rest → KeepsReleases (fold (fold w mid) rest) w (fold w mid)
 keeps_releases w mid rest sound each on = record {
   packets = λ p is h.
@@ -137,7 +137,7 @@ fresh_where_told front settled HasGone (Clear p) tells fresh = of_lane (lane fro
           λ gone. none_holds_passes (Fresh Cleared) (tests (Some l) (lane settled p.from p.to p.inc)) (none.0, (none.1.0, (none.1.1.0, (ap not (tell.1 gone), tt)))),
         )
 
--- so over a trail
+-- over a trail, a packet is fresh where it was released
 pub fresh_where_released : FreshWhereReleased
 fresh_where_released base trail d s is fresh = fresh_where_told (fold base trail) (fold base (take d trail)) (IsReleased base (take d trail)) s (release_law base trail d is) fresh
 

@@ -54,7 +54,7 @@ module _ {K L X : Type 0} (R : K → K → Ordering) (same : (p q : K) → eq_by
         | false ↦ λ apart found. Contains-append_right (f e) (flat_map f es) x (Contains-flat_map_found es k l x found h)
       ] refl is
 
-  -- and what is in the list is made of an entry
+  -- what is in a list that is made of entries is made of one of them
   pub Contains-flat_map_entry : (P : K × L → Type 0) (es : List (K × L)) (x : X) → AllByRecursion P es → Contains (flat_map f es) x → (e : K × L) × (P e × Contains (f e) x)
   Contains-flat_map_entry P [] x all h = not_in_nil x h
   Contains-flat_map_entry P (e ∷ es) x all h = elim (Contains-append_cases (f e) (flat_map f es) x h) [
@@ -93,7 +93,7 @@ module _ (k : ℕ × ℕ) (l : Lane) where
 again_lane : (w : World) → Turned w.links → (o : Output) → Contains (again w) o → (e : (ℕ × ℕ) × Lane) × ((lane_at w.links e.0.0 e.0.1 ≡ Some e.1) × Contains (again_by e.0 e.1 e.1.queue) o)
 again_lane w turned o h = Contains-flat_map_entry pair_cmp same_pair (λ e. again_by e.0 e.1 e.1.queue) (λ e. lane_at w.links e.0.0 e.0.1 ≡ Some e.1) (lanes_in_order w.links) o (entries_found w turned) (rw (sym (all_again-flat_map (lanes_in_order w.links))) h)
 
--- and what a lane sends again is in it
+-- what a lane sends again is in the list
 lane_again : (w : World) → Turned w.links → (o : Output) (k : ℕ × ℕ) (l : Lane) → lane_at w.links k.0 k.1 ≡ Some l → Contains (again_by k l l.queue) o → Contains (again w) o
 lane_again w turned o k l there h = rw (all_again-flat_map (lanes_in_order w.links))
     (Contains-flat_map_found pair_cmp same_pair (λ e. again_by e.0 e.1 e.1.queue) (lanes_in_order w.links) k l o (in_order-found w.links turned k.0 k.1 ∙ there) h)
@@ -139,7 +139,7 @@ front_again w turned p front =
     lane_again w turned (Sent p) (p.from, p.to) l front.at.there
     (rw front.queue (rw (sym (front_packet_is w p front)) (Contains-head (Sent (front_packet (p.from, p.to) l p.msg)) (receipted (p.from, p.to) l p.msg (is_front_taken l)))))
 
--- so is its receipt, once it was taken
+-- the receipt of a front is sent again, once the front was taken
 pub receipt_again : (w : World) (p : ReceiptPacket) → IsSound w → IsFrontReceipt w p → Contains (again w) (Receipted p)
 receipt_again w p sound r = lane_again w sound.in_range.turned (Receipted p) (p.from, p.to) l r.at.there (of_queue l.queue refl)
   where

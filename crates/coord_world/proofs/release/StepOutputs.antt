@@ -55,7 +55,7 @@ module _ (w : World) (s : Step) (turned : Turned (next w s).links) where
   all_sent_lane o h = Contains-flat_map_entry pair_cmp same_pair (λ e. sent_by (lane_at w.links e.0.0 e.0.1) e.0 e.1 e.1.queue) (λ e. lane_at (next w s).links e.0.0 e.0.1 ≡ Some e.1) (lanes_in_order (next w s).links) o (entries_found (next w s) turned)
       (rw (sym (all_sent-flat_map w.links (lanes_in_order (next w s).links))) h)
 
-  -- and what a lane sends is sent
+  -- what a lane of the next world sends is sent
   lane_sent : (o : Output) (k : ℕ × ℕ) (l : Lane) → lane_at (next w s).links k.0 k.1 ≡ Some l → Contains (sent_by (lane_at w.links k.0 k.1) k l l.queue) o → Contains (all_sent w.links (lanes_in_order (next w s).links)) o
   lane_sent o k l there h = rw (all_sent-flat_map w.links (lanes_in_order (next w s).links))
       (Contains-flat_map_found pair_cmp same_pair (λ e. sent_by (lane_at w.links e.0.0 e.0.1) e.0 e.1 e.1.queue) (lanes_in_order (next w s).links) k l o (in_order-found (next w s).links turned k.0 k.1 ∙ there) h)
@@ -132,7 +132,7 @@ front_from_step w s turned p front = by_test (had_front (lane_at w.links p.from 
     at : IsNumbered (next w s) p.from p.to p.inc p.number
     at = front.at
 
-    -- it was in front already
+    -- a front that the step did not give out was in front already
     kept : (had : Had (lane_at w.links p.from p.to) at.lane) (k : Lane) (ms : List Msg) → lane_at w.links p.from p.to ≡ Some k → k.queue ++ ms ≡ at.lane.queue → IsFront w p
     kept had k ms was is =
         let same = one_lane _ had.lane k had.there was in

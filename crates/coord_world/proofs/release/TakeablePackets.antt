@@ -18,7 +18,7 @@ pub refused_or_none_holds : {V : Type 0} (v r : V) (ts : Tests) → refused_or v
 refused_or_none_holds v r [] h = tt
 refused_or_none_holds {V} v r (t ∷ ts) h = by_test t.0 (λ b. cond {A = Result V Refusal} b (Err t.1) (refused_or v ts) ≡ Ok r → (b ≡ false) × NoneHolds ts) (λ _ e. cc) (λ _ e. (refl, refused_or_none_holds v r ts e)) h
 
--- and where none holds, none refuses
+-- where no test holds, none refuses
 pub none_holds_passes : {V : Type 0} (v : V) (ts : Tests) → NoneHolds ts → refused_or v ts ≡ Ok v
 none_holds_passes v [] h = refl
 none_holds_passes {V} v (t ∷ ts) h = let rest = none_holds_passes v ts h.1 in grind (arith, nat_tests, h.0, rest)
@@ -27,11 +27,11 @@ none_holds_passes {V} v (t ∷ ts) h = let rest = none_holds_passes v ts h.1 in 
 of_incarnation_inc : (i : ℕ) (o : Option Lane) (l : Lane) → of_incarnation i o ≡ Some l → l.inc ≡ i
 of_incarnation_inc i o l h1 = grind (arith, nat_tests, h1)
 
--- such a lane is there
+-- a lane that was found by its incarnation is there
 pub lane_found : (w : World) (u v i : ℕ) (l : Lane) → lane w u v i ≡ Some l → (lane_at w.links u v ≡ Some l) × (l.inc ≡ i)
 lane_found w u v i l is = (with_incarnation i (lane_at w.links u v) l is, of_incarnation_inc i (lane_at w.links u v) l is)
 
--- and one that is there is found by its incarnation
+-- a lane that is there is found by its incarnation
 of_incarnation_found : (i : ℕ) (o : Option Lane) (l : Lane) → o ≡ Some l → l.inc ≡ i → of_incarnation i o ≡ Some l
 of_incarnation_found i o l h1 h2 = grind (arith, nat_tests, h1, h2)
 

@@ -23,7 +23,7 @@ taken_each_fresh (s ∷ ss) w taken named =
       taken_each_fresh ss (next w s) (λ before rest q is. taken (s ∷ before) rest q (ap (λ l. s ∷ l) is)) (All-tail StepInRange s ss named),
     )
 
--- so are the steps of a trail
+-- the steps of a trail are each fresh
 pub trail_each_fresh : (base : World) (trail : List Step) → IsTrail base trail → EachFresh base trail
 trail_each_fresh base trail is = taken_each_fresh trail base (taken_in_turn base trail is.in_turn) is.named
 
@@ -31,12 +31,12 @@ trail_each_fresh base trail is = taken_each_fresh trail base (taken_in_turn base
 pub sound_next : (w : World) (s : Step) → IsSound w → IsFresh w w s × StepInRange s → IsSound (next w s)
 sound_next w s sound each = record { in_range = ranges_next w w s each.1 sound.in_range sound.legal each.0; legal = legal_next w w s sound.in_range sound.legal each.0 }
 
--- and all steps keep it
+-- all steps keep a sound world sound
 pub sound_fold : (ss : List Step) (w : World) → IsSound w → EachFresh w ss → IsSound (fold w ss)
 sound_fold [] w sound each = sound
 sound_fold (s ∷ ss) w sound each = sound_fold ss (next w s) (sound_next w s sound each.0) each.1
 
--- so are the first steps, and the others from the world after them
+-- the first steps are each fresh, and the others from the world after them
 pub each_fresh-take : (n : ℕ) (ss : List Step) (w : World) → EachFresh w ss → EachFresh w (take n ss)
 each_fresh-take zero ss w each = tt
 each_fresh-take (suc n) [] w each = tt
@@ -74,7 +74,7 @@ fold_counts base (s ∷ ss) = let rest = fold_counts (next base s) ss in omega (
 pub trail_keeps_worlds : TrailKeepsWorlds
 trail_keeps_worlds base trail n is = sound_fold (take n trail) base is.sound (each_fresh-take n trail base (trail_each_fresh base trail is))
 
--- such steps are in turn, with all before each as settled
+-- a step of such a list is fresh over the world after those before it, with these as settled
 fresh_at : (before : List Step) (w : World) (ss rest : List Step) (s : Step) → ss ≡ before ++ s ∷ rest → EachFresh w ss → IsFresh (fold w before) (fold w before) s
 fresh_at [] w [] rest s is each = cc
 fresh_at [] w (q ∷ qs) rest s is each = let same : q ≡ s = cc is in subst (IsFresh w w) same each.0.0
@@ -91,7 +91,7 @@ each_fresh_named : (ss : List Step) (w : World) → EachFresh w ss → All StepI
 each_fresh_named [] w each = All-nil StepInRange
 each_fresh_named (s ∷ ss) w each = All-cons StepInRange s ss each.0.1 (each_fresh_named ss (next w s) each.1)
 
--- they are a trail
+-- the steps are a trail
 pub trail_of : (ss : List Step) (w : World) → IsSound w → EachFresh w ss → IsTrail w ss
 trail_of ss w sound each = record { sound = sound; in_turn = each_fresh_in_turn ss w each; named = each_fresh_named ss w each }
 

@@ -21,7 +21,7 @@ module _ (w : World) (range : InRange w) where
   pub epoch_room : (u : ℕ) → (state w u).epoch < 2 ^ 64 - 1
   epoch_room u = at_each w (λ r. r.epoch < 2 ^ 64 - 1) (lit< tt) (λ v r there. let most = (range.nodes v r there).epoch in let count = range.count in omega arith) u
 
-  -- and so can a lane's numbers
+  -- a lane's numbers can rise by one
   pub got_room : (u v : ℕ) (l : Lane) → lane_at w.links u v ≡ Some l → l.got < 2 ^ 64 - 1
   got_room u v l there = let most = (range.lanes u v l there).got in let count = range.count in omega arith
 

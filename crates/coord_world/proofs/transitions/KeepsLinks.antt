@@ -150,7 +150,7 @@ quiet version r v d node ends none = record {
     nothing l y far = grind (arith, none y far, append-nil l.out)
 
 module _ (version : ℕ) (r s : NodeState) (v : ℕ) (aside : Aside r s v) where
-  -- it sends what it sent before
+  -- the node carries to others what it carried before
   same_carries : carries version s ≡ carries version r
   same_carries i = cond (eqb version 1) 0 (aside.distance i + 1)
 

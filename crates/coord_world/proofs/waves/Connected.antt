@@ -18,6 +18,6 @@ module _ (w : World) where
   pub connected_self : (u : ℕ) → Connected w u u
   connected_self u = ([], refl)
 
-  -- and with those that are linked with a node that it is connected with
+  -- a node is connected with those that are linked with a node that it is connected with
   pub connected_further : (u x y : ℕ) → Connected w u x → is_linked w x y ≡ true → Connected w u y
   connected_further u x y c link = (c.0 ++ y ∷ [], longer u x y c.0 c.1 link)

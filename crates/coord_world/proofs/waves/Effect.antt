@@ -121,7 +121,7 @@ module _ (z : Ideal) (v t : ℕ) where
   headed_fewer : (a b : ℕ) → aborts ((headed z v t).in_transit a b) ≤ aborts (z.in_transit a b)
   headed_fewer a b = grind (arith, nat_tests, fewer_behind (z.in_transit a b))
 
-  -- it was no Abort, or its receiver wasn't Ready
+  -- the message that was taken was no Abort, or its receiver wasn't Ready
   headed_kept : (is_ready (z.state t).mode ≡ true → aborts (z.in_transit v t) ≤ aborts (behind_front (z.in_transit v t))) → (a b : ℕ) → is_ready (z.state b).mode ≡ true → aborts (z.in_transit a b) ≤ aborts ((headed z v t).in_transit a b)
   headed_kept h1 a b h2 = grind (arith, nat_tests, h1, h2)
 

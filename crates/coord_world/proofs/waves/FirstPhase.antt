@@ -81,11 +81,11 @@ module _ (z : Ideal) (u : ℕ) (xs : List ℕ) (sound : Sound z) (front : Front 
     | inr from ↦ child_busy x from.0 from.1
   ]
 
-  -- and a node that isn't Ready was reached
+  -- a node that isn't Ready was reached
   pub busy_reached : (x : ℕ) → is_ready (z.state x).mode ≡ false → among xs x ≡ true
   busy_reached x h = by_test (among xs x) (λ b. b ≡ true) (λ _. refl) (λ none. absurd (let ready = front.others x none in cc))
 
--- ---- it begins, and goes on where no node is reached
+-- ---- the first phase begins, and goes on where no node is reached
 
 -- the neighbours stay
 abbrev pub SameNear : Ideal → Ideal → Type 0
@@ -147,7 +147,7 @@ module _ (z y : Ideal) (u : ℕ) (xs : List ℕ) (near : SameNear z y) (front : 
           (λ mode up. let same : p ≡ q = cc (up, turns.parent) in rw (sym same) turns.none)
           (λ n far mode up. front.held n q (ap (λ (r : NodeState). r.mode) (sym (turns.elsewhere n far)) ∙ mode) up) x
 
--- ---- it goes on where a node is reached
+-- ---- the first phase goes on where a node is reached
 
 -- an Abort node isn't Ready
 pub abort_busy : (m : Mode) → is_abort m ≡ true → is_ready m ≡ false
@@ -204,7 +204,7 @@ module _ (z y : Ideal) (u t v : ℕ) (xs : List ℕ) (sound : Sound z) (near : S
     sent = sent;
   }
 
--- ---- it ends
+-- ---- the first phase ends
 
 -- where the initiator awaits nobody, nobody that was reached does
 module _ (y : Ideal) (u : ℕ) (sound : Sound y) (top : is_empty (y.state u).pend ≡ true) where
@@ -232,7 +232,7 @@ module _ (z y : Ideal) (u t : ℕ) (xs : List ℕ) (before : Sound z) (after : S
   not_heard : (v : ℕ) → Hears z t v → ⊥
   not_heard v h1 = grind (arith, nat_tests, h1)
 
-  -- so it is the initiator that finishes
+  -- the node that finishes is the initiator
   initiator : t ≡ u
   initiator = elim finishes.cause [
     | inl tops ↦ elim (under z u xs front.reached t (busy_reached z u xs before front t finishes.was)) [ inl is_u ↦ is_u | inr from ↦ absurd (let none = tops.top in let some = from.1 in cc) ]
@@ -247,7 +247,7 @@ module _ (z y : Ideal) (u t : ℕ) (xs : List ℕ) (before : Sound z) (after : S
   top_ready : (y.state u).mode ≡ Ready
   top_ready = rw (sym initiator) finishes.now
 
-  -- and awaits nobody, so no node is Abort
+  -- the initiator awaits nobody, so no node is Abort
   pub ends_settled : Settled y
   ends_settled x = by_test (among xs x) (λ _. is_abort (y.state x).mode ≡ false) listed others
     where

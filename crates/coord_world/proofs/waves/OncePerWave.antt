@@ -258,7 +258,7 @@ module _ (base : World) (u : ℕ) (w : World) (s : Step) (ss : List Step) (goes 
         omega arith;
   }
 
-  -- it hasn't begun yet
+  -- the wave hasn't begun yet
   waiting : started_by (kind (state w) s) s ≡ [] → (AllReady (next w s) → Whole base u (next w s) ss) → Whole base u w (s ∷ ss)
   waiting none rest =
       let step = settles (view w) (view (next w s)) (signals_in w.version (state w) s) (started_by (kind (state w) s) s) (kind (state w) s) goes.before (λ x. ap is_abort (ready x)) none goes.effect in
@@ -304,7 +304,7 @@ once_per_wave w steps u wave = record {
     sound : Sound (view w)
     sound = sound_view w wave.in_range wave.legal
 
-    -- and what each step does to it
+    -- what each step does to the view
     run : AllGo w steps
     run = running steps w sound wave.legal.lanes (taken_in_turn w steps wave.in_turn) wave.same_topology wave.ready_after
 

@@ -24,12 +24,12 @@ module _ (v : ℕ) where
   none_sent_by : (before : Option Lane) (k : ℕ × ℕ) (l : Lane) (q : List Msg) → count_by (is_signal_of v) (sent_by before k l q) ≡ 0
   none_sent_by before k l q = grind (arith, nat_tests)
 
-  -- nor do all
+  -- all lanes together signal nobody
   none_sent : (before : Links) (es : List ((ℕ × ℕ) × Lane)) → count_by (is_signal_of v) (all_sent before es) ≡ 0
   none_sent before [] = refl
   none_sent before (e ∷ es) = sum_by-append signal_in (sent_by (lane_at before e.0.0 e.0.1) e.0 e.1 e.1.queue) (all_sent before es) ∙ omega (arith, none_sent_by (lane_at before e.0.0 e.0.1) e.0 e.1 e.1.queue, none_sent before es)
 
-  -- nor a receipt
+  -- a receipt signals nobody
   none_receipted : (s : Step) → count_by (is_signal_of v) (receipts s) ≡ 0
   none_receipted s = grind (arith, nat_tests)
 

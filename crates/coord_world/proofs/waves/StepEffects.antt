@@ -135,7 +135,7 @@ module _ (z : Ideal) (v t : ℕ) (rest : List Msg) (front : z.in_transit v t ≡
         calm = calm_ack d (λ y. grind arith);
       }) (λ x. omega arith) refl
 
-  -- and another node acknowledges
+  -- the node that has a parent does not finish: it acknowledges
   climbs : (p : ℕ) → r.parent ≡ Some p → TakeEffect z v t (answer (record left { mode = Converge }) p)
   climbs p up =
       let d = answer (record left { mode = Converge }) p in
@@ -288,6 +288,6 @@ module _ (w settled : World) (s : Step) (stays : changes_topology s ≡ false) (
 ideal_links : (z : Ideal) (s : Step) → changes_topology s ≡ false → (x y : ℕ) → (ideal_next z s).linked x y ≡ z.linked x y
 ideal_links z s h1 x y = grind (arith, nat_tests, h1)
 
--- and so does the step itself
+-- a step that changes no topology leaves the links
 pub same_links : (w settled : World) (s : Step) → changes_topology s ≡ false → AllCount w → IsFresh w settled s → (x y : ℕ) → (view (next w s)).linked x y ≡ (view w).linked x y
 same_links w settled s stays counts fresh x y = ap (λ (z : Ideal). z.linked x y) (view_next w settled s counts fresh) ∙ ideal_links (view w) s stays x y

@@ -22,7 +22,7 @@ ready_entries : (es : List (ℕ × NodeState)) → AllByRecursion (λ e. e.1.mod
 ready_entries [] ready v = refl
 ready_entries (e ∷ es) ready v = by_test (eq_by_cmp nat_cmp v e.0) (λ b. (state_or_none (cond b (Some e.1) (find nat_cmp v es))).mode ≡ Ready) (λ _. ready.0) (λ _. ready_entries es ready.1 v)
 
--- so are all, where each entry of the world's is
+-- where each entry of a world is Ready, each node is
 all_ready : (w : World) → AllByRecursion (λ e. e.1.mode ≡ Ready) w.nodes.list → AllReady w
 unfolding table.get
 all_ready w ready v = ready_entries w.nodes.list ready v
@@ -32,7 +32,7 @@ linking : EachFresh (no_world 1) two_linked
 unfolding table.empty table.get table.insert table.remove table.change table.len set.contains set.empty set.insert set.remove set.len lane_at
 linking = ((refl, (omega arith, omega arith, ((omega arith, omega arith), omega arith, omega arith))), ((refl, (omega arith, omega arith, ((omega arith, omega arith), omega arith, omega arith))), ((refl, (omega arith, omega arith, ((omega arith, omega arith), (omega arith, omega arith)))), tt)))
 
--- so are those of the reset
+-- the steps of the reset are fresh in turn
 resetting : EachFresh (fold (no_world 1) two_linked) one_reset
 unfolding table.empty table.get table.insert table.remove table.change table.len set.contains set.empty set.insert set.remove set.len lane_at
 resetting = ((refl, (omega arith, omega arith, (omega arith, omega arith))), ((refl, tt), ((refl, tt), ((refl, tt), ((refl, tt), tt)))))
@@ -51,12 +51,12 @@ ready_before : AllByRecursion (λ e. e.1.mode ≡ Ready) (fold (no_world 1) two_
 unfolding table.empty table.get table.insert table.remove table.change table.len set.contains set.empty set.insert set.remove set.len lane_at
 ready_before = (refl, (refl, tt))
 
--- and after it
+-- the nodes are Ready after the reset
 ready_after : AllByRecursion (λ e. e.1.mode ≡ Ready) (fold (fold (no_world 1) two_linked) one_reset).nodes.list
 unfolding table.empty table.get table.insert table.remove table.change table.len set.contains set.empty set.insert set.remove set.len lane_at
 ready_after = (refl, (refl, tt))
 
--- so it is a wave
+-- the reset of two linked nodes is a wave
 pub stored_is_wave : StoredWave
 stored_is_wave = record {
   in_range = reset_is_trail.sound.in_range;

@@ -17,7 +17,7 @@ use Rattle.coord_world.specs.protocol.Outputs.{front_packet}
 abbrev pub HasNumber : (ℕ × ℕ) × Lane → Type 0
 HasNumber e = e.1.base < 2 ^ 64 - 1
 
--- so is that of each lane
+-- one more than the base of each lane is a number that the program holds
 abbrev pub AreNumbered : Links → Type 0
 AreNumbered links = (u v : ℕ) (l : Lane) → lane_at links u v ≡ Some l → l.base < 2 ^ 64 - 1
 

@@ -44,7 +44,7 @@ stored_self gnil = refl
 stored_self (gnum m) = (unsigned_Decides m m).1 refl
 stored_self (gcons a b) = ap₂ (λ p q. p && q) (stored_self a) (stored_self b)
 
--- it holds exactly of equal worlds
+-- the test for the same world holds exactly of equal worlds
 pub same_world_decides : (v w : World) → Decides (same_world v w) (v ≡ w)
 unfolding same_world
 same_world_decides v w = (

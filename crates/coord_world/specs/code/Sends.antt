@@ -9,7 +9,7 @@ use Rattle.coord_link.specs.LaneMachine.{Lane, sent}
 abbrev pub sent_lane : ℕ → ℕ × Msg → Links → Links
 sent_lane u s links = change_lane links u s.0 (sent (s.1 ∷ []))
 
--- and after it sent these, one after the other
+-- the lanes after u sent these messages, one after the other
 abbrev pub sent_lanes : ℕ → List (ℕ × Msg) → Links → Links
 sent_lanes u [] links = links
 sent_lanes u (s ∷ ss) links = sent_lanes u ss (sent_lane u s links)

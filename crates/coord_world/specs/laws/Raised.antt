@@ -10,7 +10,7 @@ use Rattle.coord_world.specs.protocol.Ranges.{InRange}
 abbrev pub raised : World → World
 raised w = record w { version = 2 }
 
--- it stays legal and in its ranges, and sends the same again
+-- a raised world is legal and in its ranges, and sends the same again
 pub record RaisesWell (w : World) : Type 0 where
   pub in_range : InRange (raised w)
   pub legal : Legal (raised w)

@@ -26,7 +26,8 @@ IsReleased base settled o = Contains (outputs_of base settled) o ⊎ Contains (a
 abbrev pub IsTakeable : World → DataPacket → Type 0
 IsTakeable front p = (l : Lane) × ((lane front p.from p.to p.inc ≡ Some l) × (judged_take l p.number p.msg ≡ Ok tt))
 
--- so with a receipt
+-- the front world has the lane of a receipt, and clears its front by it: what is left to ask is whether the receipt was
+-- released
 abbrev pub IsClearable : World → ReceiptPacket → Type 0
 IsClearable front p = (l : Lane) × ((lane front p.from p.to p.inc ≡ Some l) × (judged_clear l p.number ≡ Ok tt))
 

@@ -119,7 +119,7 @@ DropInAbort =
     ∷ gives 12 Taken (receipt_out 2 3 5 2 ∷ Signalled 3 1 ∷ []) ∷ []
     )
 
--- and after it has come back
+-- a link is dropped after the acknowledgement has come back over it
 abbrev pub DropInConverge : Type 0
 DropInConverge =
     IsRun

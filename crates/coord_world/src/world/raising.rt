@@ -1,4 +1,4 @@
-//! A world of version 1 in which nothing goes on, as one of version 2.
+//! Makes an idle world of version 1 one of version 2.
 
 ghost use Rattle.std.specs.Prelude.{◌≡◌, ◌<◌, ℕ, not, false, None, IfOk, IfSome};
 ghost use Rattle.coord_types.specs.declared.messages.Mode.TheVariants.{Ready};

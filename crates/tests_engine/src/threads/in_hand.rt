@@ -58,7 +58,7 @@ fn is_waited_for<D: Disk, L: Origin, R: Wait + Clock + Abort>(
     }
 }
 
-// So many orders are accepted that they fill a flight, and one more. The ticket of the last one that the
+// Accepts as many orders as fill a flight, and one more. The ticket is of the last one that the
 // flight takes.
 fn fill<D: Disk, L: Origin, R: Wait + Abort>(
     rt: &R,

@@ -100,7 +100,7 @@ fn is_quick_once<D: Disk, L: Origin, R: Wait + Clock + Abort>(
     false
 }
 
-/// It is so with a flusher.
+/// A caller waits once, with a flusher.
 pub(crate) fn waits_once<
     D: Disk + Send,
     L: Origin + Send + Sync,

@@ -19,10 +19,10 @@ enum Fate {
 #[derive(Clone, Copy, Drop)]
 pub(crate) enum Manner {
     Faithful,
-    /// It loses every fourth packet, holds every third back until the next one was carried, and
-    /// carries every fifth twice.
+    /// The port loses every fourth packet, holds every third back until the next one was carried,
+    /// and carries every fifth twice.
     Lossy,
-    /// It loses nothing, and no more steps may be pending when the first packets come.
+    /// The port loses nothing, and no more steps may be pending when the first packets come.
     Full,
 }
 
@@ -216,7 +216,7 @@ impl<R: Wait> Port for &Ring<R> {
         signals.push(Signal { node, epoch }).is_ok()
     }
 
-    // It gathers nothing.
+    // This port gathers nothing.
     fn hand_on(&mut self) -> u64 {
         0
     }

@@ -34,7 +34,7 @@ const DISTANCE: [u8; 8] = [8, 7, 6, 5, 4, 3, 2, 1];
 
 const BEHIND_THE_ABORT: usize = 113;
 
-// They stand behind calls, so that a proof that hands them on does not carry them.
+// The bytes stand behind calls, so that a proof that hands them on does not carry them.
 fn batch() -> [u8; 23] {
     BATCH
 }

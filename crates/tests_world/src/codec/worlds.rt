@@ -37,7 +37,7 @@ const ANSWERED: [u8; 32] = [
     1, 0, 0, 0, 0, 0, 0, 0, 1, 0, 1, 1, 0, 0, 0, 0, 0, 0, 0, 1, 0,
 ];
 
-// They stand behind calls, so that a proof that hands them on does not carry them.
+// The bytes stand behind calls, so that a proof that hands them on does not carry them.
 fn world() -> [u8; 112] {
     WORLD
 }

@@ -17,7 +17,7 @@ returns-in_err-topology-clause-fault g c =
     rw returned
     (refused_file file _ same c.topology_from.result fault c.in-Ok.ensures c.in_err-topology.was c.topology_from.ensures.named c.topology_from.ensures.refused)
 
--- its store is not made
+-- the store of the disk is not made
 pub returns-in_err-count-clause-fault : goal.returns-in_err-count-clause-fault
 returns-in_err-count-clause-fault g c =
     let file = g.F.Folder.says c.args.folder.now c.args.topology.now in

@@ -35,7 +35,7 @@ returns-in-Ok-served-clause-moments g c =
     keeps_to_the_way g.F.Disk.Disk.model (g.F.Folder.holds c.args.folder.now c.args.file.now) (g.F.Folder.holds c.close.new.self c.args.file.now) store ended.ended c.in-Ok-served.closed c.left.result c.in_ok-store.ensures.opened
     (served.lives store.world lived.0 lived.2) ended.ensures.moments served.closed.0 c.left.ensures.disk c.close.ensures
 
--- it has ended with a fault
+-- a server that has ended with a fault
 pub returns-in-Err-served-clause-fault : goal.returns-in-Err-served-clause-fault
 returns-in-Err-served-clause-fault g c =
     let before = g.F.Folder.holds c.args.folder.now c.args.file.now in

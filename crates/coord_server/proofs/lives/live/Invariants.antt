@@ -4,7 +4,7 @@ use Rattle.coord_server.specs.Lives.{Lives}
 use Rattle.coord_server.specs.Moments.{ComesFrom}
 use Rattle.coord_server.proofs.lives.live.Given as goal
 
--- so many lives have rested, and the last one left this store
+-- a number of lives have rested, and the last one left this store
 abbrev pub invariant-loop : goal.invariant-loop
 invariant-loop g l =
     (goal.iterator-loop g).can_next l.iterator' × (goal.iterator-loop g).is_finite l.iterator'

@@ -19,7 +19,7 @@ invariant_of-result-2 g c =
           rw w.answer-is (ap (λ (l : LedgerState g.row.D.Denot). l.out) w.in-Err.ensures.err ∙ home)
     ]
 
--- it is an event of its machine
+-- the call is an event of the driver's machine
 
 pub returns-clause-simulates : goal.returns-clause-simulates
 returns-clause-simulates g c =

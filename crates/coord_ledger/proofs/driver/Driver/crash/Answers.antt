@@ -34,7 +34,7 @@ returns-in-Ok-clause-failures g c n so =
 pub returns-in-Err-clause-failures : goal.returns-in-Err-clause-failures
 returns-in-Err-clause-failures g c n so = c.in-Err.ensures.failures ∙ ap (λ k. k + failed_in c.in-Err.refused.0) (failed_so g.D.Disk.model.failures (disk_held c.args.self) c.into_disk.result n so c.into_disk.ensures.disk)
 
--- it is an event of its machine
+-- the call is an event of the driver's machine
 pub returns-in-Ok-clause-simulates : goal.returns-in-Ok-clause-simulates
 returns-in-Ok-clause-simulates g c on =
     let d = c.into_disk.result in

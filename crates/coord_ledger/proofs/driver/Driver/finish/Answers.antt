@@ -14,7 +14,7 @@ returns-in-Ok-clause-released g c releases is =
     let gives = c.in-Ok.ensures.released ∙ gave c.self.inside.ledger c.end_flush.new.self c.in-Some.flight c.in-Ok.ensures.taken c.in-Ok.ensures.own in
     sym same ∙ gives ∙ (λ i. settling_releases (c.self.view_is i).ledger.log ((sym c.over-in-Ok.ensures i).ledger.log.settled - (c.self.view_is i).ledger.log.settled))
 
--- it is an event of its machine
+-- the call is an event of the driver's machine
 
 pub returns-in-Ok-clause-simulates : goal.returns-in-Ok-clause-simulates
 returns-in-Ok-clause-simulates g c =

@@ -3,7 +3,7 @@ use Rattle.coord_journal.specs.Contents.{content_of}
 use Rattle.coord_store.proofs.Exclusion.{recovered_is_opened, recovered_is_one, content_refused}
 use Rattle.coord_store.proofs.store.Store.open.Goals as goal
 
--- its journal is refused
+-- the journal of the disk is refused
 
 pub returns-in-Err-clause-fault : goal.returns-in-Err-clause-fault
 returns-in-Err-clause-fault g c k = inr (inl (c.in-Err.fault, c.fault_of.ensures, c.in-Err.ensures.fault k))
