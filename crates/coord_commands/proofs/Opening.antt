@@ -33,14 +33,14 @@ pub if_keeps : (keeps : Bool) (known : Present) (P : List ℕ → Type 0) → (k
 if_keeps true known P holds = holds refl
 if_keeps false known P holds = tt
 
-module _ {D : Type 0} (keeps_model : D → Bool) (present : D → Present) where
-  back_gives : (after : Option Present) (disk : D) (w : World) → IfSome (bytes_of keeps_model present disk) (λ known. Recovered known w) → IfSome after (λ known. known_of keeps_model present disk ≡ Some known) → IfSome (reads after) (λ known. Recovered known w)
+module _ {D : Type 0} (model : DiskModel D) where
+  back_gives : (after : Option Present) (disk : D) (w : World) → IfSome (bytes_of model disk) (λ known. Recovered known w) → IfSome after (λ known. known_of model disk ≡ Some known) → IfSome (reads after) (λ known. Recovered known w)
   back_gives None disk w gives is = tt
   back_gives (Some known) disk w gives is = subst (λ k. IfSome (reads k) (λ bytes. Recovered bytes w)) is gives
 
   -- a store with this world was opened, it was served to a close, and what that left is put back
-  pub served_to_end : (before after : Option Present) (left : D) (began : World) (closed : Closed D) → IfSome (reads before) (λ known. Recovered known began) → HasLivedToClose keeps_model present began closed
-      → IfSome (bytes_of keeps_model present left) (λ known. Recovered known closed.store.world) → IfSome after (λ known. known_of keeps_model present left ≡ Some known) → IsServedToEnd keeps_model present (reads before) (reads after)
+  pub served_to_end : (before after : Option Present) (left : D) (began : World) (closed : Closed D) → IfSome (reads before) (λ known. Recovered known began) → HasLivedToClose model began closed
+      → IfSome (bytes_of model left) (λ known. Recovered known closed.store.world) → IfSome after (λ known. known_of model left ≡ Some known) → IsServedToEnd model (reads before) (reads after)
   served_to_end before after left began closed opened lived gives back = record { began = began; left = closed; opened = opened; lived = lived; closed = back_gives after left closed.store.world gives back }
 
 -- known bytes give a world
@@ -49,8 +49,8 @@ gives_some None w is = tt
 gives_some (Some known) w is = (w, is)
 
 -- where a server was served and put back, the bytes give a world before and after
-pub gave : {D : Type 0} (keeps_model : D → Bool) (present : D → Present) (bytes after : Option (List ℕ)) → IsServedToEnd keeps_model present bytes after → GivesWorld bytes × GivesWorld after
-gave keeps_model present bytes after is = (gives_some bytes is.began is.opened, gives_some after is.left.store.world is.closed)
+pub gave : {D : Type 0} (model : DiskModel D) (bytes after : Option (List ℕ)) → IsServedToEnd model bytes after → GivesWorld bytes × GivesWorld after
+gave model bytes after is = (gives_some bytes is.began is.opened, gives_some after is.left.store.world is.closed)
 
 -- the faults of serving, where the disk gave a world
 pub of_serving : (bytes : Option (List ℕ)) (fault : ServerFault) → GivesWorld bytes → IsOfServing bytes (fault_of_server fault)
@@ -58,7 +58,7 @@ of_serving bytes fault h1 = grind (arith, nat_tests)
 
 module _ {D : Type 0} (model : DiskModel D) where
   -- a disk was taken and put back
-  pub put_back : (failed : ℕ) (before after : Option Present) (taken back : D) → known_of model.keeps_model model.present taken ≡ before → IfSome after (λ known. known_of model.keeps_model model.present back ≡ Some known)
+  pub put_back : (failed : ℕ) (before after : Option Present) (taken back : D) → known_of model taken ≡ before → IfSome after (λ known. known_of model back ≡ Some known)
       → model.failures back ≡ model.failures taken + failed → (failed ≡ 0 → model.keeps_model taken ≡ true → (model.present back).read ≡ (model.present taken).read) → IsPutBack model failed before after
   put_back failed before after taken back was is failures same = grind (arith, nat_tests, if_both, closed, unread)
 
@@ -66,22 +66,22 @@ module _ {D : Type 0} (model : DiskModel D) where
   no_device : (fault : StoreFault) → failed_in fault ≡ 0 → fault ≡ Device → ⊥
   no_device fault never is = grind (arith, nat_tests)
 
-  pub refused : (before after : Option Present) (taken back : D) (fault : StoreFault) → known_of model.keeps_model model.present taken ≡ before → IfSome after (λ known. known_of model.keeps_model model.present back ≡ Some known)
+  pub refused : (before after : Option Present) (taken back : D) (fault : StoreFault) → known_of model taken ≡ before → IfSome after (λ known. known_of model back ≡ Some known)
       → model.failures back ≡ model.failures taken + failed_in fault → (model.keeps_model taken ≡ true → fault ≢ Device → model.present back ≡ whole (model.present taken).read)
-      → IsOfOpening (bytes_of model.keeps_model model.present taken) (Store fault) → IsNotOpened model before after (Store fault)
+      → IsOfOpening (bytes_of model taken) (Store fault) → IsNotOpened model before after (Store fault)
   refused before after taken back fault was is failures unchanged of = record {
     fault = fault;
     named = refl;
     why = inr (rw (sym was) of, put_back (failed_in fault) before after taken back was is failures (λ never keeps. ap (λ (p : Present). p.read) (unchanged keeps (no_device fault never))));
   }
 
-  pub opened : (before : Option Present) (taken : D) (store : Kept D) → known_of model.keeps_model model.present taken ≡ before → (model.keeps_model taken ≡ true → Recovered (model.present taken).read store.world)
+  pub opened : (before : Option Present) (taken : D) (store : Kept D) → known_of model taken ≡ before → (model.keeps_model taken ≡ true → Recovered (model.present taken).read store.world)
       → model.failures store.disk ≡ model.failures taken + 0 → model.keeps_model store.disk ≡ model.keeps_model taken → AddsNothing model taken store.disk → (model.keeps_model taken ≡ true → model.present store.disk ≡ whole (model.present taken).read) → IsOpened model before store
   opened before taken store was world failures same_model moments same = grind (arith, nat_tests, if_keeps)
 
   -- a store that was opened, served to a close and put back keeps to the way
-  pub keeps_to_the_way : (before after : Option Present) (store : Kept D) (end : ServerEnd D Patience) (closed : Closed D) (back : D) → IsOpened model before store → HasLivedToClose model.keeps_model model.present store.world closed → AtEachMoment model store end.closed
-      → closed ≡ end.closed → back ≡ closed.store.disk → IfSome after (λ known. known_of model.keeps_model model.present back ≡ Some known) → KeepsToTheWay model before after
+  pub keeps_to_the_way : (before after : Option Present) (store : Kept D) (end : ServerEnd D Patience) (closed : Closed D) (back : D) → IsOpened model before store → HasLivedToClose model store.world closed → AtEachMoment model store end.closed
+      → closed ≡ end.closed → back ≡ closed.store.disk → IfSome after (λ known. known_of model back ≡ Some known) → KeepsToTheWay model before after
   keeps_to_the_way before after store end closed back is lived moments of_end same put =
       let here : AtEachMoment model store closed = subst (AtEachMoment model store) (sym of_end) moments in
       record {
@@ -97,22 +97,22 @@ module _ {D : Type 0} (model : DiskModel D) where
       }
 
   -- a disk whose store was opened and put back, since no socket could be bound
-  pub not_bound : (before after : Option Present) (store : Kept D) (back : D) → IsOpened model before store → back ≡ store.disk → IfSome after (λ known. known_of model.keeps_model model.present back ≡ Some known) → EndsServing model before after Socket
+  pub not_bound : (before after : Option Present) (store : Kept D) (back : D) → IsOpened model before store → back ≡ store.disk → IfSome after (λ known. known_of model back ≡ Some known) → EndsServing model before after Socket
   not_bound before after store back is same put =
       let failures : model.failures back ≡ model.failures is.taken + 0 = omega (arith, ap model.failures same, is.failures) in
       inr (inl (refl, gives_some (reads before) store.world is.world, put_back 0 before after is.taken back is.was put failures (λ _ keeps. ap (λ d. (model.present d).read) same ∙ is.same keeps)))
 
   -- a server over it has ended, and nothing is left
-  pub lost : (before after : Option Present) (store : Kept D) (fault : ServerFault) → IsOpened model before store → LeavesNothing model.keeps_model model.present fault → EndsServing model before after (fault_of_server fault)
+  pub lost : (before after : Option Present) (store : Kept D) (fault : ServerFault) → IsOpened model before store → LeavesNothing model fault → EndsServing model before after (fault_of_server fault)
   lost before after store fault is nothing = inr (inr (record { began = store.world; opened = is.world; fault = fault; ends = inl nothing; named = refl }))
 
   -- a server over it has ended, and its disk is put back
-  pub ended : (before after : Option Present) (store : Kept D) (end : ServerEnd D Patience) (closed : Closed D) (fault : ServerFault) (back : D) → IsOpened model before store → HasServed model.keeps_model model.present store.world end
-      → closed ≡ end.closed → fault_at_end (has_stopped end.closed.store) end.served end.output.is_broken ≡ Some fault → back ≡ closed.store.disk → IfSome after (λ known. known_of model.keeps_model model.present back ≡ Some known)
+  pub ended : (before after : Option Present) (store : Kept D) (end : ServerEnd D Patience) (closed : Closed D) (fault : ServerFault) (back : D) → IsOpened model before store → HasServed model store.world end
+      → closed ≡ end.closed → fault_at_end (has_stopped end.closed.store) end.served end.output.is_broken ≡ Some fault → back ≡ closed.store.disk → IfSome after (λ known. known_of model back ≡ Some known)
       → EndsServing model before after (fault_of_server fault)
   ended before after store end closed fault back is served same tells disk put =
       let home = disk ∙ ap (λ (c : Closed D). c.store.disk) same in
-      let there = subst (λ d. IfSome after (λ known. known_of model.keeps_model model.present d ≡ Some known)) home put in
+      let there = subst (λ d. IfSome after (λ known. known_of model d ≡ Some known)) home put in
       inr (inr (record { began = store.world; opened = is.world; fault = fault; ends = inr (end, served, tells, there); named = refl }))
 
   of_unopened : (before after : Option Present) (fault : StoreFault) → ((fault ≡ Device) × (after ≡ before)) ⊎ (IsOfOpening (reads before) (Store fault) × IsPutBack model (failed_in fault) before after) → IsOfServing (reads before) (Store fault)

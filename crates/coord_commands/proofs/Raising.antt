@@ -143,8 +143,8 @@ unwritten before after line of (Refused refusal) is = absurd is
 unwritten before after line of (NotClosed fault) is = absurd is
 
 -- the disk of a name was taken and put back
-pub raised_named : {A D : Type 0} (model : DiskModel D) (ended : Result A Fault) (before after : Option Present) (taken back : D) → known_of model.keeps_model model.present taken ≡ before →
-    IfSome after (λ known. known_of model.keeps_model model.present back ≡ Some known) → Raises model (failures_in ended) taken back →
+pub raised_named : {A D : Type 0} (model : DiskModel D) (ended : Result A Fault) (before after : Option Present) (taken back : D) → known_of model taken ≡ before →
+    IfSome after (λ known. known_of model back ≡ Some known) → Raises model (failures_in ended) taken back →
     MatchResult ended (λ _. RaisesNamed model 0 before after) (EndsRaising model before after)
 raised_named model (Ok line) before after taken back was is raises = record { taken = taken; back = back; was = was; is = is; raises = raises }
 raised_named model (Err fault) before after taken back was is raises = inr (record { taken = taken; back = back; was = was; is = is; raises = raises })

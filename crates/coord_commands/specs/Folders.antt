@@ -1,19 +1,20 @@
 -- What is known of the disks and texts of names.
-use Rattle.std.specs.Prelude.{ℕ, Bool, List, [], ◌∷◌, bytes_eq, string_bytes, Option, Some, None, option_map, if◌then◌else◌}
+use Rattle.std.specs.Prelude.{ℕ, List, [], ◌∷◌, bytes_eq, string_bytes, Option, Some, None, option_map, if◌then◌else◌}
+use Rattle.coord_disk.specs.Model.DiskModel.{DiskModel}
 use Rattle.coord_disk.specs.Model.Present.{Present}
 use Rattle.coord_commands.specs.declared.memory.Named.{Named}
 
 -- what a disk holds, where it keeps the model
-abbrev pub known_of : {D : Type 0} → (D → Bool) → (D → Present) → D → Option Present
-known_of keeps_model present disk = if keeps_model disk then Some (present disk) else None
+abbrev pub known_of : {D : Type 0} → DiskModel D → D → Option Present
+known_of model disk = if model.keeps_model disk then Some (model.present disk) else None
 
 -- the bytes as a read gives them, where they are known
 abbrev pub reads : Option Present → Option (List ℕ)
 reads = option_map (λ known. known.read)
 
 -- the bytes that a disk gives, where it keeps the model
-abbrev pub bytes_of : {D : Type 0} → (D → Bool) → (D → Present) → D → Option (List ℕ)
-bytes_of keeps_model present disk = reads (known_of keeps_model present disk)
+abbrev pub bytes_of : {D : Type 0} → DiskModel D → D → Option (List ℕ)
+bytes_of model disk = reads (known_of model disk)
 
 -- the bytes of the first text of this name
 abbrev pub text_under : List Named → List ℕ → Option (List ℕ)

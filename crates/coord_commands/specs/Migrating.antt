@@ -46,8 +46,8 @@ pub record Raises {D : Type 0} (model : DiskModel D) (failed : ℕ) (old new : D
 pub record RaisesNamed {D : Type 0} (model : DiskModel D) (failed : ℕ) (before after : Option Present) : Type 0 where
   pub taken : D
   pub back : D
-  pub was : known_of model.keeps_model model.present taken ≡ before
-  pub is : IfSome after (λ known. known_of model.keeps_model model.present back ≡ Some known)
+  pub was : known_of model taken ≡ before
+  pub is : IfSome after (λ known. known_of model back ≡ Some known)
   pub raises : Raises model failed taken back
 
 -- this is the least node in a reset of the world that it gives, and it reads as before

@@ -1,5 +1,5 @@
 -- How `serve` ends, where this is the word of its address, and this is what is known of the disk before and after it.
-use Rattle.std.specs.Prelude.{◌≡◌, ◌⊎◌, ℕ, ◌+◌, Bool, true, List, Option, Some, IfSome}
+use Rattle.std.specs.Prelude.{◌≡◌, ◌⊎◌, ℕ, ◌+◌, true, List, Option, Some, IfSome}
 use Rattle.std.specs.Io.KnownBytes.{Keeps}
 use Rattle.std.specs.Net.Grammar.{IsSocketV4Text}
 use Rattle.std.specs.declared.net.socket_addr.SocketAddrV4.{SocketAddrV4}
@@ -51,8 +51,8 @@ module _ {D : Type 0} (model : DiskModel D) where
   pub record IsPutBack (failed : ℕ) (before after : Option Present) : Type 0 where
     pub taken : D
     pub back : D
-    pub was : known_of model.keeps_model model.present taken ≡ before
-    pub is : IfSome after (λ known. known_of model.keeps_model model.present back ≡ Some known)
+    pub was : known_of model taken ≡ before
+    pub is : IfSome after (λ known. known_of model back ≡ Some known)
     pub failures : model.failures back ≡ model.failures taken + failed
     pub reads : failed ≡ 0 → ReadsAsBefore before after
 
@@ -65,7 +65,7 @@ module _ {D : Type 0} (model : DiskModel D) where
   -- a store was opened on the disk of a name, which was taken: it has the world that the bytes give, and reads as before
   pub record IsOpened (before : Option Present) (store : Kept D) : Type 0 where
     pub taken : D
-    pub was : known_of model.keeps_model model.present taken ≡ before
+    pub was : known_of model taken ≡ before
     pub world : IfSome (reads before) (λ known. Recovered known store.world)
     pub failures : model.failures store.disk ≡ model.failures taken
     pub same_model : model.keeps_model store.disk ≡ model.keeps_model taken
@@ -79,10 +79,10 @@ module _ {D : Type 0} (model : DiskModel D) where
   -- The fault that a server tells, by lives from this world: nothing is left; or there were lives, they ended with this fault, and the disk that they left is put back.
   abbrev pub EndsWith : World → ServerFault → Option Present → Type 0
   EndsWith began fault after =
-      LeavesNothing model.keeps_model model.present fault
-      ⊎ ((ended : ServerEnd D Patience) × HasServed model.keeps_model model.present began ended
+      LeavesNothing model fault
+      ⊎ ((ended : ServerEnd D Patience) × HasServed model began ended
       × (fault_at_end (has_stopped ended.closed.store) ended.served ended.output.is_broken ≡ Some fault)
-      × IfSome after (λ known. known_of model.keeps_model model.present ended.closed.store.disk ≡ Some known))
+      × IfSome after (λ known. known_of model ended.closed.store.disk ≡ Some known))
 
   -- a server over the world of the disk has ended, and tells this
   pub record HasEnded (before after : Option Present) (told : Fault) : Type 0 where
@@ -97,23 +97,23 @@ module _ {D : Type 0} (model : DiskModel D) where
   EndsServing before after told = IsNotOpened before after told ⊎ (IsNotBound before after told ⊎ HasEnded before after told)
 
 -- A store on a disk was served until a line closed it: these bytes gave its world, from which there were lives one behind the other, of which a line closed the last, and the bytes that are put back give the world that they left.
-pub record IsServedToEnd {D : Type 0} (keeps_model : D → Bool) (present : D → Present) (bytes after : Option (List ℕ)) : Type 0 where
+pub record IsServedToEnd {D : Type 0} (model : DiskModel D) (bytes after : Option (List ℕ)) : Type 0 where
   pub began : World
   pub left : Closed D
   pub opened : IfSome bytes (λ known. Recovered known began)
-  pub lived : HasLivedToClose keeps_model present began left
+  pub lived : HasLivedToClose model began left
   pub closed : IfSome after (λ known. Recovered known left.store.world)
 
 -- The disk of a name was taken, served until a line closed it, and put back. At every moment in between, whatever it may hold is what it may have held when it was taken, or a legal world on the way from the world that was opened to the one after all accepted steps.
 pub record KeepsToTheWay {D : Type 0} (model : DiskModel D) (before after : Option Present) : Type 0 where
   pub taken : D
   pub back : D
-  pub was : known_of model.keeps_model model.present taken ≡ before
-  pub is : IfSome after (λ known. known_of model.keeps_model model.present back ≡ Some known)
+  pub was : known_of model taken ≡ before
+  pub is : IfSome after (λ known. known_of model back ≡ Some known)
   pub began : World
   pub left : Closed D
   pub opened : IfSome (reads before) (λ known. Recovered known began)
-  pub lived : HasLivedToClose model.keeps_model model.present began left
+  pub lived : HasLivedToClose model began left
   pub any_moment : model.keeps_model taken ≡ true → LeavesOnly model taken back (λ image. IsImage (model.present taken) image ⊎ IsOnTheWay began (fold left.base left.trail.items) image)
 
 -- the store was served until a line closed it, and the disk put back

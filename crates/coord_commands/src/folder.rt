@@ -26,19 +26,19 @@ pub trait Folder {
 
     /// Opens the disk of a name, to read it alone.
     fn open_to_read(&self, name: &str) -> Result<Self::Disk, DiskFault>
-        ensures { IfOk result (λ disk. bytes_of Self.Disk.model.keeps_model Self.Disk.model.present disk ≡
+        ensures { IfOk result (λ disk. bytes_of Self.Disk.model disk ≡
             reads (holds self.now name.now)) };
 
     /// Takes the disk of a name, to read and write it. Nobody else has it until it is put back.
     fn open(&mut self, name: &str) -> Result<Self::Disk, DiskFault>
-        ensures taken { IfOk result (λ disk. known_of Self.Disk.model.keeps_model Self.Disk.model.present disk ≡
+        ensures taken { IfOk result (λ disk. known_of Self.Disk.model disk ≡
             holds self.old name.now) }
         ensures refused { IfErr result (λ _. holds self.new name.now ≡ holds self.old name.now) };
 
     /// Puts the disk of a name back.
     fn close(&mut self, name: &str, disk: Self::Disk)
         ensures { IfSome (holds self.new name.now) (λ known.
-            known_of Self.Disk.model.keeps_model Self.Disk.model.present disk ≡ Some known) };
+            known_of Self.Disk.model disk ≡ Some known) };
 
     /// Opens the text of a name.
     fn read(&self, name: &str) -> io::Result<Self::Text>

@@ -94,13 +94,13 @@ fn show_at<F: Folder, W: Write>(
 /// first predicate that its snapshot violates. Answers whether it is legal.
 pub fn check_store<D: Disk, W: Write>(alloc: Global, disk: D, output: &mut W) -> Result<bool, Fault>
     ensures legal { IfOk result (λ legal. legal ≡ true →
-        PrintsOne (IsLegalLine (bytes_of D.model.keeps_model D.model.present disk)) (W.contents output.old)
+        PrintsOne (IsLegalLine (bytes_of D.model disk)) (W.contents output.old)
         (W.contents output.new)) }
     ensures violated { IfOk result (λ legal. legal ≡ false →
-        PrintsOne (IsViolatedLine (bytes_of D.model.keeps_model D.model.present disk)) (W.contents output.old)
+        PrintsOne (IsViolatedLine (bytes_of D.model disk)) (W.contents output.old)
         (W.contents output.new)) }
-    ensures fault { IfErr result (IsOfOpening (bytes_of D.model.keeps_model D.model.present disk)) }
-    ensures cut { IfErr result (IsCutShort (IsCheckedLine (bytes_of D.model.keeps_model D.model.present disk))
+    ensures fault { IfErr result (IsOfOpening (bytes_of D.model disk)) }
+    ensures cut { IfErr result (IsCutShort (IsCheckedLine (bytes_of D.model disk))
         (W.contents output.old) (W.contents output.new)) }
 {
     match Store::open(alloc, disk) {
@@ -128,10 +128,10 @@ pub fn check_store<D: Disk, W: Write>(alloc: Global, disk: D, output: &mut W) ->
 
 /// Opens the store on a disk, and prints its nodes and links.
 pub fn show_store<D: Disk, W: Write>(alloc: Global, disk: D, output: &mut W) -> Result<(), Fault>
-    ensures shown { OnOk result (PrintsOne (IsShown (bytes_of D.model.keeps_model D.model.present disk))
+    ensures shown { OnOk result (PrintsOne (IsShown (bytes_of D.model disk))
         (W.contents output.old) (W.contents output.new)) }
-    ensures fault { IfErr result (IsOfOpening (bytes_of D.model.keeps_model D.model.present disk)) }
-    ensures cut { IfErr result (IsCutShort (IsShown (bytes_of D.model.keeps_model D.model.present disk))
+    ensures fault { IfErr result (IsOfOpening (bytes_of D.model disk)) }
+    ensures cut { IfErr result (IsCutShort (IsShown (bytes_of D.model disk))
         (W.contents output.old) (W.contents output.new)) }
 {
     match Store::open(alloc, disk) {

@@ -91,10 +91,10 @@ fn make<F: Folder>(
 /// Makes the store of a topology on a disk, and answers how many steps it has.
 fn make_on<D: Disk>(alloc: Global, disk: D, topology: &Topology) -> (Result<u64, Fault>, D)
     ensures made { OnOk result.0 (IsMade (content topology.now)
-        (bytes_of D.model.keeps_model D.model.present disk) (bytes_of D.model.keeps_model D.model.present result.1)) }
+        (bytes_of D.model disk) (bytes_of D.model result.1)) }
     ensures count { IfOk result.0 (λ count. count ≡ (begun (content topology.now)).count) }
-    ensures fault { IfErr result.0 (RefusesStore (bytes_of D.model.keeps_model D.model.present disk)
-        (bytes_of D.model.keeps_model D.model.present result.1) (content topology.now)) }
+    ensures fault { IfErr result.0 (RefusesStore (bytes_of D.model disk)
+        (bytes_of D.model result.1) (content topology.now)) }
     ensures late { IfErr result.0 (λ fault. ¬ IsOfFile fault) }
 {
     match create_store(alloc, disk, topology) {

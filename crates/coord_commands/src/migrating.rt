@@ -86,10 +86,10 @@ fn migrate_named<F: Folder>(alloc: Global, folder: &mut F, file: &str) -> Result
 
 /// Raises the store on a disk, and answers the line that is to be printed.
 fn migrate_disk<D: Disk>(alloc: Global, disk: D) -> (Result<String, Fault>, D)
-    ensures line { IfOk result.0 (λ line. IsMigratedLine (known_of D.model.keeps_model D.model.present disk)
-        (known_of D.model.keeps_model D.model.present result.1) (string_bytes line)) }
-    ensures fault { IfErr result.0 (IsOfRaising (known_of D.model.keeps_model D.model.present disk)
-        (known_of D.model.keeps_model D.model.present result.1)) }
+    ensures line { IfOk result.0 (λ line. IsMigratedLine (known_of D.model disk)
+        (known_of D.model result.1) (string_bytes line)) }
+    ensures fault { IfErr result.0 (IsOfRaising (known_of D.model disk)
+        (known_of D.model result.1)) }
     ensures raises { Raises D.model
         (failures_in result.0) disk result.1 }
 {

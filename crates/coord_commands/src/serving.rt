@@ -56,7 +56,7 @@ pub fn serve_in<
         (F.holds folder.new file.now)) address.now (reads (F.holds folder.old file.now))
         (reads (F.holds folder.new file.now)) result (E.contents errors.old)
         (E.contents errors.new) }
-    ensures closed { result ≡ 0 → IsServedToEnd F.Disk.model.keeps_model F.Disk.model.present
+    ensures closed { result ≡ 0 → IsServedToEnd F.Disk.model
         (reads (F.holds folder.old file.now)) (reads (F.holds folder.new file.now)) }
     ensures moments { result ≡ 0 → KeepsToTheWay F.Disk.model (F.holds folder.old file.now)
         (F.holds folder.new file.now) }
@@ -77,7 +77,7 @@ fn serve_at<S: Net + Threads + Wait + Clock + Sync + AllocGlobal, F: Folder, W: 
     address: SocketAddrV4,
     output: &mut W,
 ) -> Result<(), Fault>
-    ensures served { OnOk result (IsServedToEnd F.Disk.model.keeps_model F.Disk.model.present
+    ensures served { OnOk result (IsServedToEnd F.Disk.model
         (reads (F.holds folder.old file.now)) (reads (F.holds folder.new file.now))) }
     ensures moments { OnOk result (KeepsToTheWay F.Disk.model (F.holds folder.old file.now)
         (F.holds folder.new file.now)) }
@@ -138,7 +138,7 @@ fn opened<F: Folder>(alloc: Global, folder: &mut F, file: &str) -> Result<Store<
 fn left<D: Disk>(closed: Closed<D>) -> D
     ensures disk { result ≡ closed.store.disk }
     ensures bytes { has_stopped closed.store ≡ false → IfSome
-        (bytes_of D.model.keeps_model D.model.present result) (λ known. Recovered known closed.store.world) }
+        (bytes_of D.model result) (λ known. Recovered known closed.store.world) }
 {
     closed.store.into_disk()
 }

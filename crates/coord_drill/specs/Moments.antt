@@ -122,7 +122,7 @@ pub record Carries {D : Type 0} (disk : DiskModel D) (crashes : D → D → Type
 
 -- What is said of a line's moments: on a disk that keeps the model, and of `version 2` before any step.
 abbrev pub IsPromised : {D : Type 0} → DiskModel D → Drill D → Asked → Type 0
-IsPromised disk d a = (model_held disk.keeps_model d.driver ≡ Some true) × (a ≡ Version2 → IsEmptyLog d.driver.ledger.log)
+IsPromised disk d a = (model_held disk d.driver ≡ Some true) × (a ≡ Version2 → IsEmptyLog d.driver.ledger.log)
 
 abbrev pub CarriesIf : {D : Type 0} → DiskModel D → (D → D → Type 0) → Drill D → Asked → List ℕ → Drill D → Type 0
 CarriesIf disk crashes d a told new = IsPromised disk d a → Carries disk crashes d a told new
@@ -130,7 +130,7 @@ CarriesIf disk crashes d a told new = IsPromised disk d a → Carries disk crash
 -- the disk was given up in a crash, behind the taking of an image
 pub record IsLostInCrash {D : Type 0} (disk : DiskModel D) (crashes : D → D → Type 0) (d : DriverState D) (why : Fault) (lost : D) : Type 0 where
   pub moments : (s : Machine) → IsConsistent s → Represents d s → (old : D) → disk_held d ≡ Some old → disk.keeps_model old ≡ true → Reopens disk crashes (Survives s) old lost
-  pub cause : model_held disk.keeps_model d ≡ Some true → IsPassing why
+  pub cause : model_held disk d ≡ Some true → IsPassing why
   pub failed : (n : ℕ) → HasFailed disk.failures (disk_held d) n → disk.failures lost ≡ n + failed_by why
 
 -- for want of memory behind a part of its events

@@ -8,14 +8,14 @@ use Rattle.coord_ledger.specs.Facade.{FlightState, releases_in}
 use Rattle.coord_engine.specs.Facade.{AnswersFlush, AtSomeMoment, Basis, ComesBack, Commits, Flushes, Leaves, RefusesFlush}
 use Rattle.coord_engine.proofs.Flights.{flushed}
 
-module _ {D : Type 0} (b : Basis D) (failures : D → ℕ) where
+module _ {D : Type 0} (b : Basis D) where
   -- a flight that left, was committed with an answer and came back: what it released, or why it was not settled
   abbrev Flown : Result (Unit {0}) CommitFault → List Release → Type 0
   Flown (Ok done) released = AtSomeMoment b (Flushes released)
-  Flown (Err fault) released = RefusesFlush b failures fault
+  Flown (Err fault) released = RefusesFlush b fault
 
   flown : (left back : FlightState D) (released : List Release) → AtSomeMoment b (Leaves left) → released ≡ releases_in back back.mark → AtSomeMoment b (ComesBack back)
-      → (answer : Result (Unit {0}) CommitFault) → Commits failures left answer back → Flown answer released
+      → (answer : Result (Unit {0}) CommitFault) → Commits b.failures left answer back → Flown answer released
   flown left back released leaves is comes (Ok done) tried = record { state = leaves.state; held = leaves.held; so = flushed left back leaves.state released leaves.so (λ _. tried.mark_is) tried.same_steps tried.same_world is }
   flown left back released leaves is comes (Err Device) tried = record { left = left; back = back; leaves = leaves; tried = tried; comes = comes }
   flown left back released leaves is comes (Err OutOfMemory) tried = inr (record { left = left; back = back; leaves = leaves; tried = tried; comes = comes })
@@ -24,13 +24,13 @@ module _ {D : Type 0} (b : Basis D) (failures : D → ℕ) where
   flown left back released leaves is comes (Err Again) tried = absurd tried
 
   answered : (committed : Result (Unit {0}) CommitFault) (released : List Release) (told : Result (Option (List Release)) CommitFault)
-      → MatchResult committed (λ _. told ≡ Ok (Some released)) (λ fault. told ≡ Err fault) → Flown committed released → AnswersFlush b failures told
-  answered (Ok done) released told is so = subst (AnswersFlush b failures) (sym is) so
-  answered (Err fault) released told is so = subst (AnswersFlush b failures) (sym is) so
+      → MatchResult committed (λ _. told ≡ Ok (Some released)) (λ fault. told ≡ Err fault) → Flown committed released → AnswersFlush b told
+  answered (Ok done) released told is so = subst (AnswersFlush b) (sym is) so
+  answered (Err fault) released told is so = subst (AnswersFlush b) (sym is) so
 
   -- what a flush answers, once its flight is back
-  pub told_back : (left back : FlightState D) (released : List Release) → AtSomeMoment b (Leaves left) → (committed : Result (Unit {0}) CommitFault) → (left.mark ≡ New → Commits failures left committed back)
+  pub told_back : (left back : FlightState D) (released : List Release) → AtSomeMoment b (Leaves left) → (committed : Result (Unit {0}) CommitFault) → (left.mark ≡ New → Commits b.failures left committed back)
       → released ≡ releases_in back back.mark → AtSomeMoment b (ComesBack back) → (told : Result (Option (List Release)) CommitFault)
-      → MatchResult committed (λ _. told ≡ Ok (Some released)) (λ fault. told ≡ Err fault) → AnswersFlush b failures told
+      → MatchResult committed (λ _. told ≡ Ok (Some released)) (λ fault. told ≡ Err fault) → AnswersFlush b told
   told_back left back released leaves committed tried is comes told same =
       answered committed released told same (flown left back released leaves is comes committed (tried (ap (λ (f : FlightState D). f.mark) leaves.so.1)))

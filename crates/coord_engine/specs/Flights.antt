@@ -38,21 +38,21 @@ Commits failures left (Err OutOfMemory) now = IsTried failures left now New 0
 Commits failures left (Err fault) now = ⊥
 
 -- a flight left, and came back with this mark; its disk failed so often meanwhile
-pub record FlewBack {D : Type 0} (b : Basis D) (failures : D → ℕ) (mark : Mark) (failed : ℕ) : Type 0 where
+pub record FlewBack {D : Type 0} (b : Basis D) (mark : Mark) (failed : ℕ) : Type 0 where
   pub left : FlightState D
   pub back : FlightState D
   pub leaves : AtSomeMoment b (Leaves left)
-  pub tried : IsTried failures left back mark failed
+  pub tried : IsTried b.failures left back mark failed
   pub comes : AtSomeMoment b (ComesBack back)
 
 -- Why no flight was settled: Device where one that left came back torn, its disk failed meanwhile, and the ledger has its steps in doubt; OutOfMemory where none could leave, or one came back new.
-abbrev pub RefusesFlush : {D : Type 0} → Basis D → (D → ℕ) → CommitFault → Type 0
-RefusesFlush b failures Device = FlewBack b failures Torn 1
-RefusesFlush b failures OutOfMemory = AtSomeMoment b (λ g. keeps_store g.ledger ≡ false) ⊎ FlewBack b failures New 0
-RefusesFlush b failures fault = ⊥
+abbrev pub RefusesFlush : {D : Type 0} → Basis D → CommitFault → Type 0
+RefusesFlush b Device = FlewBack b Torn 1
+RefusesFlush b OutOfMemory = AtSomeMoment b (λ g. keeps_store g.ledger ≡ false) ⊎ FlewBack b New 0
+RefusesFlush b fault = ⊥
 
 -- what a flush answers: what the next flight gave out; that none was to leave; or why none was settled
-abbrev pub AnswersFlush : {D : Type 0} → Basis D → (D → ℕ) → Result (Option (List Release)) CommitFault → Type 0
-AnswersFlush b failures (Ok None) = AtSomeMoment b (λ g. keeps_store g.ledger ≡ true)
-AnswersFlush b failures (Ok (Some released)) = AtSomeMoment b (Flushes released)
-AnswersFlush b failures (Err fault) = RefusesFlush b failures fault
+abbrev pub AnswersFlush : {D : Type 0} → Basis D → Result (Option (List Release)) CommitFault → Type 0
+AnswersFlush b (Ok None) = AtSomeMoment b (λ g. keeps_store g.ledger ≡ true)
+AnswersFlush b (Ok (Some released)) = AtSomeMoment b (Flushes released)
+AnswersFlush b (Err fault) = RefusesFlush b fault

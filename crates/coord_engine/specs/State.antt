@@ -1,5 +1,6 @@
 -- The value under an engine's lock as contracts see it, what a lock can hold, and what becomes of it.
 use Rattle.std.specs.Prelude.{◌≡◌, ℕ, ◌+◌, ◌≤◌, Bool, true, false, List, None, is_none, is_some, length, take, IfSome}
+use Rattle.coord_disk.specs.Model.DiskModel.{DiskModel}
 use Rattle.coord_disk.specs.Model.Present.{Present}
 use Rattle.coord_types.specs.declared.steps.Step.{Step}
 use Rattle.coord_world.specs.protocol.NumberedWorld.{World}
@@ -18,15 +19,16 @@ pub record GuardedState (D : Type 0) : Type 0 where
 abbrev pub most_shares : ℕ
 most_shares = 65535
 
--- What an engine is based on: what its disk's bytes may be, and the base and the steps of the ledger that it was made over.
+-- What an engine is based on: what its disk's bytes may be and how often it has failed, and the base and the steps of the ledger that it was made over.
 pub record Basis (D : Type 0) : Type 0 where
   pub keeps_model : D → Bool
   pub present : D → Present
+  pub failures : D → ℕ
   pub base : World
   pub before : List Step
 
-abbrev pub based_on : {D : Type 0} → (D → Bool) → (D → Present) → World → List Step → Basis D
-based_on keeps_model present base before = record { keeps_model = keeps_model; present = present; base = base; before = before }
+abbrev pub based_on : {D : Type 0} → DiskModel D → World → List Step → Basis D
+based_on m base before = record { keeps_model = m.keeps_model; present = m.present; failures = m.failures; base = base; before = before }
 
 -- the trail is that of the ledger that the engine was made over, and has grown by what the shares noted
 pub record HasGrown {D : Type 0} (b : Basis D) (g : GuardedState D) : Type 0 where

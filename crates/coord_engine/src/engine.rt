@@ -84,10 +84,9 @@ impl<D: Disk, L: Origin> Engine<D, L> {
     /// A share without notes, where not all 65,535 were given out.
     pub fn share<R: Wait>(&self, rt: &R) -> Option<Share<L>>
         ensures given { IfSome result (λ share. (share ≡ []) ×
-            AtSomeMoment (based_on D.model.keeps_model D.model.present L.base L.before) (λ g.
-            g.given < most_shares)) }
+            AtSomeMoment (based_on D.model L.base L.before) (λ g. g.given < most_shares)) }
         ensures none { IfNone result (AtSomeMoment
-            (based_on D.model.keeps_model D.model.present L.base L.before) (λ g. g.given ≡ most_shares)) }
+            (based_on D.model L.base L.before) (λ g. g.given ≡ most_shares)) }
     {
         let mut guarded = self.guarded.lock(rt);
         guarded.keeps();
@@ -102,7 +101,7 @@ impl<D: Disk, L: Origin> Engine<D, L> {
         step: Step,
         mine: &mut Share<L>,
     ) -> Result<Ticket, Refusal>
-        ensures { AtSomeMoment (based_on D.model.keeps_model D.model.present L.base L.before)
+        ensures { AtSomeMoment (based_on D.model L.base L.before)
             (Submits {D = D} step result mine.old mine.new) }
     {
         let mut guarded = self.guarded.lock(rt);
@@ -120,7 +119,7 @@ impl<D: Disk, L: Origin> Engine<D, L> {
     /// Accepts a step as `submit` does, but does not wake the flusher. Whoever posts several steps
     /// wakes it behind the last one, so that one flight takes them all.
     pub fn post<R: Wait>(&self, rt: &R, step: Step, mine: &mut Share<L>) -> Result<Ticket, Refusal>
-        ensures { AtSomeMoment (based_on D.model.keeps_model D.model.present L.base L.before)
+        ensures { AtSomeMoment (based_on D.model L.base L.before)
             (Submits {D = D} step result mine.old mine.new) }
     {
         let mut guarded = self.guarded.lock(rt);
@@ -139,7 +138,7 @@ impl<D: Disk, L: Origin> Engine<D, L> {
     /// of another ledger, and `Stopped` one whose step will not be settled any more; both give it
     /// back.
     pub fn collect<R: Wait>(&self, rt: &R, ticket: Ticket) -> Result<Reply, (Refusal, Ticket)>
-        ensures { AnswersTicket (based_on D.model.keeps_model D.model.present L.base L.before) ticket result }
+        ensures { AnswersTicket (based_on D.model L.base L.before) ticket result }
     {
         let (guarded, answer) = self.lock_to_tell(rt, ticket);
         guarded.keeps();
@@ -173,8 +172,7 @@ impl<D: Disk, L: Origin> Engine<D, L> {
 
     /// Shows the settled world, of which the caller must not have seen more.
     pub fn show<R: Wait>(&self, rt: &R, seen: &mut Seen) -> Result<View, Refusal>
-        ensures { AnswersShow (based_on D.model.keeps_model D.model.present L.base L.before) result seen.old
-            seen.new }
+        ensures { AnswersShow (based_on D.model L.base L.before) result seen.old seen.new }
     {
         let guarded = self.guarded.lock(rt);
         guarded.keeps();
@@ -184,7 +182,7 @@ impl<D: Disk, L: Origin> Engine<D, L> {
     /// How many steps it keeps: those that its ledger had accepted when the engine was made, and all
     /// since.
     pub fn kept<R: Wait>(&self, rt: &R) -> usize
-        ensures { AtSomeMoment (based_on D.model.keeps_model D.model.present L.base L.before) (λ g. result ≡
+        ensures { AtSomeMoment (based_on D.model L.base L.before) (λ g. result ≡
             length g.ledger.log.trail) }
     {
         let guarded = self.guarded.lock(rt);
@@ -194,8 +192,7 @@ impl<D: Disk, L: Origin> Engine<D, L> {
 
     /// The packets that may have been lost, to be sent again as of step 0.
     pub fn resend<R: Wait>(&self, rt: &R) -> Result<Releases, AllocError>
-        ensures { IfOk result (λ releases.
-            AtSomeMoment (based_on D.model.keeps_model D.model.present L.base L.before)
+        ensures { IfOk result (λ releases. AtSomeMoment (based_on D.model L.base L.before)
             (SendsAgain {D = D} releases)) }
     {
         let guarded = self.guarded.lock(rt);
@@ -208,7 +205,7 @@ impl<D: Disk, L: Origin> Engine<D, L> {
     ///
     /// After `OutOfMemory` it may be tried again; after `Device` the ledger has stopped.
     pub fn flush_once<R: Wait + Clock>(&self, rt: &R) -> Result<Option<Releases>, CommitFault>
-        ensures { AnswersFlush (based_on D.model.keeps_model D.model.present L.base L.before) D.model.failures result }
+        ensures { AnswersFlush (based_on D.model L.base L.before) result }
     {
         let mut flight = match self.begin(rt) {
             Ok(Some(flight)) => flight,
@@ -229,7 +226,7 @@ impl<D: Disk, L: Origin> Engine<D, L> {
 
     /// Sends the next flight out.
     pub(crate) fn begin<R: Wait>(&self, rt: &R) -> Result<Option<Flight<D>>, AllocError>
-        ensures answer { AnswersBegin (based_on D.model.keeps_model D.model.present L.base L.before) result }
+        ensures answer { AnswersBegin (based_on D.model L.base L.before) result }
         ensures way { IfOk result (λ begun. IfSome begun (FliesOnTheWay D.model L.disk L.base)) }
     {
         let mut guarded = self.guarded.lock(rt);
@@ -242,8 +239,7 @@ impl<D: Disk, L: Origin> Engine<D, L> {
     pub(crate) fn end<R: Wait + Clock>(&self, rt: &R, flight: Flight<D>) -> Releases
         requires way { FliesOnTheWay D.model L.disk L.base flight }
         ensures released { result ≡ releases_in flight flight.mark }
-        ensures back { AtSomeMoment (based_on D.model.keeps_model D.model.present L.base L.before)
-            (ComesBack flight) }
+        ensures back { AtSomeMoment (based_on D.model L.base L.before) (ComesBack flight) }
     {
         let mut out = flight;
         for _ in rt.forever() {
@@ -282,11 +278,10 @@ impl<D: Disk, L: Origin> Engine<D, L> {
             IsSince L.base L.before shares.items closed.base closed.trail.items) }
         ensures way { IfOk result (λ closed. StaysOnTheWay D.model L.disk L.base
             (fold closed.base closed.trail.items) closed.store.disk) }
-        ensures closed { IfOk result (λ closed.
-            AtSomeMoment (based_on D.model.keeps_model D.model.present L.base L.before)
+        ensures closed { IfOk result (λ closed. AtSomeMoment (based_on D.model L.base L.before)
             (Closes closed.store closed.base closed.trail.items closed.settled shares.items)) }
         ensures refused { IfErr result (λ refused.
-            AtSomeMoment (based_on D.model.keeps_model D.model.present L.base L.before) (λ g.
+            AtSomeMoment (based_on D.model L.base L.before) (λ g.
             RefusesClosing g shares.items refused.0)) }
         ensures back { IfErr result (λ refused. refused.2.items ≡ shares.items) }
     {

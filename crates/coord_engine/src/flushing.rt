@@ -85,11 +85,9 @@ impl<D: Disk, L: Origin> Engine<D, L> {
     /// the last flight's time allows, and a little for packets that are in hand. False once no
     /// flight will start any more.
     fn waits_for_flight<R: Wait + Clock>(&self, rt: &R, for_callers: Duration) -> bool
-        ensures starts { result ≡ true →
-            AtSomeMoment (based_on D.model.keeps_model D.model.present L.base L.before) (λ g.
+        ensures starts { result ≡ true → AtSomeMoment (based_on D.model L.base L.before) (λ g.
             is_idle g ≡ false) }
-        ensures ends { result ≡ false →
-            AtSomeMoment (based_on D.model.keeps_model D.model.present L.base L.before) (λ g.
+        ensures ends { result ≡ false → AtSomeMoment (based_on D.model L.base L.before) (λ g.
             is_over g ≡ true) }
     {
         let guarded = self.lock_for_flight(rt);
@@ -202,8 +200,7 @@ fn flush<D: Disk, L: Origin, R: Wait + Clock>(
     pace: &mut Pace,
 ) -> Result<Option<Releases>, CommitFault>
     requires { pace.old.rest_is_due ≡ false }
-    ensures flushed { AnswersFlush (based_on D.model.keeps_model D.model.present L.base L.before) D.model.failures
-        result }
+    ensures flushed { AnswersFlush (based_on D.model L.base L.before) result }
     ensures rest { pace.new.rest_is_due ≡ finds_no_memory result }
 {
     let start = Instant::now(rt);
@@ -225,7 +222,7 @@ pub fn flusher<D: Disk, L: Origin, P: Port, R: Wait + Clock>(
     engine: &Engine<D, L>,
     port: &mut P,
 )
-    ensures { HasFlushed (based_on D.model.keeps_model D.model.present L.base L.before) D.model.failures
+    ensures { HasFlushed (based_on D.model L.base L.before)
         P.carried P.signalled P.handed_on port.old port.new }
 {
     let mut pace = Pace::at_first();

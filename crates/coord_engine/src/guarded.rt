@@ -134,7 +134,7 @@ impl<D: Disk, L: Origin> Guarded<D, L> {
     /// Does nothing. Its contract is what the type keeps, so it holds of whatever value the lock
     /// has when it is taken.
     pub fn keeps(&self)
-        ensures { CanHold (based_on D.model.keeps_model D.model.present L.base L.before) self.now }
+        ensures { CanHold (based_on D.model L.base L.before) self.now }
     {
         self.ledger.lemma_log_is_consistent();
         self.ledger.lemma_images_give_settled();

@@ -27,8 +27,7 @@ fn submit<D: Disk, L: Origin>(
     packet: Packet,
     share: &mut Share<L>,
 ) -> bool
-    ensures { Tries (based_on D.model.keeps_model D.model.present L.base L.before) share.old packet result
-        share.new }
+    ensures { Tries (based_on D.model L.base L.before) share.old packet result share.new }
 {
     guarded.keeps();
     match guarded.submit(step_of(packet), share) {
@@ -46,7 +45,7 @@ fn try_waiting<D: Disk, L: Origin>(
     share: &mut Share<L>,
     waiting: &mut Waiting,
 )
-    ensures { TriesAll (based_on D.model.keeps_model D.model.present L.base L.before) share.old waiting.old
+    ensures { TriesAll (based_on D.model L.base L.before) share.old waiting.old
         share.new waiting.new }
 {
     for _tried in 0..waiting.len() {
@@ -67,7 +66,7 @@ fn take<D: Disk, L: Origin>(
     share: &mut Share<L>,
     hand: &mut Hand,
 )
-    ensures { Takes (based_on D.model.keeps_model D.model.present L.base L.before) share.old hand.old
+    ensures { Takes (based_on D.model L.base L.before) share.old hand.old
         packet.now share.new hand.new }
 {
     let has_to_wait = submit(guarded, *packet, share);
@@ -82,7 +81,7 @@ fn take_each<D: Disk, L: Origin>(
     share: &mut Share<L>,
     hand: &mut Hand,
 )
-    ensures { Works (based_on D.model.keeps_model D.model.present L.base L.before) share.old hand.old
+    ensures { Works (based_on D.model L.base L.before) share.old hand.old
         packets.now share.new hand.new }
 {
     for packet in packets {
@@ -99,7 +98,7 @@ fn take_together<D: Disk, L: Origin, R: Wait>(
     share: &mut Share<L>,
     hand: &mut Hand,
 )
-    ensures { Works (based_on D.model.keeps_model D.model.present L.base L.before) share.old hand.old
+    ensures { Works (based_on D.model L.base L.before) share.old hand.old
         packets.now share.new hand.new }
 {
     let mut guarded = engine.guarded.lock(rt);
@@ -128,8 +127,7 @@ pub fn worker<D: Disk, L: Origin, I: Iterator<Item = Vec<Packet>>, R: Wait>(
 ) -> Share<L>
     requires { I.can_next parcels × IsFinite (I.remaining parcels) }
     ensures worked { (came : List (Vec Asked Global)) × Drains I.next_gives parcels came ×
-        Works (based_on D.model.keeps_model D.model.present L.base L.before) share hand.old
-        (packets_of came) result hand.new }
+        Works (based_on D.model L.base L.before) share hand.old (packets_of came) result hand.new }
     ensures packets { AddsPackets share result }
 {
     let mut share = share;

@@ -63,7 +63,7 @@ impl<D: CrashDisk> Driver<D> {
     /// parts keep that.
     pub fn lemma_survives(&self)
         ensures { (s : Machine) → IsConsistent s → Represents self.now s →
-            DiskSurvives D.model.keeps_model D.model.present (disk_held self.now) s }
+            DiskSurvives D.model (disk_held self.now) s }
     {
         match &self.flight {
             Some(flight) => flight.lemma_images_give_world(),

@@ -6,7 +6,7 @@ use Rattle.coord_engine.specs.declared.closed.Closed.{Closed}
 use Rattle.coord_types.specs.declared.steps.Step.{Step}
 use Rattle.coord_ledger.specs.declared.ticket.Note.{Note}
 use Rattle.coord_store.specs.Kept.{Kept, has_stopped}
-use Rattle.coord_disk.specs.Model.Present.{Present}
+use Rattle.coord_disk.specs.Model.DiskModel.{DiskModel}
 use Rattle.coord_world.specs.protocol.NumberedWorld.{World}
 use Rattle.coord_admin.specs.Connections.{Talk}
 use Rattle.coord_server.specs.EngineDesk.{DeskState}
@@ -31,13 +31,13 @@ one_history : {D : Type 0} (b : Basis D) (own : List Note) (shares : List (List 
 one_history b own shares left h1 h2 h3 h4 = grind (arith, named_of)
 
 -- of an engine that was not taken apart nothing is left
-pub nothing_left : {D : Type 0} (keeps_model : D → Bool) (present : D → Present) (world : World) (before : List Step) (shares : List (List Note)) (told : ServerFault) → before ≡ [] → length shares ≡ 9
-    → IsNotClosed (based_on keeps_model present world before) shares told → LeavesNothing keeps_model present told
-nothing_left keeps_model present world before shares fault.OutOfMemory none all is = tt
-nothing_left keeps_model present world before shares fault.Socket none all is = absurd is
-nothing_left keeps_model present world before shares fault.Device none all is = absurd is
-nothing_left keeps_model present world before shares fault.Write none all is = absurd is
-nothing_left keeps_model present world before shares (fault.NotClosed why) none all is = (world, shares, all, rw (sym none) is)
+pub nothing_left : {D : Type 0} (m : DiskModel D) (world : World) (before : List Step) (shares : List (List Note)) (told : ServerFault) → before ≡ [] → length shares ≡ 9
+    → IsNotClosed (based_on m world before) shares told → LeavesNothing m told
+nothing_left m world before shares fault.OutOfMemory none all is = tt
+nothing_left m world before shares fault.Socket none all is = absurd is
+nothing_left m world before shares fault.Device none all is = absurd is
+nothing_left m world before shares fault.Write none all is = absurd is
+nothing_left m world before shares (fault.NotClosed why) none all is = (world, shares, all, rw (sym none) is)
 
 module _ {D : Type 0} (b : Basis D) {V : Type 0} (talked : V → List Talk → V → Type 0) (failed : V → V → Type 0) (most : ℕ) where
   closed_if_none : (stopped : Bool) (served : Option ServerFault) (is_broken : Bool) (port : Local) (v w : V) (desk : DeskState Local) → fault_at_end stopped served is_broken ≡ None → Serves b talked failed most port v w desk served → IsServedToClose b most port desk
@@ -69,29 +69,29 @@ module _ {D : Type 0} (b : Basis D) {V : Type 0} (talked : V → List Talk → V
 
 -- ---- lives
 
-module _ {D : Type 0} (keeps_model : D → Bool) (present : D → Present) {V : Type 0} (talked : V → List Talk → V → Type 0) (failed : V → V → Type 0) (most : ℕ) where
+module _ {D : Type 0} (m : DiskModel D) {V : Type 0} (talked : V → List Talk → V → Type 0) (failed : V → V → Type 0) (most : ℕ) where
   abbrev b : World → Basis D
-  b world = based_on keeps_model present world []
+  b world = based_on m world []
 
   rests : (world : World) (v : V) (life : Life D V) → life.left ≡ Resting → IsLife (b world) talked failed most v life → most ≤ length life.closed.trail.items → has_stopped life.closed.store ≡ false → life.closed.settled ≡ life.closed.base.count + length life.closed.trail.items
-      → Rests keeps_model present talked most world v life.callers life.closed.store.world
+      → Rests m talked most world v life.callers life.closed.store.world
   rests world v life is so kept going all =
       let rested = subst (ServesLife (b world) talked failed most so.port v life.callers so.desk) is so.served in
       record { port = so.port; desk = so.desk; left = life.closed; served = rested.0; old = kept; history = so.history; all_settled = all; going = going; goes_on = refl }
 
   -- one more life has rested, and the next one begins with this
-  pub lives_next : (began world : World) (v u others : V) (life : Life D V) (next : Kept D) → (n : ℕ) × Lives keeps_model present talked most n began v world u → IsLife (b world) talked failed most u life
+  pub lives_next : (began world : World) (v u others : V) (life : Life D V) (next : Kept D) → (n : ℕ) × Lives m talked most n began v world u → IsLife (b world) talked failed most u life
       → most ≤ length life.closed.trail.items → life.left ≡ Resting → next ≡ life.closed.store → others ≡ life.callers → has_stopped life.closed.store ≡ false → life.closed.settled ≡ life.closed.base.count + length life.closed.trail.items
-      → ((n : ℕ) × Lives keeps_model present talked most n began v next.world others) × (has_stopped next ≡ false)
+      → ((n : ℕ) × Lives m talked most n began v next.world others) × (has_stopped next ≡ false)
   lives_next began world v u others life next lives so kept is same same_w going all =
-      let on : (n : ℕ) × Lives keeps_model present talked most n began v life.closed.store.world life.callers = (suc lives.0, (world, u, lives.1, rests world u life is so kept going all)) in (
+      let on : (n : ℕ) × Lives m talked most n began v life.closed.store.world life.callers = (suc lives.0, (world, u, lives.1, rests world u life is so kept going all)) in (
         rw same_w (rw same on),
         rw same going,
       )
 
   -- the last life has ended
-  pub lives_end : (began : World) (v : V) (life : Life D V) (ended : ServerEnd D V) → EndsLives keeps_model present talked failed most began v life
-      → IsOver life.left ended.served → ended.closed ≡ life.closed → ended.callers ≡ life.callers → HasLived keeps_model present talked failed most began v ended
+  pub lives_end : (began : World) (v : V) (life : Life D V) (ended : ServerEnd D V) → EndsLives m talked failed most began v life
+      → IsOver life.left ended.served → ended.closed ≡ life.closed → ended.callers ≡ life.callers → HasLived m talked failed most began v ended
   lives_end began v life ended (n, world, u, lives, so) over same same_w = (
     n,
     world,
@@ -105,9 +105,9 @@ module _ {D : Type 0} (keeps_model : D → Bool) (present : D → Present) {V : 
     ),
   )
 
-module _ {D : Type 0} (keeps_model : D → Bool) (present : D → Present) {V : Type 0} (talked : V → List Talk → V → Type 0) (most : ℕ) where
+module _ {D : Type 0} (m : DiskModel D) {V : Type 0} (talked : V → List Talk → V → Type 0) (most : ℕ) where
   -- whoever called
-  rested_any : (world next : World) (v w : V) → Rests keeps_model present talked most world v w next → Rests keeps_model present talked_any most world tt tt next
+  rested_any : (world next : World) (v w : V) → Rests m talked most world v w next → Rests m talked_any most world tt tt next
   rested_any world next v w r = record {
     port = r.port;
     desk = r.desk;
@@ -120,18 +120,18 @@ module _ {D : Type 0} (keeps_model : D → Bool) (present : D → Present) {V : 
     goes_on = r.goes_on;
   }
 
-  lives_any : (n : ℕ) (began next : World) (v w : V) → Lives keeps_model present talked most n began v next w → Lives keeps_model present talked_any most n began tt next tt
+  lives_any : (n : ℕ) (began next : World) (v w : V) → Lives m talked most n began v next w → Lives m talked_any most n began tt next tt
   lives_any zero began next v w is = (is.0, refl)
   lives_any (suc n) began next v w is = (is.0, tt, lives_any n began is.0 v is.1 is.2, rested_any is.0 next is.1 w is.3)
 
 -- of a server whose lives have the steps that its own have
-pub closed_lives : {D : Type 0} (keeps_model : D → Bool) (present : D → Present) {V : Type 0} (talked : V → List Talk → V → Type 0) (failed : V → V → Type 0) (began : World) (v : V) (ended : ServerEnd D V)
-    → fault_at_end (has_stopped ended.closed.store) ended.served ended.output.is_broken ≡ None → HasLived keeps_model present talked failed life_steps began v ended → HasLivedToClose keeps_model present began ended.closed
-closed_lives keeps_model present talked failed began v ended none is =
-    let b = based_on keeps_model present is.1 [] in (
+pub closed_lives : {D : Type 0} (m : DiskModel D) {V : Type 0} (talked : V → List Talk → V → Type 0) (failed : V → V → Type 0) (began : World) (v : V) (ended : ServerEnd D V)
+    → fault_at_end (has_stopped ended.closed.store) ended.served ended.output.is_broken ≡ None → HasLived m talked failed life_steps began v ended → HasLivedToClose m began ended.closed
+closed_lives m talked failed began v ended none is =
+    let b = based_on m is.1 [] in (
       is.0,
       is.1,
-      lives_any keeps_model present talked life_steps is.0 began is.1 v is.2 is.3,
+      lives_any m talked life_steps is.0 began is.1 v is.2 is.3,
       (is.4.0, is.4.1, closed_if_none b talked failed life_steps (has_stopped ended.closed.store) ended.served ended.output.is_broken is.4.0 is.2 ended.callers is.4.1 none is.4.2, is.4.3),
     )
 

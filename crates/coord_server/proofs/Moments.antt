@@ -34,20 +34,20 @@ module _ {D : Type 0} (m : DiskModel D) where
       either)
 
   -- behind the lives so far, one more
-  pub after_life : (first now : Kept D) (left : Closed D) (desk : List Note) → ComesFrom m first now → IsOneHistory (based_on m.keeps_model m.present now.world []) desk left → AtEachMoment m now left → AtEachMoment m first left
+  pub after_life : (first now : Kept D) (left : Closed D) (desk : List Note) → ComesFrom m first now → IsOneHistory (based_on m now.world []) desk left → AtEachMoment m now left → AtEachMoment m first left
   after_life first now left desk (inl same) history moments = subst (λ k. AtEachMoment m k left) same moments
   after_life first now left desk (inr come) history moments =
-      let t = tells (based_on m.keeps_model m.present now.world []) desk left history in
+      let t = tells (based_on m now.world []) desk left history in
       record {
         same_model = moments.same_model ∙ come.same_model;
         moments = λ keeps. joined_moments first now (fold left.base left.trail.items) left.store.disk left.trail.items come t.steps (ap (λ w. fold w left.trail.items) (sym t.from)) (moments.moments (come.same_model ∙ keeps)) keeps;
       }
 
   -- a life that rests: the next one begins where it ended
-  pub next_from : (first now next : Kept D) (left : Closed D) (desk : List Note) → ComesFrom m first now → IsOneHistory (based_on m.keeps_model m.present now.world []) desk left → AtEachMoment m now left
+  pub next_from : (first now next : Kept D) (left : Closed D) (desk : List Note) → ComesFrom m first now → IsOneHistory (based_on m now.world []) desk left → AtEachMoment m now left
       → next ≡ left.store → left.settled ≡ left.base.count + length left.trail.items → ComesFrom m first next
   next_from first now next left desk come history moments same all =
-      let t = tells (based_on m.keeps_model m.present now.world []) desk left history in
+      let t = tells (based_on m now.world []) desk left history in
       let world : left.store.world ≡ fold now.world left.trail.items = leaves_all now.world left t all in
       let front : fold left.base left.trail.items ≡ left.store.world = ap (λ w. fold w left.trail.items) t.from ∙ sym world in
       let whole = after_life first now left desk come history moments in

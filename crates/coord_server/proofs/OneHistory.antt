@@ -1,9 +1,9 @@
 -- All lives of a server are one history.
-use Rattle.std.proofs.Common.{◌≡◌, ℕ, zero, suc, ◌+◌, ◌-◌, ◌≤◌, List, [], ◌∷◌, ◌++◌, Bool, length, take, refl, sym, ap, ◌∙◌, append-nil, length-append, arith, map}
+use Rattle.std.proofs.Common.{◌≡◌, ℕ, zero, suc, ◌+◌, ◌-◌, ◌≤◌, List, [], ◌∷◌, ◌++◌, length, take, refl, sym, ap, ◌∙◌, append-nil, length-append, arith, map}
 use Rattle.std.proofs.Math.Seq.{take-append-add, take-length}
 use Rattle.std.proofs.lemmas.Grind.{flat_map-append}
 use Rattle.std.specs.List.{range_with_len}
-use Rattle.coord_disk.specs.Model.Present.{Present}
+use Rattle.coord_disk.specs.Model.DiskModel.{DiskModel}
 use Rattle.coord_types.specs.declared.steps.Step.{Step}
 use Rattle.coord_world.specs.laws.Trails.{IsSound, IsTrail}
 use Rattle.coord_world.specs.Facade.{StepOutcome, World, fold, next, outputs, outs, reply}
@@ -125,24 +125,24 @@ one_history {D} began world ls left here t =
       world = t.kept ∙ whole ∙ ap (fold began) (sym first);
     }
 
-module _ {D : Type 0} (keeps_model : D → Bool) (present : D → Present) {V : Type 0} (talked : V → List Talk → V → Type 0) (most : ℕ) where
+module _ {D : Type 0} (m : DiskModel D) {V : Type 0} (talked : V → List Talk → V → Type 0) (most : ℕ) where
   -- a life that rests goes on to the next one
-  rest_goes_on : (began world next : World) (ls : List LifeSteps) (v w : V) (r : Rests keeps_model present talked most world v w next) → GoOn began ls world → GoOn began (ls ++ steps_in r.left ∷ []) next
+  rest_goes_on : (began world next : World) (ls : List LifeSteps) (v w : V) (r : Rests m talked most world v w next) → GoOn began ls world → GoOn began (ls ++ steps_in r.left ∷ []) next
   rest_goes_on began world next ls v w r here = grind (arith, tells, goes_on, leaves_all)
 
-  lives_go_on : (n : ℕ) (began next : World) (v w : V) (lives : Lives keeps_model present talked most n began v next w) → GoOn began (steps_of keeps_model present talked most n began v next w lives) next
+  lives_go_on : (n : ℕ) (began next : World) (v w : V) (lives : Lives m talked most n began v next w) → GoOn began (steps_of m talked most n began v next w lives) next
   lives_go_on zero began next v w lives = lives.0
-  lives_go_on (suc n) began next v w lives = rest_goes_on began lives.0 next (steps_of keeps_model present talked most n began v lives.0 lives.1 lives.2) lives.1 w lives.3 (lives_go_on n began lives.0 v lives.1 lives.2)
+  lives_go_on (suc n) began next v w lives = rest_goes_on began lives.0 next (steps_of m talked most n began v lives.0 lives.1 lives.2) lives.1 w lives.3 (lives_go_on n began lives.0 v lives.1 lives.2)
 
-module _ {D : Type 0} (keeps_model : D → Bool) (present : D → Present) {V : Type 0} (talked : V → List Talk → V → Type 0) (failed : V → V → Type 0) (most : ℕ) where
-  pub lives_are_one : LivesAreOne keeps_model present talked failed most
+module _ {D : Type 0} (m : DiskModel D) {V : Type 0} (talked : V → List Talk → V → Type 0) (failed : V → V → Type 0) (most : ℕ) where
+  pub lives_are_one : LivesAreOne m talked failed most
   lives_are_one began v ended lived =
-      one_history began lived.1 (steps_of keeps_model present talked most lived.0 began v lived.1 lived.2 lived.3) ended.closed (lives_go_on keeps_model present talked most lived.0 began lived.1 v lived.2 lived.3) (tells (based_on keeps_model present lived.1 []) lived.4.1.notes ended.closed lived.4.3)
+      one_history began lived.1 (steps_of m talked most lived.0 began v lived.1 lived.2 lived.3) ended.closed (lives_go_on m talked most lived.0 began lived.1 v lived.2 lived.3) (tells (based_on m lived.1 []) lived.4.1.notes ended.closed lived.4.3)
 
   -- what the last life leaves ends one history
-  pub ends : (began : World) (v : V) (ended : ServerEnd D V) → HasLived keeps_model present talked failed most began v ended → EndsOneHistory began ended.closed
-  ends began v ended lived = (steps_of keeps_model present talked most lived.0 began v lived.1 lived.2 lived.3, lives_are_one began v ended lived)
+  pub ends : (began : World) (v : V) (ended : ServerEnd D V) → HasLived m talked failed most began v ended → EndsOneHistory began ended.closed
+  ends began v ended lived = (steps_of m talked most lived.0 began v lived.1 lived.2 lived.3, lives_are_one began v ended lived)
 
-pub closed_lives_are_one : {D : Type 0} (keeps_model : D → Bool) (present : D → Present) → ClosedLivesAreOne keeps_model present
-closed_lives_are_one {D} keeps_model present began left lived =
-    one_history began lived.1 (steps_of keeps_model present talked_any life_steps lived.0 began tt lived.1 tt lived.2) left (lives_go_on keeps_model present talked_any life_steps lived.0 began lived.1 tt tt lived.2) (tells (based_on keeps_model present lived.1 []) lived.3.1.notes left lived.3.3)
+pub closed_lives_are_one : {D : Type 0} (m : DiskModel D) → ClosedLivesAreOne m
+closed_lives_are_one {D} m began left lived =
+    one_history began lived.1 (steps_of m talked_any life_steps lived.0 began tt lived.1 tt lived.2) left (lives_go_on m talked_any life_steps lived.0 began lived.1 tt tt lived.2) (tells (based_on m lived.1 []) lived.3.1.notes left lived.3.3)

@@ -2,7 +2,7 @@
 use Rattle.std.specs.Borrow.{Bor}
 use Rattle.std.specs.Prelude.{◌≡◌, ◌⊎◌, ℕ, ◌≤◌, List, [], ◌∷◌, ◌++◌, All, Bool, true, false, Option, Some, None, length}
 use Rattle.coord_ledger.specs.declared.ticket.Note.{Note}
-use Rattle.coord_disk.specs.Model.Present.{Present}
+use Rattle.coord_disk.specs.Model.DiskModel.{DiskModel}
 use Rattle.coord_world.specs.Facade.{World}
 use Rattle.coord_engine.specs.Facade.{AtSomeMoment, Basis, Closes, IsNamed, IsOfPacket, RefusesClosing, based_on}
 use Rattle.coord_engine.specs.declared.closed.Closed.{Closed}
@@ -93,10 +93,10 @@ IsNotClosed {D} b shares (fault.NotClosed why) = AtSomeMoment b (λ g. RefusesCl
 IsNotClosed b shares other = ⊥
 
 -- what is told where nothing is left to give back: no memory or no thread could be had to begin a life, or the engine of a life was not taken apart with all nine shares
-abbrev pub LeavesNothing : {D : Type 0} → (D → Bool) → (D → Present) → ServerFault → Type 0
-LeavesNothing keeps_model present fault.OutOfMemory = Unit {0}
-LeavesNothing keeps_model present (fault.NotClosed why) = (world : World) × (shares : List (List Note)) × (length shares ≡ 9) × IsNotClosed (based_on keeps_model present world []) shares (fault.NotClosed why)
-LeavesNothing keeps_model present other = ⊥
+abbrev pub LeavesNothing : {D : Type 0} → DiskModel D → ServerFault → Type 0
+LeavesNothing m fault.OutOfMemory = Unit {0}
+LeavesNothing m (fault.NotClosed why) = (world : World) × (shares : List (List Note)) × (length shares ≡ 9) × IsNotClosed (based_on m world []) shares (fault.NotClosed why)
+LeavesNothing m other = ⊥
 
 -- what a server that has ended tells: a store that has stopped first, then what ended the serving, then an output that failed
 abbrev pub fault_at_end : Bool → Option ServerFault → Bool → Option ServerFault

@@ -1,7 +1,7 @@
 -- The lives of a server, one after the other: each is one history of its own over the store that the one before left.
 use Rattle.std.specs.List.{range_with_len}
-use Rattle.std.specs.Prelude.{◌≡◌, ◌⊎◌, ⊤, ℕ, zero, suc, ◌+◌, ◌-◌, ◌≤◌, List, [], ◌∷◌, ◌++◌, Bool, false, Option, Some, flat_map, length, map, take}
-use Rattle.coord_disk.specs.Model.Present.{Present}
+use Rattle.std.specs.Prelude.{◌≡◌, ◌⊎◌, ⊤, ℕ, zero, suc, ◌+◌, ◌-◌, ◌≤◌, List, [], ◌∷◌, ◌++◌, false, Option, Some, flat_map, length, map, take}
+use Rattle.coord_disk.specs.Model.DiskModel.{DiskModel}
 use Rattle.coord_types.specs.declared.steps.Step.{Step}
 use Rattle.coord_store.specs.Kept.{Kept, has_stopped}
 use Rattle.coord_world.specs.laws.Trails.{IsTrail}
@@ -34,10 +34,10 @@ abbrev pub life_steps : ℕ
 life_steps = 262144
 
 -- `talked v talks w`: those who call were v, had these talks, and then are w. A life ends after `most` steps
-module _ {D : Type 0} (keeps_model : D → Bool) (present : D → Present) {V : Type 0} (talked : V → List Talk → V → Type 0) (most : ℕ) where
+module _ {D : Type 0} (m : DiskModel D) {V : Type 0} (talked : V → List Talk → V → Type 0) (most : ℕ) where
   -- what a life is based on that began over a store with this world
   abbrev pub begun_over : World → Basis D
-  begun_over world = based_on keeps_model present world []
+  begun_over world = based_on m world []
 
   -- A life that rests: no line has closed it, it has kept the steps of a life, it is one history, all that was accepted is settled, and its store has not stopped. The next one begins over the world of that store.
   pub record Rests (began : World) (v w : V) (next : World) : Type 0 where
@@ -57,27 +57,27 @@ module _ {D : Type 0} (keeps_model : D → Bool) (present : D → Present) {V : 
   Lives (suc n) began v next w = (world : World) × (u : V) × Lives n began v world u × Rests world u w next
 
 -- some lives that rest, and then this one. `failed v w`: those who call were v, and have failed
-abbrev pub EndsLives : {D : Type 0} → (D → Bool) → (D → Present) → {V : Type 0} → (V → List Talk → V → Type 0) → (V → V → Type 0) → ℕ → World → V → Life D V → Type 0
-EndsLives {D} keeps_model present {V} talked failed most began v last =
-    (n : ℕ) × (world : World) × (u : V) × Lives keeps_model present talked most n began v world u
-    × IsLife (based_on keeps_model present world []) talked failed most u last
+abbrev pub EndsLives : {D : Type 0} → DiskModel D → {V : Type 0} → (V → List Talk → V → Type 0) → (V → V → Type 0) → ℕ → World → V → Life D V → Type 0
+EndsLives {D} m {V} talked failed most began v last =
+    (n : ℕ) × (world : World) × (u : V) × Lives m talked most n began v world u
+    × IsLife (based_on m world []) talked failed most u last
 
 -- some lives that rest, and then a last one, which leaves this. `failed v w`: those who call were v, and have failed
-abbrev pub HasLived : {D : Type 0} → (D → Bool) → (D → Present) → {V : Type 0} → (V → List Talk → V → Type 0) → (V → V → Type 0) → ℕ → World → V → ServerEnd D V → Type 0
-HasLived {D} keeps_model present {V} talked failed most began v ended =
-    (n : ℕ) × (world : World) × (u : V) × Lives keeps_model present talked most n began v world u
-    × ((port : Local) × (desk : DeskState Local) × Serves (based_on keeps_model present world []) talked failed most port u ended.callers desk ended.served × IsOneHistory (based_on keeps_model present world []) desk.notes ended.closed)
+abbrev pub HasLived : {D : Type 0} → DiskModel D → {V : Type 0} → (V → List Talk → V → Type 0) → (V → V → Type 0) → ℕ → World → V → ServerEnd D V → Type 0
+HasLived {D} m {V} talked failed most began v ended =
+    (n : ℕ) × (world : World) × (u : V) × Lives m talked most n began v world u
+    × ((port : Local) × (desk : DeskState Local) × Serves (based_on m world []) talked failed most port u ended.callers desk ended.served × IsOneHistory (based_on m world []) desk.notes ended.closed)
 
 -- the same where a line has closed the last one, and each life has the steps of a server's
-abbrev pub HasLivedToClose : {D : Type 0} → (D → Bool) → (D → Present) → World → Closed D → Type 0
-HasLivedToClose {D} keeps_model present began left =
-    (n : ℕ) × (world : World) × Lives keeps_model present talked_any life_steps n began tt world tt
-    × ((port : Local) × (desk : DeskState Local) × IsServedToClose (based_on keeps_model present world []) life_steps port desk × IsOneHistory (based_on keeps_model present world []) desk.notes left)
+abbrev pub HasLivedToClose : {D : Type 0} → DiskModel D → World → Closed D → Type 0
+HasLivedToClose {D} m began left =
+    (n : ℕ) × (world : World) × Lives m talked_any life_steps n began tt world tt
+    × ((port : Local) × (desk : DeskState Local) × IsServedToClose (based_on m world []) life_steps port desk × IsOneHistory (based_on m world []) desk.notes left)
 
 -- the lives of a server whose clients are waited for as usual, from this world
-abbrev pub HasServed : {D : Type 0} → (D → Bool) → (D → Present) → World → ServerEnd D Patience → Type 0
-HasServed {D} keeps_model present began ended =
-    (callers : Patience) × IsUsual callers × HasLived keeps_model present (λ _ _ _. ⊤) (λ _ _. ⊤) life_steps began callers ended
+abbrev pub HasServed : {D : Type 0} → DiskModel D → World → ServerEnd D Patience → Type 0
+HasServed {D} m began ended =
+    (callers : Patience) × IsUsual callers × HasLived m (λ _ _ _. ⊤) (λ _ _. ⊤) life_steps began callers ended
 
 -- ---- all lives are one history
 
@@ -108,23 +108,23 @@ pub record AreOneHistory {D : Type 0} (began : World) (lives : List LifeSteps) (
   pub most : settled ≤ began.count + length (all_steps lives)
   pub world : store.world ≡ fold began (take (settled - began.count) (all_steps lives))
 
-module _ {D : Type 0} (keeps_model : D → Bool) (present : D → Present) {V : Type 0} (talked : V → List Talk → V → Type 0) (most : ℕ) where
+module _ {D : Type 0} (m : DiskModel D) {V : Type 0} (talked : V → List Talk → V → Type 0) (most : ℕ) where
   -- what each of these lives did, the first one first
-  abbrev pub steps_of : (n : ℕ) (began : World) (v : V) (next : World) (w : V) → Lives keeps_model present talked most n began v next w → List LifeSteps
+  abbrev pub steps_of : (n : ℕ) (began : World) (v : V) (next : World) (w : V) → Lives m talked most n began v next w → List LifeSteps
   steps_of zero began v next w lives = []
   steps_of (suc n) began v next w lives = steps_of n began v lives.0 lives.1 lives.2 ++ steps_in lives.3.left ∷ []
 
 -- lives that rest, and the one behind them that left this, are one history
-abbrev pub LivesAreOne : {D : Type 0} → (D → Bool) → (D → Present) → {V : Type 0} → (V → List Talk → V → Type 0) → (V → V → Type 0) → ℕ → Type 0
-LivesAreOne {D} keeps_model present {V} talked failed most =
-    (began : World) (v : V) (ended : ServerEnd D V) (lived : HasLived keeps_model present talked failed most began v ended)
-    → AreOneHistory began (steps_of keeps_model present talked most lived.0 began v lived.1 lived.2 lived.3 ++ steps_in ended.closed ∷ []) ended.closed.store ended.closed.settled
+abbrev pub LivesAreOne : {D : Type 0} → DiskModel D → {V : Type 0} → (V → List Talk → V → Type 0) → (V → V → Type 0) → ℕ → Type 0
+LivesAreOne {D} m {V} talked failed most =
+    (began : World) (v : V) (ended : ServerEnd D V) (lived : HasLived m talked failed most began v ended)
+    → AreOneHistory began (steps_of m talked most lived.0 began v lived.1 lived.2 lived.3 ++ steps_in ended.closed ∷ []) ended.closed.store ended.closed.settled
 
 -- the same where a line has closed the last one
-abbrev pub ClosedLivesAreOne : {D : Type 0} → (D → Bool) → (D → Present) → Type 0
-ClosedLivesAreOne {D} keeps_model present =
-    (began : World) (left : Closed D) (lived : HasLivedToClose keeps_model present began left)
-    → AreOneHistory began (steps_of keeps_model present talked_any life_steps lived.0 began tt lived.1 tt lived.2 ++ steps_in left ∷ []) left.store left.settled
+abbrev pub ClosedLivesAreOne : {D : Type 0} → DiskModel D → Type 0
+ClosedLivesAreOne {D} m =
+    (began : World) (left : Closed D) (lived : HasLivedToClose m began left)
+    → AreOneHistory began (steps_of m talked_any life_steps lived.0 began tt lived.1 tt lived.2 ++ steps_in left ∷ []) left.store left.settled
 
 -- this is what lives, all of them one history, have left
 abbrev pub EndsOneHistory : {D : Type 0} → World → Closed D → Type 0

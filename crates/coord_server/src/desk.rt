@@ -68,7 +68,7 @@ fn collect<D: Disk, L: Origin, R: Wait>(
     engine: &Engine<D, L>,
     posted: Result<Ticket, Refusal>,
 ) -> Result<Reply, Refusal>
-    ensures { Replies (based_on D.model.keeps_model D.model.present L.base L.before) posted result }
+    ensures { Replies (based_on D.model L.base L.before) posted result }
 {
     let ticket = posted?;
     engine.wake_flusher(rt);
@@ -87,9 +87,9 @@ fn resend<D: Disk, L: Origin, P: Port, R: Wait>(
     engine: &Engine<D, L>,
     port: &mut P,
 ) -> Result<u64, Refusal>
-    ensures counted { Resends (based_on D.model.keeps_model D.model.present L.base L.before) result }
+    ensures counted { Resends (based_on D.model L.base L.before) result }
     ensures handed { IfOk result (λ count. HandsAgain
-        (based_on D.model.keeps_model D.model.present L.base L.before) P.carried P.signalled P.handed_on count
+        (based_on D.model L.base L.before) P.carried P.signalled P.handed_on count
         port.old port.new) }
 {
     match engine.resend(rt) {
@@ -108,13 +108,13 @@ impl<'a, D: Disk, L: Origin, P: Port, R: Wait> Desk for EngineDesk<'a, D, L, P, 
     /// A ticket for the reply, or why the order was refused.
     type Posted = Result<Ticket, Refusal>;
 
-    ghost answers = { DeskAnswers (based_on D.model.keeps_model D.model.present L.base L.before) };
+    ghost answers = { DeskAnswers (based_on D.model L.base L.before) };
 
-    ghost posts = { DeskPosts (based_on D.model.keeps_model D.model.present L.base L.before) };
+    ghost posts = { DeskPosts (based_on D.model L.base L.before) };
 
-    ghost replies = { DeskReplies (based_on D.model.keeps_model D.model.present L.base L.before) };
+    ghost replies = { DeskReplies (based_on D.model L.base L.before) };
 
-    ghost keeps = { DeskKeeps (based_on D.model.keeps_model D.model.present L.base L.before) };
+    ghost keeps = { DeskKeeps (based_on D.model L.base L.before) };
 
     /// How many steps the engine has kept. The desk's own notes are among them; but of a lock no clause
     /// says that, so they are looked at too.
@@ -138,10 +138,10 @@ impl<'a, D: Disk, L: Origin, P: Port, R: Wait> Desk for EngineDesk<'a, D, L, P, 
     }
 
     fn resend(&mut self) -> Result<u64, Refusal>
-        ensures answered { DeskAnswers (based_on D.model.keeps_model D.model.present L.base L.before) self.old
+        ensures answered { DeskAnswers (based_on D.model L.base L.before) self.old
             request.Resend (resend_answer result) self.new }
         ensures handed { IfOk result (λ count. HandsAgain
-            (based_on D.model.keeps_model D.model.present L.base L.before) P.carried P.signalled P.handed_on
+            (based_on D.model L.base L.before) P.carried P.signalled P.handed_on
             count self.old.port self.new.port) }
     {
         resend(self.rt, self.engine, &mut self.port)
@@ -149,9 +149,9 @@ impl<'a, D: Disk, L: Origin, P: Port, R: Wait> Desk for EngineDesk<'a, D, L, P, 
 
     fn close(&mut self) {}
 
-    ghost is_answered = { desk_answered (based_on D.model.keeps_model D.model.present L.base L.before) };
+    ghost is_answered = { desk_answered (based_on D.model L.base L.before) };
 
-    ghost stays_apart = { desk_apart (based_on D.model.keeps_model D.model.present L.base L.before) };
+    ghost stays_apart = { desk_apart (based_on D.model L.base L.before) };
 
-    ghost loses_none = { desk_loses_none (based_on D.model.keeps_model D.model.present L.base L.before) };
+    ghost loses_none = { desk_loses_none (based_on D.model L.base L.before) };
 }

@@ -12,12 +12,12 @@ use coord_engine::Port;
 /// All lives of a server are one history: one trail from the world of its first store, of which each
 /// step has a number of its own.
 pub fn lives_are_one<D: Disk, C: Callers>()
-    ensures { (most : ℕ) → LivesAreOne D.model.keeps_model D.model.present C.talked C.failed most }
+    ensures { (most : ℕ) → LivesAreOne D.model C.talked C.failed most }
 {}
 
 /// The same, where a line has closed the last life.
 pub fn closed_lives_are_one<D: Disk>()
-    ensures { ClosedLivesAreOne D.model.keeps_model D.model.present }
+    ensures { ClosedLivesAreOne D.model }
 {}
 
 /// An order that is told a reply was noted just then, with the number that it is told, or it repeats

@@ -55,9 +55,9 @@ pub fn serve_life<
 ) -> Result<Life<D, C>, ServerFault>
     requires { has_stopped store ≡ false }
     ensures life { IfOk result
-        (IsLife (based_on D.model.keeps_model D.model.present store.world []) C.talked C.failed setting.now.life_steps callers) }
+        (IsLife (based_on D.model store.world []) C.talked C.failed setting.now.life_steps callers) }
     ensures moments { IfOk result (λ life. AtEachMoment D.model store life.closed) }
-    ensures nothing { IfErr result (LeavesNothing D.model.keeps_model D.model.present) }
+    ensures nothing { IfErr result (LeavesNothing D.model) }
 {
     let Ok(ledger) = Ledger::adopt(setting.alloc, store) else {
         return Err(ServerFault::OutOfMemory);
@@ -86,10 +86,10 @@ fn serve_ledger<
     requires before { (ledger.log.trail ≡ L.before) × (L.before ≡ []) }
     requires disk { IfSome ledger.disk (IsPastOf D.model L.disk) }
     ensures life { IfOk result
-        (IsLife (based_on D.model.keeps_model D.model.present L.base L.before) C.talked C.failed setting.now.life_steps callers) }
+        (IsLife (based_on D.model L.base L.before) C.talked C.failed setting.now.life_steps callers) }
     ensures way { IfOk result (λ life. StaysOnTheWay D.model L.disk L.base
         (fold life.closed.base life.closed.trail.items) life.closed.store.disk) }
-    ensures nothing { IfErr result (LeavesNothing D.model.keeps_model D.model.present) }
+    ensures nothing { IfErr result (LeavesNothing D.model) }
 {
     let engine: Engine<D, L> = Engine::new(setting.alloc, blank, ledger);
     let begun = begin(setting, &engine)?;
@@ -129,13 +129,13 @@ fn closed_life<D: Disk, L: Origin, C: Drop>(
     requires all { length completed.shares.items ≡ 9 }
     ensures closed { IfOk result (λ life.
         IsSince L.base L.before completed.shares.items life.closed.base life.closed.trail.items ×
-        AtSomeMoment (based_on D.model.keeps_model D.model.present L.base L.before)
+        AtSomeMoment (based_on D.model L.base L.before)
         (Closes life.closed.store life.closed.base life.closed.trail.items life.closed.settled
         completed.shares.items) × (life.callers ≡ completed.callers) × (life.left ≡ completed.left)) }
     ensures way { IfOk result (λ life. StaysOnTheWay D.model L.disk L.base
         (fold life.closed.base life.closed.trail.items) life.closed.store.disk) }
     ensures nothing { IfErr result
-        (IsNotClosed (based_on D.model.keeps_model D.model.present L.base L.before) completed.shares.items) }
+        (IsNotClosed (based_on D.model L.base L.before) completed.shares.items) }
 {
     let Completed {
         shares,

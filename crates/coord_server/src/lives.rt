@@ -53,10 +53,10 @@ pub fn serve_lives<
     output: W,
 ) -> Result<ServerEnd<D, C>, ServerFault>
     requires { has_stopped store ≡ false }
-    ensures lives { IfOk result (HasLived D.model.keeps_model D.model.present C.talked C.failed most store.world callers) }
+    ensures lives { IfOk result (HasLived D.model C.talked C.failed most store.world callers) }
     ensures whole { IfOk result (λ ended. EndsOneHistory store.world ended.closed) }
     ensures moments { IfOk result (λ ended. AtEachMoment D.model store ended.closed) }
-    ensures nothing { IfErr result (LeavesNothing D.model.keeps_model D.model.present) }
+    ensures nothing { IfErr result (LeavesNothing D.model) }
 {
     let Outlet {
         port,
@@ -87,9 +87,9 @@ fn serve_and_print<
 ) -> Result<ServerEnd<D, C>, ServerFault>
     requires { has_stopped store ≡ false }
     ensures lived { IfOk result
-        (HasLived D.model.keeps_model D.model.present C.talked C.failed setting.now.life_steps store.world callers) }
+        (HasLived D.model C.talked C.failed setting.now.life_steps store.world callers) }
     ensures moments { IfOk result (λ ended. AtEachMoment D.model store ended.closed) }
-    ensures nothing { IfErr result (LeavesNothing D.model.keeps_model D.model.present) }
+    ensures nothing { IfErr result (LeavesNothing D.model) }
 {
     thread::scope(
         thread::scope_env(),
@@ -97,9 +97,9 @@ fn serve_and_print<
         |scope| -> Result<ServerEnd<D, C>, ServerFault>
             requires { IsSend D.row × IsSend W.row × IsSync R.row × (has_stopped store ≡ false) }
             ensures lived { IfOk result
-                (HasLived D.model.keeps_model D.model.present C.talked C.failed setting.entry.now.life_steps store.world callers) }
+                (HasLived D.model C.talked C.failed setting.entry.now.life_steps store.world callers) }
             ensures moments { IfOk result (λ ended. AtEachMoment D.model store ended.closed) }
-            ensures nothing { IfErr result (LeavesNothing D.model.keeps_model D.model.present) }
+            ensures nothing { IfErr result (LeavesNothing D.model) }
         {
             let printing = start_printing(scope, setting.rt, printing);
             print_and_live(setting, store, callers, opening, printing)
@@ -133,9 +133,9 @@ fn print_and_live<
     requires { has_stopped store ≡ false }
     ensures printed { OnOk result (is_some printing ≡ true) }
     ensures lived { IfOk result
-        (HasLived D.model.keeps_model D.model.present C.talked C.failed setting.now.life_steps store.world callers) }
+        (HasLived D.model C.talked C.failed setting.now.life_steps store.world callers) }
     ensures moments { IfOk result (λ ended. AtEachMoment D.model store ended.closed) }
-    ensures nothing { IfErr result (LeavesNothing D.model.keeps_model D.model.present) }
+    ensures nothing { IfErr result (LeavesNothing D.model) }
 {
     let Some(printing) = printing else {
         return Err(ServerFault::OutOfMemory);
@@ -157,9 +157,9 @@ fn live<D: Disk + Send, C: Callers + Drop, W: Write + Drop, R: Threads + Wait + 
 ) -> Result<Life<D, C>, ServerFault>
     requires { has_stopped store ≡ false }
     ensures lived { IfOk result
-        (EndsLives D.model.keeps_model D.model.present C.talked C.failed setting.now.life_steps store.world callers) }
+        (EndsLives D.model C.talked C.failed setting.now.life_steps store.world callers) }
     ensures moments { IfOk result (λ life. AtEachMoment D.model store life.closed) }
-    ensures nothing { IfErr result (LeavesNothing D.model.keeps_model D.model.present) }
+    ensures nothing { IfErr result (LeavesNothing D.model) }
 {
     let mut store = store;
     let mut callers = callers;

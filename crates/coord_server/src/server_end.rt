@@ -50,8 +50,8 @@ impl<D: Disk, C: Callers + Drop> ServerEnd<D, C> {
         ensures fault { IfErr result (λ told. (told.1 ≡ self.closed) ×
             (fault_at_end (has_stopped self.closed.store) self.served self.output.is_broken ≡ Some told.0)) }
         ensures going { IfOk result (λ closed. has_stopped closed.store ≡ false) }
-        ensures lives { (began : World) (v : C) → HasLived D.model.keeps_model D.model.present C.talked C.failed
-            life_steps began v self → IfOk result (HasLivedToClose D.model.keeps_model D.model.present began) }
+        ensures lives { (began : World) (v : C) → HasLived D.model C.talked C.failed
+            life_steps began v self → IfOk result (HasLivedToClose D.model began) }
     {
         let fault = self.fault();
         let ServerEnd {

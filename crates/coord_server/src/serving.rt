@@ -42,12 +42,12 @@ pub fn serve_store<
     output: W,
 ) -> Result<ServerEnd<D, Accepted<'a, A, R>>, ServerFault>
     requires { has_stopped store ≡ false }
-    ensures lives { IfOk result (HasServed D.model.keeps_model D.model.present store.world) }
+    ensures lives { IfOk result (HasServed D.model store.world) }
     ensures whole { IfOk result (λ ended. EndsOneHistory store.world ended.closed) }
     ensures moments { IfOk result (λ ended. AtEachMoment D.model store ended.closed) }
     ensures images { IfOk result (λ ended. D.model.keeps_model ended.closed.store.disk ≡ true →
         ImagesGive D.model ended.closed.store) }
-    ensures nothing { IfErr result (LeavesNothing D.model.keeps_model D.model.present) }
+    ensures nothing { IfErr result (LeavesNothing D.model) }
 {
     serve_accepted(
         rt,
@@ -75,12 +75,12 @@ fn serve_accepted<
 ) -> Result<ServerEnd<D, Accepted<'a, A, R>>, ServerFault>
     requires going { has_stopped store ≡ false }
     requires patience { IsUsual callers }
-    ensures lives { IfOk result (HasServed D.model.keeps_model D.model.present store.world) }
+    ensures lives { IfOk result (HasServed D.model store.world) }
     ensures whole { IfOk result (λ ended. EndsOneHistory store.world ended.closed) }
     ensures moments { IfOk result (λ ended. AtEachMoment D.model store ended.closed) }
     ensures images { IfOk result (λ ended. D.model.keeps_model ended.closed.store.disk ≡ true →
         ImagesGive D.model ended.closed.store) }
-    ensures nothing { IfErr result (LeavesNothing D.model.keeps_model D.model.present) }
+    ensures nothing { IfErr result (LeavesNothing D.model) }
 {
     serve_callers(rt, alloc, store, callers, output)
 }
@@ -101,12 +101,12 @@ pub fn serve_callers<
 ) -> Result<ServerEnd<D, C>, ServerFault>
     requires { has_stopped store ≡ false }
     ensures lives { IfOk result
-        (HasLived D.model.keeps_model D.model.present C.talked C.failed life_steps store.world callers) }
+        (HasLived D.model C.talked C.failed life_steps store.world callers) }
     ensures whole { IfOk result (λ ended. EndsOneHistory store.world ended.closed) }
     ensures moments { IfOk result (λ ended. AtEachMoment D.model store ended.closed) }
     ensures images { IfOk result (λ ended. D.model.keeps_model ended.closed.store.disk ≡ true →
         ImagesGive D.model ended.closed.store) }
-    ensures nothing { IfErr result (LeavesNothing D.model.keeps_model D.model.present) }
+    ensures nothing { IfErr result (LeavesNothing D.model) }
 {
     let ended = serve_lives(rt, alloc, LIFE_STEPS, store, callers, output)?;
     ended.closed.store.lemma_images_give_world();

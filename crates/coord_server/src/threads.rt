@@ -71,7 +71,7 @@ pub fn run<
     opening: Option<Opening<W>>,
 ) -> Result<Completed<L, C>, (C, Option<Opening<W>>)>
     ensures completed { IfOk result (λ completed.
-        HasRun (based_on D.model.keeps_model D.model.present L.base L.before) C.talked C.failed setting.now.life_steps
+        HasRun (based_on D.model L.base L.before) C.talked C.failed setting.now.life_steps
         callers completed.callers completed.left completed.shares.items) }
     ensures unserved { IfErr result (λ back. (back.0 ≡ callers) × (back.1 ≡ opening)) }
 {
@@ -81,7 +81,7 @@ pub fn run<
         |scope| -> Result<Completed<L, C>, (C, Option<Opening<W>>)>
             requires { IsSend D.row × IsSend L.row × IsSync L.row × IsSync R.row }
             ensures completed { IfOk result (λ completed.
-                HasRun (based_on D.model.keeps_model D.model.present L.base L.before) C.talked C.failed
+                HasRun (based_on D.model L.base L.before) C.talked C.failed
                 setting.entry.now.life_steps callers completed.callers completed.left completed.shares.items) }
             ensures unserved { IfErr result (λ back. (back.0 ≡ callers) × (back.1 ≡ opening)) }
         { run_in(scope, setting, engine, begun, callers, opening) },
@@ -109,7 +109,7 @@ fn run_in<
     opening: Option<Opening<W>>,
 ) -> Result<Completed<L, C>, (C, Option<Opening<W>>)>
     ensures completed { IfOk result (λ completed.
-        HasRun (based_on D.model.keeps_model D.model.present L.base L.before) C.talked C.failed setting.now.life_steps
+        HasRun (based_on D.model L.base L.before) C.talked C.failed setting.now.life_steps
         callers completed.callers completed.left completed.shares.items) }
     ensures unserved { IfErr result (λ back. (back.0 ≡ callers) × (back.1 ≡ opening)) }
 {
@@ -199,7 +199,7 @@ fn serve_over<D: Disk, L: Origin, C: Callers, W: Write + Drop, R: Wait>(
 ) -> (Share<L>, LifeEnd)
     requires { own ≡ [] }
     ensures { (seen : ℕ) × (port : Local) × (later : Local) × ServesLife
-        (based_on D.model.keeps_model D.model.present L.base L.before) C.talked C.failed setting.now.life_steps port
+        (based_on D.model L.base L.before) C.talked C.failed setting.now.life_steps port
         callers.old callers.new (record { notes = result.0; seen = seen; port = later }) result.1 }
 {
     let opened = open(setting.rt, &*callers, opening);
@@ -235,11 +235,11 @@ fn serve_clients<D: Disk, L: Origin, C: Callers, P: Port, R: Wait>(
     ensures told { IfErr opened (λ fault. result ≡ LifeEnd.Ended (Some fault)) }
     ensures resent { IfOk opened (λ _.
         (result ≡ LifeEnd.Ended (Some ServerFault.OutOfMemory)) ⊎ ((count : ℕ) × (later : P) ×
-        HandsAgain (based_on D.model.keeps_model D.model.present L.base L.before) P.carried P.signalled
-        P.handed_on count desk.old.port later × ServesLife (based_on D.model.keeps_model D.model.present L.base L.before)
+        HandsAgain (based_on D.model L.base L.before) P.carried P.signalled
+        P.handed_on count desk.old.port later × ServesLife (based_on D.model L.base L.before)
         C.talked C.failed setting.now.life_steps later callers.old callers.new desk.new result)) }
     ensures served { (port : P) × ServesLife
-        (based_on D.model.keeps_model D.model.present L.base L.before) C.talked C.failed setting.now.life_steps port
+        (based_on D.model L.base L.before) C.talked C.failed setting.now.life_steps port
         callers.old callers.new desk.new result }
 {
     if let Err(fault) = opened {
@@ -259,7 +259,7 @@ fn serve_until_old<D: Disk, L: Origin, C: Callers, P: Port, R: Wait>(
     desk: &mut EngineDesk<'_, D, L, P, R>,
 ) -> LifeEnd
     requires { desk.old ≡ new_desk desk.old.port }
-    ensures { ServesLife (based_on D.model.keeps_model D.model.present L.base L.before) C.talked C.failed
+    ensures { ServesLife (based_on D.model L.base L.before) C.talked C.failed
         setting.now.life_steps desk.old.port callers.old callers.new desk.new result }
 {
     match serve_connections(setting.rt, setting.alloc, setting.life_steps, callers, desk) {

@@ -63,7 +63,7 @@ module _ {D : Type 0} (disk : DiskModel D) (crashes : D → D → Type 0) (d : D
   cut_before_events a why lost cause left failed = record { cause = cause; given = []; mid = p.disk; moments = (refl, at.kept); left = left; failed = omega (arith, failed) }
 
   -- in a crash
-  cut_crash : (why : Fault) (lost : D) → model_held disk.keeps_model d.driver ≡ Some true → IsLostInCrash disk crashes d.driver why lost → CutShort disk crashes p Crash why lost
+  cut_crash : (why : Fault) (lost : D) → model_held disk d.driver ≡ Some true → IsLostInCrash disk crashes d.driver why lost → CutShort disk crashes p Crash why lost
   cut_crash why lost model part =
       let reopens = part.moments p.machine at.consistent at.represents p.disk at.holds at.keeps in
       let kept = reopens_more disk crashes (Survives p.machine) (IsKept p.machine p.told) p.disk lost reopens (λ bytes survives. kept_of p.machine p.told bytes at.consistent at.told survives) in

@@ -74,7 +74,7 @@ module _ {D : Type 0} (disk : DiskModel D) (crashes : D → D → Type 0) where
 
   -- whatever a crash may leave of the driver's disk survives
   abbrev pub Survive : DriverState D → Type 0
-  Survive d = (s : Machine) → IsConsistent s → Represents d s → DiskSurvives disk.keeps_model disk.present (disk_held d) s
+  Survive d = (s : Machine) → IsConsistent s → Represents d s → DiskSurvives disk (disk_held d) s
 
   -- no event
   pub leads_none : (d : DriverState D) → Survive d → Leads disk crashes d [] [] d
@@ -89,7 +89,7 @@ module _ {D : Type 0} (disk : DiskModel D) (crashes : D → D → Type 0) where
 
   module _ (d new : DriverState D) (e : Event) (a : Answer) (named : EventInRange e) (before : Survive d) (later : Survive new) where
     -- one event
-    pub leads_one : model_held disk.keeps_model new ≡ model_held disk.keeps_model d → ((n : ℕ) → HasFailed disk.failures (disk_held d) n → HasFailed disk.failures (disk_held new) (n + failed_at e a)) → Simulates d e a new →
+    pub leads_one : model_held disk new ≡ model_held disk d → ((n : ℕ) → HasFailed disk.failures (disk_held d) n → HasFailed disk.failures (disk_held new) (n + failed_at e a)) → Simulates d e a new →
         ((s : Machine) → IsConsistent s → Represents d s → DiskEffect disk crashes (found_by_crash s e a) (touches_disk e a) e (disk_held d) (disk_held new)) → Leads disk crashes d (e ∷ []) (a ∷ []) new
     leads_one model failed simulates touches s is represents =
         let allowed = represents_allowed d new s is represents e a simulates in

@@ -53,7 +53,7 @@ module _ {D : Type 0} (model : DiskModel D) (crashes : D → D → Type 0) where
 
     module _ (e : Event) (below : at < length events) (is : e ≡ get_or events at e) where
       -- an event was cut short
-      pub ended_at : (at2 : ℕ) (given2 : List Answer) (kind : RunFaultKind) (released : List Release) (lost : D) → at2 ≡ at → given2 ≡ given → ((s : Machine) → IsConsistent s → Follows h s → IsPromised (model_held model.keeps_model h.driver) e → IsCutShort s e kind released) →
+      pub ended_at : (at2 : ℕ) (given2 : List Answer) (kind : RunFaultKind) (released : List Release) (lost : D) → at2 ≡ at → given2 ≡ given → ((s : Machine) → IsConsistent s → Follows h s → IsPromised (model_held model h.driver) e → IsCutShort s e kind released) →
           ((s : Machine) → IsConsistent s → Follows h s → IsLost model crashes s e kind (disk_held h.driver) lost) →
           (before : D) → start.disk ≡ Some before → Promised (model.keeps_model before) events (EndedEarly model crashes (started start) events at2 given2 released kind (model.keeps_model before) before lost)
       ended_at at2 given2 kind released lost here same cut back before disk promised =
@@ -75,13 +75,13 @@ module _ {D : Type 0} (model : DiskModel D) (crashes : D → D → Type 0) where
           } in
           rw here (rw same one)
 
-      pub caused : (at2 : ℕ) (kind : RunFaultKind) (released : List Release) → at2 ≡ at → IsEventFault (model_held model.keeps_model h.driver) e kind → (before : D) → start.disk ≡ Some before → HasCause (model.keeps_model before) events at2 released kind
+      pub caused : (at2 : ℕ) (kind : RunFaultKind) (released : List Release) → at2 ≡ at → IsEventFault (model_held model h.driver) e kind → (before : D) → start.disk ≡ Some before → HasCause (model.keeps_model before) events at2 released kind
       caused at2 kind released here cause before disk = rw here (by_kind kind cause)
         where
           there : slice_get events at ≡ Some e
           there = event_there model crashes start events at given h loop e below is
 
-          by_kind : (k : RunFaultKind) → IsEventFault (model_held model.keeps_model h.driver) e k → HasCause (model.keeps_model before) events at released k
+          by_kind : (k : RunFaultKind) → IsEventFault (model_held model h.driver) e k → HasCause (model.keeps_model before) events at released k
           by_kind OutOfMemory cause = inr (inr (e, (there, cause)))
           by_kind (Store fault) cause =
               (there ∙ ap Some cause.0, cause.1, λ on. cause.2 (model_there model crashes start events at given h loop e below is before disk ∙ ap Some on))

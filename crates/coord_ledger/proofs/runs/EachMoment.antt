@@ -3,7 +3,7 @@ use Rattle.std.proofs.Common.{◌≡◌, ◌⊎◌, ℕ, ◌+◌, Bool, true, fa
 use Rattle.std.proofs.lemmas.Bool.Decides.{nat_tests}
 use Rattle.std.specs.Option.{option_map}
 use Rattle.coord_disk.specs.Model.Moments.{LeavesOnly}
-use Rattle.coord_disk.specs.Model.Present.{Present, IsImage}
+use Rattle.coord_disk.specs.Model.Present.{IsImage}
 use Rattle.coord_disk.specs.Model.DiskModel.{DiskModel, IsModel}
 use Rattle.coord_disk.proofs.MomentLemmas.{started, weaker}
 use Rattle.coord_store.specs.Kept.{GivesEither, IsOnlyWorld}
@@ -58,24 +58,24 @@ module _ {D : Type 0} (d : DriverState D) (s : Machine) (f : FlightState D) (is 
 
 -- ---- between two events
 
-module _ {D : Type 0} (keeps_model : D → Bool) (present : D → Present) (d : DriverState D) (s : Machine) (is : IsConsistent s) (represents : Represents d s) where
+module _ {D : Type 0} (model : DiskModel D) (d : DriverState D) (s : Machine) (is : IsConsistent s) (represents : Represents d s) where
   -- with a flight out
-  pub flight_survives : (f : FlightState D) → d.flight ≡ Some f → (keeps_model f.disk ≡ true → FlightGives present f) → DiskSurvives keeps_model present (disk_held d) s
+  pub flight_survives : (f : FlightState D) → d.flight ≡ Some f → (model.keeps_model f.disk ≡ true → FlightGives model.present f) → DiskSurvives model (disk_held d) s
   flight_survives f holds gives disk there on image here =
       let same : f.disk ≡ disk = cc (ap (disk_with d.ledger.disk) holds, there) in
-      let given = gives (ap keeps_model same ∙ on) image (rw same here) in
+      let given = gives (ap model.keeps_model same ∙ on) image (rw same here) in
       given_survives s image is
       (given_follows d s image represents
       (rw holds (flight_gives d.ledger f image (subst (HoldsFlight d.ledger) holds represents.own) given)))
 
   -- with the store at home
-  pub home_survives : d.flight ≡ None → IfSome d.ledger.disk (λ x. keeps_model x ≡ true → LedgerGives present d.ledger x) → DiskSurvives keeps_model present (disk_held d) s
+  pub home_survives : d.flight ≡ None → IfSome d.ledger.disk (λ x. model.keeps_model x ≡ true → LedgerGives model.present d.ledger x) → DiskSurvives model (disk_held d) s
   home_survives none gives disk there on image here =
       let at_home : d.ledger.disk ≡ Some disk = sym (ap (disk_with d.ledger.disk) none) ∙ there in
-      let each = subst (λ o. IfSome o (λ x. keeps_model x ≡ true → LedgerGives present d.ledger x)) at_home gives in
+      let each = subst (λ o. IfSome o (λ x. model.keeps_model x ≡ true → LedgerGives model.present d.ledger x)) at_home gives in
       given_survives s image is
       (given_follows d s image represents
-      (rw none (ledger_images d.ledger disk (keeps_model disk) present each on image here)))
+      (rw none (ledger_images d.ledger disk (model.keeps_model disk) model.present each on image here)))
 
 -- ---- an event
 
@@ -108,17 +108,17 @@ module _ {D : Type 0} (model : DiskModel D) (crashes : D → D → Type 0) where
               (within_event e (Survives s) old old other (started model laws old (Survives s) on (prefix on)));
         }
 
-    pub kept_untouched : (s : Machine) (touches : Bool) (e : Event) (was now : Option D) → is_crash e ≡ false → now ≡ was → DiskSurvives model.keeps_model model.present was s → DiskEffect model crashes s touches e was now
+    pub kept_untouched : (s : Machine) (touches : Bool) (e : Event) (was now : Option D) → is_crash e ≡ false → now ≡ was → DiskSurvives model was s → DiskEffect model crashes s touches e was now
     kept_untouched s touches e was now other same survives old holds = record { new = old; holds = same ∙ holds; touched = untouched s touches e old old other refl (survives old holds) }
 
     -- an event but a commit and a crash does nothing to the disk
-    pub answered_without_disk : (s : Machine) (e what : Event) (a : Answer) (was now : Option D) → e ≡ what → is_crash what ≡ false → found_by_crash s what a ≡ s → now ≡ was → DiskSurvives model.keeps_model model.present was s →
+    pub answered_without_disk : (s : Machine) (e what : Event) (a : Answer) (was now : Option D) → e ≡ what → is_crash what ≡ false → found_by_crash s what a ≡ s → now ≡ was → DiskSurvives model was s →
         DiskEffect model crashes (found_by_crash s e a) (touches_disk e a) e was now
     answered_without_disk s e what a was now event other found same survives =
         rw event (rw found (kept_untouched s (touches_disk what a) what was now other same survives))
 
     -- a flight was committed, or not
-    module _ (d : DriverState D) (s : Machine) (f g : FlightState D) (is : IsConsistent s) (represents : Represents d s) (holds : d.flight ≡ Some f) (survives : DiskSurvives model.keeps_model model.present (disk_held d) s) (new : DriverState D) (now : disk_held new ≡ Some g.disk) where
+    module _ (d : DriverState D) (s : Machine) (f g : FlightState D) (is : IsConsistent s) (represents : Represents d s) (holds : d.flight ≡ Some f) (survives : DiskSurvives model (disk_held d) s) (new : DriverState D) (now : disk_held new ≡ Some g.disk) where
       its_disk : disk_held d ≡ Some f.disk
       its_disk = ap (disk_with d.ledger.disk) holds
 
@@ -184,7 +184,7 @@ module _ {D : Type 0} (model : DiskModel D) (crashes : D → D → Type 0) where
   reopens_more P Q old new h1 h2 = grind (arith, nat_tests)
 
   -- the disk was crashed and opened again
-  module _ (was : Option D) (s : Machine) (d : D) (held : was ≡ Some d) (survives : DiskSurvives model.keeps_model model.present was s) where
+  module _ (was : Option D) (s : Machine) (d : D) (held : was ≡ Some d) (survives : DiskSurvives model was s) where
     survives_each : (old new : D) → was ≡ Some old → (model.keeps_model d ≡ true → Reopens model crashes (IsImage (model.present d)) d new) → model.keeps_model old ≡ true → Reopens model crashes (Survives s) old new
     survives_each old new there moments on =
         let same : d ≡ old = cc (held, there) in

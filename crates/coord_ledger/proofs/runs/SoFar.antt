@@ -19,7 +19,7 @@ all_at P (y ∷ ys) (suc i) x there all = all_at P ys i x there all.1
 module _ {D : Type 0} (model : DiskModel D) (crashes : D → D → Type 0) where
   -- a run begins where no flight is out
   pub so_far_first : (first : D) (d : DriverState D) → d.flight ≡ None → HoldsFlight d.ledger d.flight → IsConsistent (machine_of d (started d.ledger)) → d.ledger.disk ≡ Some first →
-      ((s : Machine) → IsConsistent s → Represents d s → DiskSurvives model.keeps_model model.present (disk_held d) s) → RunSoFar model crashes (model.keeps_model first) first d.ledger [] [] d
+      ((s : Machine) → IsConsistent s → Represents d s → DiskSurvives model (disk_held d) s) → RunSoFar model crashes (model.keeps_model first) first d.ledger [] [] d
   so_far_first first d none own own_is home survives =
       let log = d.ledger.log in
       let is : IsConsistent (started d.ledger) = subst IsConsistent (λ i. record (started d.ledger) { flight = ap (option_map flight_out) none i }) own_is in
@@ -57,7 +57,7 @@ module _ {D : Type 0} (model : DiskModel D) (crashes : D → D → Type 0) where
 
   -- what the loop of a run keeps before the event at this index
   pub record LoopInvariant (start : LedgerState D) (events : List Event) (at : ℕ) (given : List Answer) (h : Run D) : Type 0 where
-    pub same_model : model_held model.keeps_model h.driver ≡ option_map model.keeps_model start.disk
+    pub same_model : model_held model h.driver ≡ option_map model.keeps_model start.disk
     pub holds : (before : D) → start.disk ≡ Some before → Promised (model.keeps_model before) events (Holds (model.keeps_model before) before start (take at events) given h)
 
   -- before the first event
@@ -66,7 +66,7 @@ module _ {D : Type 0} (model : DiskModel D) (crashes : D → D → Type 0) where
   invariant_first start events given h over begins no_tickets unseen unreleased unanswered =
       let d = h.driver in
       record {
-        same_model = ap (model_held model.keeps_model) over;
+        same_model = ap (model_held model) over;
         holds = λ before disk promised.
             let there : begins.first ≡ before = let is = sym begins.home ∙ ap (λ (x : DriverState D). x.ledger.disk) over ∙ disk in cc in
             let first = subst (λ x. RunSoFar model crashes (model.keeps_model x) x d.ledger [] [] d) there begins.so_far in
@@ -91,17 +91,17 @@ module _ {D : Type 0} (model : DiskModel D) (crashes : D → D → Type 0) where
       pub event_there : slice_get events at ≡ Some e
       event_there = slice_get_read events (length events) at e refl below is
 
-      pub model_there : (before : D) → start.disk ≡ Some before → model_held model.keeps_model h.driver ≡ Some (model.keeps_model before)
+      pub model_there : (before : D) → start.disk ≡ Some before → model_held model h.driver ≡ Some (model.keeps_model before)
       model_there before disk = loop.same_model ∙ ap (option_map model.keeps_model) disk
 
       -- what is promised of a run is promised of each of its events
-      pub event_promised : (before : D) → start.disk ≡ Some before → (model.keeps_model before ≡ true) ⊎ AllByRecursion (λ x. is_crash x ≡ false) events → IsPromised (model_held model.keeps_model h.driver) e
+      pub event_promised : (before : D) → start.disk ≡ Some before → (model.keeps_model before ≡ true) ⊎ AllByRecursion (λ x. is_crash x ≡ false) events → IsPromised (model_held model h.driver) e
       event_promised before disk (inl on) = inl (model_there before disk ∙ ap Some on)
       event_promised before disk (inr none) = inr (all_at (λ x. is_crash x ≡ false) events at e event_there none)
 
       -- the event was answered
-      pub invariant_on : (new : Run D) (a : Answer) → EventInRange e → ((s : Machine) → IsConsistent s → Follows h s → IsPromised (model_held model.keeps_model h.driver) e → FollowsTo s e a new) → model_held model.keeps_model new.driver ≡ model_held model.keeps_model h.driver →
-          ((s : Machine) → IsConsistent s → Follows h s → DiskEffect model crashes (found_by_crash s e a) (touches_disk e a) e (disk_held h.driver) (disk_held new.driver)) → ((s : Machine) → IsConsistent s → Represents new.driver s → DiskSurvives model.keeps_model model.present (disk_held new.driver) s) →
+      pub invariant_on : (new : Run D) (a : Answer) → EventInRange e → ((s : Machine) → IsConsistent s → Follows h s → IsPromised (model_held model h.driver) e → FollowsTo s e a new) → model_held model new.driver ≡ model_held model h.driver →
+          ((s : Machine) → IsConsistent s → Follows h s → DiskEffect model crashes (found_by_crash s e a) (touches_disk e a) e (disk_held h.driver) (disk_held new.driver)) → ((s : Machine) → IsConsistent s → Represents new.driver s → DiskSurvives model (disk_held new.driver) s) →
           LoopInvariant start events (at + 1) (given ++ a ∷ []) new
       invariant_on new a named answered same touches survives =
           record {
@@ -119,7 +119,7 @@ module _ {D : Type 0} (model : DiskModel D) (crashes : D → D → Type 0) where
                 (record { so_far = on; follows = subst (Follows new) (sym more.1) to.follows });
           }
         where
-          new_model : (new : Run D) → model_held model.keeps_model new.driver ≡ model_held model.keeps_model h.driver → (before now : D) → start.disk ≡ Some before → disk_held new.driver ≡ Some now → model.keeps_model now ≡ model.keeps_model before
+          new_model : (new : Run D) → model_held model new.driver ≡ model_held model h.driver → (before now : D) → start.disk ≡ Some before → disk_held new.driver ≡ Some now → model.keeps_model now ≡ model.keeps_model before
           new_model new same before now first there =
               let is : option_map model.keeps_model (Some now) ≡ option_map model.keeps_model (Some before) = sym (ap (option_map model.keeps_model) there) ∙ same ∙ loop.same_model ∙ ap (option_map model.keeps_model) first in
               cc

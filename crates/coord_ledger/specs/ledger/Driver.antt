@@ -92,8 +92,8 @@ IsLost {D} model crashes s e kind was lost =
     (old : D) → was ≡ Some old → IsGivenBack model crashes (model.keeps_model old) s e kind old lost
 
 -- whatever a crash between two events may leave of the disk that is held survives
-abbrev pub DiskSurvives : {D : Type 0} → (D → Bool) → (D → Present) → Option D → Machine → Type 0
-DiskSurvives {D} keeps_model present held s = (disk : D) → held ≡ Some disk → CrashPrefix s (keeps_model disk) (present disk)
+abbrev pub DiskSurvives : {D : Type 0} → DiskModel D → Option D → Machine → Type 0
+DiskSurvives {D} model held s = (disk : D) → held ≡ Some disk → CrashPrefix s (model.keeps_model disk) (model.present disk)
 
 -- What a driver keeps after events with these answers, where the first event found this disk.
 pub record RunSoFar {D : Type 0} (model : DiskModel D) (crashes : D → D → Type 0) (keeps_model : Bool) (first : D) (start : LedgerState D) (events : List Event) (given : List Answer) (d : DriverState D) : Type 0 where

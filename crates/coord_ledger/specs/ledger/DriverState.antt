@@ -1,6 +1,7 @@
 -- A driver as contracts see it: a ledger, and the flight that is out of it.
 use Rattle.std.specs.Prelude.{◌≡◌, Bool, List, Option, Some, None, Result, Ok, Err}
 use Rattle.std.specs.Option.{option_map}
+use Rattle.coord_disk.specs.Model.DiskModel.{DiskModel}
 use Rattle.coord_types.specs.declared.refusals.Refusal.{Refusal}
 use Rattle.coord_world.specs.protocol.NumberedWorld.{World}
 use Rattle.coord_ledger.specs.declared.events.Answer.{Answer}
@@ -27,8 +28,8 @@ abbrev pub disk_held : {D : Type 0} → DriverState D → Option D
 disk_held d = disk_with d.ledger.disk d.flight
 
 -- whether it keeps the model
-abbrev pub model_held : {D : Type 0} → (D → Bool) → DriverState D → Option Bool
-model_held keeps_model d = option_map keeps_model (disk_held d)
+abbrev pub model_held : {D : Type 0} → DiskModel D → DriverState D → Option Bool
+model_held model d = option_map model.keeps_model (disk_held d)
 
 -- a driver that was just made, over this world
 pub record IsAnew {D : Type 0} (d : DriverState D) : Type 0 where

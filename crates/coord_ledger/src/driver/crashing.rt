@@ -50,7 +50,7 @@ impl<D: CrashDisk> Driver<D> {
     /// The disk crashes and is opened again, and the flight is gone. The count of the world that was
     /// opened, and its driver; or why none was, and the disk.
     pub fn crash(self, alloc: Global) -> Result<(u64, Self), (RunFaultKind, D)>
-        ensures simulates { model_held D.model.keeps_model self ≡ Some true →
+        ensures simulates { model_held D.model self ≡ Some true →
             IfOk result (λ opened. Simulates self Crash (Opened opened.0) opened.1) }
         ensures anew { IfOk result (λ opened. IsAnew opened.1) }
         ensures count { IfOk result (λ opened. opened.0 ≡ settled_count opened.1.ledger.log) }
@@ -63,10 +63,10 @@ impl<D: CrashDisk> Driver<D> {
         ensures failures { (n : ℕ) → HasFailed D.model.failures (disk_held self) n
             → MatchResult result (λ opened. HasFailed D.model.failures (disk_held opened.1) n)
             (λ refused. D.model.failures refused.1 ≡ n + failed_in refused.0) }
-        ensures model { IfOk result (λ opened. model_held D.model.keeps_model opened.1 ≡
-            model_held D.model.keeps_model self) }
+        ensures model { IfOk result (λ opened. model_held D.model opened.1 ≡
+            model_held D.model self) }
         ensures cause { IfErr result (λ refused.
-            IsEventFault (model_held D.model.keeps_model self) Crash refused.0) }
+            IsEventFault (model_held D.model self) Crash refused.0) }
     {
         self.lemma_survives();
         self.ledger.lemma_log_is_consistent();

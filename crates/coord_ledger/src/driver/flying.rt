@@ -39,7 +39,7 @@ impl<D: CrashDisk> Driver<D> {
             (disk_held self.old) (disk_held self.new) }
         ensures failures { (n : ℕ) → HasFailed D.model.failures (disk_held self.old) n →
             HasFailed D.model.failures (disk_held self.new) (n + failed_at Commit result) }
-        ensures model { model_held D.model.keeps_model self.new ≡ model_held D.model.keeps_model self.old }
+        ensures model { model_held D.model self.new ≡ model_held D.model self.old }
     {
         self.lemma_survives();
         match &mut self.flight {

@@ -14,7 +14,7 @@ impl<D: CrashDisk> Run<D> {
     /// The disk crashes and is opened again. Tickets and the flight are gone.
     pub fn crash(self, alloc: Global) -> Result<(Answer, Self), Broken<D>>
         ensures answered { (s : Machine) → IsConsistent s → Follows self s →
-            IsPromised (model_held D.model.keeps_model self.driver) Crash
+            IsPromised (model_held D.model self.driver) Crash
             → MatchResult result (λ held. FollowsTo s Crash held.0 held.1) (λ broken.
             IsCutShort s Crash broken.kind broken.released.items) }
         ensures disk { (s : Machine) → IsConsistent s → Follows self s
@@ -25,10 +25,10 @@ impl<D: CrashDisk> Run<D> {
         ensures failures { (n : ℕ) → HasFailed D.model.failures (disk_held self.driver) n
             → MatchResult result (λ held. HasFailed D.model.failures (disk_held held.1.driver) n)
             (λ broken. D.model.failures broken.disk ≡ n + failed_in broken.kind) }
-        ensures model { IfOk result (λ held. model_held D.model.keeps_model held.1.driver ≡
-            model_held D.model.keeps_model self.driver) }
+        ensures model { IfOk result (λ held. model_held D.model held.1.driver ≡
+            model_held D.model self.driver) }
         ensures cause { IfErr result (λ broken.
-            IsEventFault (model_held D.model.keeps_model self.driver) Crash broken.kind) }
+            IsEventFault (model_held D.model self.driver) Crash broken.kind) }
     {
         let Run {
             driver,

@@ -36,7 +36,7 @@ impl<D: CrashDisk> Run<D> {
     /// a crash, the run ends, and only what was released and the disk are left.
     pub fn meet(self, alloc: Global, event: Event) -> Result<(Answer, Self), Broken<D>>
         ensures answered { (s : Machine) → IsConsistent s → Follows self s →
-            IsPromised (model_held D.model.keeps_model self.driver) event
+            IsPromised (model_held D.model self.driver) event
             → MatchResult result (λ held. FollowsTo s event held.0 held.1) (λ broken.
             IsCutShort s event broken.kind broken.released.items) }
         ensures disk { (s : Machine) → IsConsistent s → Follows self s
@@ -51,10 +51,10 @@ impl<D: CrashDisk> Run<D> {
             HasFailed D.model.failures (disk_held held.1.driver) (n + failed_at event held.0)) (λ broken.
             D.model.failures broken.disk ≡ n + failed_in broken.kind) }
         ensures named { EventInRange event }
-        ensures model { IfOk result (λ held. model_held D.model.keeps_model held.1.driver ≡
-            model_held D.model.keeps_model self.driver) }
+        ensures model { IfOk result (λ held. model_held D.model held.1.driver ≡
+            model_held D.model self.driver) }
         ensures cause { IfErr result (λ broken.
-            IsEventFault (model_held D.model.keeps_model self.driver) event broken.kind) }
+            IsEventFault (model_held D.model self.driver) event broken.kind) }
     {
         self.driver.lemma_survives();
         let mut held = self;

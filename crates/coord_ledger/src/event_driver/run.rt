@@ -75,8 +75,7 @@ impl<D: CrashDisk> Run<D> {
             (disk_held self.old.driver) (disk_held self.new.driver) }
         ensures failures { (n : ℕ) → HasFailed D.model.failures (disk_held self.old.driver) n →
             HasFailed D.model.failures (disk_held self.new.driver) (n + failed_at Commit result) }
-        ensures model { model_held D.model.keeps_model self.new.driver ≡
-            model_held D.model.keeps_model self.old.driver }
+        ensures model { model_held D.model self.new.driver ≡ model_held D.model self.old.driver }
     {
         self.driver.commit()
     }

@@ -24,5 +24,5 @@ pub returns-in-Err-clause-fault : goal.returns-in-Err-clause-fault
 returns-in-Err-clause-fault g c =
     let taken = c.in_ok-disk.disk in
     let fault = c.in-Err.fault in
-    let of : IsOfOpening (bytes_of g.F.Disk.Disk.model.keeps_model g.F.Disk.Disk.model.present taken) (Store fault) = inr (c.in-Err.ensures.named, if_keeps _ _ _ c.in-Err.ensures.fault) in
+    let of : IsOfOpening (bytes_of g.F.Disk.Disk.model taken) (Store fault) = inr (c.in-Err.ensures.named, if_keeps _ _ _ c.in-Err.ensures.fault) in
     refused g.F.Disk.Disk.model (g.F.Folder.holds c.args.folder.now c.args.file.now) (g.F.Folder.holds c.close.new.self c.args.file.now) taken c.in-Err.disk fault c.in_ok-disk.ensures.taken c.close.ensures c.in-Err.ensures.runs.failures c.in-Err.ensures.unchanged of

@@ -23,7 +23,7 @@ returns-in-Ok-served-clause-served g c =
     let store = c.in_ok-store.store in
     let lived = c.in_ok-ended-in-Ok.ensures.lives in
     let served = c.in-Ok-served.ensures in
-    served_to_end g.F.Disk.Disk.model.keeps_model g.F.Disk.Disk.model.present (g.F.Folder.holds c.args.folder.now c.args.file.now) (g.F.Folder.holds c.close.new.self c.args.file.now) c.left.result store.world c.in-Ok-served.closed c.in_ok-store.ensures.opened.world
+    served_to_end g.F.Disk.Disk.model (g.F.Folder.holds c.args.folder.now c.args.file.now) (g.F.Folder.holds c.close.new.self c.args.file.now) c.left.result store.world c.in-Ok-served.closed c.in_ok-store.ensures.opened.world
     (served.lives store.world lived.0 lived.2) (c.left.ensures.bytes served.going) c.close.ensures
 
 pub returns-in-Ok-served-clause-moments : goal.returns-in-Ok-served-clause-moments

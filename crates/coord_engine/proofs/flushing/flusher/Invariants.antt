@@ -8,4 +8,4 @@ abbrev pub invariant-loop : goal.invariant-loop
 invariant-loop g l =
     (goal.iterator-loop g).can_next l.iterator' × (goal.iterator-loop g).is_finite l.iterator'
     × (l.pace.rest_is_due ≡ false)
-    × ((n : ℕ) × Flushed (based_on g.D.Disk.model.keeps_model g.D.Disk.model.present g.L.Origin.base g.L.Origin.before) g.D.Disk.model.failures g.P.Port.carried g.P.Port.signalled g.P.Port.handed_on n l.fn.port l.port)
+    × ((n : ℕ) × Flushed (based_on g.D.Disk.model g.L.Origin.base g.L.Origin.before) g.P.Port.carried g.P.Port.signalled g.P.Port.handed_on n l.fn.port l.port)

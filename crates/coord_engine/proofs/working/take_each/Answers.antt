@@ -6,7 +6,7 @@ use Rattle.coord_engine.proofs.working.take_each.Goals as goal
 
 pub loop-packet-preserved : goal.loop-packet-preserved
 loop-packet-preserved g c =
-    let b = based_on g.D.Disk.model.keeps_model g.D.Disk.model.present g.L.Origin.base g.L.Origin.before in
+    let b = based_on g.D.Disk.model g.L.Origin.base g.L.Origin.before in
     let k = c.loop-packet.packet-index in
     let came = take k c.args.packets.now in
     let one_more = take_more c.args.packets.now k c.packet-item.result c.loop-packet-test.true ∙ ap (λ p. came ++ p ∷ []) (sym c.packet-item.is) in
@@ -15,5 +15,5 @@ loop-packet-preserved g c =
 
 pub returns : goal.returns
 returns g c =
-    let b = based_on g.D.Disk.model.keeps_model g.D.Disk.model.present g.L.Origin.base g.L.Origin.before in
+    let b = based_on g.D.Disk.model g.L.Origin.base g.L.Origin.before in
     subst (λ ps. Works b c.args.share.now c.args.hand.now ps c.loop-packet.share c.loop-packet.hand) (take_all c.loop-packet.packet-index c.args.packets.now (omega (arith, c.loop-packet-test.false))) c.loop-packet.invariant

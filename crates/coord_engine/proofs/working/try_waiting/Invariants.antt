@@ -9,5 +9,5 @@ abbrev pub invariant-loop-tried : goal.invariant-loop-tried
 invariant-loop-tried g l =
     (length l.waiting + l._tried ≡ length l.fn.waiting)
     × ((later : List Note) (left : List Packet)
-    → TriesAll (based_on g.D.Disk.model.keeps_model g.D.Disk.model.present g.L.Origin.base g.L.Origin.before) l.share l.waiting later left
-    → TriesAll (based_on g.D.Disk.model.keeps_model g.D.Disk.model.present g.L.Origin.base g.L.Origin.before) l.fn.share l.fn.waiting later left)
+    → TriesAll (based_on g.D.Disk.model g.L.Origin.base g.L.Origin.before) l.share l.waiting later left
+    → TriesAll (based_on g.D.Disk.model g.L.Origin.base g.L.Origin.before) l.fn.share l.fn.waiting later left)

@@ -5,7 +5,7 @@ use Rattle.coord_engine.proofs.working.worker.Goals as goal
 
 pub loop-packets-preserved : goal.loop-packets-preserved
 loop-packets-preserved g c =
-    let b = based_on g.D.Disk.model.keeps_model g.D.Disk.model.present g.L.Origin.base g.L.Origin.before in
+    let b = based_on g.D.Disk.model g.L.Origin.base g.L.Origin.before in
     let goes = c.in-Some.ensures.goes in
     let taken = subst (λ ps. Works b c.loop-packets.share c.loop-packets.hand ps c.take_together.new.share c.take_together.new.hand) c.deref.ensures.value c.take_together.ensures in (
       goes.keeps,
@@ -15,4 +15,4 @@ loop-packets-preserved g c =
 
 pub returns-clause-packets : goal.returns-clause-packets
 returns-clause-packets g c =
-    works_adds (based_on g.D.Disk.model.keeps_model g.D.Disk.model.present g.L.Origin.base g.L.Origin.before) c.args.share c.loop-packets.share c.args.hand.now c.loop-packets.hand (packets_of c.loop-packets.yielded) c.loop-packets.invariant.2
+    works_adds (based_on g.D.Disk.model g.L.Origin.base g.L.Origin.before) c.args.share c.loop-packets.share c.args.hand.now c.loop-packets.hand (packets_of c.loop-packets.yielded) c.loop-packets.invariant.2

@@ -5,4 +5,4 @@ use Rattle.coord_engine.proofs.working.worker.Given as goal
 abbrev pub invariant-loop-packets : goal.invariant-loop-packets
 invariant-loop-packets g l =
     (goal.iterator-loop-packets g).can_next l.packets-iterator × (goal.iterator-loop-packets g).is_finite l.packets-iterator
-    × Works (based_on g.D.Disk.model.keeps_model g.D.Disk.model.present g.L.Origin.base g.L.Origin.before) l.fn.share l.fn.hand (packets_of l.yielded) l.share l.hand
+    × Works (based_on g.D.Disk.model g.L.Origin.base g.L.Origin.before) l.fn.share l.fn.hand (packets_of l.yielded) l.share l.hand

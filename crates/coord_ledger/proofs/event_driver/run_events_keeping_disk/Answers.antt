@@ -49,7 +49,7 @@ returns-in-Err-clause-broke g c =
 pub returns-in-Err-clause-cause : goal.returns-in-Err-clause-cause
 returns-in-Err-clause-cause g c =
     caused g.D.Disk.model g.D.CrashDisk.crashes c.args.ledger c.args.events.now c.loop-at.at c.loop-at.answers.items c.loop-at.held c.loop-at.invariant.so_far c.index-events-at.result c.loop-at-test.true c.index-events-at.is
-    c.at-in-Err.result.0.at c.at-in-Err.result.0.kind c.at-in-Err.result.0.trace.released.items c.at-in-Err.ensures.at (subst (IsEventFault (model_held g.D.Disk.model.keeps_model c.loop-at.held.driver) c.index-events-at.result) (sym c.at-in-Err.ensures.kind) c.in-Err.ensures.cause)
+    c.at-in-Err.result.0.at c.at-in-Err.result.0.kind c.at-in-Err.result.0.trace.released.items c.at-in-Err.ensures.at (subst (IsEventFault (model_held g.D.Disk.model c.loop-at.held.driver) c.index-events-at.result) (sym c.at-in-Err.ensures.kind) c.in-Err.ensures.cause)
 
 pub returns-in-Err-clause-failures : goal.returns-in-Err-clause-failures
 returns-in-Err-clause-failures g c n so =

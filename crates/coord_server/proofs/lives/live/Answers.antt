@@ -10,7 +10,7 @@ pub loop-preserved : goal.loop-preserved
 loop-preserved g c =
     let next = c.in-Ok.ensures.next in
     let settled = c.in-Ok.ensures.settled in
-    let on = lives_next g.D.Disk.model.keeps_model g.D.Disk.model.present g.C.Callers.talked g.C.Callers.failed c.args.setting.now.life_steps _ _ _ _ _ c.in_ok-life.life _ c.loop.invariant.2 c.in_ok-life.ensures.life c.in-Ok.ensures.kept next.0 next.1 next.2 settled.0 settled.1 in
+    let on = lives_next g.D.Disk.model g.C.Callers.talked g.C.Callers.failed c.args.setting.now.life_steps _ _ _ _ _ c.in_ok-life.life _ c.loop.invariant.2 c.in_ok-life.ensures.life c.in-Ok.ensures.kept next.0 next.1 next.2 settled.0 settled.1 in
     let life = c.in_ok-life.ensures.life in
     let come = next_from g.D.Disk.model c.args.store c.loop.store _ c.in_ok-life.life.closed life.desk.notes c.loop.invariant.4 life.history c.in_ok-life.ensures.moments next.1 settled.1 in
     (tt, tt, on.0, on.1, come)
@@ -18,7 +18,7 @@ loop-preserved g c =
 pub returns-in-Err-clause-lived : goal.returns-in-Err-clause-lived
 returns-in-Err-clause-lived g c =
     let lives = c.loop.invariant.2 in
-    let ends = EndsLives g.D.Disk.model.keeps_model g.D.Disk.model.present g.C.Callers.talked g.C.Callers.failed c.args.setting.now.life_steps c.args.store.world c.args.callers in
+    let ends = EndsLives g.D.Disk.model g.C.Callers.talked g.C.Callers.failed c.args.setting.now.life_steps c.args.store.world c.args.callers in
     subst ends (sym c.in-Err.ensures.last) (lives.0, _, _, lives.1, c.in_ok-life.ensures.life)
 
 pub returns-in-Err-clause-moments : goal.returns-in-Err-clause-moments

@@ -8,6 +8,6 @@ use Rattle.coord_server.proofs.lives.live.Given as goal
 abbrev pub invariant-loop : goal.invariant-loop
 invariant-loop g l =
     (goal.iterator-loop g).can_next l.iterator' × (goal.iterator-loop g).is_finite l.iterator'
-    × ((n : ℕ) × Lives g.D.Disk.model.keeps_model g.D.Disk.model.present g.C.Callers.talked l.fn.setting.life_steps n l.fn.store.world l.fn.callers l.store.world l.callers)
+    × ((n : ℕ) × Lives g.D.Disk.model g.C.Callers.talked l.fn.setting.life_steps n l.fn.store.world l.fn.callers l.store.world l.callers)
     × (has_stopped l.store ≡ false)
     × ComesFrom g.D.Disk.model l.fn.store l.store

@@ -5,5 +5,5 @@ use Rattle.coord_server.proofs.lives.serve_lives.Goals as goal
 pub returns-clause-whole : goal.returns-clause-whole
 returns-clause-whole g c =
     IfOk-weaker c.serve_and_print.result _ _
-    (λ ended lived. ends g.D.Disk.model.keeps_model g.D.Disk.model.present g.C.Callers.talked g.C.Callers.failed c.args.most c.args.store.world c.args.callers ended lived)
+    (λ ended lived. ends g.D.Disk.model g.C.Callers.talked g.C.Callers.failed c.args.most c.args.store.world c.args.callers ended lived)
     c.serve_and_print.ensures.lived

@@ -12,7 +12,7 @@ serve_until_old-requires g c =
 -- the output could not be opened
 pub returns-in-Err-clause-served : goal.returns-in-Err-clause-served
 returns-in-Err-clause-served g c =
-    let b = based_on g.D.Disk.model.keeps_model g.D.Disk.model.present g.L.Origin.base g.L.Origin.before in
+    let b = based_on g.D.Disk.model g.L.Origin.base g.L.Origin.before in
     let v = c.args.callers.now in
     let of_start : IsOfStart c.in-Err.fault = subst (λ r. IfErr r IsOfStart) c.in-Err.is c.requires.start in
     (c.args.desk.now.port, ends_at_start b g.C.Callers.talked g.C.Callers.failed c.args.setting.now.life_steps v v c.args.desk.now c.in-Err.fault of_start (g.met.C.Callers.at_rest v) c.requires.new)

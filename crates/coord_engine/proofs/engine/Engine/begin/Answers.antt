@@ -5,6 +5,6 @@ use Rattle.coord_engine.proofs.engine.Engine.begin.Goals as goal
 
 pub returns-clause-answer : goal.returns-clause-answer
 returns-clause-answer g c =
-    let b = based_on g.D.Disk.model.keeps_model g.D.Disk.model.present g.L.Origin.base g.L.Origin.before in
+    let b = based_on g.D.Disk.model g.L.Origin.base g.L.Origin.before in
     let is = subst (CanHold b) (c.deref.ensures ∙ sym c.deref_mut-2.ensures.value) c.keeps.ensures in
     begun_at b c.deref_mut-2.result.now c.begin.new.self is c.begin.result c.begin.ensures.nothing c.begin.ensures.begun

@@ -6,7 +6,7 @@ use Rattle.coord_engine.proofs.engine.Engine.end.Goals as goal
 
 pub returns-in-Ok-clause-back : goal.returns-in-Ok-clause-back
 returns-in-Ok-clause-back g c =
-    let b = based_on g.D.Disk.model.keeps_model g.D.Disk.model.present g.L.Origin.base g.L.Origin.before in
+    let b = based_on g.D.Disk.model g.L.Origin.base g.L.Origin.before in
     let s = c.deref_mut.result.now in
     let own = subst (λ f. IsOut s.ledger f) c.loop.invariant.2 c.in-Ok.ensures.own in
     let taken = subst (λ f. c.end.new.self ≡ with_ledger s (taken_back s.ledger (length f.steps) f.mark f.disk)) c.loop.invariant.2 c.in-Ok.ensures.taken in

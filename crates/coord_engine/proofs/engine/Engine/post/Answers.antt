@@ -6,6 +6,6 @@ use Rattle.coord_engine.proofs.engine.Engine.post.Goals as goal
 
 pub returns : goal.returns
 returns g c =
-    let b = based_on g.D.Disk.model.keeps_model g.D.Disk.model.present g.L.Origin.base g.L.Origin.before in
+    let b = based_on g.D.Disk.model g.L.Origin.base g.L.Origin.before in
     let is = subst (CanHold b) (c.deref.ensures ∙ sym c.deref_mut.ensures.value) c.keeps.ensures in
     then b c.deref_mut.result.now is (Submits c.args.step c.submit.result c.args.mine.now c.submit.new.mine) (c.submit.new.self.ledger, c.submit.ensures.answer)

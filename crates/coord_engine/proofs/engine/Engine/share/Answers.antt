@@ -6,12 +6,12 @@ use Rattle.coord_engine.proofs.engine.Engine.share.Goals as goal
 
 pub returns-clause-given : goal.returns-clause-given
 returns-clause-given g c =
-    let b = based_on g.D.Disk.model.keeps_model g.D.Disk.model.present g.L.Origin.base g.L.Origin.before in
+    let b = based_on g.D.Disk.model g.L.Origin.base g.L.Origin.before in
     let is = subst (CanHold b) (c.deref.ensures ∙ sym c.deref_mut.ensures.value) c.keeps.ensures in
     IfSome_then c.share.result c.share.ensures.some (λ share so. (so.0, then b c.deref_mut.result.now is (λ x. x.given < most_shares) so.1))
 
 pub returns-clause-none : goal.returns-clause-none
 returns-clause-none g c =
-    let b = based_on g.D.Disk.model.keeps_model g.D.Disk.model.present g.L.Origin.base g.L.Origin.before in
+    let b = based_on g.D.Disk.model g.L.Origin.base g.L.Origin.before in
     let is = subst (CanHold b) (c.deref.ensures ∙ sym c.deref_mut.ensures.value) c.keeps.ensures in
     on_none b c.deref_mut.result.now is c.share.result (λ x. (x.given ≡ most_shares) × (c.share.new.self ≡ x)) (λ x. x.given ≡ most_shares) (λ so. so.0) c.share.ensures.none

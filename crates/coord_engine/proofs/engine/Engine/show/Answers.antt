@@ -5,7 +5,7 @@ use Rattle.coord_engine.proofs.engine.Engine.show.Goals as goal
 
 pub returns : goal.returns
 returns g c =
-    let b = based_on g.D.Disk.model.keeps_model g.D.Disk.model.present g.L.Origin.base g.L.Origin.before in
+    let b = based_on g.D.Disk.model g.L.Origin.base g.L.Origin.before in
     let is = subst (CanHold b) (c.deref.ensures ∙ sym c.deref-2.ensures) c.keeps.ensures in
     let by : LedgerShows c.deref-2.result.now c.args.seen.now c.show.new.seen c.show.result = record {
       stopped = rw (sym c.ledger.ensures) c.show.ensures.stopped;

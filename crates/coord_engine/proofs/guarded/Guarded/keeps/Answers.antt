@@ -5,7 +5,7 @@ use Rattle.coord_engine.proofs.guarded.Guarded.keeps.Goals as goal
 
 pub returns : goal.returns
 returns g c =
-    let b = based_on g.D.Disk.model.keeps_model g.D.Disk.model.present g.L.Origin.base g.L.Origin.before in
+    let b = based_on g.D.Disk.model g.L.Origin.base g.L.Origin.before in
     let inv = c.self.invariant in
     let l = c.self.inside.ledger in
     let e = c.lemma_log_is_consistent.ensures in

@@ -13,7 +13,7 @@ returns-in-Ok-clause-anew g c = record { world = c.in-Ok.ensures.opened.world; d
 pub returns-in-Err-clause-cause : goal.returns-in-Err-clause-cause
 returns-in-Err-clause-cause g c =
     let d = c.into_disk.result in
-    crash_fault (model_held g.D.Disk.model.keeps_model c.args.self) (g.D.Disk.model.keeps_model d) (g.D.Disk.model.present d) (g.D.Disk.model.present c.in-Err.refused.1) c.args.self.ledger.log (kept_by c.args.self.ledger.log.settled (option_map flight_out c.args.self.flight) c.args.self.ledger.log.doubt) c.in-Err.refused.0 (ap (option_map g.D.Disk.model.keeps_model) c.into_disk.ensures.disk) c.into_disk.ensures.images c.in-Err.ensures.cause
+    crash_fault (model_held g.D.Disk.model c.args.self) (g.D.Disk.model.keeps_model d) (g.D.Disk.model.present d) (g.D.Disk.model.present c.in-Err.refused.1) c.args.self.ledger.log (kept_by c.args.self.ledger.log.settled (option_map flight_out c.args.self.flight) c.args.self.ledger.log.doubt) c.in-Err.refused.0 (ap (option_map g.D.Disk.model.keeps_model) c.into_disk.ensures.disk) c.into_disk.ensures.images c.in-Err.ensures.cause
 
 pub returns-in-Ok-clause-disk : goal.returns-in-Ok-clause-disk
 returns-in-Ok-clause-disk g c s is represents =

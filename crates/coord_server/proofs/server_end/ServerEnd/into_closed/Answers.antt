@@ -5,7 +5,7 @@ use Rattle.coord_server.proofs.server_end.ServerEnd.into_closed.Goals as goal
 
 pub returns-in-None-clause-lives : goal.returns-in-None-clause-lives
 returns-in-None-clause-lives g c = λ began v lived.
-    closed_lives g.D.Disk.model.keeps_model g.D.Disk.model.present g.C.Callers.talked g.C.Callers.failed began v c.args.self (sym c.fault-fault.ensures ∙ c.in-None.is) lived
+    closed_lives g.D.Disk.model g.C.Callers.talked g.C.Callers.failed began v c.args.self (sym c.fault-fault.ensures ∙ c.in-None.is) lived
 
 pub returns-in-None-clause-going : goal.returns-in-None-clause-going
 returns-in-None-clause-going g c =

@@ -6,7 +6,7 @@ use Rattle.coord_ledger.proofs.event_driver.run.Run.crash.Goals as goal
 
 pub returns-in-Ok-clause-answered : goal.returns-in-Ok-clause-answered
 returns-in-Ok-clause-answered g c s is follows promised =
-    follows_opened c.args.self s is follows _ c.in-Ok.count c.new.ensures.items c.new-in-Ok.ensures refl (c.in-Ok.ensures.simulates (crash_on (model_held g.D.Disk.model.keeps_model c.args.self.driver) promised))
+    follows_opened c.args.self s is follows _ c.in-Ok.count c.new.ensures.items c.new-in-Ok.ensures refl (c.in-Ok.ensures.simulates (crash_on (model_held g.D.Disk.model c.args.self.driver) promised))
 
 pub returns-in-Ok-clause-disk : goal.returns-in-Ok-clause-disk
 returns-in-Ok-clause-disk g c s is follows = c.in-Ok.ensures.disk s is follows.represents
