@@ -329,7 +329,7 @@ class Members(Case):
 class Searches(Case):
     programs = ("RESETD_MEMBER",)
 
-    def said(self, *words: str) -> str:
+    def last_line(self, *words: str) -> str:
         """What tools/member_search says last."""
         done = subprocess.run([tool("member_search"), "--seconds", "500", *words], capture_output=True, text=True, check=False)
         self.assertEqual(done.stderr, "")
@@ -339,9 +339,9 @@ class Searches(Case):
         """The search comes to as many states as the one with the Python judge, and finds the mix where a part is left out."""
         for about, depth in (("all", 5), ("lose", 5), ("restore", 6), ("readd", 8), ("links", 9)):
             words = ["--about", about, "--depth", str(depth)]
-            self.assertEqual(self.said(*words, "--library", PATH), self.said(*words))
+            self.assertEqual(self.last_line(*words, "--library", PATH), self.last_line(*words))
         weaker = ["--about", "readd", "--without", "dropped"]
-        self.assertIn("mixed after 10 events", self.said(*weaker, "--library", PATH))
+        self.assertIn("mixed after 10 events", self.last_line(*weaker, "--library", PATH))
 
 
 class InOtherLanguages(Case):

@@ -69,7 +69,7 @@ def hostile(program: str, library: str, count: int) -> float:
         return asyncio.run(beside(server, count))
 
 
-def connected(server: Server, count: int) -> list[socket.socket]:
+def connect(server: Server, count: int) -> list[socket.socket]:
     """As many connections as asked for, none of which says anything."""
     most = resource.getrlimit(resource.RLIMIT_NOFILE)[1]
     resource.setrlimit(resource.RLIMIT_NOFILE, (most, most))
@@ -129,13 +129,13 @@ def many(program: str, library: str, count: int, times: int) -> tuple[float, flo
     with Server(program, library, NODES, CHORDS) as server:
         server.start_front()
         before = settled_memory(server)
-        connections = connected(server, count)
+        connections = connect(server, count)
         idle = settled_memory(server) - before
         watch(connections)
         watching = settled_memory(server) - before
     with Server(program, library, 1, []) as server:
         server.start_front()
-        connections = connected(server, count)
+        connections = connect(server, count)
         watch(connections)
         took = [told_after(server, connections, epoch) for epoch in range(1, times + 1)]
     return idle / count, watching / count, statistics.median(took)

@@ -47,7 +47,7 @@ class Lines:
 
 
 @contextlib.contextmanager
-def started(commands: Sequence[Sequence[str]], others: Sequence[Sequence[str]] = ()) -> Iterator[Lines]:
+def running(commands: Sequence[Sequence[str]], others: Sequence[Sequence[str]] = ()) -> Iterator[Lines]:
     """Processes for as long as they are needed; of the first ones what they print is read."""
     processes = [subprocess.Popen([sys.executable, *words], stdout=subprocess.PIPE, stderr=subprocess.DEVNULL) for words in commands]
     quiet = [subprocess.Popen([sys.executable, *words], stdout=subprocess.DEVNULL, stderr=subprocess.DEVNULL) for words in others]
@@ -84,7 +84,7 @@ def gateway(program: str, library: str, count: int) -> tuple[float, float]:
         words = [f"{ROOT}/examples/gateway", f"1-{NODES}", "1", server.address, folder, "--signals", server.signals]
         for node in range(1, NODES + 1):
             os.makedirs(f"{folder}/{node}")
-        with started([[f"{HERE}/member.py", f"{folder}/{node}"] for node in range(1, NODES + 1)], [words]) as lines:
+        with running([[f"{HERE}/member.py", f"{folder}/{node}"] for node in range(1, NODES + 1)], [words]) as lines:
             return resets(at_port(server, NODES + len(CHORDS)), lines, count)
 
 
@@ -99,7 +99,7 @@ def services(program: str, library: str, nodes: int, count: int, is_front: bool)
         for node in range(1, nodes + 1):
             os.mkdir(f"{server.folder}/{node}")
         words = [[f"{HERE}/service.py", str(node), address, f"{server.folder}/{node}", server.signals] for node in range(1, nodes + 1)]
-        with started(words) as lines:
+        with running(words) as lines:
             return resets(order, lines, count)
 
 
@@ -108,7 +108,7 @@ def one(program: str, library: str, count: int) -> tuple[float, float]:
     with Server(program, library, 1, []) as server:
         os.mkdir(f"{server.folder}/1")
         took = []
-        with started([[f"{HERE}/service.py", "1", server.address, f"{server.folder}/1", server.signals]]) as lines, open(server.signals, "rb") as signals:
+        with running([[f"{HERE}/service.py", "1", server.address, f"{server.folder}/1", server.signals]]) as lines, open(server.signals, "rb") as signals:
             lines.await_all("begins", 0)
             for number in range(2, 2 + count):
                 time.sleep(0.1)

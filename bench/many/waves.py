@@ -31,7 +31,7 @@ class Group:
         """Through a front a service stays connected."""
         self.own = [await self.server.at_socket() for _ in range(NODES)] if self.way == "front" else []
 
-    def numbered(self, client: int, **order: Any) -> Json:
+    def with_number(self, client: int, **order: Any) -> Json:
         """An order with the client's next number."""
         self.numbers[client] += 1
         return {**order, "client": client, "number": self.numbers[client]}
@@ -43,23 +43,23 @@ class Group:
             return await ask(self.own[node - 1], SHOW, confirm)
         await once(self.open, SHOW)
         async with self.locks[client := 1 + node % len(CLIENTS)]:
-            return await once(self.open, self.numbered(client, **confirm))
+            return await once(self.open, self.with_number(client, **confirm))
 
     async def gateway(self, epoch: int) -> list[Json]:
         for node in range(1, NODES + 1):
             await self.signals.wait(node, epoch)
-        return await once(self.open, SHOW, *(self.numbered(1, op="confirm", node=node, epoch=epoch) for node in range(1, NODES + 1)))
+        return await once(self.open, SHOW, *(self.with_number(1, op="confirm", node=node, epoch=epoch) for node in range(1, NODES + 1)))
 
     async def reset(self, epoch: int) -> None:
         """A reset, and all that it brings."""
-        await once(self.open, self.numbered(16, op="reset", node=1))
+        await once(self.open, self.with_number(16, op="reset", node=1))
         works = [self.gateway(epoch)] if self.way == "one" else [self.service(node, epoch) for node in range(1, NODES + 1)]
         for answers in await asyncio.gather(*works):
             if "refused" in answers[-1] or "fault" in answers[-1]:
                 raise SystemExit(f"{self.way}: {answers[-1]}")
 
 
-async def measured(server: Server, way: str, links: Links, count: int) -> tuple[float, float]:
+async def measure(server: Server, way: str, links: Links, count: int) -> tuple[float, float]:
     group = Group(server, way, links)
     await group.connect()
     took, syncs = list[float](), list[int]()
@@ -80,4 +80,4 @@ def wave(program: str, library: str, links: Links, way: str, micros: int, count:
             server.start_front()
         elif way == "haproxy":
             server.start_haproxy()
-        return asyncio.run(measured(server, way, links, count))
+        return asyncio.run(measure(server, way, links, count))

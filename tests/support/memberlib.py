@@ -49,7 +49,7 @@ class Refused(Exception):
         self.status = status
 
 
-def sized(text: bytes) -> tuple[ctypes.c_void_p, ctypes.c_size_t]:
+def text_and_size(text: bytes) -> tuple[ctypes.c_void_p, ctypes.c_size_t]:
     """A text as a pointer and a count."""
     return ctypes.cast(ctypes.c_char_p(text), ctypes.c_void_p), ctypes.c_size_t(len(text))
 
@@ -71,7 +71,7 @@ class Library:
     def judge(self, show: bytes, node: int, start: bytes = b"", history: bytes = b"", work: int | None = None) -> Told:
         judged = Judged()
         self._expect(self._calls.resetd_judge(
-            *sized(show), word(node), *sized(start), *sized(history), ctypes.byref(Work(work is not None, work or 0)),
+            *text_and_size(show), word(node), *text_and_size(start), *text_and_size(history), ctypes.byref(Work(work is not None, work or 0)),
             self._out, ctypes.c_size_t(MOST_TEXT), ctypes.byref(judged)))
         text = self._out.raw[:judged.start_length + judged.line_length]
         return Told(DUE[judged.due], judged.epoch, text[:judged.start_length], text[judged.start_length:], judged.history_size)
@@ -80,13 +80,13 @@ class Library:
         return self._text(self._calls.resetd_begun, word(node), ctypes.c_uint64(epoch))
 
     def tag(self, show: bytes, node: int, start: bytes, word_of_group: bytes = b"") -> bytes:
-        return self._text(self._calls.resetd_tag, *sized(show), word(node), *sized(start), *sized(word_of_group))
+        return self._text(self._calls.resetd_tag, *text_and_size(show), word(node), *text_and_size(start), *text_and_size(word_of_group))
 
     def is_same_run(self, own: bytes, other: bytes) -> bool:
-        return bool(self._calls.resetd_is_same_run(*sized(own), *sized(other)))
+        return bool(self._calls.resetd_is_same_run(*text_and_size(own), *text_and_size(other)))
 
     def are_parted(self, own: bytes, other: bytes) -> bool:
-        return bool(self._calls.resetd_are_parted(*sized(own), *sized(other)))
+        return bool(self._calls.resetd_are_parted(*text_and_size(own), *text_and_size(other)))
 
     def write_down(self, orders: Orders, order: Order) -> None:
         self._expect(self._calls.resetd_write_down(ctypes.byref(orders), ctypes.byref(order)))
@@ -96,7 +96,7 @@ class Library:
 
     def hear(self, orders: Orders, line: bytes) -> int:
         meaning = ctypes.c_uint32()
-        self._expect(self._calls.resetd_hear(ctypes.byref(orders), *sized(line), ctypes.byref(meaning)))
+        self._expect(self._calls.resetd_hear(ctypes.byref(orders), *text_and_size(line), ctypes.byref(meaning)))
         return meaning.value
 
     def _text(self, call: Callable[..., int], *words: object) -> bytes:

@@ -239,7 +239,7 @@ def has_compiler() -> bool:
     return shutil.which("cc") is not None
 
 
-def compiled(folder: str) -> str:
+def compile_library(folder: str) -> str:
     """The library, in this folder, where it stands from the first time on."""
     if os.path.exists(f"{folder}/preloaded.so"):
         return f"{folder}/preloaded.so"
@@ -251,7 +251,7 @@ def compiled(folder: str) -> str:
 
 def environment(folder: str, **settings: str | int) -> dict[str, str]:
     """What a program's environment is to have, so that its calls are changed in this way."""
-    return {"LD_PRELOAD": compiled(folder), **{name: str(value) for name, value in settings.items()}}
+    return {"LD_PRELOAD": compile_library(folder), **{name: str(value) for name, value in settings.items()}}
 
 
 def both(first: dict[str, str], second: dict[str, str]) -> dict[str, str]:

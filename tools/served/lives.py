@@ -121,7 +121,7 @@ class Staying:
         self.socket = None
 
 
-def watched(ring: Ring) -> Watched:
+def watch(ring: Ring) -> Watched:
     assert isinstance(ring.server, Watched)
     return ring.server
 
@@ -143,7 +143,7 @@ def run(ring: Ring, rounds: int) -> None:
 def live_unkilled(ring: Ring) -> None:
     """Resets over many lives. Nothing is lost between them: each signal is printed, and each client's last order is
     answered as before."""
-    server = watched(ring)
+    server = watch(ring)
     kills.start_again(ring)
     for _ in range(UNKILLED):
         ring.ask_resets(ring.choice.randint(1, 3))
@@ -164,7 +164,7 @@ def live_unkilled(ring: Ring) -> None:
 
 def stay(ring: Ring, orders: int, at_once: int) -> int:
     """Resets by one client whose connection stays. Over how many connections they went."""
-    staying, client = Staying(watched(ring)), ring.choice.choice(ring.clients)
+    staying, client = Staying(watch(ring)), ring.choice.choice(ring.clients)
     try:
         for _ in range(orders // at_once):
             if at_once == 1:
@@ -191,7 +191,7 @@ def order_at_once(ring: Ring, staying: Staying, client: Client, count: int) -> N
 def one_round(ring: Ring) -> int | None:
     """A start, what has to hold after it, resets by clients that stay or do not, and a kill within a change of life.
     With how many threads the server was met, if it was."""
-    server = watched(ring)
+    server = watch(ring)
     count, _ = ring.history.look_into(server)
     server.must_start()
     ring.repeat_orders(count)
@@ -216,6 +216,6 @@ def tell(ring: Ring, done: int, met: dict[int | None, int]) -> None:
     history, between = ring.history, met.get(OVER_ALL, 0)
     within = sum(met.values()) - between - met.get(None, 0)
     print(f"{done} kills ({between} between two lives, {within} while the threads of one ended or started, "
-          f"{met.get(None, 0)} elsewhere), at least {watched(ring).lives} lives: {history.count} steps, "
+          f"{met.get(None, 0)} elsewhere), at least {watch(ring).lives} lives: {history.count} steps, "
           f"{len(history.printed)} signals printed, each once; {history.taken} settled and taken by a kill, so told by "
           f"epochs alone", flush=True)

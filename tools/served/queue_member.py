@@ -47,7 +47,7 @@ class Weaker(Starts):
 
     without = frozenset[str]()
 
-    def _judged(self, view: View, row: Node) -> Judged:
+    def _judge(self, view: View, row: Node) -> Judged:
         shown = shown_to(view, row)
         history: Container[str] = self._shelf.history
         judged = judge(Kept(self.begun, self._kept.party), set() if "history" in self.without else history, shown)

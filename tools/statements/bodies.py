@@ -75,7 +75,7 @@ class Bodies:
         return {name: self.breaking[clause] for name in self.functions[key].ensured
                 if (clause := Clause(key, name)) in self.breaking}
 
-    def called(self, key: Key) -> set[Key]:
+    def callees(self, key: Key) -> set[Key]:
         """The functions of its crate on which a function stands: those that it calls, and those that they call, as far as their
         names tell which they are."""
         found, left = {key}, [key]
@@ -98,7 +98,7 @@ class Bodies:
 
     def below(self, key: Key) -> dict[Key, dict[str, list[str]]]:
         """The bodies that break what a function stands on, by function and clause."""
-        return {it: bodies for it in sorted(self.called(key)) if (bodies := self.of(it))}
+        return {it: bodies for it in sorted(self.callees(key)) if (bodies := self.of(it))}
 
     def is_tried(self, key: Key) -> bool:
         return bool(self.of(key)) or bool(self.below(key))

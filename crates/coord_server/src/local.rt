@@ -112,7 +112,7 @@ fn send<R: Wait>(
 }
 
 impl Ways {
-    /// Gathers a packet, which says itself where it goes.
+    /// Gathers a packet for the worker of the node that it names.
     fn gather(&mut self, packet: Packet) -> bool {
         match self.gathered.get_mut(worker_of(&packet)) {
             Some(packets) => packets.push(packet).is_ok(),
@@ -132,6 +132,7 @@ impl Ways {
 }
 
 impl<R: Wait> Port for &LocalPort<R> {
+    /// The packet names its node, so `_to` is not used.
     fn carry(&mut self, _to: NodeId, packet: Packet) -> bool {
         let port = *self;
         port.ways.lock(&port.rt).gather(packet)
