@@ -365,12 +365,18 @@ class InOtherLanguages(Case):
         self.keeps_the_rule("rustc", "--edition", "2024", "-O", "-o", self.path("member"), "member.rs",
                             "-L", os.path.dirname(PATH), "-l", "static=resetd_member")
 
-    def test_go(self) -> None:
+    def keeps_the_rule_in_go(self, words: list[str], *files: str) -> None:
         self.needs("the compiler go", shutil.which("go") is not None, is_optional=True)
         folders = [f"{name}={self.path(name)}" for name in ("GOCACHE", "GOPATH", "GOTMPDIR")]
         os.mkdir(self.path("GOTMPDIR"))
-        self.keeps_the_rule("env", *folders, f"CGO_CFLAGS=-I{HEADER}", f"CGO_LDFLAGS={PATH.replace('.so', '.a')}",
-                            "go", "build", "-o", self.path("member"), "member.go", "resetd_member.go")
+        self.keeps_the_rule("env", *folders, *words, "go", "build", "-o", self.path("member"), *files)
+
+    def test_go(self) -> None:
+        words = [f"CGO_CFLAGS=-I{HEADER}", f"CGO_LDFLAGS={PATH.replace('.so', '.a')}"]
+        self.keeps_the_rule_in_go(words, "member.go", "resetd_member.go")
+
+    def test_go_without_the_library(self) -> None:
+        self.keeps_the_rule_in_go(["CGO_ENABLED=0"], "plain_member.go")
 
 
 class Vectors(Case):
