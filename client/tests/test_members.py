@@ -381,6 +381,16 @@ class Lives(MemberCase):
         with self.assertRaises(KeyError), self.followed(begin):
             raise KeyError
 
+    def test_what_ends_its_thread_ends_its_run(self) -> None:
+        with self.assertRaises(ZeroDivisionError), self.followed() as member:
+            self.expect(lambda: self.begun == [1])
+            self.confirm_other()
+            self.expect(lambda: member.run is not None)
+            with mock.patch.object(member.port, "show", side_effect=ZeroDivisionError):
+                member.reset("so that it looks")
+                self.expect(lambda: any("follows no more" in told for told in self.told))
+                self.expect(lambda: member.run is None)
+
 
 class Runs(MemberCase):
     def test_a_message_of_another_run_is_not_taken(self) -> None:
