@@ -148,9 +148,16 @@ class Shows:
         return self.line
 
 
-class Members(Case):
+class OfLibrary(Case):
+    programs: tuple[str, ...] = ("RESETD_MEMBER",)
+
+    def setUp(self) -> None:
+        super().setUp()
+        self.needs("the members' library, which a C compiler makes", os.path.exists(PATH))
+
+
+class Members(OfLibrary):
     takes = 120
-    programs = ("RESETD_MEMBER",)
 
     def setUp(self) -> None:
         super().setUp()
@@ -326,9 +333,7 @@ class Members(Case):
         self.assertEqual((orders.last, orders.in_hand.op), (1, 0))
 
 
-class Searches(Case):
-    programs = ("RESETD_MEMBER",)
-
+class Searches(OfLibrary):
     def said(self, *words: str) -> str:
         """What tools/member_search says last."""
         done = subprocess.run([tool("member_search"), "--seconds", "500", *words], capture_output=True, text=True, check=False)
@@ -344,7 +349,7 @@ class Searches(Case):
         self.assertIn("mixed after 10 events", self.said(*weaker, "--library", PATH))
 
 
-class InOtherLanguages(Case):
+class InOtherLanguages(OfLibrary):
     takes = 100
     programs = ("RESETD", "RESETD_MEMBER")
 
@@ -379,9 +384,7 @@ class InOtherLanguages(Case):
         self.keeps_the_rule_in_go(["CGO_ENABLED=0"], "plain_member.go")
 
 
-class Vectors(Case):
-    programs = ("RESETD_MEMBER",)
-
+class Vectors(OfLibrary):
     def test_vectors(self) -> None:
         """docs/member-vectors.json is what the proved library says, and the Python library says the same."""
         checked = subprocess.run([tool("member_vectors")], capture_output=True, text=True)

@@ -54,6 +54,16 @@ class Members(MemberCase):
         self.assertTrue(is_one_run(Run(1, ""), Run(1, "")))
         self.assertFalse(is_one_run(Run(1, ""), Run(2, "")))
 
+    def test_it_looks_seldom_while_its_node_is_not_there(self) -> None:
+        """And often while others are not through."""
+        member = self.member()
+        self.look(member)
+        self.assertLess(member.wait_seconds(30), 3)
+        self.server.by_somebody("drop", a=1, b=2)
+        self.server.by_somebody("remove", node=1)
+        self.look(member)
+        self.assertEqual(member.wait_seconds(30), 30)
+
     def test_it_remembers_no_more_refused_tags_than_a_group_has_members(self) -> None:
         member = self.in_a_run()
         for number in range(100):
