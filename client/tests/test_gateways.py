@@ -519,7 +519,7 @@ class Gateways(Case):
         thread.join(20)
 
     def looks(self) -> int:
-        return sum(order.get("op") == "show" for order in self.server.seen)
+        return len([order for order in self.server.seen if order.get("op") == "show"])
 
     def test_it_looks_often_again_once_it_has_ordered_something(self) -> None:
         self.gateway._waits = 9

@@ -406,16 +406,19 @@ class Lives(MemberCase):
         with self.assertRaises(KeyError), self.followed(begin):
             raise KeyError
 
+    def looks(self) -> int:
+        return len([order for order in self.server.seen if order.get("op") == "show"])
+
     def test_it_looks_soon_after_it_refused_a_tag(self) -> None:
         """Nothing else wakes it."""
         with self.followed() as member:
             self.expect(lambda: self.begun == [1])
             self.confirm_other()
             self.expect(lambda: member.run is not None)
-            looks = sum(order.get("op") == "show" for order in self.server.seen)
+            looks = self.looks()
             with suppress(OutOfRun), member.in_run(f"{1:032}-{1:032}"):
                 self.fail("it took a message of another run")
-            self.expect(lambda: sum(order.get("op") == "show" for order in self.server.seen) > looks)
+            self.expect(lambda: self.looks() > looks)
 
     def test_a_run_is_told_once(self) -> None:
         """However often it looks, and though others go."""
