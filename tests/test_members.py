@@ -148,9 +148,16 @@ class Shows:
         return self.line
 
 
-class Members(Case):
+class OfLibrary(Case):
+    programs: tuple[str, ...] = ("RESETD_MEMBER",)
+
+    def setUp(self) -> None:
+        super().setUp()
+        self.needs("the members' library, which a C compiler makes", os.path.exists(PATH))
+
+
+class Members(OfLibrary):
     takes = 120
-    programs = ("RESETD_MEMBER",)
 
     def setUp(self) -> None:
         super().setUp()
@@ -326,9 +333,7 @@ class Members(Case):
         self.assertEqual((orders.last, orders.in_hand.op), (1, 0))
 
 
-class Searches(Case):
-    programs = ("RESETD_MEMBER",)
-
+class Searches(OfLibrary):
     def last_line(self, *words: str) -> str:
         """What tools/member_search says last."""
         done = subprocess.run([tool("member_search"), "--seconds", "500", *words], capture_output=True, text=True, check=False)
@@ -344,7 +349,7 @@ class Searches(Case):
         self.assertIn("mixed after 10 events", self.last_line(*weaker, "--library", PATH))
 
 
-class InOtherLanguages(Case):
+class InOtherLanguages(OfLibrary):
     takes = 100
     programs = ("RESETD", "RESETD_MEMBER")
 
@@ -365,17 +370,21 @@ class InOtherLanguages(Case):
         self.keeps_the_rule("rustc", "--edition", "2024", "-O", "-o", self.path("member"), "member.rs",
                             "-L", os.path.dirname(PATH), "-l", "static=resetd_member")
 
-    def test_go(self) -> None:
+    def keeps_the_rule_in_go(self, words: list[str], *files: str) -> None:
         self.needs("the compiler go", shutil.which("go") is not None, is_optional=True)
         folders = [f"{name}={self.path(name)}" for name in ("GOCACHE", "GOPATH", "GOTMPDIR")]
         os.mkdir(self.path("GOTMPDIR"))
-        self.keeps_the_rule("env", *folders, f"CGO_CFLAGS=-I{HEADER}", f"CGO_LDFLAGS={PATH.replace('.so', '.a')}",
-                            "go", "build", "-o", self.path("member"), "member.go", "resetd_member.go")
+        self.keeps_the_rule("env", *folders, *words, "go", "build", "-o", self.path("member"), *files)
+
+    def test_go(self) -> None:
+        words = [f"CGO_CFLAGS=-I{HEADER}", f"CGO_LDFLAGS={PATH.replace('.so', '.a')}"]
+        self.keeps_the_rule_in_go(words, "member.go", "resetd_member.go")
+
+    def test_go_without_the_library(self) -> None:
+        self.keeps_the_rule_in_go(["CGO_ENABLED=0"], "plain_member.go")
 
 
-class Vectors(Case):
-    programs = ("RESETD_MEMBER",)
-
+class Vectors(OfLibrary):
     def test_vectors(self) -> None:
         """docs/member-vectors.json is what the proved library says, and the Python library says the same."""
         checked = subprocess.run([tool("member_vectors")], capture_output=True, text=True)

@@ -88,6 +88,33 @@ class Seats(unittest.TestCase):
         self.served.has_lost()
         self.assertEqual((self.seat.has_lost("1 1\n"), self.served.work(), self.served.tag()), (True, None, None))
 
+    def test_the_greatest_number_that_a_member_may_know(self) -> None:
+        """`wanted` is not synced, and `begun` may be gone."""
+        self.begin("1 4\n")
+        self.write("wanted", "1 3\n")
+        self.assertEqual(self.seat.number, 4)
+        self.write("wanted", "1 9\n")
+        self.assertEqual(self.seat.number, 9)
+
+    def test_a_run_is_written_once(self) -> None:
+        self.seat.set_run("1 tag 1 boot\n")
+        with mock.patch("os.replace", side_effect=os.replace) as replaced:
+            self.seat.set_run("1 tag 1 boot\n")
+            self.seat.set_run("1 tag 1 boot\n")
+        self.assertEqual(replaced.call_count, 0)
+        self.seat.set_run(None)
+        self.seat.set_run("1 tag 1 boot\n")
+        self.assertTrue(os.path.exists(f"{self.folder}/run"))
+
+    def test_what_is_lost_is_lost_once(self) -> None:
+        """And takes the work with it."""
+        self.seat.tell("1 1\n")
+        self.served.wanted()
+        self.served.has_begun("work\n")
+        for _ in range(2):
+            self.served.has_lost()
+            self.assertEqual(read(f"{self.folder}/begun"), "lost 1 1\n")
+
     def test_the_same_epoch_of_an_earlier_begin(self) -> None:
         self.begin("1 1\n")
         self.seat.tell("1 2\n")
@@ -419,6 +446,17 @@ class Gateways(Case):
         self.gateway.look()
         self.assertEqual([self.begin(node) for node in (1, 2, 3)], [1] * 3)
 
+    @in_memory
+    def test_a_node_that_is_not_there_is_not_through(self) -> None:
+        """So the gateway looks again soon."""
+        self.all_begin()
+        self.assertTrue(self.gateway._is_through)
+        for a, b in ((1, 2), (2, 3)):
+            self.server.by_somebody("drop", a=a, b=b)
+        self.server.by_somebody("remove", node=2)
+        self.look()
+        self.assertFalse(self.gateway._is_through)
+
     def test_a_reset_that_is_asked_for_again_is_told_again(self) -> None:
         for times in (1, 2):
             self.all_begin()
@@ -465,6 +503,32 @@ class Gateways(Case):
         wakes.ended.set()
         thread.join(20)
         self.assertFalse(thread.is_alive())
+
+    @in_memory
+    def test_it_rests_once_all_have_begun(self) -> None:
+        """What a member has written brings one look, and not one after the other."""
+        wakes = UntilEnded()
+        thread = threading.Thread(target=self.gateway.follow, args=(wakes, 600.0), daemon=True)
+        thread.start()
+        patiently(self._confirmed, 300)
+        patiently(self._talking, 300)
+        looks = self.looks()
+        time.sleep(0.5)
+        self.assertLess(self.looks() - looks, 10)
+        wakes.ended.set()
+        thread.join(20)
+
+    def looks(self) -> int:
+        return len([order for order in self.server.seen if order.get("op") == "show"])
+
+    def test_it_looks_often_again_once_it_has_ordered_something(self) -> None:
+        self.gateway._waits = 9
+        self.gateway.look()
+        self.assertLess(self.gateway._waits, 9)
+
+    def _talking(self) -> None:
+        if None in self.tags():
+            raise Away("not yet")
 
     def _confirmed(self) -> None:
         for node in (1, 2, 3):

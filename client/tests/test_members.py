@@ -54,6 +54,31 @@ class Members(MemberCase):
         self.assertTrue(is_one_run(Run(1, ""), Run(1, "")))
         self.assertFalse(is_one_run(Run(1, ""), Run(2, "")))
 
+    def test_it_looks_seldom_while_its_node_is_not_there(self) -> None:
+        """And often while others are not through."""
+        member = self.member()
+        self.look(member)
+        self.assertLess(member.wait_seconds(30), 3)
+        self.server.by_somebody("drop", a=1, b=2)
+        self.server.by_somebody("remove", node=1)
+        self.look(member)
+        self.assertEqual(member.wait_seconds(30), 30)
+
+    def test_a_reset_that_is_wanted_is_asked_for_once(self) -> None:
+        member = self.in_a_run()
+        member.reset("the count is wrong")
+        for _ in range(3):
+            self.look(member)
+        self.assertEqual(self.rows()[0][0], 2)
+
+    def test_its_tag_has_the_word_of_its_group(self) -> None:
+        first = self.in_a_run()
+        first.orders.close()
+        member = Member(self.port, self.orders(1, "member", True), 1, first.begun, self.begun.append, word="word")
+        self.look(member)
+        assert member.run
+        self.assertEqual(member.run.tag, self.port.show().tag(1, "word"))
+
     def test_it_remembers_no_more_refused_tags_than_a_group_has_members(self) -> None:
         member = self.in_a_run()
         for number in range(100):
@@ -380,6 +405,40 @@ class Lives(MemberCase):
         member.orders.close()
         with self.assertRaises(KeyError), self.followed(begin):
             raise KeyError
+
+    def looks(self) -> int:
+        return len([order for order in self.server.seen if order.get("op") == "show"])
+
+    def test_it_looks_soon_after_it_refused_a_tag(self) -> None:
+        """Nothing else wakes it."""
+        with self.followed() as member:
+            self.expect(lambda: self.begun == [1])
+            self.confirm_other()
+            self.expect(lambda: member.run is not None)
+            looks = self.looks()
+            with suppress(OutOfRun), member.in_run(f"{1:032}-{1:032}"):
+                self.fail("it took a message of another run")
+            self.expect(lambda: self.looks() > looks)
+
+    def test_a_run_is_told_once(self) -> None:
+        """However often it looks, and though others go."""
+        with self.followed() as member:
+            self.expect(lambda: self.begun == [1])
+            self.confirm_other()
+            self.expect(lambda: member.run is not None)
+            for _ in range(3):
+                member.look()
+        self.assertEqual([run.epoch if run else None for run in self.runs], [1, None])
+
+    def test_what_ends_its_thread_ends_its_run(self) -> None:
+        with self.assertRaises(ZeroDivisionError), self.followed() as member:
+            self.expect(lambda: self.begun == [1])
+            self.confirm_other()
+            self.expect(lambda: member.run is not None)
+            with mock.patch.object(member.port, "show", side_effect=ZeroDivisionError):
+                member.reset("so that it looks")
+                self.expect(lambda: any("follows no more" in told for told in self.told))
+                self.expect(lambda: member.run is None)
 
 
 class Runs(MemberCase):

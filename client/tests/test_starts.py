@@ -93,6 +93,21 @@ class Kept(Case):
             keep(self.path, f'{{"1": {{"begun": {begun}, "party": null}}}}\n')
             self.assertRaises(Unreadable, Shelf, self.path)
 
+    def test_a_history_of_other_lines_does_not_read(self) -> None:
+        for line in ("A" * 64, "a" * 63, "a" * 65, "", "?" * 64):
+            with open(f"{self.folder}/start.history", "w", encoding="utf-8") as file:
+                file.write(f"{DIGEST}\n{line}\n{DIGEST}\n")
+            self.assertRaises(Unreadable, Shelf, self.path)
+
+    def test_nothing_is_written_where_nothing_is_due(self) -> None:
+        """A start waits: what is kept stays as it is, though its work is gone meanwhile."""
+        self.begun(4)
+        before = read(self.path)
+        shelf = Shelf(self.path)
+        self.assertEqual(self.due(Starts(shelf, 1, None), in_reset(THROUGH, 2)), Due.WAIT)
+        shelf.keep()
+        self.assertEqual(read(self.path), before)
+
     def test_the_history_grows_by_each_party(self) -> None:
         """Also by one process."""
         shelf, _ = self.begun(4)
@@ -243,6 +258,11 @@ class Earlier(Case):
         """Nor by another start of this version."""
         for starts in (self.of(3, THROUGH), Starts(Shelf(self.path), 1, None)):
             self.assertEqual(self.due(starts, UNCONFIRMED), Due.RESET)
+
+    def test_its_party_goes_into_the_history_once(self) -> None:
+        for _ in range(2):
+            self.of(3, THROUGH)
+        self.assertEqual(read(f"{self.folder}/start.history"), f"{DIGEST}\n")
 
     def test_a_party_of_one_goes_into_no_history(self) -> None:
         self.of(3, view_of((1, 3, 3)))

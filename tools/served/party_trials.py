@@ -1,5 +1,6 @@
 """Trials of who talks with whom: through others, and after a member was removed and added again."""
 
+import time
 from collections.abc import Callable, Iterable
 
 from .services import Failed, Member, Orders, OutOfRun, Port, Trial, patiently
@@ -100,7 +101,7 @@ def readd(trial: Trial) -> str:
     """Members keep their files, and are there all the time."""
     trial.services()
     trial.expect_begun("the services began")
-    most = 0
+    most, longest = 0, 0.0
     for turn in range(READDS):
         node, stays = turn % 3 + 1, (turn + 1) % 3 + 1
         before, epoch = trial.times(), trial.epoch(stays)
@@ -111,10 +112,11 @@ def readd(trial: Trial) -> str:
         trial.order("add", node=node, group=1)
         for other in others:
             trial.order("join", a=node, b=other)
+        linked = time.monotonic()
         trial.expect_begun(f"re-add {turn + 1}, of member {node}", before)
         trial.expect(f"all are through after re-add {turn + 1}", lambda: trial.is_at_rest())
         resets = trial.epoch(stays) - epoch
-        most = max(most, resets)
+        most, longest = max(most, resets), max(longest, time.monotonic() - linked)
         if resets > MOST_RESETS:
             raise Failed(f"re-add {turn + 1} took {resets} resets")
-    return f"{READDS} re-adds, each with at most {most} resets"
+    return f"{READDS} re-adds, each with at most {most} resets, and through {longest:.1f} s after its last link at most"
