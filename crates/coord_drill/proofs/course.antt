@@ -1,5 +1,5 @@
 -- What a drill's disk goes through.
-pub mod Kept
+pub mod Settled
 pub mod Empty
 pub mod Standing
 pub mod Lines

@@ -10,6 +10,7 @@ pub use Rattle.coord_ledger.specs.declared.events.Answer.TheVariants.{Accepted, 
 pub use Rattle.coord_ledger.specs.declared.release.Release.{Release}
 pub use Rattle.coord_drill.specs.declared.asked.Asked.{Asked}
 pub use Rattle.coord_drill.specs.declared.request.Request.{Request}
+pub use Rattle.coord_drill.specs.declared.console.Console.{Console}
 pub use Rattle.coord_drill.specs.declared.drill.Drill.{Drill}
 pub use Rattle.coord_drill.specs.declared.fault.Fault.{Fault}
 pub use Rattle.coord_drill.specs.declared.drill.flying.Flown.{Flown}
@@ -21,7 +22,7 @@ pub use Rattle.coord_drill.specs.Answered.{IsAnswered, Responds, asked_lines, fl
 pub use Rattle.coord_drill.specs.Drilled.{LineResponds, Prints, UnlessSkipped, WritesFirstPart, asked_by, is_skipped}
 pub use Rattle.coord_drill.specs.Told.{flight_told, told_by}
 pub use Rattle.coord_drill.specs.Holding.{AreGranted, FlownTo, IsEmptyLog, IsHeld, IsReady, IsReadyWith, Lands, Settles, Tells, behind, claims_of, collected_lines, drill_of, flown_answers, flown_lines, front_of, landed_answers, left, left_by, released_lines, state_of, waiting}
-pub use Rattle.coord_drill.specs.Course.{AllKept, BrokeOff, Course, CutShort, Drills, Ended, Fails, FirstCutShort, Goes, GoesOn, IsKept, IsLeftBy, LineCutShort, LineGoes, Moves, NotMade, Passes, Place, Raises, Stops, StopsWork, asked_in, start, told_in}
-pub use Rattle.coord_drill.specs.Moments.{Begins, Carries, CarriesIf, Cuts, CutsIf, Flies, GivesRaised, GoesBy, Hands, IsBegun, IsLostInCrash, IsMade, IsPromised, IsRun, LacksMemory, Leads, LeadsBy, LeadsPart, Led, LedDisk, RaisesPart, RaisesTo, Stands}
-pub use Rattle.coord_drill.specs.Lines.{Breaks, BreaksOff, CarriesLine, CarriesOut, CutsLine, EndsEarly, EndsWith, Takes}
-pub use Rattle.coord_drill.specs.Written.{WritesShort}
+pub use Rattle.coord_drill.specs.Course.{BrokeOff, Course, CutShort, Drills, Ended, Fails, FirstCutShort, GivesEmpty, Goes, IsLeftBy, IsSettled, LineCutShort, LineGoes, Moves, NotMade, Place, Raises, RunsOn, RunsTo, Stops, StopsWork, asked_in, start, told_in}
+pub use Rattle.coord_drill.specs.Moments.{Begins, Carries, CarriesIf, Cuts, CutsIf, Flies, GivesRaised, GivesUpInCrash, GoesBy, Hands, IsBegun, IsMade, IsPromised, LacksMemory, Leads, LeadsBy, LeadsPart, Led, RaisesPart, RaisesTo, Stands}
+pub use Rattle.coord_drill.specs.Lines.{Breaks, BreaksOff, CarriesLine, CarriesOut, CutsLine, EndsEarly, EndsWith, StandsAt, Takes}
+pub use Rattle.coord_drill.specs.Written.{Exchanges, InOut, IsShortPart, Writes, WritesShort}

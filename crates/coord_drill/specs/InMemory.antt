@@ -5,6 +5,7 @@ use Rattle.coord_disk.specs.Model.Present.{whole}
 use Rattle.coord_disk.specs.declared.choice.Choice.TheVariants.{Kept}
 use Rattle.coord_disk.specs.declared.memory.MemDisk.{MemDisk}
 use Rattle.coord_drill.specs.Course.{Drills, Fails}
+use Rattle.coord_drill.specs.Written.{InOut}
 use Rattle.coord_drill.specs.declared.fault.Fault.{Fault}
 
 -- nothing stands on it, no call of it has failed, and a crash of it keeps what a read gives
@@ -15,8 +16,8 @@ pub record IsBlank (disk : MemDisk) : Type 0 where
 
 -- a drill began on such a disk, and what was read was carried out to its end
 abbrev pub DrillsInMemory : Option (List ℕ) → Option (List ℕ) → Option (List ℕ) → Option (List ℕ) → Type 0
-DrillsInMemory unread rest written now = (given last : MemDisk) × IsBlank given × Drills in_memory CrashesByChoice given unread rest written now last
+DrillsInMemory unread rest written now = (given last : MemDisk) × IsBlank given × Drills in_memory CrashesByChoice given (record { unread = unread; written = written }) (record { unread = rest; written = now }) last
 
 -- a drill began on such a disk, and failed
 abbrev pub FailsInMemory : Option (List ℕ) → Option (List ℕ) → Option (List ℕ) → Option (List ℕ) → Fault → Type 0
-FailsInMemory unread rest written now fault = (given lost : MemDisk) × IsBlank given × Fails in_memory CrashesByChoice given unread rest written now fault lost
+FailsInMemory unread rest written now fault = (given lost : MemDisk) × IsBlank given × Fails in_memory CrashesByChoice given (record { unread = unread; written = written }) (record { unread = rest; written = now }) (fault, lost)

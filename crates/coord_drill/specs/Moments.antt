@@ -20,9 +20,9 @@ use Rattle.coord_ledger.specs.declared.events.Answer.TheVariants.{Refused}
 use Rattle.coord_ledger.specs.declared.events.Event.{Event}
 use Rattle.coord_ledger.specs.declared.events.Event.TheVariants.{Submit}
 use Rattle.coord_ledger.specs.declared.handed.Handed.{Handed}
-use Rattle.coord_ledger.specs.Facade.{Answered, DriverState, EachMoment, EventInRange, HandedTo, HasFailed, IsConsistent, LedgerState, Machine, MayBegin, Reopens, Represents, Survives, answer_to, disk_held, failed_until, has_stopped, ledger_over, model_held, run, settled_count, settled_world, started}
+use Rattle.coord_ledger.specs.Facade.{Answered, CrashPrefix, DriverState, EachMoment, EventInRange, HandedTo, HasFailed, IsConsistent, LedgerState, Machine, MayBegin, Reopens, Represents, Survives, answer_to, disk_held, failed_until, has_stopped, ledger_over, model_held, run, settled_count, settled_world, started}
 use Rattle.coord_drill.specs.Answered.{IsAnswered, flight_lines}
-use Rattle.coord_drill.specs.Course.{AllKept, Place, start}
+use Rattle.coord_drill.specs.Course.{IsSettled, Place, start}
 use Rattle.coord_drill.specs.Drill.{flight_events, line_events, machine_of, seen_as}
 use Rattle.coord_drill.specs.Faults.{IsOfMemory, IsPassing, failed_by}
 use Rattle.coord_drill.specs.Holding.{IsEmptyLog, state_of}
@@ -34,20 +34,13 @@ use Rattle.coord_drill.specs.declared.fault.Fault.{Fault}
 
 -- ---- events
 
--- events have led from this disk to one that is held now
-pub record LedDisk {D : Type 0} (disk : DiskModel D) (crashes : D → D → Type 0) (s : Machine) (events : List Event) (given : List Answer) (old : D) (now : Option D) : Type 0 where
-  pub new : D
-  pub holds : now ≡ Some new
-  pub keeps : disk.keeps_model new ≡ true
-  pub moments : EachMoment disk crashes true s events given old new
-
 -- events have led from one driver to another, where the first represents this machine
 pub record Led {D : Type 0} (disk : DiskModel D) (crashes : D → D → Type 0) (s : Machine) (events : List Event) (given : List Answer) (d new : DriverState D) : Type 0 where
   pub in_range : AllByRecursion EventInRange events
   pub answered : Answered s events given
   pub consistent : IsConsistent (run s events given)
   pub represents : Represents new (run s events given)
-  pub moments : (old : D) → disk_held d ≡ Some old → disk.keeps_model old ≡ true → LedDisk disk crashes s events given old (disk_held new)
+  pub moments : (old : D) → disk_held d ≡ Some old → disk.keeps_model old ≡ true → (now : D) × (disk_held new ≡ Some now) × (disk.keeps_model now ≡ true) × EachMoment disk crashes true s events given old now
   pub failed : (n : ℕ) → HasFailed disk.failures (disk_held d) n → HasFailed disk.failures (disk_held new) (n + failed_until events given)
 
 -- these events have led from one driver to another, whatever machine the first represents
@@ -59,11 +52,7 @@ pub record Begins {D : Type 0} (d : DriverState D) : Type 0 where
   pub consistent : IsConsistent (started d.ledger)
   pub represents : Represents d (started d.ledger)
 
--- from there the events have led to another driver
-abbrev pub IsRun : {D : Type 0} → DiskModel D → (D → D → Type 0) → DriverState D → List Event → List Answer → DriverState D → Type 0
-IsRun disk crashes d events given new = Led disk crashes (started d.ledger) events given d new
-
--- a flight has led from one driver to another
+-- a flight does
 abbrev pub GoesBy : {D : Type 0} → DiskModel D → (D → D → Type 0) → DriverState D → List Answer → DriverState D → Type 0
 GoesBy disk crashes d given new = Leads disk crashes d (flight_events given) given new
 
@@ -99,13 +88,13 @@ pub record RaisesTo {D : Type 0} (disk : DiskModel D) (crashes : D → D → Typ
   pub failed : disk.failures raised ≡ disk.failures old
   pub moments : has_stopped d.ledger.log ≡ false → disk.keeps_model old ≡ true → LeavesOnly disk old raised (GivesRaised d)
 
--- the driver was given up at a moment of the raising, for this fault
-pub record RaisesPart {D : Type 0} (disk : DiskModel D) (d : DriverState D) (why : Fault) (lost : D) : Type 0 where
+-- it was given up at a moment of that, for this fault
+pub record RaisesPart {D : Type 0} (disk : DiskModel D) (d : DriverState D) (refused : Fault × D) : Type 0 where
   pub old : D
   pub there : disk_held d ≡ Some old
-  pub moments : has_stopped d.ledger.log ≡ false → disk.keeps_model old ≡ true → LeavesOnly disk old lost (GivesRaised d)
-  pub cause : IsEmptyLog d.ledger.log → IsPassing why
-  pub failed : disk.failures lost ≡ disk.failures old + failed_by why
+  pub moments : has_stopped d.ledger.log ≡ false → disk.keeps_model old ≡ true → LeavesOnly disk old refused.1 (GivesRaised d)
+  pub cause : IsEmptyLog d.ledger.log → IsPassing refused.0
+  pub failed : disk.failures refused.1 ≡ disk.failures old + failed_by refused.0
 
 -- ---- what is asked
 
@@ -128,23 +117,23 @@ abbrev pub CarriesIf : {D : Type 0} → DiskModel D → (D → D → Type 0) →
 CarriesIf disk crashes d a told new = IsPromised disk d a → Carries disk crashes d a told new
 
 -- the disk was given up in a crash, behind the taking of an image
-pub record IsLostInCrash {D : Type 0} (disk : DiskModel D) (crashes : D → D → Type 0) (d : DriverState D) (why : Fault) (lost : D) : Type 0 where
-  pub moments : (s : Machine) → IsConsistent s → Represents d s → (old : D) → disk_held d ≡ Some old → disk.keeps_model old ≡ true → Reopens disk crashes (Survives s) old lost
-  pub cause : model_held disk d ≡ Some true → IsPassing why
-  pub failed : (n : ℕ) → HasFailed disk.failures (disk_held d) n → disk.failures lost ≡ n + failed_by why
+pub record GivesUpInCrash {D : Type 0} (disk : DiskModel D) (crashes : D → D → Type 0) (d : DriverState D) (refused : Fault × D) : Type 0 where
+  pub moments : (s : Machine) → IsConsistent s → Represents d s → (old : D) → disk_held d ≡ Some old → disk.keeps_model old ≡ true → Reopens disk crashes (Survives s) old refused.1
+  pub cause : model_held disk.keeps_model d ≡ Some true → IsPassing refused.0
+  pub failed : (n : ℕ) → HasFailed disk.failures (disk_held d) n → disk.failures refused.1 ≡ n + failed_by refused.0
 
 -- for want of memory behind a part of its events
-abbrev pub LacksMemory : {D : Type 0} → DiskModel D → (D → D → Type 0) → Asked → Drill D → Fault → D → Type 0
-LacksMemory disk crashes a d why lost = IsOfMemory why × LeadsPart disk crashes d.driver (line_events d.holds a) lost
+abbrev pub LacksMemory : {D : Type 0} → DiskModel D → (D → D → Type 0) → Asked → Drill D → Fault × D → Type 0
+LacksMemory disk crashes a d refused = IsOfMemory refused.0 × LeadsPart disk crashes d.driver (line_events d.holds a) refused.1
 
--- what is asked was cut short for this fault, and this disk given up
-abbrev pub Cuts : {D : Type 0} → DiskModel D → (D → D → Type 0) → Asked → Drill D → Fault → D → Type 0
-Cuts disk crashes Version2 d why lost = RaisesPart disk d.driver why lost
-Cuts disk crashes Crash d why lost = LacksMemory disk crashes Crash d why lost ⊎ IsLostInCrash disk crashes d.driver why lost
-Cuts disk crashes a d why lost = LacksMemory disk crashes a d why lost
+-- what is asked was cut short for the fault that stands beside the disk that was given up
+abbrev pub Cuts : {D : Type 0} → DiskModel D → (D → D → Type 0) → Asked → Drill D → Fault × D → Type 0
+Cuts disk crashes Version2 d refused = RaisesPart disk d.driver refused
+Cuts disk crashes Crash d refused = LacksMemory disk crashes Crash d refused ⊎ GivesUpInCrash disk crashes d.driver refused
+Cuts disk crashes a d refused = LacksMemory disk crashes a d refused
 
-abbrev pub CutsIf : {D : Type 0} → DiskModel D → (D → D → Type 0) → Asked → Drill D → Fault → D → Type 0
-CutsIf disk crashes a d why lost = IsPromised disk d a → Cuts disk crashes a d why lost
+abbrev pub CutsIf : {D : Type 0} → DiskModel D → (D → D → Type 0) → Asked → Drill D → Fault × D → Type 0
+CutsIf disk crashes a d refused = IsPromised disk d a → Cuts disk crashes a d refused
 
 -- a flight prints this and leaves this drill, whatever tickets the machine has given before it
 pub record Flies {D : Type 0} (disk : DiskModel D) (crashes : D → D → Type 0) (d : Drill D) (told : List ℕ) (new : Drill D) : Type 0 where
@@ -156,17 +145,17 @@ pub record Flies {D : Type 0} (disk : DiskModel D) (crashes : D → D → Type 0
 
 -- ---- where the code's drill is
 
--- The code's drill stands at this place, on a disk that keeps the model. What was told of is settled, and as long as no step
--- was accepted its world is empty.
+-- It stands at this place, on a disk that keeps the model, of which whatever a crash may leave survives. What was told of
+-- is settled, and as long as no step was accepted its world is empty.
 pub record Stands {D : Type 0} (disk : DiskModel D) (d : Drill D) (p : Place D) : Type 0 where
   pub state : p.state ≡ state_of d
   pub holds : disk_held d.driver ≡ Some p.disk
   pub keeps : disk.keeps_model p.disk ≡ true
   pub consistent : IsConsistent p.machine
   pub represents : Represents d.driver p.machine
-  pub told : AllByRecursion (λ n. n ≤ settled_count p.machine.log) p.told
+  pub settled : IsSettled p.machine p.told
   pub empty : p.state.has_begun ≡ false → IsEmptyLog p.state.log
-  pub kept : AllKept p.machine p.told (disk.present p.disk)
+  pub survives : CrashPrefix p.machine true (disk.present p.disk)
 
 -- a ledger over a store that was made on this disk
 pub record IsMade {D : Type 0} (disk : DiskModel D) (given : D) (l : LedgerState D) : Type 0 where

@@ -11,6 +11,7 @@ ghost use Rattle.coord_drill.specs.Holding.{IsReady};
 ghost use Rattle.coord_drill.specs.InMemory.{DrillsInMemory, FailsInMemory, IsBlank};
 ghost use Rattle.coord_drill.specs.Lines.{BreaksOff, EndsEarly, EndsWith, Takes};
 ghost use Rattle.coord_drill.specs.Moments.{IsBegun};
+ghost use Rattle.coord_drill.specs.Written.{Exchanges, Writes};
 ghost use Rattle.coord_drill.specs.declared.fault.Fault.TheVariants.{TooManyReads};
 
 mod lines;
@@ -74,13 +75,13 @@ pub fn coord_drill_on<R: Read, W: Write, D: CrashDisk>(
     disk: D,
 ) -> Result<D, (Fault, D)>
     ensures ended { D.model.keeps_model disk ≡ true → IfOk result (Drills D.model D.crashes disk
-        (R.remaining reader.old) (R.remaining reader.new)
-        (W.contents writer.old) (W.contents writer.new)) }
+        (record { unread = R.remaining reader.old; written = W.contents writer.old })
+        (record { unread = R.remaining reader.new; written = W.contents writer.new })) }
     ensures end { OnOk result (IsAtEnd (R.remaining reader.new)) }
     ensures failed { D.model.keeps_model disk ≡ true →
-        IfErr result (λ refused. Fails D.model D.crashes disk
-        (R.remaining reader.old) (R.remaining reader.new)
-        (W.contents writer.old) (W.contents writer.new) refused.0 refused.1) }
+        IfErr result (Fails D.model D.crashes disk
+        (record { unread = R.remaining reader.old; written = W.contents writer.old })
+        (record { unread = R.remaining reader.new; written = W.contents writer.new })) }
 {
     Console::new(alloc, disk)?.run(alloc, reader, writer)
 }
@@ -113,7 +114,7 @@ impl<D: CrashDisk> Console<D> {
         ensures line { IfOk result (λ console. console.line ≡ Some []) }
         ensures number { IfOk result (λ console. console.number ≡ 0) }
         ensures not_made { D.model.keeps_model disk ≡ true →
-            IfErr result (λ refused. NotMade D.model disk refused.0 refused.1) }
+            IfErr result (NotMade D.model disk) }
         ensures fault { IfErr result (λ refused. IsOfDisk refused.0) }
     {
         Ok(Console {
@@ -133,16 +134,16 @@ impl<D: CrashDisk> Console<D> {
     ) -> Result<D, (Fault, D)>
         requires ready { IsReady self.drill }
         requires number { self.number ≡ 0 }
-        ensures ended { IfOk result (λ last. (seen : List ℕ)
-            × Consumes (R.remaining reader.old) (R.remaining reader.new) seen
-            × EndsWith D.model D.crashes self.drill 1 (lines_on self.line seen)
-            (W.contents writer.old) (W.contents writer.new) last) }
+        ensures ended { IfOk result (λ last. Exchanges
+            (record { unread = R.remaining reader.old; written = W.contents writer.old })
+            (record { unread = R.remaining reader.new; written = W.contents writer.new })
+            (λ seen text. EndsWith D.model D.crashes self (lines_on self.line seen) text last)) }
         ensures end { OnOk result (IsAtEnd (R.remaining reader.new)) }
-        ensures failed { IfErr result (λ refused. (seen : List ℕ)
-            × Consumes (R.remaining reader.old) (R.remaining reader.new) seen
-            × EndsEarly D.model D.crashes self.drill 1 (lines_on self.line seen)
-            (W.contents writer.old) (W.contents writer.new) refused.0 refused.1
-            × (refused.0 ≡ TooManyReads → MOST_READS ≤ length seen)) }
+        ensures failed { IfErr result (λ refused. Exchanges
+            (record { unread = R.remaining reader.old; written = W.contents writer.old })
+            (record { unread = R.remaining reader.new; written = W.contents writer.new })
+            (λ seen text. EndsEarly D.model D.crashes self (lines_on self.line seen) refused text
+            × (refused.0 ≡ TooManyReads → MOST_READS ≤ length seen))) }
     {
         let mut console = self;
         let mut bytes = [0; READ_LEN];
@@ -171,13 +172,12 @@ impl<D: CrashDisk> Console<D> {
         requires number { self.number + length piece.now < 2 ^ 64 - 1 }
         ensures ready { IfOk result (λ console. IsReady console.drill) }
         ensures number { IfOk result (λ console. console.number ≤ self.number + length piece.now) }
-        ensures taken { IfOk result (λ console. Takes D.model D.crashes
-            self.drill self.number self.line piece.now []
-            (W.contents writer.old) (W.contents writer.new)
-            console.drill console.number console.line) }
-        ensures failed { IfErr result (λ refused. BreaksOff D.model D.crashes
-            self.drill (self.number + 1) (lines_on self.line piece.now)
-            (W.contents writer.old) (W.contents writer.new) refused.0 refused.1) }
+        ensures taken { IfOk result (λ console.
+            Writes (W.contents writer.old) (W.contents writer.new)
+            (λ text. Takes D.model D.crashes self piece.now [] text console)) }
+        ensures failed { IfErr result (λ refused.
+            Writes (W.contents writer.old) (W.contents writer.new)
+            (BreaksOff D.model D.crashes self (lines_on self.line piece.now) refused)) }
         ensures fault { IfErr result (λ refused. IsOfWork refused.0) }
     {
         let mut text = Vec::new(alloc);
@@ -195,12 +195,12 @@ impl<D: CrashDisk> Console<D> {
     fn finish<W: Write>(self, writer: &mut W) -> Result<D, (Fault, D)>
         requires ready { IsReady self.drill }
         requires number { self.number < 2 ^ 64 - 1 }
-        ensures ended { IfOk result (λ last. EndsWith D.model D.crashes
-            self.drill (self.number + 1) (lines_on self.line [])
-            (W.contents writer.old) (W.contents writer.new) last) }
-        ensures failed { IfErr result (λ refused. EndsEarly D.model D.crashes
-            self.drill (self.number + 1) (lines_on self.line [])
-            (W.contents writer.old) (W.contents writer.new) refused.0 refused.1) }
+        ensures ended { IfOk result (λ last.
+            Writes (W.contents writer.old) (W.contents writer.new)
+            (λ text. EndsWith D.model D.crashes self (lines_on self.line []) text last)) }
+        ensures failed { IfErr result (λ refused.
+            Writes (W.contents writer.old) (W.contents writer.new)
+            (EndsEarly D.model D.crashes self (lines_on self.line []) refused)) }
         ensures fault { IfErr result (λ refused. IsOfWork refused.0) }
     {
         let disk = self.end_line(writer)?.into_disk();

@@ -52,7 +52,7 @@ impl<D: CrashDisk> Drill<D> {
         ensures state { IfOk result (λ drill. state_of drill ≡ drill_over (no_world 1)) }
         ensures fault { IfErr result (λ refused. IsOfDisk refused.0) }
         ensures not_made { D.model.keeps_model disk ≡ true →
-            IfErr result (λ refused. NotMade D.model disk refused.0 refused.1) }
+            IfErr result (NotMade D.model disk) }
     {
         let driver = Driver::over(new_ledger(alloc, disk)?);
         driver.lemma_begins();
@@ -83,9 +83,7 @@ impl<D: CrashDisk> Drill<D> {
         ensures told { IfOk result (λ drill. Tells (string_bytes text.old) (string_bytes text.new)
             (λ told. CarriesIf D.model D.crashes self (asked (front_of self) request.now) told
             drill)) }
-        ensures cut { IfErr result (λ refused.
-            CutsIf D.model D.crashes (asked (front_of self) request.now) self refused.0
-            refused.1) }
+        ensures cut { IfErr result (CutsIf D.model D.crashes (asked (front_of self) request.now) self) }
         ensures fault { IfErr result (λ refused.
             MayEnd (asked (front_of self) request.now) refused.0) }
     {
@@ -99,9 +97,7 @@ impl<D: CrashDisk> Drill<D> {
         ensures ready { IfOk result IsReady }
         ensures told { IfOk result (λ drill. Tells (string_bytes text.old) (string_bytes text.new)
             (λ told. CarriesIf D.model D.crashes self wanted told drill)) }
-        ensures cut { IfErr result (λ refused.
-            CutsIf D.model D.crashes wanted self refused.0
-            refused.1) }
+        ensures cut { IfErr result (CutsIf D.model D.crashes wanted self) }
         ensures fault { IfErr result (λ refused. MayEnd wanted refused.0) }
     {
         match wanted {
@@ -145,7 +141,7 @@ fn new_ledger<D: CrashDisk>(alloc: Global, disk: D) -> Result<Ledger<D>, (Fault,
     ensures made { IfOk result (IsMade D.model disk) }
     ensures fault { IfErr result (λ refused. IsOfDisk refused.0) }
     ensures not_made { D.model.keeps_model disk ≡ true →
-        IfErr result (λ refused. NotMade D.model disk refused.0 refused.1) }
+        IfErr result (NotMade D.model disk) }
 {
     match Store::create(alloc, disk, HALF_SIZE, 1) {
         Ok(store) => adopt(alloc, store),

@@ -14,10 +14,13 @@
 //! but for those of a view, which are coord_view's.
 //! Memory, the device and a crash choose among the machine's answers: that is the luck of a line.
 //! `specs/Drilled.antt` says what may be printed to a whole input, for some luck at each line, and
-//! `specs/Course.antt` what the disk goes through meanwhile. The main theorem is the contract of
-//! [`coord_drill_on`]: what was written is printed to all that was read, and at each moment of that
-//! whatever a crash may leave of the disk is a legal world after a first part of the accepted steps,
-//! with every step of which anything was printed. The grammar's law is that of [`spelled_is_read`]: no two requests share a line.
+//! `specs/Course.antt` what the disk goes through meanwhile: the events of each line are a run of the
+//! ledger's machine on the disk, with the ledger's headline at each of its moments. The main theorem
+//! is the contract of [`coord_drill_on`]: what was written is printed to all that was read, and at
+//! each moment of that whatever a crash may leave of the disk is a legal world after a first part of
+//! the accepted steps. Every step of which anything was printed is settled by then, so it is in that
+//! world ([`printed_survives`]). The grammar's law is that of [`spelled_is_read`]: no two requests
+//! share a line.
 #![tactic(auto)]
 
 mod answers;
@@ -34,4 +37,4 @@ mod writing;
 
 pub use console::{MOST_READS, coord_drill, coord_drill_on};
 pub use fault::Fault;
-pub use laws::{spelled_is_read, worked_lines};
+pub use laws::{printed_survives, spelled_is_read, worked_lines};

@@ -1,26 +1,14 @@
 -- As long as no step was accepted the world of a drill is empty.
-use Rattle.std.proofs.Common.{◌≡◌, ◌≢◌, ℕ, Bool, false, List, [], ◌∷◌, None, Result, refl, sym, ap, ◌∙◌, subst, arith, inr, is_some}
-use Rattle.std.specs.Cmp.{nat_cmp_total}
-use Rattle.coord_types.specs.Facade.{get}
+use Rattle.std.proofs.Common.{◌≡◌, ◌≢◌, ℕ, Bool, false, List, [], ◌∷◌, Result, refl, sym, ap, ◌∙◌, subst, arith, inr}
 use Rattle.coord_types.specs.Table as table
-use Rattle.coord_types.proofs.Tables.{get-empty}
 use Rattle.coord_store.specs.Migrating.{risen}
-use Rattle.coord_world.proofs.Facade.{no_lane}
-use Rattle.coord_world.specs.Facade.{Legal, World, is_linked, lane_at, no_world}
+use Rattle.coord_world.specs.Facade.{World, no_world}
 use Rattle.coord_ledger.specs.declared.events.Event.TheVariants as event
 use Rattle.coord_ledger.specs.Facade.{Answered, Log, after_submit, log_over, machine_over, rebased, run}
 use Rattle.coord_drill.specs.Answered.{IsAnswered}
 use Rattle.coord_drill.specs.Drill.{DrillState, after_asked, begun_after, flight_events, machine_of, step_events}
 use Rattle.coord_drill.specs.declared.asked.Asked.TheVariants as ask
 use Rattle.coord_drill.specs.Facade.{Accepted, Answer, Asked, IsEmptyLog, Refusal, Step, Verdict}
-
--- nothing is illegal in the empty world
-pub no_world_legal : (version : ℕ) → Legal (no_world version)
-no_world_legal version = record {
-  nodes = λ u r is. let none : get (no_world version).nodes u ≡ None = get-empty nat_cmp_total u in cc;
-  lanes = λ u v l is. let none : lane_at (no_world version).links u v ≡ None = no_lane version u v in cc;
-  links = λ u v is. let none : is_linked (no_world version) u v ≡ false = ap is_some (no_lane version u v) in cc;
-}
 
 pub risen_empty : risen (no_world 1) ≡ no_world 2
 unfolding table.empty table.change

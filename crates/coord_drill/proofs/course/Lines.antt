@@ -1,19 +1,18 @@
 -- Lines, one after the other: each leaves the disk as the course says, also where it is cut short.
 use Rattle.std.proofs.Common.{◌≡◌, ◌+◌, Bool, true, false, List, [], length, take, Some, refl, sym, ap, ◌∙◌, arith, subst, inl, inr, ℕ, cond, ◌∷◌, ◌++◌, Option, None, Result, Ok, Err, IfOk, OnOk, append-nil, append_assoc}
+use Rattle.std.proofs.lemmas.Bool.{false≢true}
 use Rattle.std.specs.Option.{option_map}
 use Rattle.coord_disk.specs.Model.DiskModel.{DiskModel}
 use Rattle.coord_ledger.specs.declared.events.Event.{Event}
-use Rattle.coord_ledger.specs.Facade.{Machine, Survives, disk_held, failed_until, model_held, run, front_world}
-use Rattle.coord_ledger.proofs.runs.EachMoment.{reopens_more}
+use Rattle.coord_ledger.specs.Facade.{CrashPrefix, Machine, adopted, disk_held, run, front_world}
 use Rattle.coord_drill.specs.Drill.{DrillState, line_events}
 use Rattle.coord_drill.specs.declared.asked.Asked.TheVariants.{Crash, Version2}
-use Rattle.coord_drill.specs.Facade.{Answer, Asked, CutShort, Cuts, Drill, Fault, IsEmptyLog, IsKept, IsLeftBy, IsLostInCrash, IsOfDisk, IsOfMemory, IsPromised, LeadsPart, MayCutShort, MayEndBy, Place, RaisesPart, Stands, failed_by, opens_disk, AllKept, CarriesIf, CarriesLine, CutsIf, FirstCutShort, Goes, LineGoes, Moves, Prints, Refusal, Request, Responds, Step, Tells, UnlessSkipped, asked_in, bad_line, front_of, state_of, told_in}
+use Rattle.coord_drill.specs.Facade.{Asked, CutShort, Cuts, Drill, Fault, IsEmptyLog, IsLeftBy, IsOfDisk, IsOfMemory, IsPromised, IsSettled, LacksMemory, LineResponds, MayCutShort, MayEndBy, Place, RaisesPart, RunsOn, Stands, failed_by, opens_disk, CarriesIf, CarriesLine, CutsIf, FirstCutShort, Goes, LineGoes, Moves, Prints, Refusal, Request, Responds, Step, Tells, UnlessSkipped, asked_in, bad_line, front_of, state_of, told_in}
 use Rattle.coord_drill.proofs.does.Moments.{is_version}
-use Rattle.coord_drill.proofs.course.Kept.{kept_of, passes}
-use Rattle.coord_drill.proofs.course.Standing.{failed_is, raises, reached_by}
+use Rattle.coord_drill.proofs.course.Standing.{none_told, raises, reached_by, runs_on}
 use Rattle.coord_lines.specs.Lines.{Line}
 use Rattle.coord_types.specs.declared.packets.DataPacket.{DataPacket}
-use Rattle.coord_world.specs.Facade.{World}
+use Rattle.coord_world.specs.Facade.{World, no_world}
 use Rattle.coord_drill.specs.Answered.{IsAnswered}
 use Rattle.coord_drill.specs.Asked.{asked, asked_of_front}
 use Rattle.coord_drill.specs.Drilled.{asked_by, is_skipped, unless_late}
@@ -31,55 +30,46 @@ of_disk true why may = may
 of_disk false why may = inl may
 
 module _ {D : Type 0} (disk : DiskModel D) (crashes : D → D → Type 0) (d : Drill D) (p : Place D) (at : Stands disk d p) where
-  -- the events that were answered
-  abbrev so_far : Asked → List Answer → List Event
-  so_far a given = take (length given) (line_events p.state.holds a given)
+  left_as : (a : Asked) (s : Machine) (mid lost : D) → is_version a ≡ false → lost ≡ mid → IsLeftBy disk crashes a s mid lost
+  left_as a s mid lost h1 h2 = grind arith
 
-  left_as : (a : Asked) (m : Machine) (mid lost : D) → is_version a ≡ false → lost ≡ mid → IsLeftBy disk crashes p a m mid lost
-  left_as a m mid lost h1 h2 = grind arith
-
-  cut_part : (a : Asked) (why : Fault) (lost : D) → is_version a ≡ false → IsOfMemory why → LeadsPart disk crashes d.driver (line_events d.holds a) lost → CutShort disk crashes p a why lost
-  cut_part a why lost other memory part =
+  -- a part of its events was answered
+  cut_part : (a : Asked) (refused : Fault × D) → is_version a ≡ false → LacksMemory disk crashes a d refused → CutShort disk crashes p a refused
+  cut_part a refused other lacks =
+      let memory = lacks.0 in
+      let part = lacks.1 in
       let given = part.given in
+      let es : DrillState → List Event = λ s. take (length given) (line_events s.holds a given) in
       let led = part.moments p.machine at.consistent at.represents in
-      let there = led.moments p.disk at.holds at.keeps in
-      let same : lost ≡ there.new = cc (there.holds, part.left) in
-      let es = take (length given) (line_events d.holds a given) in
-      let count = failed_is disk crashes p.disk there.new (disk_held d.driver) (disk_held part.mid) es given led.failed at.holds there.holds in
-      let none : failed_by why ≡ 0 = ap failed_by memory in
-      let all : disk.failures lost ≡ disk.failures p.disk + (failed_until es given + failed_by why) = omega (arith, ap disk.failures same, count, none) in
+      let there = runs_on disk crashes d.driver part.mid p.machine (es (state_of d)) given p.disk at.holds at.keeps led in
+      let same : refused.1 ≡ there.0 = cc (there.1, part.left) in
+      let none : failed_by refused.0 ≡ 0 = ap failed_by memory in
       record {
-        cause = of_memory (opens_disk a) why memory;
+        cause = of_memory (opens_disk a) refused.0 memory;
+        none_told = λ version. absurd (false≢true (sym other ∙ ap is_version version));
         given = given;
-        mid = there.new;
-        moments = rw at.state
-            (passes disk crashes p.machine p.told (take (length given) (line_events d.holds a given)) given p.disk there.new led.in_range at.consistent led.answered at.told there.moments);
-        left = left_as a (run p.machine (so_far a given) given) there.new lost other same;
-        failed = rw at.state all;
+        mid = there.0;
+        runs = subst (λ (s : DrillState). RunsOn disk crashes p.machine (es s) given p.disk there.0) (sym at.state) there.3;
+        left = left_as a (run p.machine (es p.state) given) there.0 refused.1 other same;
+        failed = omega (arith, ap disk.failures same, none);
       }
 
   -- behind no event
-  cut_before_events : (a : Asked) (why : Fault) (lost : D) → MayCutShort (opens_disk a) why → IsLeftBy disk crashes p a p.machine p.disk lost → disk.failures lost ≡ disk.failures p.disk + failed_by why → CutShort disk crashes p a why lost
-  cut_before_events a why lost cause left failed = record { cause = cause; given = []; mid = p.disk; moments = (refl, at.kept); left = left; failed = omega (arith, failed) }
-
-  -- in a crash
-  cut_crash : (why : Fault) (lost : D) → model_held disk d.driver ≡ Some true → IsLostInCrash disk crashes d.driver why lost → CutShort disk crashes p Crash why lost
-  cut_crash why lost model part =
-      let reopens = part.moments p.machine at.consistent at.represents p.disk at.holds at.keeps in
-      let kept = reopens_more disk crashes (Survives p.machine) (IsKept p.machine p.told) p.disk lost reopens (λ bytes survives. kept_of p.machine p.told bytes at.consistent at.told survives) in
-      cut_before_events Crash why lost (part.cause model) (inr kept) (part.failed (disk.failures p.disk) (ap (option_map disk.failures) at.holds))
+  cut_before_events : (a : Asked) (refused : Fault × D) → (a ≡ Version2 → IsSettled (adopted (no_world 2)) p.told) → MayCutShort (opens_disk a) refused.0 → IsLeftBy disk crashes a p.machine p.disk refused.1 → disk.failures refused.1 ≡ disk.failures p.disk + failed_by refused.0 → CutShort disk crashes p a refused
+  cut_before_events a refused none cause left failed = record { cause = cause; none_told = none; given = []; mid = p.disk; runs = record { in_range = tt; answered = tt; moments = (refl, at.survives); failed = omega arith }; left = left; failed = failed }
 
   -- in `version 2`
-  cut_raising : (why : Fault) (lost : D) → IsEmptyLog d.driver.ledger.log → RaisesPart disk d.driver why lost → CutShort disk crashes p Version2 why lost
-  cut_raising why lost empty part =
+  cut_raising : (refused : Fault × D) → IsEmptyLog d.driver.ledger.log → RaisesPart disk d.driver refused → CutShort disk crashes p Version2 refused
+  cut_raising refused empty part =
       let same : part.old ≡ p.disk = cc (part.there, at.holds) in
-      cut_before_events Version2 why lost (part.cause empty) (raises disk crashes d d p at empty part.old lost part.there part.moments) (part.failed ∙ ap (λ x. disk.failures x + failed_by why) same)
+      cut_before_events Version2 refused (λ _. none_told disk crashes d d p at empty) (part.cause empty) (raises disk crashes d d p at empty part.old refused.1 part.there part.moments) (part.failed ∙ ap (λ x. disk.failures x + failed_by refused.0) same)
 
-  pub cut_by : (a : Asked) (why : Fault) (lost : D) → IsPromised disk d a → Cuts disk crashes a d why lost → CutShort disk crashes p a why lost
-  cut_by Version2 why lost promised part = cut_raising why lost (promised.1 refl) part
-  cut_by Crash why lost promised (inl part) = cut_part Crash why lost refl part.0 part.1
-  cut_by Crash why lost promised (inr part) = cut_crash why lost promised.0 part
-  cut_by a why lost promised part = cut_part a why lost refl part.0 part.1
+  pub cut_by : (a : Asked) (refused : Fault × D) → IsPromised disk d a → Cuts disk crashes a d refused → CutShort disk crashes p a refused
+  cut_by Version2 refused promised part = cut_raising refused (promised.1 refl) part
+  cut_by Crash refused promised (inl part) = cut_part Crash refused refl part
+  cut_by Crash refused promised (inr part) =
+      cut_before_events Crash refused (λ no. absurd (false≢true (ap is_version no))) (part.cause promised.0) (inr (part.moments p.machine at.consistent at.represents p.disk at.holds at.keeps)) (part.failed (disk.failures p.disk) (ap (option_map disk.failures) at.holds))
+  cut_by a refused promised part = cut_part a refused refl part
 
 -- ---- what a line asks for
 
@@ -102,111 +92,121 @@ not_late s line is = grind (arith, in_time)
 -- ---- one line
 
 module _ {D : Type 0} (disk : DiskModel D) (crashes : D → D → Type 0) where
-  module _ (d : Drill D) (p : Place D) (at : Stands disk d p) (n : ℕ) where
-    pub goes_skipped : (line : List ℕ) → is_skipped line ≡ true → LineGoes disk crashes p n (Some line) [] p
+  module _ (d : Drill D) (p : Place D) (at : Stands disk d p) where
+    -- a line that asks for nothing leaves the drill where it stands
+    abbrev behind : List ℕ → Place D
+    behind text = record p { lines = p.lines + 1; printed = p.printed ++ text }
+
+    stands_on : (text : List ℕ) → Stands disk d (behind text)
+    stands_on text = record { state = at.state; holds = at.holds; keeps = at.keeps; consistent = at.consistent; represents = at.represents; settled = at.settled; empty = at.empty; survives = at.survives }
+
+    stays : (line : Line) (text : List ℕ) → asked_in p.state line ≡ None → LineResponds p.state (p.lines + 1) line [] text p.state → (q : Place D) × Stands disk d q × (q.printed ≡ p.printed ++ text) × LineGoes disk crashes p line q
+    stays line text none responds = (
+      behind text,
+      stands_on text,
+      refl,
+      record {
+        given = [];
+        text = text;
+        responds = responds;
+        lines = refl;
+        printed = refl;
+        told = rw none (sym (append-nil p.told));
+        settled = at.settled;
+        moves = rw none (refl, record { in_range = tt; answered = tt; moments = (refl, at.survives); failed = omega arith });
+      },
+    )
+
+    pub goes_skipped : (line : List ℕ) → is_skipped line ≡ true → (q : Place D) × Stands disk d q × (q.printed ≡ p.printed ++ []) × LineGoes disk crashes p (Some line) q
     goes_skipped line skipped =
-        let e = ap (λ b. cond b None (option_map (asked (front_world p.state.log)) (asked_by p.state line))) skipped in
-        record {
-          given = [];
-          responds = rw skipped (refl, refl, refl);
-          told = rw e (sym (append-nil p.told));
-          moments = rw e (refl, refl);
-        }
-
-    pub goes_over : LineGoes disk crashes p n None (bad_line n) p
-    goes_over = record { given = []; responds = (refl, refl, refl); told = sym (append-nil p.told); moments = (refl, refl) }
-
-    pub goes_bad : (line : List ℕ) → is_skipped line ≡ false → asked_by (state_of d) line ≡ None → LineGoes disk crashes p n (Some line) (bad_line n) p
-    goes_bad line kept none =
-        let own : asked_by p.state line ≡ None = ap (λ (s : DrillState). asked_by s line) at.state ∙ none in
-        let e = asked_is p.state line None kept own in
-        record {
-          given = [];
-          responds = rw kept (rw own (refl, refl, refl));
-          told = rw e (sym (append-nil p.told));
-          moments = rw e (refl, refl);
-        }
-
-    -- what it asks for is promised
-    promised : (line : List ℕ) (r : Request) → asked_by (state_of d) line ≡ Some r → IsPromised disk d (asked (front_of d) r)
-    promised line r is = grind (arith, only_request, not_late)
-
-    pub goes_asked : (line : List ℕ) (r : Request) (told : List ℕ) (new : Drill D) → is_skipped line ≡ false → asked_by (state_of d) line ≡ Some r → CarriesIf disk crashes d (asked (front_of d) r) told new → (q : Place D) × (Stands disk new q × LineGoes disk crashes p n (Some line) told q)
-    goes_asked line r told new kept is carries =
-        let a = asked (front_of d) r in
-        let on = promised line r is in
-        let one = carries on in
-        let to = reached_by disk crashes d new p at a told on one in
-        let own : asked_by p.state line ≡ Some r = ap (λ (s : DrillState). asked_by s line) at.state ∙ is in
-        let asks : asked_in p.state (Some line) ≡ Some a = asked_is p.state line (Some r) kept own ∙ ap (λ (s : DrillState). Some (asked (front_world s.log) r)) at.state in
-        let answered : Responds p.state n (Some r) one.given told to.place.state =
-        subst (λ (s : DrillState). IsAnswered s (asked (front_world s.log) r) one.given told to.place.state) (sym at.state) (subst (IsAnswered (state_of d) a one.given told) (sym to.state) one.answered) in (
-          to.place,
-          (
-            to.stands,
-            record {
-              given = one.given;
-              responds = subst (λ b. UnlessSkipped b p.state one.given told to.place.state (Responds p.state n (asked_by p.state line) one.given told to.place.state)) (sym kept)
-                  (subst (λ o. Responds p.state n o one.given told to.place.state) (sym own) answered);
-              told = subst (λ o. to.place.told ≡ p.told ++ told_in p.state o one.given) (sym asks) to.told;
-              moments = subst (λ o. Moves disk crashes o one.given p to.place) (sym asks) to.moves;
-            },
-          ),
-        )
-
-    pub cut_asked : (line : List ℕ) (r : Request) (why : Fault) (lost : D) → is_skipped line ≡ false → asked_by (state_of d) line ≡ Some r → CutsIf disk crashes (asked (front_of d) r) d why lost → FirstCutShort disk crashes p (Some line ∷ []) why lost
-    cut_asked line r why lost kept is cuts =
-        let a = asked (front_of d) r in
-        let own : asked_by p.state line ≡ Some r = ap (λ (s : DrillState). asked_by s line) at.state ∙ is in
-        let asks : asked_in p.state (Some line) ≡ Some a = asked_is p.state line (Some r) kept own ∙ ap (λ (s : DrillState). Some (asked (front_world s.log) r)) at.state in
-        let on = promised line r is in
-        rw asks (cut_by disk crashes d p at a why lost on (cuts on))
+        stays (Some line) [] (ap (λ b. cond b None (option_map (asked (front_world p.state.log)) (asked_by p.state line))) skipped) (rw skipped (refl, refl, refl))
 
     -- a bad line asks for nothing
     pub asks_nothing : (line : List ℕ) → is_skipped line ≡ false → asked_by (state_of d) line ≡ None → asked_in p.state (Some line) ≡ None
     asks_nothing line kept none = asked_is p.state line None kept (ap (λ (s : DrillState). asked_by s line) at.state ∙ none)
 
+    pub goes_over : (n : ℕ) → n ≡ p.lines + 1 → (q : Place D) × Stands disk d q × (q.printed ≡ p.printed ++ bad_line n) × LineGoes disk crashes p None q
+    goes_over n number = stays None (bad_line n) refl (refl, ap bad_line number, refl)
+
+    pub goes_bad : (line : List ℕ) → is_skipped line ≡ false → asked_by (state_of d) line ≡ None → (n : ℕ) → n ≡ p.lines + 1 → (q : Place D) × Stands disk d q × (q.printed ≡ p.printed ++ bad_line n) × LineGoes disk crashes p (Some line) q
+    goes_bad line kept none n number =
+        let own : asked_by p.state line ≡ None = ap (λ (s : DrillState). asked_by s line) at.state ∙ none in
+        stays (Some line) (bad_line n) (asks_nothing line kept none) (rw kept (rw own (refl, ap bad_line number, refl)))
+
+    -- what it asks for is promised
+    promised : (line : List ℕ) (r : Request) → asked_by (state_of d) line ≡ Some r → IsPromised disk d (asked (front_of d) r)
+    promised line r is = grind (arith, only_request, not_late)
+
+    module _ (line : List ℕ) (r : Request) (kept : is_skipped line ≡ false) (is : asked_by (state_of d) line ≡ Some r) where
+      own : asked_by p.state line ≡ Some r
+      own = ap (λ (s : DrillState). asked_by s line) at.state ∙ is
+
+      asks : asked_in p.state (Some line) ≡ Some (asked (front_of d) r)
+      asks = asked_is p.state line (Some r) kept own ∙ ap (λ (s : DrillState). Some (asked (front_world s.log) r)) at.state
+
+      pub goes_asked : (text : List ℕ) (new : Drill D) → CarriesIf disk crashes d (asked (front_of d) r) text new → (q : Place D) × Stands disk new q × (q.printed ≡ p.printed ++ text) × LineGoes disk crashes p (Some line) q
+      goes_asked text new carries =
+          let a = asked (front_of d) r in
+          let on = promised line r is in
+          let one = carries on in
+          let to = reached_by disk crashes d new p at a text on one in
+          let answered : Responds p.state (p.lines + 1) (Some r) one.given text to.place.state =
+          subst (λ (s : DrillState). IsAnswered s (asked (front_world s.log) r) one.given text to.place.state) (sym at.state) (subst (IsAnswered (state_of d) a one.given text) (sym to.state) one.answered) in (
+            to.place,
+            to.stands,
+            to.printed,
+            record {
+              given = one.given;
+              text = text;
+              responds = subst (λ b. UnlessSkipped b p.state one.given text to.place.state (Responds p.state (p.lines + 1) (asked_by p.state line) one.given text to.place.state)) (sym kept)
+                  (subst (λ o. Responds p.state (p.lines + 1) o one.given text to.place.state) (sym own) answered);
+              lines = to.lines;
+              printed = to.printed;
+              told = subst (λ o. to.place.told ≡ p.told ++ told_in p.state o one.given) (sym asks) to.told;
+              settled = to.stands.settled;
+              moves = subst (λ o. Moves disk crashes o one.given p to.place) (sym asks) to.moves;
+            },
+          )
+
+      pub cut_asked : (refused : Fault × D) → CutsIf disk crashes (asked (front_of d) r) d refused → FirstCutShort disk crashes p (Some line ∷ []) refused
+      cut_asked refused cuts =
+          let on = promised line r is in
+          rw asks (cut_by disk crashes d p at (asked (front_of d) r) refused on (cuts on))
+
   -- a line that is told as bad
-  pub tells_bad : (d : Drill D) (n : ℕ) (old text : List ℕ) (r : Result (Drill D) (Fault × D)) (line : Line) → IfOk r (λ x. x ≡ d) → OnOk r (text ≡ old ++ bad_line n) → ((p : Place D) → Stands disk d p → LineGoes disk crashes p n line (bad_line n) p) →
+  pub tells_bad : (d : Drill D) (n : ℕ) (old text : List ℕ) (r : Result (Drill D) (Fault × D)) (line : Line) → IfOk r (λ x. x ≡ d) → OnOk r (text ≡ old ++ bad_line n) → CarriesLine disk crashes d n line (bad_line n) d →
       IfOk r (λ x. Tells old text (λ told. CarriesLine disk crashes d n line told x))
-  tells_bad d n old text (Ok x) line same told goes = (bad_line n, (told, λ p at. (p, (rw same at, goes p at))))
+  tells_bad d n old text (Ok x) line same told goes = (bad_line n, (told, rw same goes))
   tells_bad d n old text (Err e) line same told goes = tt
 
-  -- a bad line that could not be told, for want of memory
-  pub told_lost : (d : Drill D) (p : Place D) → Stands disk d p → (line : Line) (fault : Fault) (lost : D) → asked_in p.state line ≡ None → IsOfMemory fault → disk_held d.driver ≡ Some lost → FirstCutShort disk crashes p (line ∷ []) fault lost
-  told_lost d p at line fault lost none memory there = rw none (memory, cc (there, at.holds))
+  -- it could not be told
+  pub told_lost : (d : Drill D) (p : Place D) → Stands disk d p → (line : Line) (refused : Fault × D) → asked_in p.state line ≡ None → IsOfMemory refused.0 → disk_held d.driver ≡ Some refused.1 → FirstCutShort disk crashes p (line ∷ []) refused
+  told_lost d p at line refused none memory there = rw none (memory, cc (there, at.holds))
 
   -- ---- lines in turn
 
-  pub goes_one : (p q : Place D) (n : ℕ) (l : Line) (told : List ℕ) → LineGoes disk crashes p n l told q → AllKept q.machine q.told (disk.present q.disk) → Goes disk crashes p n (l ∷ []) told q
-  goes_one p q n l told goes kept = record { told = told; next = q; rest = []; line = goes; behind = (refl, refl, kept); whole = sym (append-nil told) }
+  pub goes_one : (p q : Place D) (l : Line) → LineGoes disk crashes p l q → CrashPrefix q.machine true (disk.present q.disk) → Goes disk crashes p (l ∷ []) q
+  goes_one p q l goes survives = (q, goes, (refl, survives))
 
-  pub goes_both : (p q r : Place D) (n m : ℕ) (ls ks : List Line) (t u : List ℕ) → m ≡ n + length ls → Goes disk crashes p n ls t q → Goes disk crashes q m ks u r → Goes disk crashes p n (ls ++ ks) (t ++ u) r
-  goes_both p q r n m [] ks t u at first more =
-      let here : m ≡ n = omega (arith, at) in
-      rw first.0 (rw (sym here) (rw (sym first.1) more))
-  goes_both p q r n m (l ∷ ls) ks t u at first more =
-      record {
-        told = first.told;
-        next = first.next;
-        rest = first.rest ++ u;
-        line = first.line;
-        behind = goes_both first.next q r (n + 1) m ls ks first.rest u (omega (arith, at)) first.behind more;
-        whole = ap (λ x. x ++ u) first.whole ∙ append_assoc first.told first.rest u;
-      }
+  pub goes_both : (p q r : Place D) (ls ks : List Line) → Goes disk crashes p ls q → Goes disk crashes q ks r → Goes disk crashes p (ls ++ ks) r
+  goes_both p q r [] ks first more = rw (sym first.0) more
+  goes_both p q r (l ∷ ls) ks first more = (first.0, first.1, goes_both first.0 q r ls ks first.2 more)
 
   -- what is printed of them may be
-  pub goes_prints : (p q : Place D) (n m : ℕ) (ls ks : List Line) (t u : List ℕ) → m ≡ n + length ls → Goes disk crashes p n ls t q → Prints q.state m ks u → Prints p.state n (ls ++ ks) (t ++ u)
-  goes_prints p q n m [] ks t u at first more =
-      let here : m ≡ n = omega (arith, at) in
-      rw first.0 (rw (sym here) (rw (sym first.1) more))
-  goes_prints p q n m (l ∷ ls) ks t u at first more =
-      record {
-        given = first.line.given;
-        told = first.told;
-        after = first.next.state;
-        rest = first.rest ++ u;
-        line = first.line.responds;
-        behind = goes_prints first.next q (n + 1) m ls ks first.rest u (omega (arith, at)) first.behind more;
-        whole = ap (λ x. x ++ u) first.whole ∙ append_assoc first.told first.rest u;
-      }
+  pub goes_prints : (p q : Place D) (ls ks : List Line) (u : List ℕ) → Goes disk crashes p ls q → Prints q.state (q.lines + 1) ks u → (t : List ℕ) × (q.printed ≡ p.printed ++ t) × Prints p.state (p.lines + 1) (ls ++ ks) (t ++ u)
+  goes_prints p q [] ks u first more = ([], rw (sym first.0) (sym (append-nil q.printed)), rw (sym first.0) more)
+  goes_prints p q (l ∷ ls) ks u first more =
+      let one = first.1 in
+      let rest = goes_prints first.0 q ls ks u first.2 more in (
+        one.text ++ rest.0,
+        rest.1 ∙ ap (λ x. x ++ rest.0) one.printed ∙ append_assoc p.printed one.text rest.0,
+        record {
+          given = one.given;
+          told = one.text;
+          after = first.0.state;
+          rest = rest.0 ++ u;
+          line = one.responds;
+          behind = subst (λ n. Prints first.0.state (n + 1) (ls ++ ks) (rest.0 ++ u)) one.lines rest.2;
+          whole = append_assoc one.text rest.0 u;
+        },
+      )

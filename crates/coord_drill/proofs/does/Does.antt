@@ -3,12 +3,12 @@ use Rattle.std.proofs.Common.{Bool, ◌≡◌, ℕ, true, false, cond, List, [],
 use Rattle.coord_types.specs.declared.steps.Kind.{Kind}
 use Rattle.coord_disk.specs.Model.DiskModel.{DiskModel}
 use Rattle.coord_ledger.specs.declared.events.Event.TheVariants as event
-use Rattle.coord_ledger.specs.Facade.{DriverState, IsAnew, after_submit, run as after_run, settled_count, verdict, with_step}
+use Rattle.coord_ledger.specs.Facade.{DriverState, IsAnew, started, after_submit, run as after_run, settled_count, verdict, with_step}
 use Rattle.coord_ledger.proofs.follows.Follows.{log_behind}
 use Rattle.coord_drill.specs.Answered.{asked_lines, flight_lines, kept_line, repeat_line}
 use Rattle.coord_drill.specs.Drill.{DrillState, after_asked, flight_events, machine_of, seen_as}
 use Rattle.coord_drill.specs.declared.asked.Asked.TheVariants.{Crash, Submit}
-use Rattle.coord_drill.specs.Facade.{Accepted, Answer, Fresh, IsRun, Opened, Refusal, Refused, Repeat, Repeated, Reply, Step, drill_of, opened_line, pending_line, refusal_line}
+use Rattle.coord_drill.specs.Facade.{Accepted, Answer, Fresh, Led, Opened, Refusal, Refused, Repeat, Repeated, Reply, Step, drill_of, opened_line, pending_line, refusal_line}
 
 -- ---- steps
 
@@ -61,7 +61,7 @@ pub crash_line : (s : DrillState) (count : ℕ) → opened_line count ≡ asked_
 unfolding asked_lines
 crash_line s count = refl
 
--- the drill behind a crash, seen from the world that was opened
-pub crash_after : {D : Type 0} (disk : DiskModel D) (crashes : D → D → Type 0) (v w : DriverState D) (holds begun : Bool) (count : ℕ) → IsRun disk crashes v (event.Crash ∷ []) (Opened count ∷ []) w → IsAnew w → drill_of w.ledger false begun ≡ after_asked (drill_of v.ledger holds begun) Crash (Opened count ∷ [])
+-- it is seen from the world that was opened
+pub crash_after : {D : Type 0} (disk : DiskModel D) (crashes : D → D → Type 0) (v w : DriverState D) (holds begun : Bool) (count : ℕ) → Led disk crashes (started v.ledger) (event.Crash ∷ []) (Opened count ∷ []) v w → IsAnew w → drill_of w.ledger false begun ≡ after_asked (drill_of v.ledger holds begun) Crash (Opened count ∷ [])
 unfolding after_asked
 crash_after disk crashes v w holds begun count h1 h2 = grind (arith, log_behind)

@@ -11,7 +11,7 @@ use Rattle.coord_ledger.proofs.follows.Follows.{flight_is, log_is}
 use Rattle.coord_ledger.proofs.machine.Logs.{world-add}
 use Rattle.coord_ledger.specs.declared.events.Event.TheVariants.{Begin}
 use Rattle.coord_ledger.specs.Facade.{Claim, DriverState, IsGranted, IsOneOf, Log, Machine, next_size, pending, run as after_run, settled_count, settled_world, settling_releases, started, cannot_flush, to_begin, with_doubt, with_settled}
-use Rattle.coord_drill.specs.Facade.{AreGranted, Begins, Begun, Drill, Flies, Flown, FlownTo, GoesBy, Lands, IsHeld, IsReadyWith, IsRun, Leads, LeadsPart, Nothing, Refused, Release, Reply, claims_of, collected_lines, drill_of, flight_events, flight_lines, flown_answers, flown_lines, landed_answers, landing_events, left_by, machine_of, seen_as, settled_lines, waiting}
+use Rattle.coord_drill.specs.Facade.{AreGranted, Begins, Begun, Drill, Flies, Flown, FlownTo, GoesBy, Lands, IsHeld, IsReadyWith, Leads, LeadsPart, Led, Nothing, Refused, Release, Reply, claims_of, collected_lines, drill_of, flight_events, flight_lines, flown_answers, flown_lines, landed_answers, landing_events, left_by, machine_of, seen_as, settled_lines, waiting}
 use Rattle.coord_drill.specs.declared.drill.flying.Flown.TheVariants as flown
 use Rattle.coord_drill.proofs.does.Moments.{leads_then}
 use Rattle.coord_drill.proofs.does.Settled.{collected_are, fold_version, granted_from, waiting_are}
@@ -78,7 +78,7 @@ module _ {D : Type 0} (disk : DiskModel D) (crashes : D → D → Type 0) (v w :
   b = next_size log
 
   abbrev Runs : Flown → Type 0
-  Runs r = IsRun disk crashes v (flight_events (flown_answers r b count)) (flown_answers r b count) w
+  Runs r = Led disk crashes (started v.ledger) (flight_events (flown_answers r b count)) (flown_answers r b count) v w
 
   abbrev After : Flown → Machine
   After r = after_run (started v.ledger) (flight_events (flown_answers r b count)) (flown_answers r b count)

@@ -13,7 +13,7 @@ use Rattle.coord_ledger.proofs.machine.Lists.{all_both}
 use Rattle.coord_drill.specs.Answered.{asked_lines}
 use Rattle.coord_drill.specs.Drill.{after_asked, line_events}
 use Rattle.coord_drill.specs.declared.asked.Asked.TheVariants.{Version2}
-use Rattle.coord_drill.specs.Facade.{Answer, Asked, Begins, Carries, Drill, Event, IsRun, Leads, LeadsBy, LeadsPart, Refused, state_of}
+use Rattle.coord_drill.specs.Facade.{Answer, Asked, Begins, Carries, Drill, Event, Leads, LeadsBy, LeadsPart, Led, Refused, state_of}
 
 pub if_ok_both : {A E : Type 0} (P Q : A → Type 0) (r : Result A E) → IfOk r P → IfOk r Q → IfOk r (λ a. P a × Q a)
 if_ok_both P Q (Ok a) p q = (p, q)
@@ -83,7 +83,7 @@ module _ {D : Type 0} (disk : DiskModel D) (crashes : D → D → Type 0) where
     answered = tt;
     consistent = is;
     represents = represents;
-    moments = λ old there keeps. record { new = old; holds = there; keeps = keeps; moments = (refl, λ _. survives s is represents old there keeps) };
+    moments = λ old there keeps. (old, there, keeps, (refl, λ _. survives s is represents old there keeps));
     failed = λ n has. let same : n ≡ n + 0 = omega arith in subst (HasFailed disk.failures (disk_held d)) same has;
   }
 
@@ -103,12 +103,11 @@ module _ {D : Type 0} (disk : DiskModel D) (crashes : D → D → Type 0) where
           moments = λ old there keeps.
               let effect = touches s is represents old there in
               let same : Some (disk.keeps_model effect.new) ≡ Some (disk.keeps_model old) = sym (ap (option_map disk.keeps_model) effect.holds) ∙ model ∙ ap (option_map disk.keeps_model) there in
-              let on : disk.keeps_model effect.new ≡ true = cc (same, keeps) in
-              record {
-                new = effect.new;
-                holds = effect.holds;
-                keeps = on;
-                moments = (
+              let on : disk.keeps_model effect.new ≡ true = cc (same, keeps) in (
+                effect.new,
+                effect.holds,
+                on,
+                (
                   λ _. before s is represents old there keeps,
                   (
                     effect.new,
@@ -117,8 +116,8 @@ module _ {D : Type 0} (disk : DiskModel D) (crashes : D → D → Type 0) where
                       (refl, λ _. later (after s e a) then later_shown effect.new effect.holds on),
                     ),
                   ),
-                );
-              };
+                ),
+              );
           failed = λ n has. let same : n + failed_at e a ≡ n + (failed_at e a + 0) = omega arith in subst (HasFailed disk.failures (disk_held new)) same (failed n has);
         }
 
@@ -143,8 +142,8 @@ module _ {D : Type 0} (disk : DiskModel D) (crashes : D → D → Type 0) where
         represents = subst (Represents new) (sym all) two.represents;
         moments = λ old there keeps.
             let x = one.moments old there keeps in
-            let y = two.moments x.new x.holds x.keeps in
-            record { new = y.new; holds = y.holds; keeps = y.keeps; moments = moments_both s es fs gs hs old x.new y.new x.moments y.moments };
+            let y = two.moments x.0 x.1 x.2 in
+            (y.0, y.1, y.2, moments_both s es fs gs hs old x.0 y.0 x.3 y.3);
         failed = λ n has.
             let sum = failed_both s es fs gs hs one.answered in
             let same : n + failed_until es gs + failed_until fs hs ≡ n + failed_until (es ++ fs) (gs ++ hs) = omega (arith, sum) in
@@ -152,7 +151,7 @@ module _ {D : Type 0} (disk : DiskModel D) (crashes : D → D → Type 0) where
       }
 
   -- from the machine over the driver's own log
-  pub run_of : (d new : DriverState D) (es : List Event) (gs : List Answer) → Begins d → Leads disk crashes d es gs new → IsRun disk crashes d es gs new
+  pub run_of : (d new : DriverState D) (es : List Event) (gs : List Answer) → Begins d → Leads disk crashes d es gs new → Led disk crashes (started d.ledger) es gs d new
   run_of d new es gs begins leads = leads (started d.ledger) begins.consistent begins.represents
 
   -- all of the events were answered, and the disk is given up behind them

@@ -1,33 +1,34 @@
--- Texts of which a first part was written.
-use Rattle.std.proofs.Common.{◌≡◌, ℕ, ◌≤◌, List, [], ◌++◌, length, length-append, Option, refl, sym, ap, ◌∙◌, arith, append_assoc, append-nil}
+-- Texts that were written, and texts of which a first part was written.
+use Rattle.std.proofs.Common.{◌≡◌, ℕ, ◌≤◌, List, [], ◌++◌, length, length-append, Option, Some, refl, sym, ap, ◌∙◌, subst, arith, append_assoc, append-nil}
 use Rattle.std.specs.Io.KnownBytes.{Appends, Keeps}
-use Rattle.std.proofs.KnownBytes.{Appends-trans, Appends-kept, Appends-nil}
-use Rattle.coord_drill.specs.Drilled.{WritesFirstPart}
-use Rattle.coord_drill.specs.Written.{WritesShort}
+use Rattle.std.proofs.KnownBytes.{Appends-kept, Appends-nil}
+use Rattle.coord_drill.specs.Drilled.{IsFirstPart, WritesFirstPart}
+use Rattle.coord_drill.specs.Written.{IsShortPart, Writes, WritesShort}
+
+-- what was written to a list that was empty has P
+pub writes_list : (items : List ℕ) (P : List ℕ → Type 0) → Writes (Some []) (Some items) P → P items
+writes_list items P one = subst P (sym one.1) one.2
+
+-- ---- first parts
 
 -- nothing was written
 pub first_part-none : (a : Option (List ℕ)) (text : List ℕ) → WritesFirstPart a a text
 first_part-none a text = ([], Appends-nil a, (text, refl))
 
--- more text stands behind
-pub first_part-longer : (a b : Option (List ℕ)) (text rest : List ℕ) → WritesFirstPart a b text → WritesFirstPart a b (text ++ rest)
-first_part-longer a b text rest h = (h.0, h.1, (h.2.0 ++ rest, ap (λ l. l ++ rest) h.2.1 ∙ append_assoc h.0 h.2.0 rest))
+-- all of it was, or all but a rest
+pub first_part-all : (written text rest : List ℕ) → written ≡ text → IsFirstPart written (text ++ rest)
+first_part-all written text rest is = (rest, ap (λ l. l ++ rest) (sym is))
 
--- all of it was written
-pub first_part-all : (a b : Option (List ℕ)) (text : List ℕ) → Appends a b text → WritesFirstPart a b text
-first_part-all a b text h = (text, h, ([], sym (append-nil text)))
+pub first_part-short : (written text rest : List ℕ) → IsShortPart written text → IsFirstPart written (text ++ rest)
+first_part-short written text rest short = (short.0 ++ rest, ap (λ l. l ++ rest) short.1 ∙ append_assoc written short.0 rest)
 
 -- ---- a text is not written whole
 
-pub short_after : (a b c : Option (List ℕ)) (text rest : List ℕ) → Appends a b text → WritesShort b c rest → WritesShort a c (text ++ rest)
-short_after a b c text rest h more =
-    (text ++ more.0, Appends-trans a b c text more.0 h more.1, (more.2.0, ap (λ l. text ++ l) more.2.1 ∙ sym (append_assoc text more.0 more.2.0), more.2.2))
+pub short_behind : (before text part printed : List ℕ) → printed ≡ before ++ text → IsShortPart part text → IsShortPart (before ++ part) printed
+short_behind before text part printed is short = (short.0, is ∙ ap (λ l. before ++ l) short.1 ∙ sym (append_assoc before part short.0), short.2)
 
-pub short_longer : (a b : Option (List ℕ)) (text rest : List ℕ) → WritesShort a b text → WritesShort a b (text ++ rest)
-short_longer a b text rest h = (h.0, h.1, (h.2.0 ++ rest, ap (λ l. l ++ rest) h.2.1 ∙ append_assoc h.0 h.2.0 rest, omega (arith, length-append h.2.0 rest, h.2.2)))
-
-pub short_first : (a b : Option (List ℕ)) (text : List ℕ) → WritesShort a b text → WritesFirstPart a b text
-short_first a b text h = (h.0, h.1, (h.2.0, h.2.1))
+pub short_longer : (part text rest : List ℕ) → IsShortPart part text → IsShortPart part (text ++ rest)
+short_longer part text rest short = (short.0 ++ rest, ap (λ l. l ++ rest) short.1 ∙ append_assoc part short.0 rest, omega (arith, length-append short.0 rest, short.2))
 
 -- what is left was not written
 pub short_left : (a b : Option (List ℕ)) (text written rest : List ℕ) → Appends a b written → text ≡ written ++ rest → 1 ≤ length rest → WritesShort a b text

@@ -1,128 +1,99 @@
 -- Pieces of the input, one after the other.
-use Rattle.std.proofs.Common.{◌≡◌, ◌⊎◌, ℕ, ◌+◌, List, [], ◌∷◌, ◌++◌, length, length-append, Option, Some, None, refl, sym, ap, ◌∙◌, subst, arith, inl, inr, append-nil, append_assoc}
-use Rattle.std.specs.Io.KnownBytes.{Appends}
-use Rattle.std.proofs.KnownBytes.{Appends-nil, Appends-trans}
+use Rattle.std.proofs.Common.{◌≡◌, ◌⊎◌, ℕ, ◌+◌, List, [], ◌∷◌, ◌++◌, Some, None, refl, sym, ap, ◌∙◌, subst, arith, inl, inr, append-nil, append_assoc}
 use Rattle.coord_disk.specs.Model.DiskModel.{DiskModel}
 use Rattle.coord_ledger.specs.Facade.{disk_held}
 use Rattle.coord_lines.specs.Lines.{IsWithin, Line, before_line_feed, behind_line_feed, extended, lines_on}
 use Rattle.coord_lines.proofs.LinesOn.{extended-nothing, lines_on-ended, lines_on-unended}
-use Rattle.coord_drill.specs.Facade.{Breaks, BreaksOff, CarriesLine, CarriesOut, CutsLine, Drill, EndsEarly, EndsWith, Fault, FirstCutShort, IsOfWriting, Place, Stops, StopsWork, Takes, WritesShort}
+use Rattle.coord_drill.specs.Facade.{Breaks, BreaksOff, CarriesLine, CarriesOut, Console, CutsLine, EndsEarly, EndsWith, Fault, FirstCutShort, IsOfWriting, IsShortPart, Place, Stops, StopsWork, Takes}
 use Rattle.coord_drill.specs.declared.fault.Fault.TheVariants.{Read, TooManyReads}
 use Rattle.coord_drill.proofs.course.Lines.{goes_both, goes_one}
-use Rattle.coord_drill.proofs.prints.FirstParts.{short_after, short_longer}
+use Rattle.coord_drill.proofs.prints.FirstParts.{short_behind, short_longer}
 
 module _ {D : Type 0} (disk : DiskModel D) (crashes : D → D → Type 0) where
   -- ---- lines that were carried out, and more behind them
 
-  first_cut_more : (q : Place D) (ls more : List Line) (why : Fault) (lost : D) → FirstCutShort disk crashes q ls why lost → FirstCutShort disk crashes q (ls ++ more) why lost
-  first_cut_more q [] more why lost cut = absurd cut
-  first_cut_more q (l ∷ ls) more why lost cut = cut
+  first_cut_more : (q : Place D) (ls more : List Line) (refused : Fault × D) → FirstCutShort disk crashes q ls refused → FirstCutShort disk crashes q (ls ++ more) refused
+  first_cut_more q [] more refused cut = absurd cut
+  first_cut_more q (l ∷ ls) more refused cut = cut
 
-  -- what stopped the lines behind them, with their text before its own
-  module _ (a b c : Option (List ℕ)) (first : List ℕ) (wrote : Appends a b first) (fault : Fault) (lost : D) (q : Place D) (ls : List Line) (text : List ℕ) where
-    work_later : (more : List Line) → StopsWork disk crashes b c fault lost q ls text → StopsWork disk crashes a c fault lost q (ls ++ more) (first ++ text)
-    work_later more (inl line) = inl (record { wrote = Appends-trans a b c first text wrote line.wrote; cut = first_cut_more q ls more fault lost line.cut })
-    work_later more (inr short) = inr (record { cause = short.cause; wrote = short_after a b c first text wrote short.wrote; given_back = back short.given_back })
-      where
-        back : (lost ≡ q.disk) ⊎ ((why : Fault) × FirstCutShort disk crashes q ls why lost) → (lost ≡ q.disk) ⊎ ((why : Fault) × FirstCutShort disk crashes q (ls ++ more) why lost)
-        back (inl same) = inl same
-        back (inr cut) = inr (cut.0, first_cut_more q ls more cut.0 lost cut.1)
-
-    stops_later : Stops disk crashes b c fault lost q ls text → Stops disk crashes a c fault lost q (ls ++ []) (first ++ text)
-    stops_later (inl read) = inl (record { cause = read.cause; wrote = Appends-trans a b c first text wrote read.wrote; unended = ap length (append-nil ls) ∙ read.unended; same = read.same })
-    stops_later (inr (inl flush)) = inr (inl (record { cause = flush.cause; wrote = Appends-trans a b c first text wrote flush.wrote; ended = append-nil ls ∙ flush.ended; same = flush.same }))
-    stops_later (inr (inr work)) = inr (inr (work_later [] work))
+  work_more : (refused : Fault × D) (more : List Line) (q : Place D) (ls : List Line) (written : List ℕ) → StopsWork disk crashes q ls written refused → StopsWork disk crashes q (ls ++ more) written refused
+  work_more refused more q ls written (inl line) = inl (record { wrote = line.wrote; cut = first_cut_more q ls more refused line.cut })
+  work_more refused more q ls written (inr short) = inr (record { cause = short.cause; wrote = short.wrote; given_back = back short.given_back })
+    where
+      back : (refused.1 ≡ q.disk) ⊎ ((why : Fault) × FirstCutShort disk crashes q ls (why, refused.1)) → (refused.1 ≡ q.disk) ⊎ ((why : Fault) × FirstCutShort disk crashes q (ls ++ more) (why, refused.1))
+      back (inl same) = inl same
+      back (inr cut) = inr (cut.0, first_cut_more q ls more (cut.0, refused.1) cut.1)
 
   -- for another reason, which that one gives
-  pub breaks_so : (d : Drill D) (n : ℕ) (ls : List Line) (Why So : Place D → List Line → List ℕ → Type 0) → ((q : Place D) (others : List Line) (text : List ℕ) → Why q others text → So q others text) → Breaks disk crashes d n ls Why → Breaks disk crashes d n ls So
-  breaks_so d n ls Why So so breaks = record {
+  breaks_so : (c : Console D) (ls : List Line) (t u : List ℕ) (Why So : Place D → List Line → List ℕ → Type 0) → ((p q : Place D) (others : List Line) → Why q others (p.printed ++ t) → So q others (p.printed ++ u)) → Breaks disk crashes c ls t Why → Breaks disk crashes c ls u So
+  breaks_so c ls t u Why So so breaks = record {
     ended = breaks.ended;
     others = breaks.others;
     split = breaks.split;
-    text = breaks.text;
-    goes = λ p stands. let one = breaks.goes p stands in (one.0, (one.1.0, so one.0 breaks.others breaks.text one.1.1));
+    goes = λ p at. let one = breaks.goes p at in (one.0, one.1, so p one.0 breaks.others one.2);
   }
 
-  pub works_early : (d : Drill D) (n : ℕ) (ls : List Line) (a b : Option (List ℕ)) (fault : Fault) (lost : D) → BreaksOff disk crashes d n ls a b fault lost → EndsEarly disk crashes d n ls a b fault lost
-  works_early d n ls a b fault lost breaks = breaks_so d n ls _ _ (λ q others text work. inr (inr work)) breaks
+  pub works_early : (c : Console D) (ls : List Line) (refused : Fault × D) (t : List ℕ) → BreaksOff disk crashes c ls refused t → EndsEarly disk crashes c ls refused t
+  works_early c ls refused t breaks = breaks_so c ls t t _ _ (λ p q others work. inr (inr work)) breaks
 
-  pub carries_none : (d : Drill D) (n : ℕ) (a : Option (List ℕ)) → CarriesOut disk crashes d n [] a a d
-  carries_none d n a = record { text = []; wrote = Appends-nil a; goes = λ p at. (p, (at, (refl, refl, at.kept))) }
+  carries_none : (c : Console D) → CarriesOut disk crashes c [] [] c
+  carries_none c p at = (p, at, sym (append-nil p.printed), (refl, at.0.survives))
 
-  module _ (d mid : Drill D) (n m : ℕ) (ls ks : List Line) (a b c : Option (List ℕ)) (at : m ≡ n + length ls) (first : CarriesOut disk crashes d n ls a b mid) where
-    pub carries_after : (new : Drill D) → CarriesOut disk crashes mid m ks b c new → CarriesOut disk crashes d n (ls ++ ks) a c new
-    carries_after new more = record {
-      text = first.text ++ more.text;
-      wrote = Appends-trans a b c first.text more.text first.wrote more.wrote;
-      goes = λ p stands.
-          let one = first.goes p stands in
-          let two = more.goes one.0 one.1.0 in
-          (two.0, (two.1.0, goes_both disk crashes p one.0 two.0 n m ls ks first.text more.text at one.1.1 two.1.1));
-    }
+  module _ (c mid : Console D) (ls ks : List Line) (t u : List ℕ) (first : CarriesOut disk crashes c ls t mid) where
+    carries_after : (new : Console D) → CarriesOut disk crashes mid ks u new → CarriesOut disk crashes c (ls ++ ks) (t ++ u) new
+    carries_after new more p at =
+        let one = first p at in
+        let two = more one.0 one.1 in
+        (two.0, two.1, two.2 ∙ ap (λ x. x ++ u) one.2 ∙ append_assoc p.printed t u, goes_both disk crashes p one.0 two.0 ls ks one.3 two.3)
 
-    pub ends_after : (last : D) → EndsWith disk crashes mid m ks b c last → EndsWith disk crashes d n (ls ++ ks) a c last
-    ends_after last more = record {
-      text = first.text ++ more.text;
-      wrote = Appends-trans a b c first.text more.text first.wrote more.wrote;
-      goes = λ p stands.
-          let one = first.goes p stands in
-          let two = more.goes one.0 one.1.0 in
-          (two.0, (two.1.0, goes_both disk crashes p one.0 two.0 n m ls ks first.text more.text at one.1.1 two.1.1));
-    }
+    ends_after : (last : D) → EndsWith disk crashes mid ks u last → EndsWith disk crashes c (ls ++ ks) (t ++ u) last
+    ends_after last more p at =
+        let one = first p at in
+        let two = more one.0 one.1 in
+        (two.0, two.1, two.2 ∙ ap (λ x. x ++ u) one.2 ∙ append_assoc p.printed t u, goes_both disk crashes p one.0 two.0 ls ks one.3 two.3)
 
-    pub breaks_after : (Why So : Place D → List Line → List ℕ → Type 0) (more all : List Line) → all ≡ ls ++ (ks ++ more) → ((q : Place D) (others : List Line) (text : List ℕ) → Why q others text → So q (others ++ more) (first.text ++ text)) → Breaks disk crashes mid m ks Why →
-        Breaks disk crashes d n all So
-    breaks_after Why So more all whole so breaks = record {
+    breaks_after : (Why : Place D → List Line → List ℕ → Type 0) (more all : List Line) → all ≡ ls ++ (ks ++ more) → ((q : Place D) (others : List Line) (written : List ℕ) → Why q others written → Why q (others ++ more) written) → Breaks disk crashes mid ks u Why →
+        Breaks disk crashes c all (t ++ u) Why
+    breaks_after Why more all whole so breaks = record {
       ended = ls ++ breaks.ended;
       others = breaks.others ++ more;
       split = whole ∙ ap (λ k. ls ++ (k ++ more)) breaks.split ∙ ap (λ k. ls ++ k) (append_assoc breaks.ended breaks.others more) ∙ sym (append_assoc ls breaks.ended (breaks.others ++ more));
-      text = first.text ++ breaks.text;
-      goes = λ p stands.
-          let one = first.goes p stands in
-          let two = breaks.goes one.0 one.1.0 in
-          (two.0, (goes_both disk crashes p one.0 two.0 n m ls breaks.ended first.text breaks.text at one.1.1 two.1.0, so two.0 breaks.others breaks.text two.1.1));
+      goes = λ p at.
+          let one = first p at in
+          let two = breaks.goes one.0 one.1 in
+          (two.0, goes_both disk crashes p one.0 two.0 ls breaks.ended one.3 two.1, subst (Why two.0 (breaks.others ++ more)) (ap (λ x. x ++ u) one.2 ∙ append_assoc p.printed t u) (so two.0 breaks.others (one.0.printed ++ u) two.2));
     }
 
   -- the disk is given back behind them
-  pub breaks_behind : (d new : Drill D) (n : ℕ) (ls others all : List Line) (a b : Option (List ℕ)) (lost : D) (Why : Place D → List Line → List ℕ → Type 0) → all ≡ ls ++ others → CarriesOut disk crashes d n ls a b new → disk_held new.driver ≡ Some lost →
-      ((q : Place D) (text : List ℕ) → lost ≡ q.disk → Appends a b text → Why q others text) → Breaks disk crashes d n all Why
-  breaks_behind d new n ls others all a b lost Why split out there why = record {
+  breaks_behind : (c new : Console D) (ls others all : List Line) (t u : List ℕ) (lost : D) (Why : Place D → List Line → List ℕ → Type 0) → all ≡ ls ++ others → CarriesOut disk crashes c ls t new → disk_held new.drill.driver ≡ Some lost →
+      ((p q : Place D) → lost ≡ q.disk → q.printed ≡ p.printed ++ t → Why q others (p.printed ++ u)) → Breaks disk crashes c all u Why
+  breaks_behind c new ls others all t u lost Why split out there why = record {
     ended = ls;
     others = others;
     split = split;
-    text = out.text;
-    goes = λ p stands. let one = out.goes p stands in (one.0, (one.1.1, why one.0 out.text (cc (there, one.1.0.holds)) out.wrote));
+    goes = λ p at. let one = out p at in (one.0, one.3, why p one.0 (cc (there, one.1.0.holds)) one.2);
   }
 
   -- ---- a line
 
-  pub carries_line : (d new : Drill D) (n : ℕ) (line : Line) (told : List ℕ) (a b : Option (List ℕ)) → CarriesLine disk crashes d n line told new → Appends a b told → CarriesOut disk crashes d n (line ∷ []) a b new
-  carries_line d new n line told a b carries wrote = record {
-    text = told;
-    wrote = wrote;
-    goes = λ p stands. let one = carries p stands in (one.0, (one.1.0, goes_one disk crashes p one.0 n line told one.1.1 one.1.0.kept));
-  }
+  pub carries_line : (c new : Console D) (line : Line) (text : List ℕ) → CarriesLine disk crashes c.drill (c.number + 1) line text new.drill → new.number ≡ c.number + 1 → CarriesOut disk crashes c (line ∷ []) text new
+  carries_line c new line text carries number p at =
+      let one = carries p at.0 (omega (arith, at.1)) in
+      (one.0, (one.1, omega (arith, one.3.lines, at.1, number)), one.2, goes_one disk crashes p one.0 line one.3 one.1.survives)
 
-  -- the text of a line was not written whole
-  pub line_unwritten : (d new : Drill D) (n : ℕ) (line : Line) (told : List ℕ) (a b : Option (List ℕ)) (fault : Fault) (lost : D) → CarriesLine disk crashes d n line told new → WritesShort a b told → IsOfWriting fault → disk_held new.driver ≡ Some lost → BreaksOff disk crashes d n (line ∷ []) a b fault lost
-  line_unwritten d new n line told a b fault lost carries short writing there = record {
-    ended = line ∷ [];
-    others = [];
-    split = refl;
-    text = told;
-    goes = λ p stands.
-        let one = carries p stands in
-        (one.0, (goes_one disk crashes p one.0 n line told one.1.1 one.1.0.kept, inr (record { cause = writing; wrote = short; given_back = inl (cc (there, one.1.0.holds)) })));
-  }
+  -- its text was not written whole
+  pub line_unwritten : (c new : Console D) (line : Line) (text part : List ℕ) (refused : Fault × D) → CarriesLine disk crashes c.drill (c.number + 1) line text new.drill → new.number ≡ c.number + 1 → IsShortPart part text → IsOfWriting refused.0 → disk_held new.drill.driver ≡ Some refused.1 → BreaksOff disk crashes c (line ∷ []) refused part
+  line_unwritten c new line text part refused carries number short writing there =
+      breaks_behind c new (line ∷ []) [] (line ∷ []) text part refused.1 _ refl (carries_line c new line text carries number) there
+      (λ p q same printed. inr (record { cause = writing; wrote = short_behind p.printed text part q.printed printed short; given_back = inl same }))
 
-  -- a line that was cut short breaks off
-  pub line_cut : (d : Drill D) (n : ℕ) (line : Line) (a : Option (List ℕ)) (fault : Fault) (lost : D) → CutsLine disk crashes d line fault lost → BreaksOff disk crashes d n (line ∷ []) a a fault lost
-  line_cut d n line a fault lost cuts = record {
+  -- it was cut short
+  pub line_cut : (c : Console D) (line : Line) (refused : Fault × D) → CutsLine disk crashes c.drill line refused → BreaksOff disk crashes c (line ∷ []) refused []
+  line_cut c line refused cuts = record {
     ended = [];
     others = line ∷ [];
     split = refl;
-    text = [];
-    goes = λ p stands. (p, ((refl, refl, stands.kept), inl (record { wrote = Appends-nil a; cut = cuts p stands })));
+    goes = λ p at. (p, (refl, at.0.survives), inl (record { wrote = append-nil p.printed; cut = cuts p at.0 }));
   }
 
   -- ---- the last line
@@ -130,120 +101,99 @@ module _ {D : Type 0} (disk : DiskModel D) (crashes : D → D → Type 0) where
   last_line : (line : Line) → IsWithin line → lines_on line [] ≡ line ∷ []
   last_line line within = ap (λ l. l ∷ []) (extended-nothing line within)
 
-  pub last_breaks : (d : Drill D) (n : ℕ) (line : Line) (Why : Place D → List Line → List ℕ → Type 0) → IsWithin line → Breaks disk crashes d n (line ∷ []) Why → Breaks disk crashes d n (lines_on line []) Why
-  last_breaks d n line Why within breaks = rw (last_line line within) breaks
+  pub last_breaks : (c : Console D) (refused : Fault × D) (t : List ℕ) → IsWithin c.line → EndsEarly disk crashes c (c.line ∷ []) refused t → EndsEarly disk crashes c (lines_on c.line []) refused t
+  last_breaks c refused t within breaks = rw (last_line c.line within) breaks
 
-  pub last_ends : (d new : Drill D) (n : ℕ) (line : Line) (a b : Option (List ℕ)) (last : D) → IsWithin line → CarriesOut disk crashes d n (line ∷ []) a b new → disk_held new.driver ≡ Some last → EndsWith disk crashes d n (lines_on line []) a b last
-  last_ends d new n line a b last within out there = rw (last_line line within) (record {
-    text = out.text;
-    wrote = out.wrote;
-    goes = λ p stands. let one = out.goes p stands in (one.0, (cc (there, one.1.0.holds), one.1.1));
-  })
+  pub last_ends : (c new : Console D) (t : List ℕ) (last : D) → IsWithin c.line → CarriesOut disk crashes c (c.line ∷ []) t new → disk_held new.drill.driver ≡ Some last → EndsWith disk crashes c (lines_on c.line []) t last
+  last_ends c new t last within out there = subst (λ ls. EndsWith disk crashes c ls t last) (sym (last_line c.line within)) (λ p at. let one = out p at in (one.0, cc (there, one.1.0.holds), one.2, one.3))
+
+  -- the writer could not be flushed behind it
+  pub last_unflushed : (c new : Console D) (t : List ℕ) (refused : Fault × D) → IsWithin c.line → CarriesOut disk crashes c (c.line ∷ []) t new → IsOfWriting refused.0 → disk_held new.drill.driver ≡ Some refused.1 → EndsEarly disk crashes c (lines_on c.line []) refused t
+  last_unflushed c new t refused within out writing there =
+      last_breaks c refused t within
+      (breaks_behind c new (c.line ∷ []) [] (c.line ∷ []) t t refused.1 _ refl out there
+      (λ p q same printed. inr (inl (record { cause = writing; wrote = sym printed; ended = refl; same = same }))))
 
   -- ---- pieces
 
-  pub takes_none : (d : Drill D) (number : ℕ) (line : Line) (piece : List ℕ) (a : Option (List ℕ)) → Takes disk crashes d number line piece piece a a d number line
-  takes_none d number line piece a = record { ended = []; lines = λ more. refl; numbers = omega arith; out = carries_none d (number + 1) a }
+  pub takes_none : (c : Console D) (piece : List ℕ) → Takes disk crashes c piece piece [] c
+  takes_none c piece = record { ended = []; lines = λ more. refl; out = carries_none c }
 
-  module _ (d : Drill D) (number : ℕ) (line : Line) (piece rest : List ℕ) (a b : Option (List ℕ)) (now : Drill D) (reached : ℕ) (so_far : Line) (taken : Takes disk crashes d number line piece rest a b now reached so_far) where
-    next_number : reached + 1 ≡ number + 1 + length taken.ended
-    next_number = omega (arith, taken.numbers)
-
+  module _ (c : Console D) (piece rest t : List ℕ) (now : Console D) (taken : Takes disk crashes c piece rest t now) where
     -- all of it
-    pub whole : lines_on line piece ≡ taken.ended ++ lines_on so_far rest
-    whole = ap (lines_on line) (sym (append-nil piece)) ∙ taken.lines [] ∙ ap (λ r. taken.ended ++ lines_on so_far r) (append-nil rest)
+    whole : lines_on c.line piece ≡ taken.ended ++ lines_on now.line rest
+    whole = ap (lines_on c.line) (sym (append-nil piece)) ∙ taken.lines [] ∙ ap (λ r. taken.ended ++ lines_on now.line r) (append-nil rest)
 
     -- a line feed ends a line
-    module _ (behind : List ℕ) (longer : Line) (feed : Some behind ≡ behind_line_feed rest) (is : longer ≡ extended so_far (before_line_feed rest)) where
-      at_feed : (more : List ℕ) → lines_on so_far (rest ++ more) ≡ longer ∷ lines_on (Some []) (behind ++ more)
-      at_feed more = lines_on-ended so_far rest more behind (sym feed) ∙ ap (λ l. l ∷ lines_on (Some []) (behind ++ more)) (sym is)
+    module _ (behind : List ℕ) (longer : Line) (feed : Some behind ≡ behind_line_feed rest) (is : longer ≡ extended now.line (before_line_feed rest)) where
+      at_feed : (more : List ℕ) → lines_on now.line (rest ++ more) ≡ longer ∷ lines_on (Some []) (behind ++ more)
+      at_feed more = lines_on-ended now.line rest more behind (sym feed) ∙ ap (λ l. l ∷ lines_on (Some []) (behind ++ more)) (sym is)
 
-      pub takes_line : (c : Option (List ℕ)) (new : Drill D) (count : ℕ) (begun : Line) → count ≡ reached + 1 → begun ≡ Some [] → CarriesOut disk crashes now (reached + 1) (longer ∷ []) b c new → Takes disk crashes d number line piece behind a c new count begun
-      takes_line c new count begun counted empty out = record {
+      pub takes_line : (u : List ℕ) (new : Console D) → new.line ≡ Some [] → CarriesOut disk crashes (record now { line = longer }) (longer ∷ []) u new → Takes disk crashes c piece behind (t ++ u) new
+      takes_line u new empty out = record {
         ended = taken.ended ++ longer ∷ [];
         lines = λ more.
             taken.lines more ∙ ap (λ l. taken.ended ++ l) (at_feed more) ∙ sym (append_assoc taken.ended (longer ∷ []) (lines_on (Some []) (behind ++ more)))
             ∙ ap (λ l. (taken.ended ++ longer ∷ []) ++ lines_on l (behind ++ more)) (sym empty);
-        numbers = omega (arith, counted, taken.numbers, length-append taken.ended (longer ∷ []));
-        out = carries_after d now (number + 1) (reached + 1) taken.ended (longer ∷ []) a b c next_number taken.out new out;
+        out = carries_after c now taken.ended (longer ∷ []) t u taken.out new out;
       }
 
-      pub takes_cut : (c : Option (List ℕ)) (fault : Fault) (lost : D) → BreaksOff disk crashes now (reached + 1) (longer ∷ []) b c fault lost → BreaksOff disk crashes d (number + 1) (lines_on line piece) a c fault lost
-      takes_cut c fault lost breaks =
+      pub takes_cut : (refused : Fault × D) (u : List ℕ) → BreaksOff disk crashes (record now { line = longer }) (longer ∷ []) refused u → BreaksOff disk crashes c (lines_on c.line piece) refused (t ++ u)
+      takes_cut refused u breaks =
           let more = lines_on (Some []) (behind ++ []) in
-          let all = ap (lines_on line) (sym (append-nil piece)) ∙ taken.lines [] ∙ ap (λ l. taken.ended ++ l) (at_feed []) in
-          breaks_after d now (number + 1) (reached + 1) taken.ended (longer ∷ []) a b c next_number taken.out _ _ more (lines_on line piece) all (λ q others text work. work_later a b c taken.out.text taken.out.wrote fault lost q others text more work) breaks
+          let all = ap (lines_on c.line) (sym (append-nil piece)) ∙ taken.lines [] ∙ ap (λ l. taken.ended ++ l) (at_feed []) in
+          breaks_after c (record now { line = longer }) taken.ended (longer ∷ []) t u taken.out _ more (lines_on c.line piece) all (work_more refused more) breaks
 
     -- with none the line goes on
-    pub takes_rest : (longer : Line) → None ≡ behind_line_feed rest → longer ≡ extended so_far (before_line_feed rest) → Takes disk crashes d number line piece [] a b now reached longer
+    pub takes_rest : (longer : Line) → None ≡ behind_line_feed rest → longer ≡ extended now.line (before_line_feed rest) → Takes disk crashes c piece [] t (record now { line = longer })
     takes_rest longer none is = record {
       ended = taken.ended;
-      lines = λ more. taken.lines more ∙ ap (λ l. taken.ended ++ l) (lines_on-unended so_far rest more (sym none) ∙ ap (λ l. lines_on l more) (sym is));
-      numbers = taken.numbers;
+      lines = λ more. taken.lines more ∙ ap (λ l. taken.ended ++ l) (lines_on-unended now.line rest more (sym none) ∙ ap (λ l. lines_on l more) (sym is));
       out = taken.out;
     }
 
-  module _ (d : Drill D) (number : ℕ) (line : Line) (piece : List ℕ) (a b : Option (List ℕ)) (now : Drill D) (reached : ℕ) (so_far : Line) (taken : Takes disk crashes d number line piece [] a b now reached so_far) where
-    -- nothing more can be read
-    pub takes_breaks : (fault : Fault) (lost : D) → (fault ≡ Read) ⊎ (fault ≡ TooManyReads) → disk_held now.driver ≡ Some lost → EndsEarly disk crashes d (number + 1) (lines_on line piece) a b fault lost
-    takes_breaks fault lost reading there =
-        breaks_behind d now (number + 1) taken.ended (lines_on so_far []) (lines_on line piece) a b lost _ (whole d number line piece [] a b now reached so_far taken) taken.out there
-        (λ q text same wrote. inl (record { cause = reading; wrote = wrote; unended = refl; same = same }))
+  module _ (c : Console D) (piece t : List ℕ) (now : Console D) (taken : Takes disk crashes c piece [] t now) where
+    all : lines_on c.line piece ≡ taken.ended ++ lines_on now.line []
+    all = whole c piece [] t now taken
 
-    pub takes_ends : (c : Option (List ℕ)) (last : D) → EndsWith disk crashes now (reached + 1) (lines_on so_far []) b c last → EndsWith disk crashes d (number + 1) (lines_on line piece) a c last
-    takes_ends c last ends =
-        rw (whole d number line piece [] a b now reached so_far taken)
-        (ends_after d now (number + 1) (reached + 1) taken.ended (lines_on so_far []) a b c (next_number d number line piece [] a b now reached so_far taken) taken.out last ends)
+    -- nothing more can be read
+    pub takes_breaks : (refused : Fault × D) → (refused.0 ≡ Read) ⊎ (refused.0 ≡ TooManyReads) → disk_held now.drill.driver ≡ Some refused.1 → EndsEarly disk crashes c (lines_on c.line piece) refused t
+    takes_breaks refused reading there =
+        breaks_behind c now taken.ended (lines_on now.line []) (lines_on c.line piece) t t refused.1 _ all taken.out there
+        (λ p q same printed. inl (record { cause = reading; wrote = sym printed; unended = refl; same = same }))
+
+    pub takes_ends : (u : List ℕ) (last : D) → EndsWith disk crashes now (lines_on now.line []) u last → EndsWith disk crashes c (lines_on c.line piece) (t ++ u) last
+    takes_ends u last ends = rw all (ends_after c now taken.ended (lines_on now.line []) t u taken.out last ends)
 
     -- the next piece
-    both : (came more : List ℕ) → lines_on line ((piece ++ came) ++ more) ≡ taken.ended ++ lines_on so_far (came ++ more)
-    both came more = ap (lines_on line) (append_assoc piece came more) ∙ taken.lines (came ++ more)
+    both : (came more : List ℕ) → lines_on c.line ((piece ++ came) ++ more) ≡ taken.ended ++ lines_on now.line (came ++ more)
+    both came more = ap (lines_on c.line) (append_assoc piece came more) ∙ taken.lines (came ++ more)
 
-    pub takes_piece : (came : List ℕ) (c : Option (List ℕ)) (new : Drill D) (count : ℕ) (longer : Line) → Takes disk crashes now reached so_far came [] b c new count longer → Takes disk crashes d number line (piece ++ came) [] a c new count longer
-    takes_piece came c new count longer next = record {
+    pub takes_piece : (came u : List ℕ) (new : Console D) → Takes disk crashes now came [] u new → Takes disk crashes c (piece ++ came) [] (t ++ u) new
+    takes_piece came u new next = record {
       ended = taken.ended ++ next.ended;
-      lines = λ more. both came more ∙ ap (λ l. taken.ended ++ l) (next.lines more) ∙ sym (append_assoc taken.ended next.ended (lines_on longer more));
-      numbers = omega (arith, taken.numbers, next.numbers, length-append taken.ended next.ended);
-      out = carries_after d now (number + 1) (reached + 1) taken.ended next.ended a b c (next_number d number line piece [] a b now reached so_far taken) taken.out new next.out;
+      lines = λ more. both came more ∙ ap (λ l. taken.ended ++ l) (next.lines more) ∙ sym (append_assoc taken.ended next.ended (lines_on new.line more));
+      out = carries_after c now taken.ended next.ended t u taken.out new next.out;
     }
 
-    pub takes_break : (came : List ℕ) (c : Option (List ℕ)) (fault : Fault) (lost : D) → EndsEarly disk crashes now (reached + 1) (lines_on so_far came) b c fault lost → EndsEarly disk crashes d (number + 1) (lines_on line (piece ++ came)) a c fault lost
-    takes_break came c fault lost breaks =
-        let all = ap (lines_on line) (sym (append-nil (piece ++ came))) ∙ both came [] ∙ ap (λ r. taken.ended ++ lines_on so_far r) (append-nil came) ∙ ap (λ l. taken.ended ++ l) (sym (append-nil (lines_on so_far came))) in
-        breaks_after d now (number + 1) (reached + 1) taken.ended (lines_on so_far came) a b c (next_number d number line piece [] a b now reached so_far taken) taken.out _ _ [] (lines_on line (piece ++ came)) all
-        (λ q others text stops. stops_later a b c taken.out.text taken.out.wrote fault lost q others text stops) breaks
+    pub takes_break : (came u : List ℕ) (refused : Fault × D) → EndsEarly disk crashes now (lines_on now.line came) refused u → EndsEarly disk crashes c (lines_on c.line (piece ++ came)) refused (t ++ u)
+    takes_break came u refused breaks =
+        let split = ap (lines_on c.line) (sym (append-nil (piece ++ came))) ∙ both came [] ∙ ap (λ r. taken.ended ++ lines_on now.line r) (append-nil came) ∙ ap (λ l. taken.ended ++ l) (sym (append-nil (lines_on now.line came))) in
+        breaks_after c now taken.ended (lines_on now.line came) t u taken.out _ [] (lines_on c.line (piece ++ came)) split
+        (λ q others written stops. subst (λ ls. Stops disk crashes q ls written refused) (sym (append-nil others)) stops) breaks
 
-  -- ---- a piece whose text was put into an empty list first
+    -- not all of the text of a piece was written
+    pub takes_unwritten : (part : List ℕ) (refused : Fault × D) → IsShortPart part t → IsOfWriting refused.0 → disk_held now.drill.driver ≡ Some refused.1 → BreaksOff disk crashes c (lines_on c.line piece) refused part
+    takes_unwritten part refused short writing there =
+        breaks_behind c now taken.ended (lines_on now.line []) (lines_on c.line piece) t part refused.1 _ all taken.out there
+        (λ p q same printed. inr (record { cause = writing; wrote = short_behind p.printed t part q.printed printed short; given_back = inl same }))
 
-  module _ (d : Drill D) (number : ℕ) (line : Line) (piece items : List ℕ) (a b : Option (List ℕ)) where
-    pub takes_written : (now : Drill D) (reached : ℕ) (so_far : Line) → Takes disk crashes d number line piece [] (Some []) (Some items) now reached so_far → Appends a b items → Takes disk crashes d number line piece [] a b now reached so_far
-    takes_written now reached so_far taken wrote = record {
-      ended = taken.ended;
-      lines = taken.lines;
-      numbers = taken.numbers;
-      out = record { text = taken.out.text; wrote = subst (Appends a b) taken.out.wrote wrote; goes = taken.out.goes };
-    }
-
-    pub takes_unwritten : (now : Drill D) (reached : ℕ) (so_far : Line) (fault : Fault) (lost : D) → Takes disk crashes d number line piece [] (Some []) (Some items) now reached so_far → WritesShort a b items → IsOfWriting fault → disk_held now.driver ≡ Some lost →
-        BreaksOff disk crashes d (number + 1) (lines_on line piece) a b fault lost
-    takes_unwritten now reached so_far fault lost taken short writing there =
-        breaks_behind d now (number + 1) taken.ended (lines_on so_far []) (lines_on line piece) (Some []) (Some items) lost _ (whole d number line piece [] (Some []) (Some items) now reached so_far taken) taken.out there
-        (λ q text same wrote. inr (record { cause = writing; wrote = subst (WritesShort a b) wrote short; given_back = inl same }))
-
-    -- where a line failed before, that was written too
-    pub breaks_written : (fault : Fault) (lost : D) → BreaksOff disk crashes d (number + 1) (lines_on line piece) (Some []) (Some items) fault lost → Appends a b items → BreaksOff disk crashes d (number + 1) (lines_on line piece) a b fault lost
-    breaks_written fault lost breaks all = breaks_so d (number + 1) (lines_on line piece) _ _ put breaks
-      where
-        put : (q : Place D) (others : List Line) (text : List ℕ) → StopsWork disk crashes (Some []) (Some items) fault lost q others text → StopsWork disk crashes a b fault lost q others text
-        put q others text (inl line) = inl (record { wrote = subst (Appends a b) line.wrote all; cut = line.cut })
-        put q others text (inr short) = inr (record { cause = short.cause; wrote = (short.wrote.0, subst (Appends a b) short.wrote.1 all, short.wrote.2); given_back = short.given_back })
-
-    -- the text of the lines before was not all written, and then the writer's fault is told
-    pub breaks_unwritten : (fault later : Fault) (lost : D) → IsOfWriting later → BreaksOff disk crashes d (number + 1) (lines_on line piece) (Some []) (Some items) fault lost → WritesShort a b items → BreaksOff disk crashes d (number + 1) (lines_on line piece) a b later lost
-    breaks_unwritten fault later lost writing breaks part = breaks_so d (number + 1) (lines_on line piece) _ _ put breaks
-      where
-        put : (q : Place D) (others : List Line) (text : List ℕ) → StopsWork disk crashes (Some []) (Some items) fault lost q others text → StopsWork disk crashes a b later lost q others text
-        put q others text (inl line) = inr (record { cause = writing; wrote = subst (WritesShort a b) line.wrote part; given_back = inr (fault, line.cut) })
-        put q others text (inr short) =
-            let whole = subst (λ t. WritesShort a b (t ++ short.wrote.2.0)) short.wrote.1 (short_longer a b items short.wrote.2.0 part) in
-            inr (record { cause = writing; wrote = subst (WritesShort a b) (sym short.wrote.2.1) whole; given_back = short.given_back })
+  -- nor where a line failed before, and then the writer's fault is told
+  pub breaks_unwritten : (c : Console D) (ls : List Line) (fault later : Fault) (lost : D) (t part : List ℕ) → IsOfWriting later → BreaksOff disk crashes c ls (fault, lost) t → IsShortPart part t → BreaksOff disk crashes c ls (later, lost) part
+  breaks_unwritten c ls fault later lost t part writing breaks short = breaks_so c ls t part _ _ put breaks
+    where
+      put : (p q : Place D) (others : List Line) → StopsWork disk crashes q others (p.printed ++ t) (fault, lost) → StopsWork disk crashes q others (p.printed ++ part) (later, lost)
+      put p q others (inl line) = inr (record { cause = writing; wrote = short_behind p.printed t part q.printed (sym line.wrote) short; given_back = inr (fault, line.cut) })
+      put p q others (inr more) =
+          let rest = more.wrote.0 in
+          inr (record { cause = writing; wrote = short_behind p.printed (t ++ rest) part q.printed (more.wrote.1 ∙ append_assoc p.printed t rest) (short_longer part t rest short); given_back = more.given_back })

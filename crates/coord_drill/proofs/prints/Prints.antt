@@ -7,13 +7,13 @@ use Rattle.coord_lines.specs.Lines.{Line, lines_of, lines_on}
 use Rattle.coord_lines.proofs.LinesOn.{lines_on-empty}
 use Rattle.coord_store.specs.declared.faults.StoreFault.{StoreFault}
 use Rattle.coord_store.specs.declared.faults.StoreFault.TheVariants.{OutOfMemory}
-use Rattle.coord_drill.specs.Facade.{BrokeOff, Drill, Ended, EndsEarly, EndsWith, Fault, IsBegun, Place, Stops, WritesFirstPart, drill_over, start, store_fault}
+use Rattle.coord_drill.specs.Facade.{BrokeOff, Console, Ended, EndsEarly, EndsWith, Fault, InOut, IsBegun, Place, Prints, Stops, WritesFirstPart, drill_over, start, store_fault}
 use Rattle.coord_drill.specs.declared.fault.Fault.TheVariants.{TooManyReads}
-use Rattle.coord_drill.specs.Drilled.{IsDrilled}
+use Rattle.coord_drill.specs.Drilled.{IsDrilled, IsFirstPart}
 use Rattle.coord_world.specs.Facade.{no_world}
 use Rattle.coord_drill.proofs.course.Lines.{goes_prints}
 use Rattle.coord_drill.proofs.does.LineResponds.{prints_somehow}
-use Rattle.coord_drill.proofs.prints.FirstParts.{first_part-all, first_part-longer, first_part-none, short_first}
+use Rattle.coord_drill.proofs.prints.FirstParts.{first_part-all, first_part-none, first_part-short}
 
 -- a read that gave no byte
 pub Consumes-none : (a b c : Option (List ℕ)) (seen bytes : List ℕ) (count : ℕ) → Consumes a b seen → Consumes b c (take count bytes) → count ≡ 0 → Consumes a c seen
@@ -28,51 +28,48 @@ module _ {D : Type 0} (disk : DiskModel D) (crashes : D → D → Type 0) (given
   pub ended_prints : (text : List ℕ) (last : D) → Ended disk crashes given input text last → IsDrilled input text
   ended_prints text last ended =
       let lines = lines_of input in
-      let prints = goes_prints disk crashes _ ended.place 1 (1 + length lines) lines [] text [] refl ended.course.goes refl in
-      rw (sym (append-nil text)) (rw (sym (append-nil lines)) prints)
+      let prints = goes_prints disk crashes _ ended.place lines [] [] ended.course.goes refl in
+      subst (IsDrilled input) (sym (ended.wrote ∙ prints.1 ∙ sym (append-nil prints.0))) (subst (λ ls. Prints (drill_over (no_world 1)) 1 ls (prints.0 ++ [])) (append-nil lines) prints.2)
 
   -- a first part was written, whatever stopped it
-  stops_written : (a b : Option (List ℕ)) (fault : Fault) (lost : D) (q : Place D) (others : List Line) (text : List ℕ) → Stops disk crashes a b fault lost q others text → WritesFirstPart a b text
-  stops_written a b fault lost q others text (inl read) = first_part-all a b text read.wrote
-  stops_written a b fault lost q others text (inr (inl flush)) = first_part-all a b text flush.wrote
-  stops_written a b fault lost q others text (inr (inr (inl line))) = first_part-all a b text line.wrote
-  stops_written a b fault lost q others text (inr (inr (inr short))) = short_first a b text short.wrote
+  stops_written : (refused : Fault × D) (q : Place D) (others : List Line) (written rest : List ℕ) → Stops disk crashes q others written refused → IsFirstPart written (q.printed ++ rest)
+  stops_written refused q others written rest (inl read) = first_part-all written q.printed rest read.wrote
+  stops_written refused q others written rest (inr (inl flush)) = first_part-all written q.printed rest flush.wrote
+  stops_written refused q others written rest (inr (inr (inl line))) = first_part-all written q.printed rest line.wrote
+  stops_written refused q others written rest (inr (inr (inr short))) = first_part-short written q.printed rest short.wrote
 
-  -- a drill that broke off has written a first part of what may be printed
-  pub broke_prints : (a b : Option (List ℕ)) (fault : Fault) (lost : D) → BrokeOff disk crashes given input a b fault lost → (text : List ℕ) × IsDrilled input text × WritesFirstPart a b text
-  broke_prints a b fault lost broke =
-      let more = prints_somehow broke.place.state (1 + length broke.lines) broke.others in
-      let prints = goes_prints disk crashes _ broke.place 1 (1 + length broke.lines) broke.lines broke.others broke.text more.0 refl broke.course.goes more.1 in
-      (broke.text ++ more.0, rw broke.split prints, first_part-longer a b broke.text more.0 (stops_written a b fault lost broke.place broke.others broke.text broke.why))
+  -- and a first part of what may be printed, where it broke off
+  pub broke_prints : (written : List ℕ) (refused : Fault × D) → BrokeOff disk crashes given input written refused → (text : List ℕ) × IsDrilled input text × IsFirstPart written text
+  broke_prints written refused broke =
+      let more = prints_somehow broke.place.state (broke.place.lines + 1) broke.others in
+      let prints = goes_prints disk crashes _ broke.place broke.lines broke.others more.0 broke.course.goes more.1 in
+      (prints.0 ++ more.0, rw broke.split prints.2, subst (λ t. IsFirstPart written (t ++ more.0)) prints.1 (stops_written refused broke.place broke.others written more.0 broke.why))
 
   -- from what the code's functions say of it
-  module _ (d : Drill D) (begun : IsBegun disk given d) (line : Line) (empty : line ≡ Some []) (a b : Option (List ℕ)) where
-    lines_are : lines_on line input ≡ lines_of input
+  module _ (c : Console D) (begun : IsBegun disk given c.drill) (empty : c.line ≡ Some []) (none : c.number ≡ 0) where
+    lines_are : lines_on c.line input ≡ lines_of input
     lines_are = ap (λ l. lines_on l input) empty ∙ lines_on-empty input
 
-    pub ended_of : (last : D) → EndsWith disk crashes d 1 (lines_on line input) a b last → (text : List ℕ) × Ended disk crashes given input text last × Appends a b text
-    ended_of last ends =
-        let one = ends.goes (start begun.begun) begun.stands in (
-          ends.text,
-          record {
-            place = one.0;
-            course = record { begun = begun.begun; made = begun.made; unfailed = begun.unfailed; goes = rw (sym lines_are) one.1.1 };
-            given_back = one.1.0;
-          },
-          ends.wrote,
-        )
+    pub ended_of : (text : List ℕ) (last : D) → EndsWith disk crashes c (lines_on c.line input) text last → Ended disk crashes given input text last
+    ended_of text last ends =
+        let one = ends (start begun.begun) (begun.stands, sym none) in
+        record {
+          place = one.0;
+          course = record { begun = begun.begun; made = begun.made; unfailed = begun.unfailed; goes = rw (sym lines_are) one.3 };
+          wrote = sym one.2;
+          given_back = one.1;
+        }
 
-    pub broke_of : (fault : Fault) (lost : D) → EndsEarly disk crashes d 1 (lines_on line input) a b fault lost → BrokeOff disk crashes given input a b fault lost
-    broke_of fault lost breaks =
-        let one = breaks.goes (start begun.begun) begun.stands in
+    pub broke_of : (refused : Fault × D) (text : List ℕ) → EndsEarly disk crashes c (lines_on c.line input) refused text → BrokeOff disk crashes given input text refused
+    broke_of refused text breaks =
+        let one = breaks.goes (start begun.begun) (begun.stands, sym none) in
         record {
           lines = breaks.ended;
           others = breaks.others;
           split = sym lines_are ∙ breaks.split;
-          text = breaks.text;
           place = one.0;
-          course = record { begun = begun.begun; made = begun.made; unfailed = begun.unfailed; goes = one.1.0 };
-          why = one.1.1;
+          course = record { begun = begun.begun; made = begun.made; unfailed = begun.unfailed; goes = one.1 };
+          why = one.2;
         }
 
 -- a refused store is not told as too many reads

@@ -10,6 +10,7 @@ ghost use Rattle.coord_drill.specs.Holding.{IsReady, Tells};
 ghost use Rattle.coord_drill.specs.Printed.{bad_line};
 ghost use Rattle.coord_drill.specs.declared.fault.Fault.TheVariants.{OutOfMemory};
 ghost use Rattle.coord_drill.specs.Lines.{BreaksOff, CarriesLine, CarriesOut, CutsLine, Takes};
+ghost use Rattle.coord_drill.specs.Written.{Writes};
 
 use super::Console;
 use crate::drill::Drill;
@@ -26,13 +27,12 @@ impl<D: CrashDisk> Console<D> {
         requires number { self.number + length piece.now < 2 ^ 64 - 1 }
         ensures ready { IfOk result (λ console. IsReady console.drill) }
         ensures number { IfOk result (λ console. console.number ≤ self.number + length piece.now) }
-        ensures taken { IfOk result (λ console. Takes D.model D.crashes
-            self.drill self.number self.line piece.now []
-            (W.contents writer.old) (W.contents writer.new)
-            console.drill console.number console.line) }
-        ensures failed { IfErr result (λ refused. BreaksOff D.model D.crashes
-            self.drill (self.number + 1) (lines_on self.line piece.now)
-            (W.contents writer.old) (W.contents writer.new) refused.0 refused.1) }
+        ensures taken { IfOk result (λ console.
+            Writes (W.contents writer.old) (W.contents writer.new)
+            (λ text. Takes D.model D.crashes self piece.now [] text console)) }
+        ensures failed { IfErr result (λ refused.
+            Writes (W.contents writer.old) (W.contents writer.new)
+            (BreaksOff D.model D.crashes self (lines_on self.line piece.now) refused)) }
         ensures fault { IfErr result (λ refused. IsOfWork refused.0) }
     {
         let mut console = self;
@@ -49,12 +49,12 @@ impl<D: CrashDisk> Console<D> {
         requires ready { IsReady self.drill }
         requires number { self.number < 2 ^ 64 - 1 }
         ensures ready { IfOk result (λ console. IsReady console.drill) }
-        ensures carried { IfOk result (λ console. CarriesOut D.model D.crashes
-            self.drill (self.number + 1) (self.line ∷ [])
-            (W.contents writer.old) (W.contents writer.new) console.drill) }
-        ensures failed { IfErr result (λ refused. BreaksOff D.model D.crashes
-            self.drill (self.number + 1) (self.line ∷ [])
-            (W.contents writer.old) (W.contents writer.new) refused.0 refused.1) }
+        ensures carried { IfOk result (λ console.
+            Writes (W.contents writer.old) (W.contents writer.new)
+            (λ text. CarriesOut D.model D.crashes self (self.line ∷ []) text console)) }
+        ensures failed { IfErr result (λ refused.
+            Writes (W.contents writer.old) (W.contents writer.new)
+            (BreaksOff D.model D.crashes self (self.line ∷ []) refused)) }
         ensures fault { IfErr result (λ refused. IsOfWork refused.0) }
         ensures number { IfOk result (λ console. console.number ≡ self.number + 1) }
         ensures line { IfOk result (λ console. console.line ≡ Some []) }
@@ -74,8 +74,7 @@ impl<D: CrashDisk> Console<D> {
         ensures ready { IfOk result (λ console. IsReady console.drill) }
         ensures carried { IfOk result (λ console. CarriesLine D.model D.crashes
             self.drill (self.number + 1) self.line (string_bytes console.text) console.drill) }
-        ensures cut { IfErr result (λ refused.
-            CutsLine D.model D.crashes self.drill self.line refused.0 refused.1) }
+        ensures cut { IfErr result (CutsLine D.model D.crashes self.drill self.line) }
         ensures fault { IfErr result (λ refused. IsOfDisk refused.0) }
         ensures number { IfOk result (λ console. console.number ≡ self.number + 1) }
         ensures line { IfOk result (λ console. console.line ≡ Some []) }
@@ -113,9 +112,7 @@ fn respond<D: CrashDisk>(
     ensures carried { IfOk result (λ new. Tells (string_bytes text.old) (string_bytes text.new)
         (λ told. CarriesLine D.model D.crashes drill number (option_copied line.entry) told
         new)) }
-    ensures cut { IfErr result (λ refused.
-        CutsLine D.model D.crashes drill (option_copied line.entry) refused.0
-        refused.1) }
+    ensures cut { IfErr result (CutsLine D.model D.crashes drill (option_copied line.entry)) }
     ensures fault { IfErr result (λ refused. IsOfDisk refused.0) }
 {
     let Some(line) = line else {

@@ -21,9 +21,7 @@ impl<D: CrashDisk> Drill<D> {
         ensures ready { IfOk result IsReady }
         ensures told { IfOk result (λ drill.
             CarriesIf D.model D.crashes self ask.Version2 [] drill) }
-        ensures cut { IfErr result (λ refused.
-            CutsIf D.model D.crashes ask.Version2 self refused.0
-            refused.1) }
+        ensures cut { IfErr result (CutsIf D.model D.crashes ask.Version2 self) }
         ensures fault { IfErr result (λ refused. IsOfDisk refused.0) }
     {
         let Drill {
@@ -55,7 +53,7 @@ fn raise<D: CrashDisk>(alloc: Global, driver: Driver<D>) -> Result<Driver<D>, (F
     requires home { driver.flight ≡ None }
     ensures home { IfOk result (λ new. new.flight ≡ None) }
     ensures raised { IfOk result (RaisesTo D.model D.crashes driver) }
-    ensures cut { IfErr result (λ refused. RaisesPart D.model driver refused.0 refused.1) }
+    ensures cut { IfErr result (RaisesPart D.model driver) }
     ensures fault { IfErr result (λ refused. IsOfDisk refused.0) }
 {
     let mut store = store_of(driver);

@@ -31,8 +31,7 @@ impl<D: CrashDisk> Drill<D> {
         ensures ready { IfOk result IsReady }
         ensures told { IfOk result (λ drill. Tells (string_bytes text.old) (string_bytes text.new)
             (λ told. CarriesIf D.model D.crashes self wanted told drill)) }
-        ensures cut { IfErr result (λ refused.
-            CutsIf D.model D.crashes wanted self refused.0 refused.1) }
+        ensures cut { IfErr result (CutsIf D.model D.crashes wanted self) }
         ensures fault { IfErr result (λ refused. IsOfMemory refused.0) }
     {
         self.driver.lemma_survives();

@@ -14,8 +14,8 @@ returns-in-Ok-clause-made g c =
 pub returns-in-Ok-clause-not_made : goal.returns-in-Ok-clause-not_made
 returns-in-Ok-clause-not_made g c on =
     let same = c.in-Ok.ensures.runs.failures in
-    IfErr-weaker c.adopt.result _ _ (λ refused is. subst (λ r. NotMade g.D.Disk.model c.args.disk r.0 r.1) (sym is) (record { why = OutOfMemory; fault_is = refl; refused = tt; untouched = λ taken. let no : ⊥ = cc in absurd no; failed = omega (arith, same) })) c.adopt.ensures.lost
+    IfErr-weaker c.adopt.result _ _ (λ refused is. subst (NotMade g.D.Disk.model c.args.disk) (sym is) (record { why = OutOfMemory; fault_is = refl; refusal = tt; untouched = λ taken. let no : ⊥ = cc in absurd no; failed = omega (arith, same) })) c.adopt.ensures.lost
 
 pub returns-in-Err-clause-not_made : goal.returns-in-Err-clause-not_made
 returns-in-Err-clause-not_made g c on =
-    record { why = c.in-Err.fault; fault_is = c.into.ensures; refused = c.in-Err.ensures.fault on; untouched = λ taken. c.in-Err.ensures.unchanged on (inl taken); failed = c.in-Err.ensures.runs.failures ∙ ap (λ n. g.D.Disk.model.failures c.args.disk + n) (sym (ap failed_by c.into.ensures ∙ told_failures c.in-Err.fault)) }
+    record { why = c.in-Err.fault; fault_is = c.into.ensures; refusal = c.in-Err.ensures.fault on; untouched = λ taken. c.in-Err.ensures.unchanged on (inl taken); failed = c.in-Err.ensures.runs.failures ∙ ap (λ n. g.D.Disk.model.failures c.args.disk + n) (sym (ap failed_by c.into.ensures ∙ told_failures c.in-Err.fault)) }

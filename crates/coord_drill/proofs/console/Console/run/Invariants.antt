@@ -1,6 +1,6 @@
 use Rattle.std.proofs.Common.{◌≤◌, ◌*◌, ℕ, List, [], length}
 use Rattle.std.specs.Io.KnownBytes.{Consumes}
-use Rattle.coord_drill.specs.Facade.{IsReady, Takes}
+use Rattle.coord_drill.specs.Facade.{IsReady, Takes, Writes}
 use Rattle.coord_drill.proofs.console.Console.run.Given as goal
 
 -- what was read, carried out and written so far
@@ -9,4 +9,4 @@ invariant-loop g l =
     IsReady l.console.drill
     × (l.console.number ≤ 512 * l.counter)
     × ((seen : List ℕ) × Consumes (g.R.Read.remaining l.fn.reader) (g.R.Read.remaining l.reader) seen × (l.counter ≤ length seen)
-    × Takes g.D.Disk.model g.D.CrashDisk.crashes l.fn.self.drill 0 l.fn.self.line seen [] (g.W.Write.contents l.fn.writer) (g.W.Write.contents l.writer) l.console.drill l.console.number l.console.line)
+    × Writes (g.W.Write.contents l.fn.writer) (g.W.Write.contents l.writer) (λ text. Takes g.D.Disk.model g.D.CrashDisk.crashes l.fn.self seen [] text l.console))

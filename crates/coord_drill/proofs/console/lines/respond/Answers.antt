@@ -13,7 +13,7 @@ returns-in_default-clause-carried g c =
     let d = c.args.drill in
     let over : option_copied c.args.line ≡ None = search rules in
     rw over
-    (tells_bad g.D.Disk.model g.D.CrashDisk.crashes d c.args.number (string_bytes c.args.text.now) (string_bytes c.tell_bad.new.text) c.tell_bad.result None c.tell_bad.ensures.same c.tell_bad.ensures.told (λ p at. goes_over g.D.Disk.model g.D.CrashDisk.crashes d p at c.args.number))
+    (tells_bad g.D.Disk.model g.D.CrashDisk.crashes d c.args.number (string_bytes c.args.text.now) (string_bytes c.tell_bad.new.text) c.tell_bad.result None c.tell_bad.ensures.same c.tell_bad.ensures.told (λ p at number. goes_over g.D.Disk.model g.D.CrashDisk.crashes d p at c.args.number number))
 
 pub returns-then-is_skipped-clause-carried : goal.returns-then-is_skipped-clause-carried
 returns-then-is_skipped-clause-carried g c =
@@ -22,7 +22,7 @@ returns-then-is_skipped-clause-carried g c =
     let here : option_copied c.args.line ≡ Some line = search rules in
     let skipped : is_skipped line ≡ true = search rules in
     tells_nothing (λ told. CarriesLine g.D.Disk.model g.D.CrashDisk.crashes d c.args.number (option_copied c.args.line) told d) (string_bytes c.args.text.now)
-    (rw here (λ p at. (p, (at, goes_skipped g.D.Disk.model g.D.CrashDisk.crashes d p at c.args.number line skipped))))
+    (rw here (λ p at number. goes_skipped g.D.Disk.model g.D.CrashDisk.crashes d p at line skipped))
 
 pub returns-in-Some-read-clause-carried : goal.returns-in-Some-read-clause-carried
 returns-in-Some-read-clause-carried g c =
@@ -32,7 +32,7 @@ returns-in-Some-read-clause-carried g c =
     let kept : is_skipped line ≡ false = search rules in
     let asks : asked_by (state_of d) line ≡ Some c.in-Some-read.request = sym c.read.ensures ∙ c.in-Some-read.is in
     rw here
-    (IfOk-weaker c.answer.result _ _ (λ new tells. (tells.0, (tells.1.0, λ p at. goes_asked g.D.Disk.model g.D.CrashDisk.crashes d p at c.args.number line c.in-Some-read.request tells.0 new kept asks tells.1.1))) c.answer.ensures.told)
+    (IfOk-weaker c.answer.result _ _ (λ new tells. (tells.0, (tells.1.0, λ p at number. goes_asked g.D.Disk.model g.D.CrashDisk.crashes d p at line c.in-Some-read.request kept asks tells.0 new tells.1.1))) c.answer.ensures.told)
 
 pub returns-in-Some-read-clause-cut : goal.returns-in-Some-read-clause-cut
 returns-in-Some-read-clause-cut g c =
@@ -42,7 +42,7 @@ returns-in-Some-read-clause-cut g c =
     let kept : is_skipped line ≡ false = search rules in
     let asks : asked_by (state_of d) line ≡ Some c.in-Some-read.request = sym c.read.ensures ∙ c.in-Some-read.is in
     rw here
-    (IfErr-weaker c.answer.result _ _ (λ refused cuts p at. cut_asked g.D.Disk.model g.D.CrashDisk.crashes d p at c.args.number line c.in-Some-read.request refused.0 refused.1 kept asks cuts) c.answer.ensures.cut)
+    (IfErr-weaker c.answer.result _ _ (λ refused cuts p at. cut_asked g.D.Disk.model g.D.CrashDisk.crashes d p at line c.in-Some-read.request kept asks refused cuts) c.answer.ensures.cut)
 
 pub returns-in-None-clause-carried : goal.returns-in-None-clause-carried
 returns-in-None-clause-carried g c =
@@ -52,13 +52,13 @@ returns-in-None-clause-carried g c =
     let kept : is_skipped line ≡ false = search rules in
     let asks : asked_by (state_of d) line ≡ None = sym c.read.ensures ∙ c.in-None.is in
     rw here
-    (tells_bad g.D.Disk.model g.D.CrashDisk.crashes d c.args.number (string_bytes c.args.text.now) (string_bytes c.tell_bad-in-None.new.text) c.tell_bad-in-None.result (Some line) c.tell_bad-in-None.ensures.same c.tell_bad-in-None.ensures.told (λ p at. goes_bad g.D.Disk.model g.D.CrashDisk.crashes d p at c.args.number line kept asks))
+    (tells_bad g.D.Disk.model g.D.CrashDisk.crashes d c.args.number (string_bytes c.args.text.now) (string_bytes c.tell_bad-in-None.new.text) c.tell_bad-in-None.result (Some line) c.tell_bad-in-None.ensures.same c.tell_bad-in-None.ensures.told (λ p at number. goes_bad g.D.Disk.model g.D.CrashDisk.crashes d p at line kept asks c.args.number number))
 
 -- the disk is given back as it was
 pub returns-in_default-clause-cut : goal.returns-in_default-clause-cut
 returns-in_default-clause-cut g c =
     let over : option_copied c.args.line ≡ None = search rules in
-    IfErr-weaker c.tell_bad.result _ _ (λ refused both p at. told_lost g.D.Disk.model g.D.CrashDisk.crashes c.args.drill p at (option_copied c.args.line) refused.0 refused.1 (ap (asked_in p.state) over) both.0 both.1) (if_err_both _ _ c.tell_bad.result c.tell_bad.ensures.fault c.tell_bad.ensures.lost)
+    IfErr-weaker c.tell_bad.result _ _ (λ refused both p at. told_lost g.D.Disk.model g.D.CrashDisk.crashes c.args.drill p at (option_copied c.args.line) refused (ap (asked_in p.state) over) both.0 both.1) (if_err_both _ _ c.tell_bad.result c.tell_bad.ensures.fault c.tell_bad.ensures.lost)
 
 pub returns-in-None-clause-cut : goal.returns-in-None-clause-cut
 returns-in-None-clause-cut g c =
@@ -68,7 +68,7 @@ returns-in-None-clause-cut g c =
     let kept : is_skipped line ≡ false = search rules in
     let asks : asked_by (state_of d) line ≡ None = sym c.read.ensures ∙ c.in-None.is in
     IfErr-weaker c.tell_bad-in-None.result _ _
-    (λ refused both p at. told_lost g.D.Disk.model g.D.CrashDisk.crashes d p at (option_copied c.args.line) refused.0 refused.1 (ap (asked_in p.state) here ∙ asks_nothing g.D.Disk.model g.D.CrashDisk.crashes d p at c.args.number line kept asks) both.0 both.1) (if_err_both _ _ c.tell_bad-in-None.result c.tell_bad-in-None.ensures.fault c.tell_bad-in-None.ensures.lost)
+    (λ refused both p at. told_lost g.D.Disk.model g.D.CrashDisk.crashes d p at (option_copied c.args.line) refused (ap (asked_in p.state) here ∙ asks_nothing g.D.Disk.model g.D.CrashDisk.crashes d p at line kept asks) both.0 both.1) (if_err_both _ _ c.tell_bad-in-None.result c.tell_bad-in-None.ensures.fault c.tell_bad-in-None.ensures.lost)
 
 pub returns-in-Some-read-clause-fault : goal.returns-in-Some-read-clause-fault
 returns-in-Some-read-clause-fault g c = IfErr-weaker c.answer.result _ _ (λ refused may. of_disk _ refused.0 may) c.answer.ensures.fault

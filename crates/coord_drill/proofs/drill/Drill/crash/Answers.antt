@@ -52,4 +52,4 @@ returns-in-Err-print_opened-clause-cut g c promised =
     leads_one g.D.Disk.model g.D.CrashDisk.crashes d.driver w event.Crash (Opened count) tt c.lemma_survives.ensures c.lemma_survives-2.ensures c.in-Ok.ensures.model
     (λ n has. let none : n ≡ n + 0 = omega arith in subst (HasFailed g.D.Disk.model.failures (disk_held w)) none (c.in-Ok.ensures.failures n has))
     (c.in-Ok.ensures.simulates promised.0) c.in-Ok.ensures.disk in
-    cuts_part g.D.Disk.model g.D.CrashDisk.crashes d Crash _ _ refl c.lost.ensures.fault (all_led g.D.Disk.model g.D.CrashDisk.crashes d.driver w (line_events d.holds Crash) (Opened count ∷ []) _ begins led c.lost.ensures.disk)
+    cuts_part g.D.Disk.model g.D.CrashDisk.crashes d Crash c.lost.result refl (c.lost.ensures.fault, all_led g.D.Disk.model g.D.CrashDisk.crashes d.driver w (line_events d.holds Crash) (Opened count ∷ []) _ begins led c.lost.ensures.disk)

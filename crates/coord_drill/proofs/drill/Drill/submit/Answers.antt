@@ -10,7 +10,7 @@ use Rattle.coord_drill.proofs.does.Moments.{begins_by, if_err_both}
 use Rattle.coord_drill.proofs.drill.Drill.submit.Goals as goal
 
 pub returns-then-is_err-clause-cut : goal.returns-then-is_err-clause-cut
-returns-then-is_err-clause-cut g c = cut_before g.D.Disk.model g.D.CrashDisk.crashes c.args.self (Submit c.args.step) _ _ refl c.lost.ensures.fault c.lemma_survives.ensures c.lost.ensures.disk
+returns-then-is_err-clause-cut g c = cut_before g.D.Disk.model g.D.CrashDisk.crashes c.args.self (Submit c.args.step) c.lost.result refl c.lost.ensures.fault c.lemma_survives.ensures c.lost.ensures.disk
 
 pub fly-requires : goal.fly-requires
 fly-requires g c =

@@ -10,4 +10,4 @@ pub returns-in-Ok-clause-told : goal.returns-in-Ok-clause-told
 returns-in-Ok-clause-told g c = tells g.D.Disk.model g.D.CrashDisk.crashes c.args.self c.args.wanted (string_bytes c.args.text.now) (string_bytes c.print_answer-printed.new.text) c.requires.nothing c.lemma_survives.ensures (c.in-Ok.ensures ∙ ap (λ (l : LedgerState g.row.D.Denot). string_bytes c.args.text.now ++ asked_lines (drill_of l false false) c.args.wanted []) c.ledger.ensures)
 
 pub returns-in-Err-clause-cut : goal.returns-in-Err-clause-cut
-returns-in-Err-clause-cut g c = cut_before g.D.Disk.model g.D.CrashDisk.crashes c.args.self c.args.wanted _ _ (no_version g.D.Disk.model g.D.CrashDisk.crashes c.args.wanted c.requires.nothing) c.lost.ensures.fault c.lemma_survives.ensures c.lost.ensures.disk
+returns-in-Err-clause-cut g c = cut_before g.D.Disk.model g.D.CrashDisk.crashes c.args.self c.args.wanted c.lost.result (no_version g.D.Disk.model g.D.CrashDisk.crashes c.args.wanted c.requires.nothing) c.lost.ensures.fault c.lemma_survives.ensures c.lost.ensures.disk

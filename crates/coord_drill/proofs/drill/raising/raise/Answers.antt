@@ -41,7 +41,7 @@ returns-in_err-adopt-clause-cut g c =
     let moments : has_stopped d.ledger.log ≡ false → g.D.Disk.model.keeps_model store.disk ≡ true → LeavesOnly g.D.Disk.model store.disk now.disk (GivesRaised d) =
     λ on keeps. rw (sym taken.world) (c.migrate.ensures.changes.any_moment keeps (going on)) in
     passed_on c.from_residual.result _ _ c.from_residual.ensures.1
-    (subst (λ refused. RaisesPart g.D.Disk.model d refused.0 refused.1) (sym c.in_err-adopt.ensures.lost) (record {
+    (subst (RaisesPart g.D.Disk.model d) (sym c.in_err-adopt.ensures.lost) (record {
       old = store.disk;
       there = taken.disk;
       moments = moments;
