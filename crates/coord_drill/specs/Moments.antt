@@ -119,7 +119,7 @@ CarriesIf disk crashes d a told new = IsPromised disk d a → Carries disk crash
 -- the disk was given up in a crash, behind the taking of an image
 pub record GivesUpInCrash {D : Type 0} (disk : DiskModel D) (crashes : D → D → Type 0) (d : DriverState D) (refused : Fault × D) : Type 0 where
   pub moments : (s : Machine) → IsConsistent s → Represents d s → (old : D) → disk_held d ≡ Some old → disk.keeps_model old ≡ true → Reopens disk crashes (Survives s) old refused.1
-  pub cause : model_held disk.keeps_model d ≡ Some true → IsPassing refused.0
+  pub cause : model_held disk d ≡ Some true → IsPassing refused.0
   pub failed : (n : ℕ) → HasFailed disk.failures (disk_held d) n → disk.failures refused.1 ≡ n + failed_by refused.0
 
 -- for want of memory behind a part of its events
