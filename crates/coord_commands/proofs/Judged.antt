@@ -1,12 +1,12 @@
 -- The faults of `init`, from those of its parts.
-use Rattle.std.proofs.Common.{◌≡◌, ◌≢◌, ℕ, List, take, Option, Some, None, Result, Ok, Err, IfSome, length, refl, subst, arith, IfErr, IfOk}
+use Rattle.std.proofs.Common.{◌≡◌, ◌≢◌, ℕ, List, take, inl, Option, Some, None, Result, Ok, Err, IfSome, refl, subst, arith, IfErr, IfOk}
 use Rattle.std.proofs.lemmas.Bool.Decides.{nat_tests}
 use Rattle.coord_config.specs.Topology.{Content, content}
 use Rattle.coord_config.specs.declared.fault.ConfigFault.{ConfigFault}
 use Rattle.coord_config.specs.declared.fault.ConfigFault.TheVariants as of_topology
 use Rattle.coord_config.specs.declared.topology.Topology.{Topology as Given}
 use Rattle.coord_commands.specs.Ending.{IsOfWriting}
-use Rattle.coord_commands.specs.Making.{IsMade, IsOfMaking, KeepsTaken, RefusesFile, RefusesStore, Says, Stays}
+use Rattle.coord_commands.specs.Making.{IsMade, IsOfMaking, LacksMemory, RefusesFile, RefusesStore, Says, Stays, begun}
 use Rattle.coord_commands.specs.declared.topology.TheConstants.{MOST_BYTES}
 use Rattle.coord_commands.specs.Topology.{IsOfText, said_by}
 use Rattle.coord_commands.specs.declared.fault.Fault.{Fault}
@@ -25,10 +25,6 @@ stays : (same : Option (List ℕ)) → Stays same same
 stays None = tt
 stays (Some bytes) = refl
 
-keeps : (same : Option (List ℕ)) → KeepsTaken same same
-keeps None = tt
-keeps (Some bytes) = λ taken. refl
-
 -- the faults of a topology file, which leave the disk alone
 of_text : (file same : Option (List ℕ)) (fault : Fault) → IsOfText fault
     → ((reason : ConfigFault) → reason ≢ of_topology.OutOfMemory → IfSome file (λ bytes. fault ≡ Topology reason → said_by (take MOST_BYTES bytes) ≡ Err reason)) → IsOfMaking file same same fault
@@ -37,16 +33,11 @@ of_text file same Read is why = stays same
 of_text file same Write is why = absurd is
 of_text file same Socket is why = absurd is
 of_text file same TooManyReads is why = absurd is
-of_text file same OutOfMemory is why = keeps same
+of_text file same OutOfMemory is why = inl (stays same)
 of_text file same (Topology reason) is why = (of_reason file reason (λ wanted. told file (λ bytes. said_by (take MOST_BYTES bytes) ≡ Err reason) (why reason wanted) refl), stays same)
 of_text file same (Store fault) is why = absurd is
 of_text file same (Refused refusal) is why = absurd is
 of_text file same (NotClosed fault) is why = absurd is
-
--- a store was made on a disk that was empty
-made_keeps : (before after : Option (List ℕ)) → IfSome before (λ bytes. length bytes ≡ 0) → KeepsTaken before after
-made_keeps None after empty = tt
-made_keeps (Some bytes) after empty = λ taken. absurd (omega (arith, taken, empty))
 
 -- those of the store of the topology that the file says
 of_store : (file before after : Option (List ℕ)) (topology : Content) (fault : Fault) → Says file topology → RefusesStore before after topology fault → IsOfMaking file before after fault
@@ -74,5 +65,5 @@ refused_store file left before after read topology fault all is said refused =
     (said_of file left read topology all is said) refused
 
 -- the line of a store that was made cannot be printed
-pub unprinted : (file before after : Option (List ℕ)) (topology : Content) → Says file topology → IsMade topology before after → (fault : Fault) → IsOfWriting fault → IsOfMaking file before after fault
-unprinted file before after topology h1 h2 fault h3 = grind (arith, nat_tests, made_keeps)
+pub unprinted : (file before after : Option (List ℕ)) (topology : Content) → Says file topology → IsMade topology (begun topology) before after → (fault : Fault) → IsOfWriting fault → IsOfMaking file before after fault
+unprinted file before after topology h1 h2 fault h3 = grind (arith, nat_tests)

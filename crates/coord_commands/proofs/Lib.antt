@@ -1,6 +1,7 @@
 mod CommandsTaken
 mod Endings
 mod Judged
+mod Made
 mod OneClient
 mod Opening
 mod Raising

@@ -1,6 +1,9 @@
 -- Why the store of a topology is not made.
-use Rattle.std.specs.Prelude.{ℕ, List}
+use Rattle.std.specs.Prelude.{◌≡◌, ◌⊎◌, ℕ, List}
+use Rattle.coord_store.specs.Halves.{HasHalves}
+use Rattle.coord_store.specs.Recovered.{Recovered}
 use Rattle.coord_store.specs.Refused.{IsCreateFault, RefusesCreate, failed_in}
+use Rattle.coord_world.specs.protocol.NumberedWorld.{no_world}
 use Rattle.coord_commands.specs.declared.fault.Fault.{Fault}
 use Rattle.coord_commands.specs.declared.fault.Fault.TheVariants.{OutOfMemory, Store, Refused}
 
@@ -15,6 +18,10 @@ IsOfCreation fault = ⊥
 abbrev pub RefusesCommitted : List ℕ → ℕ → Fault → Type 0
 RefusesCommitted bytes half_size (Store fault) = RefusesCreate bytes half_size fault
 RefusesCommitted bytes half_size fault = Unit {0}
+
+-- bytes that were there are there still, or of none came a store without any step, with halves of this size
+abbrev pub LeavesNoStep : ℕ → List ℕ → List ℕ → Type 0
+LeavesNoStep half_size before after = (after ≡ before) ⊎ (Recovered after (no_world 2) × HasHalves half_size after)
 
 -- how often the device has failed in a creation that is refused so
 abbrev pub failures_at : Fault → ℕ

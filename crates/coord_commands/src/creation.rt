@@ -1,13 +1,14 @@
 //! Making the store of a topology on a disk.
 
 ghost use Rattle.std.specs.Prelude.{◌≡◌, ◌≢◌, ◌⊎◌, ◌+◌, ◌<◌, true, length, IfErr, IfOk, MatchResult, None};
-ghost use Rattle.coord_commands.specs.Creation.{IsOfCreation, RefusesCommitted, failures_at};
+ghost use Rattle.coord_commands.specs.Creation.{IsOfCreation, LeavesNoStep, RefusesCommitted, failures_at};
 ghost use Rattle.coord_commands.specs.Founding.{RefusesToBegin, orders};
-ghost use Rattle.coord_commands.specs.declared.fault.Fault.TheVariants.{Refused, Store as Failed};
+ghost use Rattle.coord_commands.specs.declared.fault.Fault.TheVariants.{OutOfMemory, Refused, Store as Failed};
 ghost use Rattle.coord_config.specs.Topology.{content};
 ghost use Rattle.coord_disk.specs.Model.Moments.{IsUntouched};
-ghost use Rattle.coord_store.specs.Kept.{made};
-ghost use Rattle.coord_store.specs.declared.faults.StoreFault.TheVariants.{Device, HalfSize, NotEmpty};
+ghost use Rattle.coord_store.specs.Halves.{HasHalves};
+ghost use Rattle.coord_store.specs.Kept.{IsJustMade};
+ghost use Rattle.coord_store.specs.declared.faults.StoreFault.TheVariants.{Device, HalfSize, NotEmpty, OutOfMemory as NoMemory};
 ghost use Rattle.coord_types.specs.declared.refusals.Refusal.{Refusal as Reason};
 ghost use Rattle.coord_world.specs.protocol.Next.{fold};
 ghost use Rattle.coord_world.specs.protocol.NumberedWorld.{no_world};
@@ -30,6 +31,8 @@ pub fn create_store<D: Disk>(
         IfOk result (λ store. length (D.model.present disk).read ≡ 0) }
     ensures world { IfOk result (λ store. store.world ≡
         fold (no_world 2) (orders (content topology.now))) }
+    ensures halves { D.model.keeps_model disk ≡ true →
+        IfOk result (λ store. HasHalves topology.now.half (D.model.present store.disk).read) }
     ensures going { IfOk result (λ store. store.torn ≡ None) }
     ensures refused { (reason : Reason) → IfErr result (λ refused. refused.0 ≡ Refused reason →
         RefusesToBegin (orders (content topology.now)) reason) }
@@ -45,9 +48,13 @@ pub fn create_store<D: Disk>(
     ensures taken { D.model.keeps_model disk ≡ true → 0 < length (D.model.present disk).read →
         IfErr result (λ refused. refused.0 ≢ Failed Device →
         IsUntouched D.model disk refused.1) }
+    ensures memory { D.model.keeps_model disk ≡ true →
+        IfErr result (λ refused. (refused.0 ≡ OutOfMemory) ⊎ (refused.0 ≡ Failed NoMemory) →
+        LeavesNoStep topology.now.half (D.model.present disk).read (D.model.present refused.1).read) }
     ensures left_empty { (reason : Reason) → D.model.keeps_model disk ≡ true →
         IfErr result (λ refused. refused.0 ≡ Refused reason
-        → D.model.present refused.1 ≡ made topology.now.half 2) }
+        → (length (D.model.present disk).read ≡ 0) ×
+        IsJustMade topology.now.half 2 (D.model.present refused.1)) }
 
     ensures model { MatchResult result (λ store. D.model.keeps_model store.disk ≡ D.model.keeps_model disk)
         (λ refused. D.model.keeps_model refused.1 ≡ D.model.keeps_model disk) }

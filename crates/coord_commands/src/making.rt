@@ -75,8 +75,8 @@ fn make<F: Folder>(
     file: &str,
     topology: &Topology,
 ) -> Result<u64, Fault>
-    ensures made { OnOk result (IsMade (content topology.now) (reads (F.holds folder.old file.now))
-        (reads (F.holds folder.new file.now))) }
+    ensures made { OnOk result (IsMade (content topology.now) (begun (content topology.now))
+        (reads (F.holds folder.old file.now)) (reads (F.holds folder.new file.now))) }
     ensures count { IfOk result (λ count. count ≡ (begun (content topology.now)).count) }
     ensures fault { IfErr result (RefusesStore (reads (F.holds folder.old file.now))
         (reads (F.holds folder.new file.now)) (content topology.now)) }
@@ -90,7 +90,7 @@ fn make<F: Folder>(
 
 /// Makes the store of a topology on a disk, and answers how many steps it has.
 fn make_on<D: Disk>(alloc: Global, disk: D, topology: &Topology) -> (Result<u64, Fault>, D)
-    ensures made { OnOk result.0 (IsMade (content topology.now)
+    ensures made { OnOk result.0 (IsMade (content topology.now) (begun (content topology.now))
         (bytes_of D.model disk) (bytes_of D.model result.1)) }
     ensures count { IfOk result.0 (λ count. count ≡ (begun (content topology.now)).count) }
     ensures fault { IfErr result.0 (RefusesStore (bytes_of D.model disk)

@@ -108,12 +108,14 @@ const PAIR_RUNS: [Run; 6] = [
     ("resetd migrate store", 0, "migrated 3\n", ""),
 ];
 
-/// A store that is refused as it is made again is one of version 2 from the first.
+/// A store that is refused as it is made again is one of version 2 from the first, with halves of the size that its
+/// topology says.
 #[test]
 fn a_refused_store_stays(rt: HostRuntime) {
     let mut folder = folder_of(&rt, MemDisk::new(rt.alloc()));
     end(&rt, &mut folder, pair_runs());
-    same(&rt, &bytes_in(&folder).get(17).copied(), &Some(2));
+    let front = b"\x00ACRRESET\0\0\0\0\0\0\x80\0\x02".as_slice();
+    same(&rt, &bytes_in(&folder).get(..18), &Some(front));
 }
 
 /// A store of version 1, of an empty world.
