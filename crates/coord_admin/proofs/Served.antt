@@ -20,14 +20,14 @@ module _ {D : Type 0} (answers : D → Request → Answer → D → Type 0) (kee
     talked_still v w x ts first second = rw (sym (append-nil ts)) (turn v w x ts [] first second)
 
     -- one more has ended
-    pub talked_on : (v w x y : V) (cs : List Connection) (c : Connection) → talked v (talks cs) w → talked w [] x → talked x (c.talk ∷ []) y → talked v (talks (cs ++ c ∷ [])) y
-    talked_on v w x y cs c first second third = rw (talks_on cs c) (turn v x y (talks cs) (c.talk ∷ []) (talked_still v w x (talks cs) first second) third)
+    pub talked_on : (v w x : V) (cs : List Connection) (c : Connection) → talked v (talks cs) w → talked w (c.talk ∷ []) x → talked v (talks (cs ++ c ∷ [])) x
+    talked_on v w x cs c first second = rw (talks_on cs c) (turn v w x (talks cs) (c.talk ∷ []) first second)
 
     pub open_still : (v w x : V) (d f : D) → ServedOpen answers keeps most talked v d w f → talked w [] x → ServedOpen answers keeps most talked v d x f
     open_still v w x d f o still = (o.0, talked_still v w x (talks o.0) o.1 still, o.2)
 
-    pub open_on : (v w x y : V) (d f e : D) (c : Connection) → ServedOpen answers keeps most talked v d w f → talked w [] x → talked x (c.talk ∷ []) y → IsServed answers keeps most f c e → has_closed c.ended ≡ false → ServedOpen answers keeps most talked v d y e
-    open_on v w x y d f e c o still now served unclosed = (o.0 ++ c ∷ [], talked_on v w x y o.0 c o.1 still now, served_on o.0 c d f e o.2 served unclosed)
+    pub open_on : (v w x : V) (d f e : D) (c : Connection) → ServedOpen answers keeps most talked v d w f → talked w (c.talk ∷ []) x → IsServed answers keeps most f c e → has_closed c.ended ≡ false → ServedOpen answers keeps most talked v d x e
+    open_on v w x d f e c o now served unclosed = (o.0 ++ c ∷ [], talked_on v w x o.0 c o.1 now, served_on o.0 c d f e o.2 served unclosed)
 
-    pub closed_on : (v w x y : V) (d f e : D) (c : Connection) → ServedOpen answers keeps most talked v d w f → talked w [] x → talked x (c.talk ∷ []) y → IsServed answers keeps most f c e → has_closed c.ended ≡ true → ServedToClose answers keeps most talked v d y e
-    closed_on v w x y d f e c o still now served closed = (o.0, c, f, talked_on v w x y o.0 c o.1 still now, o.2, served, closed)
+    pub closed_on : (v w x : V) (d f e : D) (c : Connection) → ServedOpen answers keeps most talked v d w f → talked w (c.talk ∷ []) x → IsServed answers keeps most f c e → has_closed c.ended ≡ true → ServedToClose answers keeps most talked v d x e
+    closed_on v w x d f e c o now served closed = (o.0, c, f, talked_on v w x o.0 c o.1 now, o.2, served, closed)

@@ -27,8 +27,9 @@ pub trait Callers {
     /// Between two states of it these connections have ended, in order.
     ghost talked: { Self → List Talk → Self → Type 0 };
 
-    /// Nothing has come in or gone out over a connection yet.
-    ghost begins: { Self.Line → Type 0 };
+    /// It was asked for the next client, who calls over this connection: nothing has come in or gone out over it
+    /// yet. Which connections have ended by then is known only once it is told that this one has.
+    ghost called: { Self → Self.Line → Self → Type 0 };
 
     /// The callers were asked for the next client, and no client will come any more.
     ghost failed: { Self → Self → Type 0 } = { λ _ _. ⊤ };
@@ -41,9 +42,9 @@ pub trait Callers {
 
     /// Waits for the next one. After an error no one comes any more.
     fn next(&mut self) -> io::Result<Self::Line>
-        ensures begun { IfOk result begins }
+        ensures called { IfOk result (λ line. called self.old line self.new) }
         ensures failed { OnErr result (failed self.old self.new) }
-        ensures none_ended { talked self.old [] self.new };
+        ensures none_ended { OnErr result (talked self.old [] self.new) };
 
     /// Ends a connection that was served so: to the end of its input only where nothing more comes
     /// in, and with a failed read or write only where one has failed. If it was ended from here, by a
@@ -53,9 +54,9 @@ pub trait Callers {
         requires read { served ≡ Err Read → Self.Line.has_failed line }
         requires write { served ≡ Err Write → Self.Line.has_failed line }
         ensures ended { ended self.old line served self.new }
-        ensures talked { (first : Self.Line) (bytes_read bytes_written : List ℕ) → begins first →
-            Self.Line.exchanged first bytes_read bytes_written line →
-            talked self.old (record { bytes_read = bytes_read; bytes_written = bytes_written } ∷ []) self.new };
+        ensures talked { (before : Self) (first : Self.Line) (bytes_read bytes_written : List ℕ) →
+            called before first self.old → Self.Line.exchanged first bytes_read bytes_written line →
+            talked before (record { bytes_read = bytes_read; bytes_written = bytes_written } ∷ []) self.new };
 
     ghost at_rest: { (a : Self) → talked a [] a };
 
@@ -105,7 +106,7 @@ impl<'a, S: Read + Write + OpenStream + Drop, L: OpenListener<Stream = S>, T: Cl
 
     ghost talked = { λ _ _ _. ⊤ };
 
-    ghost begins = { λ _. ⊤ };
+    ghost called = { λ callers line _. line.patience ≡ callers };
 
     fn address(&self) -> io::Result<SocketAddr> {
         self.listener.local_addr()

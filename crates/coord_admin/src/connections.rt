@@ -66,9 +66,9 @@ fn serve_connection<C: Callers, D: Desk>(
     callers: &mut C,
     desk: &mut D,
 ) -> Result<Ended, ServeFault>
-    requires begun { C.begins line }
     requires young { HasKeptFewer D.keeps desk.old most }
-    ensures served { (talk : Talk) × C.talked callers.old (talk ∷ []) callers.new ×
+    ensures served { (before : C) → C.called before line callers.old → (talk : Talk) ×
+        C.talked before (talk ∷ []) callers.new ×
         IsServed D.answers D.keeps most desk.old (record { talk = talk; ended = result }) desk.new }
     ensures ended { (last : C.Line) × C.ended callers.old last result callers.new }
 {

@@ -39,11 +39,12 @@ pub fn next_in_life<C: Callers, D: Desk>(
     callers: &mut C,
     desk: &D,
 ) -> io::Result<Option<C::Line>>
-    ensures begun { IfOk result (λ next. IfSome next (λ line. C.begins line ×
+    ensures begun { IfOk result (λ next. IfSome next (λ line. C.called callers.old line callers.new ×
         HasKeptFewer D.keeps desk.now most)) }
-    ensures old { IfOk result (λ next. IfNone next (HasKept D.keeps desk.now most)) }
+    ensures old { IfOk result (λ next. IfNone next ((callers.new ≡ callers.old) ×
+        HasKept D.keeps desk.now most)) }
     ensures failed { OnErr result (C.failed callers.old callers.new) }
-    ensures none_ended { C.talked callers.old [] callers.new }
+    ensures none_ended { OnErr result (C.talked callers.old [] callers.new) }
 {
     match age_of(most, desk.kept()) {
         Age::Young => match callers.next() {

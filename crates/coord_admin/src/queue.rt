@@ -42,7 +42,7 @@ impl<D: Desk> Queue<D> {
         Ok(Queue { posted, answers })
     }
 
-    /// Is let go.
+    /// Is let go, where no order waits for its reply. Nothing is left of which a clause could speak.
     pub fn destroy(self)
         requires { self.posted.items ≡ [] }
     {

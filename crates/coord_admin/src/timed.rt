@@ -78,7 +78,9 @@ fn read_within<S: Read + OpenStream, T: Clock>(
 
 impl<'a, S: Read + Write + OpenStream + Drop, T: Clock> TimedStream<'a, S, T> {
     /// Over a stream whose writes go out at once.
-    pub fn new(clock: &'a T, stream: S, patience: Patience) -> io::Result<Self> {
+    pub fn new(clock: &'a T, stream: S, patience: Patience) -> io::Result<Self>
+        ensures { IfOk result (λ line. line.patience ≡ patience) }
+    {
         stream.set_nodelay(true)?;
         let opened = Instant::now(clock)?;
         Ok(TimedStream {
@@ -114,8 +116,11 @@ impl<'a, S: Read + Write + OpenStream + Drop, T: Clock> TimedStream<'a, S, T> {
     }
 
     /// Says that no more goes out, and discards what comes in, for a while: a connection that is
-    /// closed before all was read may lose what its client has not read yet.
-    pub fn discard(&mut self) {
+    /// closed before all was read may lose what its client has not read yet. What is read then no clause
+    /// can say.
+    pub fn discard(&mut self)
+        ensures { self.new.patience ≡ self.old.patience }
+    {
         if self.stream.shutdown(Shutdown::Write).is_err() {
             return;
         }
