@@ -61,16 +61,16 @@ module _ {D : Type 0} (answers : D → Request → Answer → D → Type 0) wher
   MayAnswer d (Ok r) a e = answers d r a e
   MayAnswer d (Err f) a e = (a ≡ Faulted f) × (e ≡ d)
 
-  abbrev pub Answers : D → Line → Answer → D → Type 0
-  Answers d line a e = MayAnswer d (asked_by line) a e
+  abbrev pub AnswersLine : D → Line → Answer → D → Type 0
+  AnswersLine d line a e = MayAnswer d (asked_by line) a e
 
   -- there was no memory to read the line, or none to write its answer
   abbrev pub FindsNoMemory : D → Line → D → Type 0
-  FindsNoMemory d line e = (IsText line × (e ≡ d)) ⊎ ((a : Answer) × (takes_memory a ≡ true) × Answers d line a e)
+  FindsNoMemory d line e = (IsText line × (e ≡ d)) ⊎ ((a : Answer) × (takes_memory a ≡ true) × AnswersLine d line a e)
 
   -- what is replied to a line: its answer, or that there was no memory
   abbrev pub Gets : D → Line → Answer → D → Type 0
-  Gets d line a e = Answers d line a e ⊎ ((a ≡ Faulted OutOfMemory) × FindsNoMemory d line e)
+  Gets d line a e = AnswersLine d line a e ⊎ ((a ≡ Faulted OutOfMemory) × FindsNoMemory d line e)
 
   -- lines that got replies, one each and in order, none of which closed the desk
   abbrev pub AllGet : D → List Line → List Answer → D → Type 0

@@ -13,7 +13,7 @@ use std::time::{Clock, Duration, Instant};
 const MOST_WRITES: u64 = 1_048_576;
 
 /// The most calls of `read` for one wait.
-const MOST_READS: u64 = 1_048_576;
+const READ_TRIES: u64 = 1_048_576;
 
 /// A stream whose reads and writes wait no longer than its patience allows. No clause can say which
 /// bytes a socket gives and takes: so whoever reads and writes through it is generic over
@@ -58,7 +58,7 @@ fn read_within<S: Read + OpenStream, T: Clock>(
         return Err(NotRead);
     };
     let mut wait = span;
-    for _ in 0..MOST_READS {
+    for _ in 0..READ_TRIES {
         if *told != Some(wait) && stream.set_read_timeout(Some(wait)).is_err() {
             return Err(NotRead);
         }

@@ -2,7 +2,7 @@
 use Rattle.std.proofs.Common.{◌≡◌, ◌↔◌, ℕ, Bool, true, false, cond, List, length, Result, Ok, Err, ap, subst, ◌∙◌, IfOk, arith}
 use Rattle.coord_batch.specs.declared.fault.CodecFault.{CodecFault}
 use Rattle.coord_batch.specs.declared.fault.Flaw.{Flaw}
-use Rattle.coord_batch.specs.Facade.{Answers, Format, bad_version, decoded, is_version, or_fault, whole}
+use Rattle.coord_batch.specs.Facade.{AnswersDecoded, Format, bad_version, decoded, is_version, or_fault, whole}
 use Rattle.coord_batch.proofs.Grammars.{IsBytes, IsGrammar, whole_found, whole_again}
 
 -- the value that is read, in the one version that there is
@@ -26,14 +26,14 @@ module _ {A : Type 0} (f : ℕ → Format A) (grammar : (v : ℕ) → IsGrammar 
 
   module _ {X : Type 0} (view : X → A) (bytes : List ℕ) where
     -- what is read is spelled so
-    pub answers_found : (result : Result X CodecFault) → IsBytes bytes → Answers view result (decoded f version bytes) → IfOk result (λ v. (is_version version ≡ true) × (f version).Fits (view v) × (bytes ≡ (f version).text (view v)))
+    pub answers_found : (result : Result X CodecFault) → IsBytes bytes → AnswersDecoded view result (decoded f version bytes) → IfOk result (λ v. (is_version version ≡ true) × (f version).Fits (view v) × (bytes ≡ (f version).text (view v)))
     answers_found (Ok v) fits answers = decoded_found bytes (view v) fits answers
     answers_found (Err e) fits answers = tt
 
     -- what is spelled so is read, unless memory runs out
-    pub answers_only : (result : Result X CodecFault) (x : A) → is_version version ≡ true → (f version).Fits x → bytes ≡ (f version).text x → Answers view result (decoded f version bytes) → Answers view result (Ok x)
-    answers_only result x known fits spelled answers = subst (Answers view result) (ap (decoded f version) spelled ∙ decoded_again x known fits) answers
+    pub answers_only : (result : Result X CodecFault) (x : A) → is_version version ≡ true → (f version).Fits x → bytes ≡ (f version).text x → AnswersDecoded view result (decoded f version bytes) → AnswersDecoded view result (Ok x)
+    answers_only result x known fits spelled answers = subst (AnswersDecoded view result) (ap (decoded f version) spelled ∙ decoded_again x known fits) answers
 
     -- the version is told where it is none, and nowhere else
-    pub version_told : (result : Result X CodecFault) → (is_version version ≡ false → result ≡ Err bad_version) → Answers view result (decoded f version bytes) → (result ≡ Err bad_version) ↔ (is_version version ≡ false)
+    pub version_told : (result : Result X CodecFault) → (is_version version ≡ false → result ≡ Err bad_version) → AnswersDecoded view result (decoded f version bytes) → (result ≡ Err bad_version) ↔ (is_version version ≡ false)
     version_told result other answers = grind (arith, no_version)

@@ -3,7 +3,7 @@ use Rattle.std.proofs.Common.{◌≡◌, ℕ, suc, ◌+◌, ◌-◌, ◌<◌, �
 use Rattle.std.proofs.lemmas.List.{length-append}
 use Rattle.coord_batch.specs.declared.fault.ReadError.{ReadError}
 use Rattle.coord_batch.specs.Format.{Format, Read, ◌>>=◌, items_at}
-use Rattle.coord_batch.specs.Reading.{Fails}
+use Rattle.coord_batch.specs.Reading.{FailsToRead}
 
 module _ {A : Type 0} (item : List A → Format A) (total : Read (List A)) (front : List A) (count i : ℕ) (bytes : List ℕ) where
   -- an item is read
@@ -14,7 +14,7 @@ module _ {A : Type 0} (item : List A → Format A) (total : Read (List A)) (fron
       sym (ap (λ r. r >>= λ y. items_at item (count - (i + 1)) (front ++ y.0 ∷ []) y.1) read) ∙ sym (ap (λ n. items_at item n front bytes) k) ∙ so_far
 
   -- an item isn't read
-  pub cut_short : (e : ReadError) → i < count → Fails e ((item front).read bytes) → items_at item (count - i) front bytes ≡ total → Fails e total
+  pub cut_short : (e : ReadError) → i < count → FailsToRead e ((item front).read bytes) → items_at item (count - i) front bytes ≡ total → FailsToRead e total
   unfolding items_at
   cut_short e h1 h2 h3 = grind arith
 

@@ -43,6 +43,6 @@ Unless kind.OutOfMemory P = Unit {0}
 Unless k P = P
 
 -- The answer, as `view` shows it, is this one; or there was no memory.
-abbrev pub Answers : {X Y : Type 0} → (X → Y) → Result X CodecFault → Result Y CodecFault → Type 0
-Answers view (Ok x) read = read ≡ Ok (view x)
-Answers view (Err e) read = Unless e.kind (read ≡ Err e)
+abbrev pub AnswersDecoded : {X Y : Type 0} → (X → Y) → Result X CodecFault → Result Y CodecFault → Type 0
+AnswersDecoded view (Ok x) read = read ≡ Ok (view x)
+AnswersDecoded view (Err e) read = Unless e.kind (read ≡ Err e)

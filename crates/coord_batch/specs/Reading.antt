@@ -6,12 +6,12 @@ use Rattle.coord_batch.specs.declared.fault.ReadError.{ReadError}
 use Rattle.coord_batch.specs.declared.fault.ReadError.TheVariants as errors
 
 -- an error is want of memory, or the flaw that reading meets
-abbrev pub Fails : {Y : Type 0} → ReadError → Result Y Flaw → Type 0
-Fails errors.Memory read = Unit {0}
-Fails (errors.Flaw f) read = read ≡ Err f
+abbrev pub FailsToRead : {Y : Type 0} → ReadError → Result Y Flaw → Type 0
+FailsToRead errors.Memory read = Unit {0}
+FailsToRead (errors.Flaw f) read = read ≡ Err f
 
 -- A reader's answer, as `view` shows it, and the bytes that it leaves are what reading gives; or
 -- there was no memory.
-abbrev pub Reads : {X Y : Type 0} → (X → Y) → Result X ReadError → Read Y → List ℕ → Type 0
-Reads view (Ok x) read left = read ≡ Ok (view x, left)
-Reads view (Err e) read left = Fails e read
+abbrev pub ReadsSpelled : {X Y : Type 0} → (X → Y) → Result X ReadError → Read Y → List ℕ → Type 0
+ReadsSpelled view (Ok x) read left = read ≡ Ok (view x, left)
+ReadsSpelled view (Err e) read left = FailsToRead e read

@@ -3,8 +3,8 @@
 ghost use Rattle.std.specs.Prelude.{◌≡◌, true, false, ◌↔◌, ◌≤◌, ℕ, List, length, Ok, Err, IfOk};
 ghost use Rattle.std.specs.List.{AllByRecursion};
 ghost use Rattle.coord_types.specs.declared.steps.Step.{Step as Taken};
-ghost use Rattle.coord_batch.specs.Reading.{Reads};
-ghost use Rattle.coord_batch.specs.Decoding.{Answers, bad_version, decoded, is_version};
+ghost use Rattle.coord_batch.specs.Reading.{ReadsSpelled};
+ghost use Rattle.coord_batch.specs.Decoding.{AnswersDecoded, bad_version, decoded, is_version};
 ghost use Rattle.coord_batch.specs.Steps.{batch};
 ghost use Rattle.coord_batch.specs.Batches.{IsBatch, IsWritable, content, pair};
 
@@ -30,7 +30,7 @@ pub struct Batch {
 impl<'a> Input<'a> {
     #[tactic(auto, unfolding(crate::specs::Steps::batch))]
     fn batch(&mut self, alloc: Global, version: Version) -> Result<Batch, ReadError>
-        ensures { Reads content result ((batch version).read self.old) self.new }
+        ensures { ReadsSpelled content result ((batch version).read self.old) self.new }
     {
         let first = self.from_one_to(MAX_STEPS)?;
         let steps = self.steps(alloc, version)?;
@@ -40,7 +40,7 @@ impl<'a> Input<'a> {
 
 /// The batch that all of the bytes spell.
 fn decode(alloc: Global, version: u8, bytes: &[u8]) -> Result<Batch, CodecFault>
-    ensures exact { Answers content result (decoded batch version bytes.now) }
+    ensures exact { AnswersDecoded content result (decoded batch version bytes.now) }
     ensures version { is_version version ≡ false → result ≡ Err bad_version }
 {
     let Some(known) = Version::new(version) else {
@@ -64,11 +64,11 @@ pub fn read_batch(alloc: Global, version: u8, bytes: &[u8]) -> Result<Batch, Cod
     // What is spelled so is read, unless memory runs out.
     ensures only { (first : ℕ) (taken : List Taken) → is_version version ≡ true →
         IsBatch version first taken → bytes.now ≡ (batch version).text (pair first taken)
-        → Answers content result (Ok (pair first taken)) }
+        → AnswersDecoded content result (Ok (pair first taken)) }
     // Another version is told also where memory is short.
     ensures version { (result ≡ Err bad_version) ↔ (is_version version ≡ false) }
     // Which fault it is, and where.
-    ensures exact { Answers content result (decoded batch version bytes.now) }
+    ensures exact { AnswersDecoded content result (decoded batch version bytes.now) }
 {
     decode(alloc, version, bytes)
 }

@@ -1,7 +1,7 @@
 //! Bytes that are read from the left.
 
 ghost use Rattle.std.specs.Prelude.{◌≡◌, ◌≤◌, length, IfOk};
-ghost use Rattle.coord_batch.specs.Reading.{Reads};
+ghost use Rattle.coord_batch.specs.Reading.{ReadsSpelled};
 ghost use Rattle.coord_batch.specs.Format.{byte, u16, u64};
 ghost use Rattle.coord_batch.specs.Fields.{at_most, client, from_one, distance, from_one_to, group, how_many, message, node};
 
@@ -45,7 +45,7 @@ impl<'a> Input<'a> {
 
     /// The next byte.
     pub fn byte(&mut self) -> Result<u8, ReadError>
-        ensures { Reads (λ x. x) result (byte.read self.old) self.new }
+        ensures { ReadsSpelled (λ x. x) result (byte.read self.old) self.new }
     {
         match self.rest {
             [] => Err(ReadError::Flaw(Flaw::Short)),
@@ -58,7 +58,7 @@ impl<'a> Input<'a> {
 
     /// A number of two bytes, the greatest first.
     pub fn u16(&mut self) -> Result<u16, ReadError>
-        ensures { Reads (λ x. x) result (u16.read self.old) self.new }
+        ensures { ReadsSpelled (λ x. x) result (u16.read self.old) self.new }
     {
         if self.rest.len() < 2 {
             return Err(ReadError::Flaw(Flaw::Short));
@@ -70,7 +70,7 @@ impl<'a> Input<'a> {
 
     /// A number of eight bytes, the greatest first.
     pub fn u64(&mut self) -> Result<u64, ReadError>
-        ensures { Reads (λ x. x) result (u64.read self.old) self.new }
+        ensures { ReadsSpelled (λ x. x) result (u64.read self.old) self.new }
     {
         if self.rest.len() < 8 {
             return Err(ReadError::Flaw(Flaw::Short));
@@ -85,7 +85,7 @@ impl<'a> Input<'a> {
     /// A node, in a byte from 1 to 64.
     #[tactic(auto, unfolding(crate::specs::Fields::node))]
     pub fn node(&mut self) -> Result<NodeId, ReadError>
-        ensures { Reads (λ x. x) result (node.read self.old) self.new }
+        ensures { ReadsSpelled (λ x. x) result (node.read self.old) self.new }
     {
         let left = self.left();
         let number = self.byte()?;
@@ -95,7 +95,7 @@ impl<'a> Input<'a> {
     /// A group, in a byte from 1 to 16.
     #[tactic(auto, unfolding(crate::specs::Fields::group))]
     pub fn group(&mut self) -> Result<Group, ReadError>
-        ensures { Reads (λ x. x) result (group.read self.old) self.new }
+        ensures { ReadsSpelled (λ x. x) result (group.read self.old) self.new }
     {
         let left = self.left();
         let number = self.byte()?;
@@ -105,7 +105,7 @@ impl<'a> Input<'a> {
     /// A client, in a byte from 1 to 16.
     #[tactic(auto, unfolding(crate::specs::Fields::client))]
     pub fn client(&mut self) -> Result<Client, ReadError>
-        ensures { Reads (λ x. x) result (client.read self.old) self.new }
+        ensures { ReadsSpelled (λ x. x) result (client.read self.old) self.new }
     {
         let left = self.left();
         let number = self.byte()?;
@@ -115,7 +115,7 @@ impl<'a> Input<'a> {
     /// A distance, in eight bytes, up to this one; in version 1, where each is 0, it has no bytes.
     #[tactic(auto, unfolding(crate::specs::Fields::distance, crate::specs::Fields::unless))]
     pub fn distance(&mut self, version: Version, most: u64) -> Result<u64, ReadError>
-        ensures { Reads (λ x. x) result ((distance version most).read self.old) self.new }
+        ensures { ReadsSpelled (λ x. x) result ((distance version most).read self.old) self.new }
     {
         if version.number() == 1 {
             return Ok(0);
@@ -126,7 +126,7 @@ impl<'a> Input<'a> {
     /// A message: 0 Abort, with a distance up to this one, 1 Ack, 2 Ready.
     #[tactic(auto, unfolding(crate::specs::Fields::message, crate::specs::Fields::message_case))]
     pub fn message(&mut self, version: Version, most: u64) -> Result<Msg, ReadError>
-        ensures { Reads (λ x. x) result ((message version most).read self.old) self.new }
+        ensures { ReadsSpelled (λ x. x) result ((message version most).read self.old) self.new }
     {
         let left = self.left();
         match self.byte()? {
@@ -140,7 +140,7 @@ impl<'a> Input<'a> {
     /// A number of eight bytes, from 1.
     #[tactic(auto, unfolding(crate::specs::Fields::from_one))]
     pub fn from_one(&mut self) -> Result<u64, ReadError>
-        ensures { Reads (λ x. x) result (from_one.read self.old) self.new }
+        ensures { ReadsSpelled (λ x. x) result (from_one.read self.old) self.new }
     {
         let left = self.left();
         let number = self.u64()?;
@@ -153,7 +153,7 @@ impl<'a> Input<'a> {
     /// A number of eight bytes, up to this one.
     #[tactic(auto, unfolding(crate::specs::Fields::at_most))]
     pub fn at_most(&mut self, most: u64) -> Result<u64, ReadError>
-        ensures { Reads (λ x. x) result ((at_most most).read self.old) self.new }
+        ensures { ReadsSpelled (λ x. x) result ((at_most most).read self.old) self.new }
     {
         let left = self.left();
         let number = self.u64()?;
@@ -166,7 +166,7 @@ impl<'a> Input<'a> {
     /// A number of eight bytes, from 1 up to this one.
     #[tactic(auto, unfolding(crate::specs::Fields::from_one_to))]
     pub fn from_one_to(&mut self, most: u64) -> Result<u64, ReadError>
-        ensures { Reads (λ x. x) result ((from_one_to most).read self.old) self.new }
+        ensures { ReadsSpelled (λ x. x) result ((from_one_to most).read self.old) self.new }
     {
         let left = self.left();
         let number = self.u64()?;
@@ -179,7 +179,7 @@ impl<'a> Input<'a> {
     /// How many items there are, in a byte up to this number.
     #[tactic(auto, unfolding(crate::specs::Fields::how_many))]
     pub fn how_many(&mut self, most: u8) -> Result<u8, ReadError>
-        ensures read { Reads (λ x. x) result ((how_many most).read self.old) self.new }
+        ensures read { ReadsSpelled (λ x. x) result ((how_many most).read self.old) self.new }
         ensures most { IfOk result (λ n. n ≤ most) }
     {
         let left = self.left();

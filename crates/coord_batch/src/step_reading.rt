@@ -2,7 +2,7 @@
 
 ghost use Rattle.std.specs.Prelude.{[]};
 ghost use Rattle.coord_batch.specs.Format.{items_at};
-ghost use Rattle.coord_batch.specs.Reading.{Reads};
+ghost use Rattle.coord_batch.specs.Reading.{ReadsSpelled};
 ghost use Rattle.coord_batch.specs.Steps.{command, data_packet, receipt_packet, step, steps};
 
 use crate::fault::ReadError;
@@ -14,7 +14,7 @@ impl<'a> Input<'a> {
     /// A command: the byte of its form, and the nodes and numbers that it names.
     #[tactic(auto, unfolding(crate::specs::Steps::command, crate::specs::Steps::command_case))]
     pub fn command(&mut self) -> Result<Command, ReadError>
-        ensures { Reads (λ x. x) result (command.read self.old) self.new }
+        ensures { ReadsSpelled (λ x. x) result (command.read self.old) self.new }
     {
         let left = self.left();
         match self.byte()? {
@@ -30,7 +30,7 @@ impl<'a> Input<'a> {
 
     #[tactic(auto, unfolding(crate::specs::Steps::data_packet))]
     fn data_packet(&mut self, version: Version) -> Result<DataPacket, ReadError>
-        ensures { Reads (λ x. x) result ((data_packet version).read self.old) self.new }
+        ensures { ReadsSpelled (λ x. x) result ((data_packet version).read self.old) self.new }
     {
         Ok(DataPacket {
             from: self.node()?,
@@ -43,7 +43,7 @@ impl<'a> Input<'a> {
 
     #[tactic(auto, unfolding(crate::specs::Steps::receipt_packet))]
     fn receipt_packet(&mut self) -> Result<ReceiptPacket, ReadError>
-        ensures { Reads (λ x. x) result (receipt_packet.read self.old) self.new }
+        ensures { ReadsSpelled (λ x. x) result (receipt_packet.read self.old) self.new }
     {
         Ok(ReceiptPacket {
             from: self.node()?,
@@ -55,7 +55,7 @@ impl<'a> Input<'a> {
 
     #[tactic(auto, unfolding(crate::specs::Steps::step, crate::specs::Steps::step_case, crate::specs::Steps::order))]
     fn step(&mut self, version: Version) -> Result<Step, ReadError>
-        ensures { Reads (λ x. x) result ((step version).read self.old) self.new }
+        ensures { ReadsSpelled (λ x. x) result ((step version).read self.old) self.new }
     {
         let left = self.left();
         match self.byte()? {
@@ -73,7 +73,7 @@ impl<'a> Input<'a> {
         version: Version,
         count: u16,
     ) -> Result<Vec<Step>, ReadError>
-        ensures { Reads (λ v. v.items) result
+        ensures { ReadsSpelled (λ v. v.items) result
             (items_at (λ _. step version) count [] self.old) self.new }
     {
         let mut list = Vec::with_capacity(alloc, usize::from(count))?;
@@ -87,7 +87,7 @@ impl<'a> Input<'a> {
     /// Their number, from 1 to `MAX_BATCH_STEPS`, and the steps.
     #[tactic(auto, unfolding(crate::specs::Steps::steps, crate::specs::Steps::how_many_steps))]
     pub(crate) fn steps(&mut self, alloc: Global, version: Version) -> Result<Vec<Step>, ReadError>
-        ensures { Reads (λ v. v.items) result ((steps version).read self.old) self.new }
+        ensures { ReadsSpelled (λ v. v.items) result ((steps version).read self.old) self.new }
     {
         let left = self.left();
         let count = self.u16()?;

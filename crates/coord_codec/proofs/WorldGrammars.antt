@@ -23,7 +23,7 @@ use Rattle.coord_world.specs.Facade.{InRange, World, rows_of}
 use Rattle.coord_world.proofs.Facade.{rows_give_world, rows_of_world_fit}
 use Rattle.coord_batch.specs.declared.fault.CodecFault.{CodecFault}
 use Rattle.coord_batch.specs.declared.fault.FaultKind.{FaultKind}
-use Rattle.coord_batch.specs.Decoding.{Answers, Unless, decoded, is_version}
+use Rattle.coord_batch.specs.Decoding.{AnswersDecoded, Unless, decoded, is_version}
 use Rattle.coord_batch.proofs.Decoded.{answers_found, answers_only}
 use Rattle.coord_codec.proofs.WorldRows.{rows_fit, version_fits}
 use Rattle.coord_batch.proofs.SpellingLaws.{cut_short, more_extra}
@@ -166,7 +166,7 @@ world_grammar version =
 -- ---- what spells a world is read as that world
 
 -- what is read is in its ranges, and is spelled so
-pub world_found : (version : ℕ) (bytes : List ℕ) (result : Result World CodecFault) → IsBytes bytes → IfOk result InRange → Answers rows_of result (decoded world version bytes) → IfOk result (λ v. (v.version ≡ version) × InRange v × (bytes ≡ (world version).text (rows_of v)))
+pub world_found : (version : ℕ) (bytes : List ℕ) (result : Result World CodecFault) → IsBytes bytes → IfOk result InRange → AnswersDecoded rows_of result (decoded world version bytes) → IfOk result (λ v. (v.version ≡ version) × InRange v × (bytes ≡ (world version).text (rows_of v)))
 world_found version bytes result fits ranges answers = grind (arith, answers_found, world_grammar, version_fits)
 
 -- what is said of every fault but want of memory, in other words
@@ -174,12 +174,12 @@ weaker : (k : FaultKind) (P Q : Type 0) → (P → Q) → Unless k P → Unless 
 weaker k P Q h1 h2 = grind arith
 
 -- an answer with these rows is this world
-same_world : (w : World) (result : Result World CodecFault) → InRange w → IfOk result InRange → Answers rows_of result (Ok (rows_of w)) → Answers (λ v. v) result (Ok w)
+same_world : (w : World) (result : Result World CodecFault) → InRange w → IfOk result InRange → AnswersDecoded rows_of result (Ok (rows_of w)) → AnswersDecoded (λ v. v) result (Ok w)
 same_world w (Ok v) range ranges answers = let rows : rows_of w ≡ rows_of v = cc in ap Ok (rows_give_world w v range ranges rows)
 same_world w (Err e) range ranges answers = weaker e.kind _ _ (λ is. absurd cc) answers
 
 -- what spells a world is read as that world, unless memory runs out
-pub world_only : (version : ℕ) (bytes : List ℕ) (result : Result World CodecFault) (w : World) → IfOk result InRange → w.version ≡ version → InRange w → bytes ≡ (world version).text (rows_of w) → Answers rows_of result (decoded world version bytes) → Answers (λ v. v) result (Ok w)
+pub world_only : (version : ℕ) (bytes : List ℕ) (result : Result World CodecFault) (w : World) → IfOk result InRange → w.version ≡ version → InRange w → bytes ≡ (world version).text (rows_of w) → AnswersDecoded rows_of result (decoded world version bytes) → AnswersDecoded (λ v. v) result (Ok w)
 world_only version bytes result w ranges known range spelled answers =
     let a_version : is_version version ≡ true = subst (λ n. is_version n ≡ true) known (grind (arith, nat_tests, range.first, range.last)) in
     let fits = subst (λ n. (world n).Fits (rows_of w)) known (rows_fit (rows_of w) (rows_of_world_fit w range)) in

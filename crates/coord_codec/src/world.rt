@@ -5,7 +5,7 @@ ghost use Rattle.coord_world.specs.protocol.NumberedWorld.{World as Numbered};
 ghost use Rattle.coord_world.specs.protocol.Rows.{RowsFit, listed, rows_of};
 ghost use Rattle.coord_world.specs.protocol.Ranges.{InRange};
 ghost use Rattle.coord_world.specs.protocol.Legal.{Legal};
-ghost use Rattle.coord_batch.specs.Decoding.{Answers, bad_version, decoded, is_version};
+ghost use Rattle.coord_batch.specs.Decoding.{AnswersDecoded, bad_version, decoded, is_version};
 ghost use Rattle.coord_codec.specs.Sizes.{most_world_bytes as most_bytes};
 ghost use Rattle.coord_codec.specs.Worlds.{world};
 
@@ -25,7 +25,7 @@ fn most_world_bytes(version: Version) -> usize {
 
 /// The rows that all of the bytes spell.
 fn decode(alloc: Global, version: u8, bytes: &[u8]) -> Result<Parts, CodecFault>
-    ensures exact { Answers (λ p. listed p) result (decoded world version bytes.now) }
+    ensures exact { AnswersDecoded (λ p. listed p) result (decoded world version bytes.now) }
     ensures version { is_version version ≡ false → result ≡ Err bad_version }
     ensures fit { IfOk result (λ p. RowsFit (listed p)) }
 {
@@ -42,7 +42,7 @@ fn decode(alloc: Global, version: u8, bytes: &[u8]) -> Result<Parts, CodecFault>
 
 /// The world that has the rows that are read.
 fn assembled(alloc: Global, version: u8, bytes: &[u8]) -> Result<World, CodecFault>
-    ensures exact { Answers rows_of result (decoded world version bytes.now) }
+    ensures exact { AnswersDecoded rows_of result (decoded world version bytes.now) }
     ensures version { is_version version ≡ false → result ≡ Err bad_version }
     ensures ranges { IfOk result (λ w. InRange w) }
 {
@@ -62,11 +62,11 @@ pub fn read_world(alloc: Global, version: u8, bytes: &[u8]) -> Result<World, Cod
     // What spells a world is read as that world, unless memory runs out.
     ensures only { (w : Numbered) → w.version ≡ version → InRange w →
         bytes.now ≡ (world version).text (rows_of w)
-        → Answers (λ v. v) result (Ok w) }
+        → AnswersDecoded (λ v. v) result (Ok w) }
     // Another version is told also where memory is short.
     ensures version { (result ≡ Err bad_version) ↔ (is_version version ≡ false) }
     // Which fault it is, and where.
-    ensures exact { Answers rows_of result (decoded world version bytes.now) }
+    ensures exact { AnswersDecoded rows_of result (decoded world version bytes.now) }
 {
     assembled(alloc, version, bytes)
 }

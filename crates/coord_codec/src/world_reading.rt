@@ -3,7 +3,7 @@
 ghost use Rattle.std.specs.Prelude.{◌≡◌, ◌≤◌, [], List, IfOk, OnOk};
 ghost use Rattle.coord_batch.specs.Format.{items_at};
 ghost use Rattle.coord_batch.specs.Fields.{message};
-ghost use Rattle.coord_batch.specs.Reading.{Reads};
+ghost use Rattle.coord_batch.specs.Reading.{ReadsSpelled};
 ghost use Rattle.coord_link.specs.declared.lane.TheConstants.{PLACES};
 ghost use Rattle.coord_codec.specs.Worlds.{client_row, clients, content_of_lane, ends, kind, lane, last_by, link_row, links, mask, mode, most_distance, node_row, nodes, parent, queue, world};
 ghost use Rattle.coord_world.specs.protocol.Rows.{listed};
@@ -21,7 +21,7 @@ use std::alloc::Global;
 
 #[tactic(auto, unfolding(crate::specs::Worlds::mode))]
 fn read_mode(input: &mut Input) -> Result<Mode, ReadError>
-    ensures { Reads (λ x. x) result (mode.read input.old) input.new }
+    ensures { ReadsSpelled (λ x. x) result (mode.read input.old) input.new }
 {
     let left = input.left();
     match input.byte()? {
@@ -34,7 +34,7 @@ fn read_mode(input: &mut Input) -> Result<Mode, ReadError>
 
 #[tactic(auto, unfolding(crate::specs::Worlds::parent))]
 fn read_parent(input: &mut Input) -> Result<Option<NodeId>, ReadError>
-    ensures { Reads (λ x. x) result (parent.read input.old) input.new }
+    ensures { ReadsSpelled (λ x. x) result (parent.read input.old) input.new }
 {
     let left = input.left();
     let number = input.byte()?;
@@ -49,7 +49,7 @@ fn read_parent(input: &mut Input) -> Result<Option<NodeId>, ReadError>
 
 #[tactic(auto, unfolding(crate::specs::Worlds::mask))]
 fn read_node_set(input: &mut Input) -> Result<NodeSet, ReadError>
-    ensures { Reads (λ x. x) result (mask.read input.old) input.new }
+    ensures { ReadsSpelled (λ x. x) result (mask.read input.old) input.new }
 {
     let bits = input.u64()?;
     Ok(NodeSet::from_bits(bits))
@@ -62,7 +62,7 @@ fn read_node_row(
     count: u64,
     front: &NodesRead,
 ) -> Result<NodeRow, ReadError>
-    ensures { Reads (λ x. x) result
+    ensures { ReadsSpelled (λ x. x) result
         ((node_row version count front.now.rows.items).read input.old) input.new }
 {
     let left = input.left();
@@ -100,7 +100,7 @@ fn read_ends(
     nodes: &NodesRead,
     front: &LinksRead,
 ) -> Result<(NodeId, NodeId), ReadError>
-    ensures { Reads (λ x. x) result
+    ensures { ReadsSpelled (λ x. x) result
         ((ends nodes.now.rows.items front.now.rows.items).read input.old) input.new }
 {
     let left = input.left();
@@ -129,7 +129,7 @@ fn read_messages(
 ) -> Result<(), ReadError>
     requires empty { lane.old.queue ≡ [] }
     requires most { count ≤ PLACES }
-    ensures read { Reads (λ _. lane.new.queue) result
+    ensures read { ReadsSpelled (λ _. lane.new.queue) result
         (items_at (λ _. message version most) count [] input.old) input.new }
     ensures same { OnOk result ((lane.new.inc ≡ lane.old.inc) × (lane.new.base ≡ lane.old.base) ×
         (lane.new.got ≡ lane.old.got)) }
@@ -150,7 +150,7 @@ fn read_queue(
     lane: &mut Lane,
 ) -> Result<(), ReadError>
     requires { lane.old.queue ≡ [] }
-    ensures read { Reads (λ _. lane.new.queue) result
+    ensures read { ReadsSpelled (λ _. lane.new.queue) result
         ((queue version most).read input.old) input.new }
     ensures same { OnOk result ((lane.new.inc ≡ lane.old.inc) × (lane.new.base ≡ lane.old.base) ×
         (lane.new.got ≡ lane.old.got)) }
@@ -162,7 +162,7 @@ fn read_queue(
 /// A lane of this incarnation.
 #[tactic(auto, unfolding(crate::specs::Worlds::lane))]
 fn read_lane(input: &mut Input, version: Version, count: u64, inc: u64) -> Result<Lane, ReadError>
-    ensures read { Reads content_of_lane result ((lane version count).read input.old) input.new }
+    ensures read { ReadsSpelled content_of_lane result ((lane version count).read input.old) input.new }
     ensures inc { IfOk result (λ l. l.inc ≡ inc) }
 {
     let base = input.at_most(count)?;
@@ -180,7 +180,7 @@ fn read_link_row(
     nodes: &NodesRead,
     front: &LinksRead,
 ) -> Result<LinkRow, ReadError>
-    ensures { Reads (λ x. x) result
+    ensures { ReadsSpelled (λ x. x) result
         ((link_row version count nodes.now.rows.items front.now.rows.items).read input.old)
         input.new }
 {
@@ -194,7 +194,7 @@ fn read_link_row(
 /// How a command may be answered.
 #[tactic(auto, unfolding(crate::specs::Worlds::kind))]
 fn read_kind(input: &mut Input, order: &Command) -> Result<Kind, ReadError>
-    ensures { Reads (λ x. x) result ((kind order.now).read input.old) input.new }
+    ensures { ReadsSpelled (λ x. x) result ((kind order.now).read input.old) input.new }
 {
     let left = input.left();
     let kind = match input.byte()? {
@@ -214,7 +214,7 @@ fn read_kind(input: &mut Input, order: &Command) -> Result<Kind, ReadError>
 /// The row of a client behind these, of which the last has this number, or 0.
 fn read_client_row(input: &mut Input, count: u64, last: u8) -> Result<ClientRow, ReadError>
     ensures { (front : List ClientRow) → last ≡ last_by (λ r. r.client) 0 front
-        → Reads (λ x. x) result ((client_row count front).read input.old) input.new }
+        → ReadsSpelled (λ x. x) result ((client_row count front).read input.old) input.new }
 {
     let left = input.left();
     let client = input.client()?;
@@ -243,7 +243,7 @@ fn read_node_list(
     count: u64,
     rows: u8,
 ) -> Result<NodesRead, ReadError>
-    ensures { Reads (λ v. v.rows.items) result
+    ensures { ReadsSpelled (λ v. v.rows.items) result
         (items_at (node_row version count) rows [] input.old) input.new }
 {
     let mut list = NodesRead::new(alloc);
@@ -263,7 +263,7 @@ fn read_link_list(
     nodes: &NodesRead,
     rows: u8,
 ) -> Result<LinksRead, ReadError>
-    ensures { Reads (λ v. v.rows.items) result
+    ensures { ReadsSpelled (λ v. v.rows.items) result
         (items_at (link_row version count nodes.now.rows.items) rows [] input.old) input.new }
 {
     let mut list = LinksRead::new(alloc);
@@ -281,7 +281,7 @@ fn read_client_list(
     count: u64,
     rows: u8,
 ) -> Result<Vec<ClientRow>, ReadError>
-    ensures { Reads (λ v. v.items) result
+    ensures { ReadsSpelled (λ v. v.items) result
         (items_at (client_row count) rows [] input.old) input.new }
 {
     let mut list = Vec::new(alloc);
@@ -297,7 +297,7 @@ fn read_client_list(
 
 #[tactic(auto, unfolding(crate::specs::Worlds::world, crate::specs::Worlds::nodes, crate::specs::Worlds::links, crate::specs::Worlds::clients))]
 pub fn read_parts(input: &mut Input, alloc: Global, version: Version) -> Result<Parts, ReadError>
-    ensures { Reads (λ p. listed p) result ((world version).read input.old) input.new }
+    ensures { ReadsSpelled (λ p. listed p) result ((world version).read input.old) input.new }
 {
     let count = input.at_most(MAX_STEPS)?;
     let rows = input.how_many(MAX_NODES)?;

@@ -6,15 +6,15 @@ use Rattle.coord_commands.proofs.Opening.{gave}
 use Rattle.std.proofs.lemmas.Bool.{false≢true}
 use Rattle.std.specs.Io.KnownBytes.{Appends, Keeps}
 use Rattle.coord_drill.specs.Drilled.{WritesFirstPart}
-use Rattle.coord_commands.specs.Ending.{Ends, IsCutShort, IsOfWriting, PrintsOne, Streams}
+use Rattle.coord_commands.specs.Ending.{CommandEnds, IsOfWriting, OutputCutShort, PrintsOne, Streams}
 use Rattle.coord_commands.specs.Faults.{fault_line, status_of}
-use Rattle.coord_commands.specs.Serving.{IsAddress, IsOfServingAt, IsServedToEnd, Serves}
+use Rattle.coord_commands.specs.Serving.{IsAddress, IsOfServingAt, IsServedToEnd, ServesAt}
 use Rattle.coord_commands.specs.declared.fault.Fault.{Fault}
 
 -- what ended is reported
 pub reported : {A : Type 0} (Q : Fault → Type 0) (P : List ℕ → Type 0) (ended : Result A Fault) (status : ℕ) (old new : Streams) → status ≡ status_of ended
     → MatchResult ended (λ _. Keeps old.errors new.errors) (λ fault. WritesFirstPart old.errors new.errors (fault_line fault))
-    → OnOk ended (PrintsOne P old.output new.output) → IfErr ended Q → IfErr ended (IsCutShort P old.output new.output) → Ends Q P status old new
+    → OnOk ended (PrintsOne P old.output new.output) → IfErr ended Q → IfErr ended (OutputCutShort P old.output new.output) → CommandEnds Q P status old new
 reported Q P (Ok x) status old new is told printed of cut = inl (record { number = is; printed = printed; silent = told })
 reported Q P (Err fault) status old new is told printed of cut = inr (record { fault = fault; possible = of; number = is; told = told; cut = cut })
 
@@ -24,7 +24,7 @@ printed_last P (Ok x) old new text has appended = (text, has, appended)
 printed_last P (Err fault) old new text has appended = tt
 
 pub cut_last : {A : Type 0} (P : List ℕ → Type 0) (result : Result A Fault) (old new : Option (List ℕ)) (text : List ℕ) → P text → OnErr result (WritesFirstPart old new text) → IfErr result IsOfWriting
-    → IfErr result (IsCutShort P old new)
+    → IfErr result (OutputCutShort P old new)
 cut_last P (Ok x) old new text has part of = tt
 cut_last P (Err fault) old new text has part of = inr (of, (text, has, part))
 
@@ -36,7 +36,7 @@ of_writing Q (Err fault) among of = among fault of
 -- what was served, or was not
 pub served : {A D : Type 0} (of : Fault → Type 0) (model : DiskModel D) (word : List ℕ) (bytes after : Option (List ℕ)) (ended : Result A Fault) (status : ℕ) (old new : Option (List ℕ)) → IsAddress word → status ≡ status_of ended
     → MatchResult ended (λ _. Keeps old new) (λ fault. WritesFirstPart old new (fault_line fault))
-    → OnOk ended (IsServedToEnd model bytes after) → IfErr ended of → Serves of word bytes after status old new
+    → OnOk ended (IsServedToEnd model bytes after) → IfErr ended of → ServesAt of word bytes after status old new
 served of model word bytes after (Ok x) status old new proper is told closed possible =
     let gives = gave model bytes after closed in
     inl (record { number = is; address = proper; opened = gives.0; closed = gives.1; silent = told })
@@ -47,7 +47,7 @@ serving_weaker P Q word fault so (inl none) = inl none
 serving_weaker P Q word fault so (inr is) = inr (is.0, so is.1)
 
 -- what is said of its faults, or less
-pub serves_weaker : (P Q : Fault → Type 0) (word : List ℕ) (bytes after : Option (List ℕ)) (status : ℕ) (old new : Option (List ℕ)) → ((fault : Fault) → P fault → Q fault) → Serves P word bytes after status old new → Serves Q word bytes after status old new
+pub serves_weaker : (P Q : Fault → Type 0) (word : List ℕ) (bytes after : Option (List ℕ)) (status : ℕ) (old new : Option (List ℕ)) → ((fault : Fault) → P fault → Q fault) → ServesAt P word bytes after status old new → ServesAt Q word bytes after status old new
 serves_weaker P Q word bytes after status old new so (inl is) = inl is
 serves_weaker P Q word bytes after status old new so (inr is) = inr (record { fault = is.fault; possible = serving_weaker P Q word is.fault (so is.fault) is.possible; number = is.number; told = is.told })
 
@@ -60,10 +60,10 @@ is_done P (Err fault) ok so = absurd (false≢true ok)
 pub err_last : {A : Type 0} (P : Fault → Type 0) (result : Result A Fault) (fault : Fault) → result ≡ Err fault → P fault → IfErr result P
 err_last P result fault is has = rw is has
 
-cut_weaker : (P Q : List ℕ → Type 0) (old new : Option (List ℕ)) (fault : Fault) → ((line : List ℕ) → P line → Q line) → IsCutShort P old new fault → IsCutShort Q old new fault
+cut_weaker : (P Q : List ℕ → Type 0) (old new : Option (List ℕ)) (fault : Fault) → ((line : List ℕ) → P line → Q line) → OutputCutShort P old new fault → OutputCutShort Q old new fault
 cut_weaker P Q old new fault so (inl kept) = inl kept
 cut_weaker P Q old new fault so (inr part) = inr (part.0, (part.1.0, so part.1.0 part.1.1, part.1.2))
 
 -- what is said of faults and of what is printed, or less
-pub ends_weaker : (Q R : Fault → Type 0) (P S : List ℕ → Type 0) (status : ℕ) (old new : Streams) → ((fault : Fault) → Q fault → R fault) → ((line : List ℕ) → P line → S line) → Ends Q P status old new → Ends R S status old new
+pub ends_weaker : (Q R : Fault → Type 0) (P S : List ℕ → Type 0) (status : ℕ) (old new : Streams) → ((fault : Fault) → Q fault → R fault) → ((line : List ℕ) → P line → S line) → CommandEnds Q P status old new → CommandEnds R S status old new
 ends_weaker Q R P S status old new h1 h2 h3 = grind (arith, nat_tests, cut_weaker)

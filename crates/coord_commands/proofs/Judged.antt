@@ -6,7 +6,7 @@ use Rattle.coord_config.specs.declared.fault.ConfigFault.{ConfigFault}
 use Rattle.coord_config.specs.declared.fault.ConfigFault.TheVariants as of_topology
 use Rattle.coord_config.specs.declared.topology.Topology.{Topology as Given}
 use Rattle.coord_commands.specs.Ending.{IsOfWriting}
-use Rattle.coord_commands.specs.Making.{IsMade, IsOfMaking, LacksMemory, RefusesFile, RefusesStore, Says, Stays, begun}
+use Rattle.coord_commands.specs.Making.{IsFounded, IsOfMaking, LeavesWithoutMemory, RefusesFile, RefusesStore, Says, StaysKnown, begun}
 use Rattle.coord_commands.specs.declared.topology.TheConstants.{MOST_BYTES}
 use Rattle.coord_commands.specs.Topology.{IsOfText, said_by}
 use Rattle.coord_commands.specs.declared.fault.Fault.{Fault}
@@ -21,7 +21,7 @@ of_reason : (file : Option (List ℕ)) (reason : ConfigFault) → (reason ≢ of
 of_reason file reason h1 = grind (arith, nat_tests)
 
 -- bytes stay where they are the same
-stays : (same : Option (List ℕ)) → Stays same same
+stays : (same : Option (List ℕ)) → StaysKnown same same
 stays None = tt
 stays (Some bytes) = refl
 
@@ -65,5 +65,5 @@ refused_store file left before after read topology fault all is said refused =
     (said_of file left read topology all is said) refused
 
 -- the line of a store that was made cannot be printed
-pub unprinted : (file before after : Option (List ℕ)) (topology : Content) → Says file topology → IsMade topology (begun topology) before after → (fault : Fault) → IsOfWriting fault → IsOfMaking file before after fault
+pub unprinted : (file before after : Option (List ℕ)) (topology : Content) → Says file topology → IsFounded topology (begun topology) before after → (fault : Fault) → IsOfWriting fault → IsOfMaking file before after fault
 unprinted file before after topology h1 h2 fault h3 = grind (arith, nat_tests)

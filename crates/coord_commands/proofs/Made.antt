@@ -18,7 +18,7 @@ use Rattle.coord_commands.specs.Creation.{IsOfCreation, LeavesNoStep, RefusesCom
 use Rattle.coord_commands.specs.Faults.{fault_of_commit}
 use Rattle.coord_commands.specs.Folders.{reads}
 use Rattle.coord_commands.specs.Founding.{RefusesToBegin, orders}
-use Rattle.coord_commands.specs.Making.{IsMade, IsStore, LacksMemory, RefusesStore, Stays}
+use Rattle.coord_commands.specs.Making.{IsFounded, IsStore, LeavesWithoutMemory, RefusesStore, StaysKnown}
 use Rattle.coord_commands.specs.declared.fault.Fault.{Fault}
 use Rattle.coord_commands.specs.declared.fault.Fault.TheVariants.{Usage, Read, Write, Socket, TooManyReads, OutOfMemory, Topology, Store, Refused, NotClosed}
 
@@ -46,10 +46,10 @@ in_commit fault told is (inr memory) device = let same : Store of_store.OutOfMem
 -- ---- what is known of the bytes
 
 module _ (keeps keeps_on : Bool) (old new : Present) (topology : Content) where
-  pub made_known : (w : World) → (keeps ≡ true → length old.read ≡ 0) → (keeps_on ≡ true → IsStore topology w new.read) → IsMade topology w (reads (if keeps then Some old else None)) (reads (if keeps_on then Some new else None))
+  pub made_known : (w : World) → (keeps ≡ true → length old.read ≡ 0) → (keeps_on ≡ true → IsStore topology w new.read) → IsFounded topology w (reads (if keeps then Some old else None)) (reads (if keeps_on then Some new else None))
   made_known w empty made = of keeps keeps_on empty made
     where
-      of : (k l : Bool) → (k ≡ true → length old.read ≡ 0) → (l ≡ true → IsStore topology w new.read) → IsMade topology w (reads (if k then Some old else None)) (reads (if l then Some new else None))
+      of : (k l : Bool) → (k ≡ true → length old.read ≡ 0) → (l ≡ true → IsStore topology w new.read) → IsFounded topology w (reads (if k then Some old else None)) (reads (if l then Some new else None))
       of true true empty made = record { empty = empty refl; made = made refl }
       of true false empty made = record { empty = empty refl; made = tt }
       of false true empty made = record { empty = tt; made = made refl }
@@ -59,10 +59,10 @@ module _ (keeps keeps_on : Bool) (old new : Present) (topology : Content) where
   left (inl same) none = inl (ap length same ∙ none)
   left (inr store) none = inr (record { gives = store.0; halves = store.1 })
 
-  pub lacks_known : (keeps ≡ true → 0 < length old.read → new.read ≡ old.read) → (keeps ≡ true → LeavesNoStep topology.half old.read new.read) → LacksMemory topology (reads (if keeps then Some old else None)) (reads (if keeps_on then Some new else None))
+  pub lacks_known : (keeps ≡ true → 0 < length old.read → new.read ≡ old.read) → (keeps ≡ true → LeavesNoStep topology.half old.read new.read) → LeavesWithoutMemory topology (reads (if keeps then Some old else None)) (reads (if keeps_on then Some new else None))
   lacks_known taken leaves = of keeps keeps_on taken leaves
     where
-      of : (k l : Bool) → (k ≡ true → 0 < length old.read → new.read ≡ old.read) → (k ≡ true → LeavesNoStep topology.half old.read new.read) → LacksMemory topology (reads (if k then Some old else None)) (reads (if l then Some new else None))
+      of : (k l : Bool) → (k ≡ true → 0 < length old.read → new.read ≡ old.read) → (k ≡ true → LeavesNoStep topology.half old.read new.read) → LeavesWithoutMemory topology (reads (if k then Some old else None)) (reads (if l then Some new else None))
       of true true taken leaves = record { taken = taken refl; empty = left (leaves refl) }
       of true false taken leaves = record { taken = λ some. tt; empty = λ none. tt }
       of false l taken leaves = record { taken = tt; empty = tt }
@@ -77,10 +77,10 @@ module _ (keeps keeps_on : Bool) (old new : Present) (topology : Content) (fault
   abbrev read_after : Option (List ℕ)
   read_after = reads (if keeps_on then Some new else None)
 
-  same_known : (keeps ≡ true → new.read ≡ old.read) → Stays read_before read_after
+  same_known : (keeps ≡ true → new.read ≡ old.read) → StaysKnown read_before read_after
   same_known same = of keeps keeps_on same
     where
-      of : (k l : Bool) → (k ≡ true → new.read ≡ old.read) → Stays (reads (if k then Some old else None)) (reads (if l then Some new else None))
+      of : (k l : Bool) → (k ≡ true → new.read ≡ old.read) → StaysKnown (reads (if k then Some old else None)) (reads (if l then Some new else None))
       of true true same = same refl
       of true false same = tt
       of false l same = tt
@@ -92,7 +92,7 @@ module _ (keeps keeps_on : Bool) (old new : Present) (topology : Content) (fault
       of true some = some refl
       of false some = tt
 
-  lacking : fault ≢ Store of_store.Device → (fault ≡ OutOfMemory) ⊎ (fault ≡ Store of_store.OutOfMemory) → LacksMemory topology read_before read_after
+  lacking : fault ≢ Store of_store.Device → (fault ≡ OutOfMemory) ⊎ (fault ≡ Store of_store.OutOfMemory) → LeavesWithoutMemory topology read_before read_after
   lacking other is = lacks_known keeps keeps_on old new topology (λ k some. taken k some other) (λ k. memory k is)
 
   refuses : (f : Fault) → fault ≡ f → IsOfCreation f → RefusesStore read_before read_after topology f
@@ -123,14 +123,14 @@ module _ (keeps keeps_on : Bool) (old new : Present) (topology : Content) (fault
 
 -- ---- a disk that is put back: where what it holds then is known, it is what the disk held
 
-stays_unread : (before : Option (List ℕ)) → Stays before None
+stays_unread : (before : Option (List ℕ)) → StaysKnown before None
 stays_unread None = tt
 stays_unread (Some bytes) = tt
 
-made_unread : (topology : Content) (w : World) (before known : Option (List ℕ)) → IsMade topology w before known → IsMade topology w before None
+made_unread : (topology : Content) (w : World) (before known : Option (List ℕ)) → IsFounded topology w before known → IsFounded topology w before None
 made_unread topology w before known is = record { empty = is.empty; made = tt }
 
-lacks_unread : (topology : Content) (before known : Option (List ℕ)) → LacksMemory topology before known → LacksMemory topology before None
+lacks_unread : (topology : Content) (before known : Option (List ℕ)) → LeavesWithoutMemory topology before known → LeavesWithoutMemory topology before None
 lacks_unread topology None known lacks = record { taken = tt; empty = tt }
 lacks_unread topology (Some bytes) known lacks = record { taken = λ some. tt; empty = λ none. tt }
 
@@ -157,17 +157,17 @@ refuses_unread before known topology (Store of_store.Stopped) of = of
 refuses_unread before known topology (Refused reason) of = (of.0, made_unread topology (no_world 2) before known of.1)
 refuses_unread before known topology (NotClosed reason) of = absurd of
 
-pub made_back : (topology : Content) (w : World) (before : Option (List ℕ)) (known after : Option Present) → IfSome after (λ disk. known ≡ Some disk) → IsMade topology w before (reads known) → IsMade topology w before (reads after)
+pub made_back : (topology : Content) (w : World) (before : Option (List ℕ)) (known after : Option Present) → IfSome after (λ disk. known ≡ Some disk) → IsFounded topology w before (reads known) → IsFounded topology w before (reads after)
 made_back topology w before known None back is = made_unread topology w before (reads known) is
-made_back topology w before known (Some disk) back is = subst (λ k. IsMade topology w before (reads k)) back is
+made_back topology w before known (Some disk) back is = subst (λ k. IsFounded topology w before (reads k)) back is
 
 pub refused_back : (topology : Content) (fault : Fault) (before : Option (List ℕ)) (known after : Option Present) → IfSome after (λ disk. known ≡ Some disk) → RefusesStore before (reads known) topology fault → RefusesStore before (reads after) topology fault
 refused_back topology fault before known None back refuses = refuses_unread before (reads known) topology fault refuses
 refused_back topology fault before known (Some disk) back refuses = subst (λ k. RefusesStore before (reads k) topology fault) back refuses
 
 -- the disk of a name, which was taken and put back
-pub made_named : {A : Type 0} (ended : Result A Fault) (topology : Content) (w : World) (before after taken known : Option Present) → taken ≡ before → IfSome after (λ disk. known ≡ Some disk) → OnOk ended (IsMade topology w (reads taken) (reads known)) → OnOk ended (IsMade topology w (reads before) (reads after))
-made_named (Ok x) topology w before after taken known was back is = subst (λ b. IsMade topology w (reads b) (reads after)) was (made_back topology w (reads taken) known after back is)
+pub made_named : {A : Type 0} (ended : Result A Fault) (topology : Content) (w : World) (before after taken known : Option Present) → taken ≡ before → IfSome after (λ disk. known ≡ Some disk) → OnOk ended (IsFounded topology w (reads taken) (reads known)) → OnOk ended (IsFounded topology w (reads before) (reads after))
+made_named (Ok x) topology w before after taken known was back is = subst (λ b. IsFounded topology w (reads b) (reads after)) was (made_back topology w (reads taken) known after back is)
 made_named (Err fault) topology w before after taken known was back is = tt
 
 pub refused_named : {A : Type 0} (ended : Result A Fault) (topology : Content) (before after taken known : Option Present) → taken ≡ before → IfSome after (λ disk. known ≡ Some disk) → IfErr ended (RefusesStore (reads taken) (reads known) topology) → IfErr ended (RefusesStore (reads before) (reads after) topology)

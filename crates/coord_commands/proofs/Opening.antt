@@ -23,7 +23,7 @@ use Rattle.coord_commands.specs.Folders.{bytes_of, known_of, reads}
 use Rattle.coord_server.specs.declared.fault.ServerFault.{ServerFault}
 use Rattle.coord_commands.specs.Faults.{fault_of_server}
 use Rattle.coord_commands.specs.Inspection.{IsOfOpening}
-use Rattle.coord_commands.specs.Serving.{EndsServing, GivesWorld, IsNotOpened, IsOfServing, IsOpened, IsPutBack, IsServedToEnd, KeepsToTheWay}
+use Rattle.coord_commands.specs.Serving.{EndsServing, GivesWorld, IsNotOpened, IsOfServing, IsOpenedStore, IsPutBack, IsServedToEnd, KeepsToTheWay}
 use Rattle.coord_commands.specs.declared.fault.Fault.{Fault}
 use Rattle.coord_commands.specs.declared.fault.Fault.TheVariants.{Socket, Store}
 use Rattle.coord_commands.proofs.Raising.{closed, if_both, unread}
@@ -76,11 +76,11 @@ module _ {D : Type 0} (model : DiskModel D) where
   }
 
   pub opened : (before : Option Present) (taken : D) (store : Kept D) → known_of model taken ≡ before → (model.keeps_model taken ≡ true → Recovered (model.present taken).read store.world)
-      → model.failures store.disk ≡ model.failures taken + 0 → model.keeps_model store.disk ≡ model.keeps_model taken → AddsNothing model taken store.disk → (model.keeps_model taken ≡ true → model.present store.disk ≡ whole (model.present taken).read) → IsOpened model before store
+      → model.failures store.disk ≡ model.failures taken + 0 → model.keeps_model store.disk ≡ model.keeps_model taken → AddsNothing model taken store.disk → (model.keeps_model taken ≡ true → model.present store.disk ≡ whole (model.present taken).read) → IsOpenedStore model before store
   opened before taken store was world failures same_model moments same = grind (arith, nat_tests, if_keeps)
 
   -- a store that was opened, served to a close and put back keeps to the way
-  pub keeps_to_the_way : (before after : Option Present) (store : Kept D) (end : ServerEnd D Patience) (closed : Closed D) (back : D) → IsOpened model before store → HasLivedToClose model store.world closed → AtEachMoment model store end.closed
+  pub keeps_to_the_way : (before after : Option Present) (store : Kept D) (end : ServerEnd D Patience) (closed : Closed D) (back : D) → IsOpenedStore model before store → HasLivedToClose model store.world closed → AtEachMoment model store end.closed
       → closed ≡ end.closed → back ≡ closed.store.disk → IfSome after (λ known. known_of model back ≡ Some known) → KeepsToTheWay model before after
   keeps_to_the_way before after store end closed back is lived moments of_end same put =
       let here : AtEachMoment model store closed = subst (AtEachMoment model store) (sym of_end) moments in
@@ -97,17 +97,17 @@ module _ {D : Type 0} (model : DiskModel D) where
       }
 
   -- a disk whose store was opened and put back, since no socket could be bound
-  pub not_bound : (before after : Option Present) (store : Kept D) (back : D) → IsOpened model before store → back ≡ store.disk → IfSome after (λ known. known_of model back ≡ Some known) → EndsServing model before after Socket
+  pub not_bound : (before after : Option Present) (store : Kept D) (back : D) → IsOpenedStore model before store → back ≡ store.disk → IfSome after (λ known. known_of model back ≡ Some known) → EndsServing model before after Socket
   not_bound before after store back is same put =
       let failures : model.failures back ≡ model.failures is.taken + 0 = omega (arith, ap model.failures same, is.failures) in
       inr (inl (refl, gives_some (reads before) store.world is.world, put_back 0 before after is.taken back is.was put failures (λ _ keeps. ap (λ d. (model.present d).read) same ∙ is.same keeps)))
 
   -- a server over it has ended, and nothing is left
-  pub lost : (before after : Option Present) (store : Kept D) (fault : ServerFault) → IsOpened model before store → LeavesNothing model fault → EndsServing model before after (fault_of_server fault)
+  pub lost : (before after : Option Present) (store : Kept D) (fault : ServerFault) → IsOpenedStore model before store → LeavesNothing model fault → EndsServing model before after (fault_of_server fault)
   lost before after store fault is nothing = inr (inr (record { began = store.world; opened = is.world; fault = fault; ends = inl nothing; named = refl }))
 
   -- a server over it has ended, and its disk is put back
-  pub ended : (before after : Option Present) (store : Kept D) (end : ServerEnd D Patience) (closed : Closed D) (fault : ServerFault) (back : D) → IsOpened model before store → HasServed model store.world end
+  pub ended : (before after : Option Present) (store : Kept D) (end : ServerEnd D Patience) (closed : Closed D) (fault : ServerFault) (back : D) → IsOpenedStore model before store → HasServed model store.world end
       → closed ≡ end.closed → fault_at_end (has_stopped end.closed.store) end.served end.output.is_broken ≡ Some fault → back ≡ closed.store.disk → IfSome after (λ known. known_of model back ≡ Some known)
       → EndsServing model before after (fault_of_server fault)
   ended before after store end closed fault back is served same tells disk put =

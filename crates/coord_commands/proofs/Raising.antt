@@ -9,7 +9,7 @@ use Rattle.coord_store.specs.declared.faults.StoreFault.TheVariants as of_store
 use Rattle.coord_world.specs.protocol.NumberedWorld.{World}
 use Rattle.coord_commands.specs.Ending.{IsOfWriting}
 use Rattle.coord_commands.specs.Folders.{known_of}
-use Rattle.coord_commands.specs.Migrating.{EndsRaising, GivesEitherVersion, IsMigratedLine, IsOfMigrating, IsOfRaising, IsRaised, Raises, RaisesNamed, ReadsAsBefore, RefusesRaising, failures_in}
+use Rattle.coord_commands.specs.Migrating.{EndsRaising, GivesEitherVersion, IsMigratedLine, IsOfMigrating, IsOfRaising, IsRaised, Raises, RaisesNamed, ReadsAsBefore, RefusesRaising, failures_in_migration}
 use Rattle.coord_commands.specs.Printed.{migrated_line}
 use Rattle.coord_commands.specs.declared.fault.Fault.{Fault}
 use Rattle.coord_commands.specs.declared.fault.Fault.TheVariants.{Usage, Read, Write, Socket, TooManyReads, OutOfMemory, Topology, Store, Refused, NotClosed}
@@ -144,7 +144,7 @@ unwritten before after line of (NotClosed fault) is = absurd is
 
 -- the disk of a name was taken and put back
 pub raised_named : {A D : Type 0} (model : DiskModel D) (ended : Result A Fault) (before after : Option Present) (taken back : D) → known_of model taken ≡ before →
-    IfSome after (λ known. known_of model back ≡ Some known) → Raises model (failures_in ended) taken back →
+    IfSome after (λ known. known_of model back ≡ Some known) → Raises model (failures_in_migration ended) taken back →
     MatchResult ended (λ _. RaisesNamed model 0 before after) (EndsRaising model before after)
 raised_named model (Ok line) before after taken back was is raises = record { taken = taken; back = back; was = was; is = is; raises = raises }
 raised_named model (Err fault) before after taken back was is raises = inr (record { taken = taken; back = back; was = was; is = is; raises = raises })

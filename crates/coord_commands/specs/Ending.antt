@@ -22,8 +22,8 @@ IsOfWriting OutOfMemory = Unit {0}
 IsOfWriting fault = ⊥
 
 -- the output is left alone, unless its writer fails: then it has a first part of a text that has P
-abbrev pub IsCutShort : (List ℕ → Type 0) → Option (List ℕ) → Option (List ℕ) → Fault → Type 0
-IsCutShort P old new fault = Keeps old new ⊎ (IsOfWriting fault × ((text : List ℕ) × P text × WritesFirstPart old new text))
+abbrev pub OutputCutShort : (List ℕ → Type 0) → Option (List ℕ) → Option (List ℕ) → Fault → Type 0
+OutputCutShort P old new fault = Keeps old new ⊎ (IsOfWriting fault × ((text : List ℕ) × P text × WritesFirstPart old new text))
 
 -- a command is done: a text that has P is printed, and standard error is left alone
 pub record Succeeds (P : List ℕ → Type 0) (status : ℕ) (old new : Streams) : Type 0 where
@@ -32,13 +32,13 @@ pub record Succeeds (P : List ℕ → Type 0) (status : ℕ) (old new : Streams)
   pub silent : Keeps old.errors new.errors
 
 -- a command ends with a fault that has Q: of the fault's line a first part is printed on standard error
-pub record Fails (Q : Fault → Type 0) (P : List ℕ → Type 0) (status : ℕ) (old new : Streams) : Type 0 where
+pub record CommandFails (Q : Fault → Type 0) (P : List ℕ → Type 0) (status : ℕ) (old new : Streams) : Type 0 where
   pub fault : Fault
   pub possible : Q fault
   pub number : status ≡ fault_status fault
   pub told : WritesFirstPart old.errors new.errors (fault_line fault)
-  pub cut : IsCutShort P old.output new.output fault
+  pub cut : OutputCutShort P old.output new.output fault
 
 -- one of both
-abbrev pub Ends : (Fault → Type 0) → (List ℕ → Type 0) → ℕ → Streams → Streams → Type 0
-Ends Q P status old new = Succeeds P status old new ⊎ Fails Q P status old new
+abbrev pub CommandEnds : (Fault → Type 0) → (List ℕ → Type 0) → ℕ → Streams → Streams → Type 0
+CommandEnds Q P status old new = Succeeds P status old new ⊎ CommandFails Q P status old new

@@ -4,7 +4,7 @@ use Rattle.coord_check.specs.declared.violation.Violation.{Violation}
 use Rattle.coord_store.specs.Facade.{IsOpenFault, Recovered, RefusesOpen}
 use Rattle.coord_store.specs.declared.faults.StoreFault.TheVariants.{Device, Violated}
 use Rattle.coord_world.specs.Facade.{Legal, World}
-use Rattle.coord_commands.specs.Ending.{Ends, Fails, PrintsOne, Streams, Succeeds}
+use Rattle.coord_commands.specs.Ending.{CommandEnds, CommandFails, PrintsOne, Streams, Succeeds}
 use Rattle.coord_commands.specs.Printed.{legal_line, shown, violated_line}
 use Rattle.coord_commands.specs.declared.fault.Fault.{Fault}
 use Rattle.coord_commands.specs.declared.fault.Fault.TheVariants.{Write, OutOfMemory, Store}
@@ -47,8 +47,8 @@ pub record IsViolated (bytes : Option (List ℕ)) (status : ℕ) (old new : Stre
 
 -- what `check` does, where these are the bytes of the disk
 abbrev pub Checks : Option (List ℕ) → ℕ → Streams → Streams → Type 0
-Checks bytes status old new = Succeeds (IsLegalLine bytes) status old new ⊎ (IsViolated bytes status old new ⊎ Fails (IsOfOpening bytes) (IsCheckedLine bytes) status old new)
+Checks bytes status old new = Succeeds (IsLegalLine bytes) status old new ⊎ (IsViolated bytes status old new ⊎ CommandFails (IsOfOpening bytes) (IsCheckedLine bytes) status old new)
 
 -- what `show` does, where these are the bytes of the disk
-abbrev pub Shows : Option (List ℕ) → ℕ → Streams → Streams → Type 0
-Shows bytes status old new = Ends (IsOfOpening bytes) (IsShown bytes) status old new
+abbrev pub ShowsStore : Option (List ℕ) → ℕ → Streams → Streams → Type 0
+ShowsStore bytes status old new = CommandEnds (IsOfOpening bytes) (IsShown bytes) status old new

@@ -1,11 +1,11 @@
 -- The law of the program's words.
 use Rattle.std.specs.Prelude.{◌≡◌, true, List, [], ◌∷◌, codes, None, Some}
 use Rattle.clap.specs.Words.{Text, takes}
-use Rattle.coord_commands.specs.Words.{Asked, resetd, task_of}
+use Rattle.coord_commands.specs.Words.{AskedCommand, resetd, task_of}
 use Rattle.coord_commands.specs.Words as asked
 
 -- `clap` takes the words, and they ask for this
-abbrev pub AreTakenAs : List Text → Asked → Type 0
+abbrev pub AreTakenAs : List Text → AskedCommand → Type 0
 AreTakenAs words asked = (takes resetd words ≡ true) × (task_of words ≡ Some asked)
 
 -- the words of each command are taken, whatever name the program goes by; of files those with a name from the root, and of addresses those that begin with 1

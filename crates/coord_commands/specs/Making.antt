@@ -25,7 +25,7 @@ pub record IsStore (topology : Content) (w : World) (bytes : List ℕ) : Type 0 
   pub halves : HasHalves topology.half bytes
 
 -- A store of this world, for a topology, was made on a disk, as far as its bytes before and after are known.
-pub record IsMade (topology : Content) (w : World) (before after : Option (List ℕ)) : Type 0 where
+pub record IsFounded (topology : Content) (w : World) (before after : Option (List ℕ)) : Type 0 where
   pub empty : IfSome before (λ bytes. length bytes ≡ 0)
   pub made : IfSome after (IsStore topology w)
 
@@ -37,12 +37,12 @@ Says file topology = IfSome file (λ bytes. said_by (take MOST_BYTES bytes) ≡ 
 pub record IsCreatedLine (file before after : Option (List ℕ)) (line : List ℕ) : Type 0 where
   pub topology : Content
   pub said : Says file topology
-  pub is_made : IsMade topology (begun topology) before after
+  pub is_made : IsFounded topology (begun topology) before after
   pub counted : line ≡ created_line (begun topology).count
 
 -- known bytes have stayed
-abbrev pub Stays : Option (List ℕ) → Option (List ℕ) → Type 0
-Stays before after = IfSome before (λ old. IfSome after (λ new. new ≡ old))
+abbrev pub StaysKnown : Option (List ℕ) → Option (List ℕ) → Type 0
+StaysKnown before after = IfSome before (λ old. IfSome after (λ new. new ≡ old))
 
 -- bytes that were there have stayed
 abbrev pub KeepsTaken : Option (List ℕ) → Option (List ℕ) → Type 0
@@ -50,15 +50,15 @@ KeepsTaken before after = IfSome before (λ old. 0 < length old → IfSome after
 
 -- What want of memory leaves: bytes that were there stay, and a disk that was empty is so still, or has the store of a
 -- topology without any step.
-pub record LacksMemory (topology : Content) (before after : Option (List ℕ)) : Type 0 where
+pub record LeavesWithoutMemory (topology : Content) (before after : Option (List ℕ)) : Type 0 where
   pub taken : KeepsTaken before after
   pub empty : IfSome before (λ old. length old ≡ 0 → IfSome after (λ new. (length new ≡ 0) ⊎ IsStore topology (no_world 2) new))
 
 -- a disk that is not empty is refused, and then as it was
 abbrev pub RefusesDisk : Option (List ℕ) → Option (List ℕ) → Content → StoreFault → Type 0
-RefusesDisk before after topology NotEmpty = IfSome before (λ bytes. 0 < length bytes) × Stays before after
-RefusesDisk before after topology HalfSize = Stays before after
-RefusesDisk before after topology of_store.OutOfMemory = LacksMemory topology before after
+RefusesDisk before after topology NotEmpty = IfSome before (λ bytes. 0 < length bytes) × StaysKnown before after
+RefusesDisk before after topology HalfSize = StaysKnown before after
+RefusesDisk before after topology of_store.OutOfMemory = LeavesWithoutMemory topology before after
 RefusesDisk before after topology fault = IsCreateFault fault
 
 -- the topology file, where it is known, says no topology, and this is why; or there is no memory to read it
@@ -68,21 +68,21 @@ RefusesFile file reason = IfSome file (λ bytes. said_by (take MOST_BYTES bytes)
 
 -- why the store of a topology is not made on a disk; where one of its orders is refused, it was made without any step
 abbrev pub RefusesStore : Option (List ℕ) → Option (List ℕ) → Content → Fault → Type 0
-RefusesStore before after topology OutOfMemory = LacksMemory topology before after
+RefusesStore before after topology OutOfMemory = LeavesWithoutMemory topology before after
 RefusesStore before after topology (Store fault) = RefusesDisk before after topology fault
-RefusesStore before after topology (Refused refusal) = RefusesToBegin (orders topology) refusal × IsMade topology (no_world 2) before after
+RefusesStore before after topology (Refused refusal) = RefusesToBegin (orders topology) refusal × IsFounded topology (no_world 2) before after
 RefusesStore before after topology fault = ⊥
 
 -- the topology file, where it is known, says a topology, and there was no memory to make its store, or to print the line of it
 abbrev pub LacksMemoryToMake : Option (List ℕ) → Option (List ℕ) → Option (List ℕ) → Type 0
-LacksMemoryToMake file before after = (topology : Content) × Says file topology × (LacksMemory topology before after ⊎ IsMade topology (begun topology) before after)
+LacksMemoryToMake file before after = (topology : Content) × Says file topology × (LeavesWithoutMemory topology before after ⊎ IsFounded topology (begun topology) before after)
 
 -- The faults of `init`, its words aside. The topology file is judged first: it says a topology where its store is not made. Where the line cannot be written, the store was made.
 abbrev pub IsOfMaking : Option (List ℕ) → Option (List ℕ) → Option (List ℕ) → Fault → Type 0
-IsOfMaking file before after Read = Stays before after
-IsOfMaking file before after Write = (topology : Content) × Says file topology × IsMade topology (begun topology) before after
-IsOfMaking file before after OutOfMemory = Stays before after ⊎ LacksMemoryToMake file before after
-IsOfMaking file before after (Topology reason) = RefusesFile file reason × Stays before after
+IsOfMaking file before after Read = StaysKnown before after
+IsOfMaking file before after Write = (topology : Content) × Says file topology × IsFounded topology (begun topology) before after
+IsOfMaking file before after OutOfMemory = StaysKnown before after ⊎ LacksMemoryToMake file before after
+IsOfMaking file before after (Topology reason) = RefusesFile file reason × StaysKnown before after
 IsOfMaking file before after (Store fault) = (topology : Content) × Says file topology × RefusesStore before after topology (Store fault)
 IsOfMaking file before after (Refused refusal) = (topology : Content) × Says file topology × RefusesStore before after topology (Refused refusal)
 IsOfMaking file before after fault = ⊥

@@ -72,18 +72,18 @@ IsOfMigrating before after OutOfMemory = ReadsAsBefore before after ⊎ ((w : Wo
 IsOfMigrating before after fault = IsOfRaising before after fault
 
 -- how often the device has failed where the store is not raised
-abbrev pub failed_in : Fault → ℕ
-failed_in (Store fault) = failed_in_store fault
-failed_in fault = 0
+abbrev pub failed_in_migration : Fault → ℕ
+failed_in_migration (Store fault) = failed_in_store fault
+failed_in_migration fault = 0
 
-abbrev pub failures_in : {A : Type 0} → Result A Fault → ℕ
-failures_in (Ok line) = 0
-failures_in (Err fault) = failed_in fault
+abbrev pub failures_in_migration : {A : Type 0} → Result A Fault → ℕ
+failures_in_migration (Ok line) = 0
+failures_in_migration (Err fault) = failed_in_migration fault
 
 -- the disk of the name was not to be had, or it was taken and put back
 abbrev pub EndsRaising : {D : Type 0} → DiskModel D → Option Present → Option Present → Fault → Type 0
 EndsRaising model before after fault =
-    ((fault ≡ Store Device) × (after ≡ before)) ⊎ RaisesNamed model (failed_in fault) before after
+    ((fault ≡ Store Device) × (after ≡ before)) ⊎ RaisesNamed model (failed_in_migration fault) before after
 
 -- why an opened store of a world is not raised
 abbrev pub RefusesRaising : World → Fault → Type 0

@@ -8,14 +8,14 @@ use Rattle.coord_drill.specs.InMemory.{DrillsInMemory, FailsInMemory}
 use Rattle.coord_drill.specs.declared.console.TheConstants.{MOST_READS}
 use Rattle.coord_drill.specs.declared.fault.Fault.{Fault as DrillFault}
 use Rattle.coord_drill.specs.declared.fault.Fault.TheVariants.{TooManyReads}
-use Rattle.coord_commands.specs.Ending.{Ends, Fails, Streams}
+use Rattle.coord_commands.specs.Ending.{CommandEnds, CommandFails, Streams}
 use Rattle.coord_commands.specs.Faults.{fault_line, fault_of_drill, fault_status}
 use Rattle.coord_commands.specs.Folders.{reads}
-use Rattle.coord_commands.specs.Inspection.{Checks, Shows}
+use Rattle.coord_commands.specs.Inspection.{Checks, ShowsStore}
 use Rattle.coord_commands.specs.Making.{IsCreatedLine, IsOfMaking}
 use Rattle.coord_commands.specs.Migrating.{IsMigratedLine, IsOfMigrating}
-use Rattle.coord_commands.specs.Serving.{IsOfServing, Serves}
-use Rattle.coord_commands.specs.Words.{Asked, check, drill, init, migrate, resetd, serve, show, task_of}
+use Rattle.coord_commands.specs.Serving.{IsOfServing, ServesAt}
+use Rattle.coord_commands.specs.Words.{AskedCommand, check, drill, init, migrate, resetd, serve, show, task_of}
 use Rattle.coord_commands.specs.declared.fault.Fault.{Fault}
 use Rattle.coord_commands.specs.declared.fault.Fault.TheVariants.{Usage, OutOfMemory}
 
@@ -47,22 +47,22 @@ pub record FailsToDrill (input left : Option (List ℕ)) (status : ℕ) (old new
   pub reads : fault ≡ TooManyReads → MOST_READS ≤ length seen
 
 -- the drill, by its input and what of it is left
-abbrev pub Drills : Option (List ℕ) → Option (List ℕ) → ℕ → Streams → Streams → Type 0
-Drills input left status old new = HasDrilled input left status old new ⊎ FailsToDrill input left status old new
+abbrev pub RunsDrill : Option (List ℕ) → Option (List ℕ) → ℕ → Streams → Streams → Type 0
+RunsDrill input left status old new = HasDrilled input left status old new ⊎ FailsToDrill input left status old new
 
 -- around a run over files, of which nothing is known
 abbrev pub files_around : Option (List ℕ) → Option (List ℕ) → Option (List ℕ) → Around
 files_around input output errors = record { input = input; streams = record { output = output; errors = errors }; holds = λ _. None; says = λ _. None }
 
 -- what is asked for is done
-abbrev pub Does : Asked → ℕ → Around → Around → Type 0
-Does drill status old new = Drills old.input new.input status old.streams new.streams
+abbrev pub Does : AskedCommand → ℕ → Around → Around → Type 0
+Does drill status old new = RunsDrill old.input new.input status old.streams new.streams
 Does (init file topology) status old new =
-    Ends (IsOfMaking (old.says topology) (reads (old.holds file)) (reads (new.holds file))) (IsCreatedLine (old.says topology) (reads (old.holds file)) (reads (new.holds file))) status old.streams new.streams
+    CommandEnds (IsOfMaking (old.says topology) (reads (old.holds file)) (reads (new.holds file))) (IsCreatedLine (old.says topology) (reads (old.holds file)) (reads (new.holds file))) status old.streams new.streams
 Does (check file) status old new = Checks (reads (old.holds file)) status old.streams new.streams
-Does (show file) status old new = Shows (reads (old.holds file)) status old.streams new.streams
-Does (migrate file) status old new = Ends (IsOfMigrating (old.holds file) (new.holds file)) (IsMigratedLine (old.holds file) (new.holds file)) status old.streams new.streams
-Does (serve file address) status old new = Serves (IsOfServing (reads (old.holds file))) address (reads (old.holds file)) (reads (new.holds file)) status old.streams.errors new.streams.errors
+Does (show file) status old new = ShowsStore (reads (old.holds file)) status old.streams new.streams
+Does (migrate file) status old new = CommandEnds (IsOfMigrating (old.holds file) (new.holds file)) (IsMigratedLine (old.holds file) (new.holds file)) status old.streams new.streams
+Does (serve file address) status old new = ServesAt (IsOfServing (reads (old.holds file))) address (reads (old.holds file)) (reads (new.holds file)) status old.streams.errors new.streams.errors
 
 -- the words are refused, or there is no memory to read them
 abbrev pub IsOfWords : List Text → Fault → Type 0
@@ -72,14 +72,14 @@ IsOfWords words fault = ⊥
 
 -- where words are refused, nothing but the fault's line is printed, and nothing is read
 pub record RefusesWords (words : List Text) (status : ℕ) (old new : Around) : Type 0 where
-  pub fails : Fails (IsOfWords words) (λ _. ⊥) status old.streams new.streams
+  pub fails : CommandFails (IsOfWords words) (λ _. ⊥) status old.streams new.streams
   pub unread : Keeps old.input new.input
 
 -- the words could not be had: nothing but this fault's line is printed, and nothing is read
 pub record LacksWords (fault : Fault) (status : ℕ) (old new : Around) : Type 0 where
-  pub fails : Fails (λ told. told ≡ fault) (λ _. ⊥) status old.streams new.streams
+  pub fails : CommandFails (λ told. told ≡ fault) (λ _. ⊥) status old.streams new.streams
   pub unread : Keeps old.input new.input
 
 -- the words are refused, or what they ask for is done
-abbrev pub Runs : List Text → ℕ → Around → Around → Type 0
-Runs words status old new = RefusesWords words status old new ⊎ ((asked : Asked) × (task_of words ≡ Some asked) × Does asked status old new)
+abbrev pub RunsWords : List Text → ℕ → Around → Around → Type 0
+RunsWords words status old new = RefusesWords words status old new ⊎ ((asked : AskedCommand) × (task_of words ≡ Some asked) × Does asked status old new)

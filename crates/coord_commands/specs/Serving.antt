@@ -63,7 +63,7 @@ module _ {D : Type 0} (model : DiskModel D) where
     pub why : ((fault ≡ Device) × (after ≡ before)) ⊎ (IsOfOpening (reads before) (Store fault) × IsPutBack (failed_in fault) before after)
 
   -- a store was opened on the disk of a name, which was taken: it has the world that the bytes give, and reads as before
-  pub record IsOpened (before : Option Present) (store : Kept D) : Type 0 where
+  pub record IsOpenedStore (before : Option Present) (store : Kept D) : Type 0 where
     pub taken : D
     pub was : known_of model taken ≡ before
     pub world : IfSome (reads before) (λ known. Recovered known store.world)
@@ -77,8 +77,8 @@ module _ {D : Type 0} (model : DiskModel D) where
   IsNotBound before after told = (told ≡ Socket) × GivesWorld (reads before) × IsPutBack 0 before after
 
   -- The fault that a server tells, by lives from this world: nothing is left; or there were lives, they ended with this fault, and the disk that they left is put back.
-  abbrev pub EndsWith : World → ServerFault → Option Present → Type 0
-  EndsWith began fault after =
+  abbrev pub EndsAfterLives : World → ServerFault → Option Present → Type 0
+  EndsAfterLives began fault after =
       LeavesNothing model fault
       ⊎ ((ended : ServerEnd D Patience) × HasServed model began ended
       × (fault_at_end (has_stopped ended.closed.store) ended.served ended.output.is_broken ≡ Some fault)
@@ -89,7 +89,7 @@ module _ {D : Type 0} (model : DiskModel D) where
     pub began : World
     pub opened : IfSome (reads before) (λ known. Recovered known began)
     pub fault : ServerFault
-    pub ends : EndsWith began fault after
+    pub ends : EndsAfterLives began fault after
     pub named : told ≡ fault_of_server fault
 
   -- the faults of `serve` at an address
@@ -117,7 +117,7 @@ pub record KeepsToTheWay {D : Type 0} (model : DiskModel D) (before after : Opti
   pub any_moment : model.keeps_model taken ≡ true → LeavesOnly model taken back (λ image. IsImage (model.present taken) image ⊎ IsOnTheWay began (fold left.base left.trail.items) image)
 
 -- the store was served until a line closed it, and the disk put back
-pub record IsServed (word : List ℕ) (bytes after : Option (List ℕ)) (status : ℕ) (old new : Option (List ℕ)) : Type 0 where
+pub record ServesToEnd (word : List ℕ) (bytes after : Option (List ℕ)) (status : ℕ) (old new : Option (List ℕ)) : Type 0 where
   pub number : status ≡ 0
   pub address : IsAddress word
   pub opened : GivesWorld bytes
@@ -138,5 +138,5 @@ module _ (of : Fault → Type 0) where
     pub told : WritesFirstPart old new (fault_line fault)
 
   -- with this status, and on standard error
-  abbrev pub Serves : List ℕ → Option (List ℕ) → Option (List ℕ) → ℕ → Option (List ℕ) → Option (List ℕ) → Type 0
-  Serves word bytes after status old new = IsServed word bytes after status old new ⊎ IsNotServed word status old new
+  abbrev pub ServesAt : List ℕ → Option (List ℕ) → Option (List ℕ) → ℕ → Option (List ℕ) → Option (List ℕ) → Type 0
+  ServesAt word bytes after status old new = ServesToEnd word bytes after status old new ⊎ IsNotServed word status old new

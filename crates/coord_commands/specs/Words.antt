@@ -7,16 +7,16 @@ use Rattle.coord_commands.specs.declared.words.Task.{Task}
 use Rattle.coord_commands.specs.declared.words.Task.TheVariants as task
 
 -- what is asked for, with the words behind its name
-pub data Asked : Type 0 where
-  drill : Asked
-  check : Text → Asked
-  show : Text → Asked
-  migrate : Text → Asked
-  init : Text → Text → Asked
-  serve : Text → Text → Asked
+pub data AskedCommand : Type 0 where
+  drill : AskedCommand
+  check : Text → AskedCommand
+  show : Text → AskedCommand
+  migrate : Text → AskedCommand
+  init : Text → Text → AskedCommand
+  serve : Text → Text → AskedCommand
 
 -- what a task is
-abbrev pub asked_of : Task → Asked
+abbrev pub asked_of : Task → AskedCommand
 asked_of task.Drill = drill
 asked_of (task.Check file) = check file.now
 asked_of (task.Show file) = show file.now
@@ -25,7 +25,7 @@ asked_of (task.Init file topology) = init file.now topology.now
 asked_of (task.Serve file address) = serve file.now address.now
 
 -- how many words ask for it, with the program's name
-abbrev pub words_for : Asked → ℕ
+abbrev pub words_for : AskedCommand → ℕ
 words_for drill = 2
 words_for (check file) = 3
 words_for (show file) = 3
@@ -34,11 +34,11 @@ words_for (init file topology) = 4
 words_for (serve file address) = 4
 
 -- what is asked, where the count of words is the one that its command takes
-abbrev pub in_words : ℕ → Asked → Option Asked
+abbrev pub in_words : ℕ → AskedCommand → Option AskedCommand
 in_words count asked = if words_for asked == count then Some asked else None
 
 -- what a command asks for with a file and, where it has one, a second word
-abbrev pub asked_of_file : Text → Text → List Row → Option Asked
+abbrev pub asked_of_file : Text → Text → List Row → Option AskedCommand
 asked_of_file name file rows =
     if bytes_eq name (codes "check") then Some (check file)
     else (if bytes_eq name (codes "show") then Some (show file)
@@ -48,8 +48,8 @@ asked_of_file name file rows =
     else None))))
 
 -- what the command of a name asks for, with the first values of its words
-abbrev pub asked_by : Text → List Row → Option Asked
-asked_by name rows =
+abbrev pub asked_of_name : Text → List Row → Option AskedCommand
+asked_of_name name rows =
     if bytes_eq name (codes "drill") then Some drill
     else option_and_then (λ file. asked_of_file name file rows) (first_of (codes "file") rows)
 
@@ -73,5 +73,5 @@ resetd =
 
 -- What the words ask for, the first of which is the program's own name: what the command that `clap` finds in them asks for,
 -- where no other word is among them, as `--`.
-abbrev pub task_of : List Text → Option Asked
-task_of words = option_and_then (in_words (length words)) (option_and_then (λ found. asked_by found.0 found.1) (subcommand_of resetd words))
+abbrev pub task_of : List Text → Option AskedCommand
+task_of words = option_and_then (in_words (length words)) (option_and_then (λ found. asked_of_name found.0 found.1) (subcommand_of resetd words))

@@ -1,11 +1,11 @@
 //! The commands, over files.
 
 ghost use Rattle.std.specs.Prelude.{None, map, string_bytes};
-ghost use Rattle.coord_commands.specs.Ending.{Ends};
-ghost use Rattle.coord_commands.specs.Inspection.{Checks, Shows};
+ghost use Rattle.coord_commands.specs.Ending.{CommandEnds};
+ghost use Rattle.coord_commands.specs.Inspection.{Checks, ShowsStore};
 ghost use Rattle.coord_commands.specs.Making.{IsCreatedLine, IsOfMaking};
 ghost use Rattle.coord_commands.specs.Migrating.{IsMigratedLine, IsOfMigrating};
-ghost use Rattle.coord_commands.specs.Running.{Runs, files_around};
+ghost use Rattle.coord_commands.specs.Running.{RunsWords, files_around};
 
 use crate::folder::{FileFolder, Folder};
 use crate::inspection::{check_in, show_in};
@@ -29,7 +29,7 @@ pub fn run<
     W: Write + Send,
     E: Write,
 >(rt: &S, words: &[String], input: &mut R, output: &mut W, errors: &mut E) -> u8
-    ensures { Runs (map string_bytes words.now) result
+    ensures { RunsWords (map string_bytes words.now) result
         (files_around (R.remaining input.old) (W.contents output.old) (E.contents errors.old))
         (files_around (R.remaining input.new) (W.contents output.new) (E.contents errors.new)) }
 {
@@ -45,7 +45,7 @@ fn carry_out<
     W: Write + Send,
     E: Write,
 >(rt: &S, folder: &mut F, words: &[String], input: &mut R, output: &mut W, errors: &mut E) -> u8
-    ensures { Runs (map string_bytes words.now) result
+    ensures { RunsWords (map string_bytes words.now) result
         (record {
           input = R.remaining input.old;
           streams = record {
@@ -81,7 +81,7 @@ pub fn init<S: Files<File = File> + AllocGlobal, W: Write, E: Write>(
     output: &mut W,
     errors: &mut E,
 ) -> u8
-    ensures { Ends (IsOfMaking None None None) (IsCreatedLine None None None) result
+    ensures { CommandEnds (IsOfMaking None None None) (IsCreatedLine None None None) result
         (record { output = W.contents output.old; errors = E.contents errors.old })
         (record { output = W.contents output.new; errors = E.contents errors.new }) }
 {
@@ -98,7 +98,7 @@ pub fn migrate<S: Files<File = File> + AllocGlobal, W: Write, E: Write>(
     output: &mut W,
     errors: &mut E,
 ) -> u8
-    ensures { Ends (IsOfMigrating None None) (IsMigratedLine None None) result
+    ensures { CommandEnds (IsOfMigrating None None) (IsMigratedLine None None) result
         (record { output = W.contents output.old; errors = E.contents errors.old })
         (record { output = W.contents output.new; errors = E.contents errors.new }) }
 {
@@ -132,7 +132,7 @@ pub fn show<S: Files<File = File> + AllocGlobal, W: Write, E: Write>(
     output: &mut W,
     errors: &mut E,
 ) -> u8
-    ensures { Shows None result (record {
+    ensures { ShowsStore None result (record {
       output = W.contents output.old;
       errors = E.contents errors.old;
     }) (record {

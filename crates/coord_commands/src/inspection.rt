@@ -1,9 +1,9 @@
 //! Looking at the store on a disk.
 
 ghost use Rattle.std.specs.Prelude.{◌≡◌, false, true, IfErr, IfOk, OnOk, string_bytes};
-ghost use Rattle.coord_commands.specs.Ending.{IsCutShort, PrintsOne};
+ghost use Rattle.coord_commands.specs.Ending.{OutputCutShort, PrintsOne};
 ghost use Rattle.coord_commands.specs.Folders.{bytes_of, reads};
-ghost use Rattle.coord_commands.specs.Inspection.{Checks, IsCheckedLine, IsLegalLine, IsOfOpening, IsShown, IsViolatedLine, Shows};
+ghost use Rattle.coord_commands.specs.Inspection.{Checks, IsCheckedLine, IsLegalLine, IsOfOpening, IsShown, IsViolatedLine, ShowsStore};
 ghost use Rattle.coord_commands.specs.Printed.{shown};
 
 use crate::fault::Fault;
@@ -51,7 +51,7 @@ fn check_at<F: Folder, W: Write>(
         PrintsOne (IsViolatedLine (reads (F.holds folder.now file.now))) (W.contents output.old)
         (W.contents output.new)) }
     ensures fault { IfErr result (IsOfOpening (reads (F.holds folder.now file.now))) }
-    ensures cut { IfErr result (IsCutShort (IsCheckedLine (reads (F.holds folder.now file.now)))
+    ensures cut { IfErr result (OutputCutShort (IsCheckedLine (reads (F.holds folder.now file.now)))
         (W.contents output.old) (W.contents output.new)) }
 {
     let disk = folder.open_to_read(file)?;
@@ -67,7 +67,7 @@ pub fn show_in<F: Folder, W: Write, E: Write>(
     output: &mut W,
     errors: &mut E,
 ) -> u8
-    ensures { Shows (reads (F.holds folder.now file.now)) result
+    ensures { ShowsStore (reads (F.holds folder.now file.now)) result
         (record { output = W.contents output.old; errors = E.contents errors.old })
         (record { output = W.contents output.new; errors = E.contents errors.new }) }
 {
@@ -83,7 +83,7 @@ fn show_at<F: Folder, W: Write>(
     ensures shown { OnOk result (PrintsOne (IsShown (reads (F.holds folder.now file.now)))
         (W.contents output.old) (W.contents output.new)) }
     ensures fault { IfErr result (IsOfOpening (reads (F.holds folder.now file.now))) }
-    ensures cut { IfErr result (IsCutShort (IsShown (reads (F.holds folder.now file.now)))
+    ensures cut { IfErr result (OutputCutShort (IsShown (reads (F.holds folder.now file.now)))
         (W.contents output.old) (W.contents output.new)) }
 {
     let disk = folder.open_to_read(file)?;
@@ -100,7 +100,7 @@ pub fn check_store<D: Disk, W: Write>(alloc: Global, disk: D, output: &mut W) ->
         PrintsOne (IsViolatedLine (bytes_of D.model disk)) (W.contents output.old)
         (W.contents output.new)) }
     ensures fault { IfErr result (IsOfOpening (bytes_of D.model disk)) }
-    ensures cut { IfErr result (IsCutShort (IsCheckedLine (bytes_of D.model disk))
+    ensures cut { IfErr result (OutputCutShort (IsCheckedLine (bytes_of D.model disk))
         (W.contents output.old) (W.contents output.new)) }
 {
     match Store::open(alloc, disk) {
@@ -131,7 +131,7 @@ pub fn show_store<D: Disk, W: Write>(alloc: Global, disk: D, output: &mut W) -> 
     ensures shown { OnOk result (PrintsOne (IsShown (bytes_of D.model disk))
         (W.contents output.old) (W.contents output.new)) }
     ensures fault { IfErr result (IsOfOpening (bytes_of D.model disk)) }
-    ensures cut { IfErr result (IsCutShort (IsShown (bytes_of D.model disk))
+    ensures cut { IfErr result (OutputCutShort (IsShown (bytes_of D.model disk))
         (W.contents output.old) (W.contents output.new)) }
 {
     match Store::open(alloc, disk) {

@@ -1,9 +1,9 @@
 //! Making a store in a folder.
 
 ghost use Rattle.std.specs.Prelude.{◌≡◌, IfErr, IfOk, OnOk};
-ghost use Rattle.coord_commands.specs.Ending.{Ends, IsCutShort, PrintsOne};
+ghost use Rattle.coord_commands.specs.Ending.{CommandEnds, OutputCutShort, PrintsOne};
 ghost use Rattle.coord_commands.specs.Folders.{bytes_of, reads};
-ghost use Rattle.coord_commands.specs.Making.{IsCreatedLine, IsMade, IsOfFile, IsOfMaking, RefusesStore, begun};
+ghost use Rattle.coord_commands.specs.Making.{IsCreatedLine, IsFounded, IsOfFile, IsOfMaking, RefusesStore, begun};
 ghost use Rattle.coord_config.specs.Topology.{content};
 
 use crate::creation::create_store;
@@ -28,7 +28,7 @@ pub fn init_in<F: Folder, W: Write, E: Write>(
     output: &mut W,
     errors: &mut E,
 ) -> u8
-    ensures { Ends (IsOfMaking (F.says folder.old topology.now)
+    ensures { CommandEnds (IsOfMaking (F.says folder.old topology.now)
         (reads (F.holds folder.old file.now)) (reads (F.holds folder.new file.now)))
         (IsCreatedLine (F.says folder.old topology.now) (reads (F.holds folder.old file.now))
         (reads (F.holds folder.new file.now)))
@@ -51,7 +51,7 @@ fn init_at<F: Folder, W: Write>(
         (W.contents output.old) (W.contents output.new)) }
     ensures fault { IfErr result (IsOfMaking (F.says folder.old topology.now)
         (reads (F.holds folder.old file.now)) (reads (F.holds folder.new file.now))) }
-    ensures cut { IfErr result (IsCutShort (IsCreatedLine (F.says folder.old topology.now)
+    ensures cut { IfErr result (OutputCutShort (IsCreatedLine (F.says folder.old topology.now)
         (reads (F.holds folder.old file.now)) (reads (F.holds folder.new file.now)))
         (W.contents output.old) (W.contents output.new)) }
     ensures early { IfErr result (λ fault. IsOfFile fault → folder.new ≡ folder.old) }
@@ -75,7 +75,7 @@ fn make<F: Folder>(
     file: &str,
     topology: &Topology,
 ) -> Result<u64, Fault>
-    ensures made { OnOk result (IsMade (content topology.now) (begun (content topology.now))
+    ensures made { OnOk result (IsFounded (content topology.now) (begun (content topology.now))
         (reads (F.holds folder.old file.now)) (reads (F.holds folder.new file.now))) }
     ensures count { IfOk result (λ count. count ≡ (begun (content topology.now)).count) }
     ensures fault { IfErr result (RefusesStore (reads (F.holds folder.old file.now))
@@ -90,7 +90,7 @@ fn make<F: Folder>(
 
 /// Makes the store of a topology on a disk, and answers how many steps it has.
 fn make_on<D: Disk>(alloc: Global, disk: D, topology: &Topology) -> (Result<u64, Fault>, D)
-    ensures made { OnOk result.0 (IsMade (content topology.now) (begun (content topology.now))
+    ensures made { OnOk result.0 (IsFounded (content topology.now) (begun (content topology.now))
         (bytes_of D.model disk) (bytes_of D.model result.1)) }
     ensures count { IfOk result.0 (λ count. count ≡ (begun (content topology.now)).count) }
     ensures fault { IfErr result.0 (RefusesStore (bytes_of D.model disk)

@@ -1,9 +1,9 @@
 //! Raising the store on the disk of a name to version 2.
 
 ghost use Rattle.std.specs.Prelude.{◌≡◌, ◌≢◌, ◌+◌, ◌≤◌, true, None, Some, IfErr, IfOk, IsErrOf, MatchResult, OnOk, string_bytes};
-ghost use Rattle.coord_commands.specs.Ending.{Ends, IsCutShort, PrintsOne};
+ghost use Rattle.coord_commands.specs.Ending.{CommandEnds, OutputCutShort, PrintsOne};
 ghost use Rattle.coord_commands.specs.Folders.{known_of};
-ghost use Rattle.coord_commands.specs.Migrating.{EndsRaising, IsMigratedLine, IsOfMigrating, IsOfRaising, Raises, RaisesNamed, RefusesRaising, failures_in};
+ghost use Rattle.coord_commands.specs.Migrating.{EndsRaising, IsMigratedLine, IsOfMigrating, IsOfRaising, Raises, RaisesNamed, RefusesRaising, failures_in_migration};
 ghost use Rattle.coord_commands.specs.Printed.{migrated_line};
 ghost use Rattle.coord_commands.specs.declared.fault.Fault.TheVariants.{Store as Failed};
 ghost use Rattle.coord_disk.specs.Model.Moments.{LeavesOnly};
@@ -34,7 +34,7 @@ pub fn migrate_in<F: Folder, W: Write, E: Write>(
     output: &mut W,
     errors: &mut E,
 ) -> u8
-    ensures { Ends (λ fault.
+    ensures { CommandEnds (λ fault.
         IsOfMigrating (F.holds folder.old file.now) (F.holds folder.new file.now) fault
         × EndsRaising F.Disk.model (F.holds folder.old file.now) (F.holds folder.new file.now) fault) (λ line.
         IsMigratedLine (F.holds folder.old file.now) (F.holds folder.new file.now) line
@@ -58,7 +58,7 @@ fn migrate_at<F: Folder, W: Write>(
     ensures fault { IfErr result (λ fault.
         IsOfMigrating (F.holds folder.old file.now) (F.holds folder.new file.now) fault
         × EndsRaising F.Disk.model (F.holds folder.old file.now) (F.holds folder.new file.now) fault) }
-    ensures cut { IfErr result (IsCutShort (λ line.
+    ensures cut { IfErr result (OutputCutShort (λ line.
         IsMigratedLine (F.holds folder.old file.now) (F.holds folder.new file.now) line
         × RaisesNamed F.Disk.model 0 (F.holds folder.old file.now) (F.holds folder.new file.now))
         (W.contents output.old) (W.contents output.new)) }
@@ -91,7 +91,7 @@ fn migrate_disk<D: Disk>(alloc: Global, disk: D) -> (Result<String, Fault>, D)
     ensures fault { IfErr result.0 (IsOfRaising (known_of D.model disk)
         (known_of D.model result.1)) }
     ensures raises { Raises D.model
-        (failures_in result.0) disk result.1 }
+        (failures_in_migration result.0) disk result.1 }
 {
     match Store::open(alloc, disk) {
         Ok(mut store) => {
@@ -125,7 +125,7 @@ pub fn migrate_store<D: Disk>(alloc: Global, store: &mut Store<D>) -> Result<Str
         LeavesOnly D.model store.old.disk store.new.disk
         (IsOnlyWorld store.old.world)) }
     ensures failures { D.model.failures store.new.disk ≡
-        D.model.failures store.old.disk + failures_in result }
+        D.model.failures store.old.disk + failures_in_migration result }
     ensures calls { D.model.keeps_model store.old.disk ≡ true →
         D.model.clock store.new.disk ≤ D.model.clock store.old.disk + 4 }
     ensures model { D.model.keeps_model store.new.disk ≡ D.model.keeps_model store.old.disk }

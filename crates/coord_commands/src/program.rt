@@ -4,7 +4,7 @@ ghost use Rattle.std.specs.Prelude.{◌≡◌, ◌≢◌, ◌⊎◌, List, Strin
 ghost use Rattle.std.specs.Global.{Global};
 ghost use Rattle.std.specs.Iterator.{Drains, IsFinite};
 ghost use Rattle.std.specs.IoError.{error_kind};
-ghost use Rattle.coord_commands.specs.Running.{LacksWords, Runs, files_around};
+ghost use Rattle.coord_commands.specs.Running.{LacksWords, RunsWords, files_around};
 ghost use Rattle.coord_commands.specs.declared.fault.Fault.TheVariants.{OutOfMemory, Usage};
 
 use crate::commands::run;
@@ -36,7 +36,7 @@ pub fn run_program<
         (W.contents output.old) (E.contents errors.old)) (files_around (R.remaining input.new)
         (W.contents output.new) (E.contents errors.new))
         ⊎ ((came : List (String Global)) × Drains I.next_gives words came ×
-        Runs (map string_bytes came) result (files_around (R.remaining input.old)
+        RunsWords (map string_bytes came) result (files_around (R.remaining input.old)
         (W.contents output.old) (E.contents errors.old)) (files_around (R.remaining input.new)
         (W.contents output.new) (E.contents errors.new)))) }
     ensures memory { IfErr words (λ error. error_kind error ≡ ErrorKind.OutOfMemory →

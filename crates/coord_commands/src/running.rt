@@ -1,7 +1,7 @@
 //! What words ask for, in a folder.
 
 ghost use Rattle.std.specs.Prelude.{◌≡◌, map, IfErr, IfOk, Some, string_bytes};
-ghost use Rattle.coord_commands.specs.Running.{Drills, Runs};
+ghost use Rattle.coord_commands.specs.Running.{RunsDrill, RunsWords};
 ghost use Rattle.coord_commands.specs.Words.{serve, task_of};
 
 use crate::fault::Fault;
@@ -32,7 +32,7 @@ pub fn run_in<'a, F: Folder, R: Read, W: Write, E: Write>(
     output: &mut W,
     errors: &mut E,
 ) -> Result<u8, ToServe<'a>>
-    ensures done { IfOk result (λ status. Runs (map string_bytes words.now) status
+    ensures done { IfOk result (λ status. RunsWords (map string_bytes words.now) status
         (record {
           input = R.remaining input.old;
           streams = record {
@@ -77,7 +77,7 @@ pub fn drill<R: Read, W: Write, E: Write>(
     output: &mut W,
     errors: &mut E,
 ) -> u8
-    ensures { Drills (R.remaining input.old) (R.remaining input.new) result
+    ensures { RunsDrill (R.remaining input.old) (R.remaining input.new) result
         (record { output = W.contents output.old; errors = E.contents errors.old })
         (record { output = W.contents output.new; errors = E.contents errors.new }) }
 {

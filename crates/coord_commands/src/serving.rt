@@ -5,7 +5,7 @@ ghost use Rattle.std.specs.Io.KnownBytes.{Keeps};
 ghost use Rattle.std.specs.Net.Grammar.{IsSocketV4Text};
 ghost use Rattle.std.specs.declared.net.socket_addr.SocketAddrV4.{SocketAddrV4};
 ghost use Rattle.coord_commands.specs.Folders.{bytes_of, reads};
-ghost use Rattle.coord_commands.specs.Serving.{EndsServing, IsNotOpened, IsOfServing, IsOpened, IsServedToEnd, KeepsToTheWay, Serves};
+ghost use Rattle.coord_commands.specs.Serving.{EndsServing, IsNotOpened, IsOfServing, IsOpenedStore, IsServedToEnd, KeepsToTheWay, ServesAt};
 ghost use Rattle.coord_store.specs.Kept.{has_stopped};
 ghost use Rattle.coord_store.specs.Recovered.{Recovered};
 
@@ -34,7 +34,7 @@ pub fn serve<
     W: Write + Send,
     E: Write,
 >(rt: &S, file: &str, address: &str, output: &mut W, errors: &mut E) -> u8
-    ensures served { Serves (IsOfServing None) address.now None None result (E.contents errors.old)
+    ensures served { ServesAt (IsOfServing None) address.now None None result (E.contents errors.old)
         (E.contents errors.new) }
     ensures usage { ((a : SocketAddrV4) → ¬ IsSocketV4Text address.now a) → result ≡ 2 }
 {
@@ -52,7 +52,7 @@ pub fn serve_in<
     W: Write + Send,
     E: Write,
 >(rt: &S, folder: &mut F, file: &str, address: &str, output: &mut W, errors: &mut E) -> u8
-    ensures served { Serves (EndsServing F.Disk.model (F.holds folder.old file.now)
+    ensures served { ServesAt (EndsServing F.Disk.model (F.holds folder.old file.now)
         (F.holds folder.new file.now)) address.now (reads (F.holds folder.old file.now))
         (reads (F.holds folder.new file.now)) result (E.contents errors.old)
         (E.contents errors.new) }
@@ -119,7 +119,7 @@ fn listening<S: Net>(rt: &S, address: SocketAddrV4) -> io::Result<S::Listener> {
 
 /// Takes the disk of a name, and opens the store on it. A disk that is refused is put back.
 fn opened<F: Folder>(alloc: Global, folder: &mut F, file: &str) -> Result<Store<F::Disk>, Fault>
-    ensures opened { IfOk result (IsOpened F.Disk.model (F.holds folder.old file.now)) }
+    ensures opened { IfOk result (IsOpenedStore F.Disk.model (F.holds folder.old file.now)) }
     ensures going { IfOk result (λ store. has_stopped store ≡ false) }
     ensures fault { IfErr result (IsNotOpened F.Disk.model (F.holds folder.old file.now)
         (F.holds folder.new file.now)) }

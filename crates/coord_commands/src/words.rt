@@ -3,7 +3,7 @@
 ghost use Rattle.std.specs.Prelude.{◌≡◌, ◌⊎◌, false, true, map, option_and_then, option_map, IfOk, IfErr, Some, None, string_bytes};
 ghost use Rattle.clap.specs.Words.{app_of, found_of, new_app, rows_of, rule_of, subcommand_rows_of, takes, with_rule, with_subcommand};
 ghost use Rattle.coord_commands.specs.declared.fault.Fault.TheVariants.{Usage, OutOfMemory};
-ghost use Rattle.coord_commands.specs.Words.{asked_by, asked_of, asked_of_file, in_words, resetd, task_of, word_named, words_for};
+ghost use Rattle.coord_commands.specs.Words.{asked_of, asked_of_file, asked_of_name, in_words, resetd, task_of, word_named, words_for};
 
 use crate::fault::Fault;
 use clap::error::ErrorKind;
@@ -116,7 +116,7 @@ fn word_named(alloc: Global, id: &str) -> Arg<'_>
 /// What the command asks for that `clap` found in so many words.
 fn task_in<'a>(matches: &ArgMatches<'a>, count: usize) -> Option<Task<'a>>
     ensures { option_map asked_of result ≡ option_and_then (in_words count)
-        (option_and_then (λ found. asked_by found.0 found.1) (subcommand_rows_of matches.now)) }
+        (option_and_then (λ found. asked_of_name found.0 found.1) (subcommand_rows_of matches.now)) }
 {
     let (name, found) = matches.subcommand()?;
     let task = task_named(name, found)?;
@@ -129,7 +129,7 @@ fn task_in<'a>(matches: &ArgMatches<'a>, count: usize) -> Option<Task<'a>>
 
 /// What the command of a name asks for, with the first values of its words.
 fn task_named<'a>(name: &str, matches: &ArgMatches<'a>) -> Option<Task<'a>>
-    ensures { option_map asked_of result ≡ asked_by name.now (rows_of (found_of matches.now)) }
+    ensures { option_map asked_of result ≡ asked_of_name name.now (rows_of (found_of matches.now)) }
 {
     if name == "drill" {
         return Some(Task::Drill);

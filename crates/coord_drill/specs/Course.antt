@@ -12,7 +12,7 @@
 --
 -- `Goes` is so for lines one after the other, and `Course` from the store that was made on the disk that was given. Where
 -- a drill ends, its course has all the lines of its input, all that they print was written, and the disk that is given
--- back is where that has led (`Ended`). Where it fails, the course has the lines that were carried out, and `Stops` says
+-- back is where that has led (`DrillEnded`). Where it fails, the course has the lines that were carried out, and `StopsDrill` says
 -- why it has no more, what was written of what these have printed, and which disk is given back (`BrokeOff`).
 use Rattle.std.specs.Prelude.{◌≡◌, ◌⊎◌, ℕ, ◌+◌, ◌≤◌, true, List, [], ◌∷◌, ◌++◌, length, take, option_map, Option, Some, None, if◌then◌else◌}
 use Rattle.std.specs.Io.KnownBytes.{Appends, Consumes}
@@ -86,13 +86,13 @@ abbrev pub GivesEmpty : ℕ → List ℕ → Type 0
 GivesEmpty version bytes = Recovered bytes (no_world version) × Legal (no_world version)
 
 -- the empty store is raised: at each moment the disk gives the empty world of one version or the other
-abbrev pub Raises : {D : Type 0} → DiskModel D → D → D → Type 0
-Raises disk old new = LeavesOnly disk old new (λ bytes. GivesEmpty 1 bytes ⊎ GivesEmpty 2 bytes)
+abbrev pub RaisesEmpty : {D : Type 0} → DiskModel D → D → D → Type 0
+RaisesEmpty disk old new = LeavesOnly disk old new (λ bytes. GivesEmpty 1 bytes ⊎ GivesEmpty 2 bytes)
 
 -- what is asked leads from one place to the other
 abbrev pub Moves : {D : Type 0} → DiskModel D → (D → D → Type 0) → Option Asked → List Answer → Place D → Place D → Type 0
 Moves disk crashes None given p q = RunsTo disk crashes [] given p q
-Moves disk crashes (Some Version2) given p q = (q.machine ≡ adopted (no_world 2)) × Raises disk p.disk q.disk × (disk.failures q.disk ≡ disk.failures p.disk)
+Moves disk crashes (Some Version2) given p q = (q.machine ≡ adopted (no_world 2)) × RaisesEmpty disk p.disk q.disk × (disk.failures q.disk ≡ disk.failures p.disk)
 Moves disk crashes (Some a) given p q = RunsTo disk crashes (line_events p.state.holds a given) given p q
 
 -- ---- lines
@@ -123,7 +123,7 @@ pub record Course {D : Type 0} (disk : DiskModel D) (crashes : D → D → Type 
 -- ---- the end
 
 -- All lines of the input were carried out, what they print was written, and this disk is given back.
-pub record Ended {D : Type 0} (disk : DiskModel D) (crashes : D → D → Type 0) (given : D) (input written : List ℕ) (last : D) : Type 0 where
+pub record DrillEnded {D : Type 0} (disk : DiskModel D) (crashes : D → D → Type 0) (given : D) (input written : List ℕ) (last : D) : Type 0 where
   pub place : Place D
   pub course : Course disk crashes given (lines_of input) place
   pub wrote : written ≡ place.printed
@@ -133,7 +133,7 @@ pub record Ended {D : Type 0} (disk : DiskModel D) (crashes : D → D → Type 0
 -- in a crash perhaps behind the taking of an image, and in `version 2` at a moment of the raising.
 abbrev pub IsLeftBy : {D : Type 0} → DiskModel D → (D → D → Type 0) → Asked → Machine → D → D → Type 0
 IsLeftBy disk crashes Crash s mid lost = (lost ≡ mid) ⊎ Reopens disk crashes (Survives s) mid lost
-IsLeftBy disk crashes Version2 s mid lost = Raises disk mid lost
+IsLeftBy disk crashes Version2 s mid lost = RaisesEmpty disk mid lost
 IsLeftBy disk crashes a s mid lost = lost ≡ mid
 
 -- It was so for the fault that stands beside the disk, and the disk has failed in it where that tells so.
@@ -189,8 +189,8 @@ abbrev pub StopsWork : {D : Type 0} → DiskModel D → (D → D → Type 0) →
 StopsWork disk crashes p others written refused = StopsAtLine disk crashes p others written refused ⊎ StopsWriting disk crashes p others written refused
 
 -- or the input did, or the end
-abbrev pub Stops : {D : Type 0} → DiskModel D → (D → D → Type 0) → Place D → List Line → List ℕ → Fault × D → Type 0
-Stops disk crashes p others written refused = StopsReading p others written refused ⊎ (StopsFlushing p others written refused ⊎ StopsWork disk crashes p others written refused)
+abbrev pub StopsDrill : {D : Type 0} → DiskModel D → (D → D → Type 0) → Place D → List Line → List ℕ → Fault × D → Type 0
+StopsDrill disk crashes p others written refused = StopsReading p others written refused ⊎ (StopsFlushing p others written refused ⊎ StopsWork disk crashes p others written refused)
 
 -- Some first lines of the input were carried out, and for this reason no more of them; this was written.
 pub record BrokeOff {D : Type 0} (disk : DiskModel D) (crashes : D → D → Type 0) (given : D) (input written : List ℕ) (refused : Fault × D) : Type 0 where
@@ -199,7 +199,7 @@ pub record BrokeOff {D : Type 0} (disk : DiskModel D) (crashes : D → D → Typ
   pub split : lines_of input ≡ lines ++ others
   pub place : Place D
   pub course : Course disk crashes given lines place
-  pub why : Stops disk crashes place others written refused
+  pub why : StopsDrill disk crashes place others written refused
 
 -- no store was made on the disk that was given; one that was not empty stays as it was
 pub record NotMade {D : Type 0} (disk : DiskModel D) (given : D) (refused : Fault × D) : Type 0 where
@@ -213,11 +213,11 @@ pub record NotMade {D : Type 0} (disk : DiskModel D) (given : D) (refused : Faul
 
 -- what was read was carried out to its end and written, and this disk is given back
 abbrev pub Drills : {D : Type 0} → DiskModel D → (D → D → Type 0) → D → InOut → InOut → D → Type 0
-Drills disk crashes given old new last = Exchanges old new (λ seen written. Ended disk crashes given seen written last)
+Drills disk crashes given old new last = Exchanges old new (λ seen written. DrillEnded disk crashes given seen written last)
 
 -- It failed: behind some lines of what was read, in too many reads of so many bytes at least; or no store was made, and
 -- then nothing was read and nothing written.
-abbrev pub Fails : {D : Type 0} → DiskModel D → (D → D → Type 0) → D → InOut → InOut → Fault × D → Type 0
-Fails disk crashes given old new refused =
+abbrev pub DrillFails : {D : Type 0} → DiskModel D → (D → D → Type 0) → D → InOut → InOut → Fault × D → Type 0
+DrillFails disk crashes given old new refused =
     Exchanges old new (λ seen written. BrokeOff disk crashes given seen written refused × (refused.0 ≡ TooManyReads → MOST_READS ≤ length seen))
     ⊎ (NotMade disk given refused × (new ≡ old))

@@ -56,12 +56,12 @@ failed_by (Store why) = failed_in why
 failed_by fault = 0
 
 -- want of memory, or the disk failed
-abbrev pub IsPassing : Fault → Type 0
-IsPassing fault = IsOfMemory fault ⊎ (fault ≡ Store store.Device)
+abbrev pub IsPassingFault : Fault → Type 0
+IsPassingFault fault = IsOfMemory fault ⊎ (fault ≡ Store store.Device)
 
 -- on a disk that keeps the model a line is cut short so, and only where it raises a store, or opens one again, by the disk
 abbrev pub MayCutShort : Bool → Fault → Type 0
-MayCutShort true why = IsPassing why
+MayCutShort true why = IsPassingFault why
 MayCutShort false why = IsOfMemory why
 
 -- of a write's answer the bytes that were taken are told; a fault is one where none were, and so may none be

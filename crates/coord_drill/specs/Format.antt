@@ -74,6 +74,6 @@ abbrev pub one_of : {A : Type 0} → List (Row A) → Format A
 one_of rows = record { spell = spell_by rows; read = read_first rows }
 
 -- what a reader in the program says: what it answers, and the words that it leaves
-abbrev pub Reads : {A : Type 0} → Read A → Option A → List Word → Type 0
-Reads read None left = read ≡ None
-Reads read (Some x) left = read ≡ Some (x, left)
+abbrev pub ReadsWords : {A : Type 0} → Read A → Option A → List Word → Type 0
+ReadsWords read None left = read ≡ None
+ReadsWords read (Some x) left = read ≡ Some (x, left)

@@ -26,8 +26,8 @@ IsHeld l claims = claims ≡ claims_of (settled_world l.log) (pending l.log)
 abbrev pub IsReadyWith : {D : Type 0} → DriverState D → List Claim → Type 0
 IsReadyWith v claims = (v.flight ≡ None) × IsHeld v.ledger claims
 
-abbrev pub IsReady : {D : Type 0} → Drill D → Type 0
-IsReady d = IsReadyWith d.driver d.tickets.items
+abbrev pub IsReadyDrill : {D : Type 0} → Drill D → Type 0
+IsReadyDrill d = IsReadyWith d.driver d.tickets.items
 
 -- the state of a drill over this ledger
 abbrev pub drill_of : {D : Type 0} → LedgerState D → Bool → Bool → DrillState

@@ -4,7 +4,7 @@ use Rattle.coord_disk.specs.Disks.Memory.{CrashesByChoice, choice_of, failures_o
 use Rattle.coord_disk.specs.Model.Present.{whole}
 use Rattle.coord_disk.specs.declared.choice.Choice.TheVariants.{Kept}
 use Rattle.coord_disk.specs.declared.memory.MemDisk.{MemDisk}
-use Rattle.coord_drill.specs.Course.{Drills, Fails}
+use Rattle.coord_drill.specs.Course.{DrillFails, Drills}
 use Rattle.coord_drill.specs.Written.{InOut}
 use Rattle.coord_drill.specs.declared.fault.Fault.{Fault}
 
@@ -20,4 +20,4 @@ DrillsInMemory unread rest written now = (given last : MemDisk) × IsBlank given
 
 -- a drill began on such a disk, and failed
 abbrev pub FailsInMemory : Option (List ℕ) → Option (List ℕ) → Option (List ℕ) → Option (List ℕ) → Fault → Type 0
-FailsInMemory unread rest written now fault = (given lost : MemDisk) × IsBlank given × Fails in_memory CrashesByChoice given (record { unread = unread; written = written }) (record { unread = rest; written = now }) (fault, lost)
+FailsInMemory unread rest written now fault = (given lost : MemDisk) × IsBlank given × DrillFails in_memory CrashesByChoice given (record { unread = unread; written = written }) (record { unread = rest; written = now }) (fault, lost)

@@ -2,7 +2,7 @@
 use Rattle.std.specs.Prelude.{◌≡◌, ℕ, ◌+◌, List, [], ◌∷◌, ◌++◌, length}
 use Rattle.coord_disk.specs.Model.DiskModel.{DiskModel}
 use Rattle.coord_lines.specs.Lines.{Line, lines_on}
-use Rattle.coord_drill.specs.Course.{FirstCutShort, Goes, LineGoes, Place, Stops, StopsWork}
+use Rattle.coord_drill.specs.Course.{FirstCutShort, Goes, LineGoes, Place, StopsDrill, StopsWork}
 use Rattle.coord_drill.specs.Moments.{Stands}
 use Rattle.coord_drill.specs.declared.console.Console.{Console}
 use Rattle.coord_drill.specs.declared.drill.Drill.{Drill}
@@ -41,16 +41,16 @@ pub record Breaks {D : Type 0} (disk : DiskModel D) (crashes : D → D → Type 
   pub goes : (p : Place D) → StandsAt disk c p → (q : Place D) × Goes disk crashes p ended q × Why q others (p.printed ++ text)
 
 -- a line or the writer stopped them
-abbrev pub BreaksOff : {D : Type 0} → DiskModel D → (D → D → Type 0) → Console D → List Line → Fault × D → List ℕ → Type 0
-BreaksOff disk crashes c lines refused text = Breaks disk crashes c lines text (λ q others written. StopsWork disk crashes q others written refused)
+abbrev pub LinesBreakOff : {D : Type 0} → DiskModel D → (D → D → Type 0) → Console D → List Line → Fault × D → List ℕ → Type 0
+LinesBreakOff disk crashes c lines refused text = Breaks disk crashes c lines text (λ q others written. StopsWork disk crashes q others written refused)
 
 -- or the input did, or the end
 abbrev pub EndsEarly : {D : Type 0} → DiskModel D → (D → D → Type 0) → Console D → List Line → Fault × D → List ℕ → Type 0
-EndsEarly disk crashes c lines refused text = Breaks disk crashes c lines text (λ q others written. Stops disk crashes q others written refused)
+EndsEarly disk crashes c lines refused text = Breaks disk crashes c lines text (λ q others written. StopsDrill disk crashes q others written refused)
 
 -- A piece of the input was taken, but for this rest: the lines that have ended in it were carried out, from a line so far
 -- to another.
-pub record Takes {D : Type 0} (disk : DiskModel D) (crashes : D → D → Type 0) (c : Console D) (piece rest text : List ℕ) (new : Console D) : Type 0 where
+pub record TakesPiece {D : Type 0} (disk : DiskModel D) (crashes : D → D → Type 0) (c : Console D) (piece rest text : List ℕ) (new : Console D) : Type 0 where
   pub ended : List Line
   pub lines : (more : List ℕ) → lines_on c.line (piece ++ more) ≡ ended ++ lines_on new.line (rest ++ more)
   pub out : CarriesOut disk crashes c ended text new

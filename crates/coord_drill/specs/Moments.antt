@@ -24,7 +24,7 @@ use Rattle.coord_ledger.specs.Facade.{Answered, CrashPrefix, DriverState, EachMo
 use Rattle.coord_drill.specs.Answered.{IsAnswered, flight_lines}
 use Rattle.coord_drill.specs.Course.{IsSettled, Place, start}
 use Rattle.coord_drill.specs.Drill.{flight_events, line_events, machine_of, seen_as}
-use Rattle.coord_drill.specs.Faults.{IsOfMemory, IsPassing, failed_by}
+use Rattle.coord_drill.specs.Faults.{IsOfMemory, IsPassingFault, failed_by}
 use Rattle.coord_drill.specs.Holding.{IsEmptyLog, state_of}
 use Rattle.coord_drill.specs.declared.asked.Asked.{Asked}
 use Rattle.coord_drill.specs.declared.asked.Asked.TheVariants.{Crash, Version2}
@@ -93,7 +93,7 @@ pub record RaisesPart {D : Type 0} (disk : DiskModel D) (d : DriverState D) (ref
   pub old : D
   pub there : disk_held d ≡ Some old
   pub moments : has_stopped d.ledger.log ≡ false → disk.keeps_model old ≡ true → LeavesOnly disk old refused.1 (GivesRaised d)
-  pub cause : IsEmptyLog d.ledger.log → IsPassing refused.0
+  pub cause : IsEmptyLog d.ledger.log → IsPassingFault refused.0
   pub failed : disk.failures refused.1 ≡ disk.failures old + failed_by refused.0
 
 -- ---- what is asked
@@ -110,16 +110,16 @@ pub record Carries {D : Type 0} (disk : DiskModel D) (crashes : D → D → Type
   pub moments : LeadsBy disk crashes a d given new
 
 -- What is said of a line's moments: on a disk that keeps the model, and of `version 2` before any step.
-abbrev pub IsPromised : {D : Type 0} → DiskModel D → Drill D → Asked → Type 0
-IsPromised disk d a = (model_held disk d.driver ≡ Some true) × (a ≡ Version2 → IsEmptyLog d.driver.ledger.log)
+abbrev pub LineIsPromised : {D : Type 0} → DiskModel D → Drill D → Asked → Type 0
+LineIsPromised disk d a = (model_held disk d.driver ≡ Some true) × (a ≡ Version2 → IsEmptyLog d.driver.ledger.log)
 
 abbrev pub CarriesIf : {D : Type 0} → DiskModel D → (D → D → Type 0) → Drill D → Asked → List ℕ → Drill D → Type 0
-CarriesIf disk crashes d a told new = IsPromised disk d a → Carries disk crashes d a told new
+CarriesIf disk crashes d a told new = LineIsPromised disk d a → Carries disk crashes d a told new
 
 -- the disk was given up in a crash, behind the taking of an image
 pub record GivesUpInCrash {D : Type 0} (disk : DiskModel D) (crashes : D → D → Type 0) (d : DriverState D) (refused : Fault × D) : Type 0 where
   pub moments : (s : Machine) → IsConsistent s → Represents d s → (old : D) → disk_held d ≡ Some old → disk.keeps_model old ≡ true → Reopens disk crashes (Survives s) old refused.1
-  pub cause : model_held disk d ≡ Some true → IsPassing refused.0
+  pub cause : model_held disk d ≡ Some true → IsPassingFault refused.0
   pub failed : (n : ℕ) → HasFailed disk.failures (disk_held d) n → disk.failures refused.1 ≡ n + failed_by refused.0
 
 -- for want of memory behind a part of its events
@@ -133,7 +133,7 @@ Cuts disk crashes Crash d refused = LacksMemory disk crashes Crash d refused ⊎
 Cuts disk crashes a d refused = LacksMemory disk crashes a d refused
 
 abbrev pub CutsIf : {D : Type 0} → DiskModel D → (D → D → Type 0) → Asked → Drill D → Fault × D → Type 0
-CutsIf disk crashes a d refused = IsPromised disk d a → Cuts disk crashes a d refused
+CutsIf disk crashes a d refused = LineIsPromised disk d a → Cuts disk crashes a d refused
 
 -- a flight prints this and leaves this drill, whatever tickets the machine has given before it
 pub record Flies {D : Type 0} (disk : DiskModel D) (crashes : D → D → Type 0) (d : Drill D) (told : List ℕ) (new : Drill D) : Type 0 where

@@ -7,12 +7,12 @@ abbrev pub IsShortPart : List ℕ → List ℕ → Type 0
 IsShortPart part text = (rest : List ℕ) × (text ≡ part ++ rest) × (1 ≤ length rest)
 
 -- a writer got a text that has P
-abbrev pub Writes : Option (List ℕ) → Option (List ℕ) → (List ℕ → Type 0) → Type 0
-Writes old new P = (part : List ℕ) × Appends old new part × P part
+abbrev pub WritesPart : Option (List ℕ) → Option (List ℕ) → (List ℕ → Type 0) → Type 0
+WritesPart old new P = (part : List ℕ) × Appends old new part × P part
 
 -- a first part of a text, and no more
 abbrev pub WritesShort : Option (List ℕ) → Option (List ℕ) → List ℕ → Type 0
-WritesShort old new text = Writes old new (λ part. IsShortPart part text)
+WritesShort old new text = WritesPart old new (λ part. IsShortPart part text)
 
 -- what is known of a reader and a writer at one moment
 pub record InOut : Type 0 where
@@ -21,4 +21,4 @@ pub record InOut : Type 0 where
 
 -- bytes were read, and a text written, that have P
 abbrev pub Exchanges : InOut → InOut → (List ℕ → List ℕ → Type 0) → Type 0
-Exchanges old new P = (seen : List ℕ) × Consumes old.unread new.unread seen × Writes old.written new.written (P seen)
+Exchanges old new P = (seen : List ℕ) × Consumes old.unread new.unread seen × WritesPart old.written new.written (P seen)

@@ -4,14 +4,14 @@ ghost use Rattle.std.specs.Prelude.{◌≡◌, ◌<◌, ◌≤◌, ◌+◌, ◌-
 ghost use Rattle.std.specs.Io.KnownBytes.{Appends, Consumes, IsAtEnd};
 ghost use Rattle.coord_ledger.specs.Facade.{disk_held};
 ghost use Rattle.coord_lines.specs.Lines.{lines_on};
-ghost use Rattle.coord_drill.specs.Course.{Drills, Fails, NotMade};
+ghost use Rattle.coord_drill.specs.Course.{DrillFails, Drills, NotMade};
 ghost use Rattle.coord_drill.specs.Drilled.{IsDrilled, WritesFirstPart};
 ghost use Rattle.coord_drill.specs.Faults.{IsOfDisk, IsOfWork};
-ghost use Rattle.coord_drill.specs.Holding.{IsReady};
+ghost use Rattle.coord_drill.specs.Holding.{IsReadyDrill};
 ghost use Rattle.coord_drill.specs.InMemory.{DrillsInMemory, FailsInMemory, IsBlank};
-ghost use Rattle.coord_drill.specs.Lines.{BreaksOff, EndsEarly, EndsWith, Takes};
+ghost use Rattle.coord_drill.specs.Lines.{EndsEarly, EndsWith, LinesBreakOff, TakesPiece};
 ghost use Rattle.coord_drill.specs.Moments.{IsBegun};
-ghost use Rattle.coord_drill.specs.Written.{Exchanges, Writes};
+ghost use Rattle.coord_drill.specs.Written.{Exchanges, WritesPart};
 ghost use Rattle.coord_drill.specs.declared.fault.Fault.TheVariants.{TooManyReads};
 
 mod lines;
@@ -79,7 +79,7 @@ pub fn coord_drill_on<R: Read, W: Write, D: CrashDisk>(
         (record { unread = R.remaining reader.new; written = W.contents writer.new })) }
     ensures end { OnOk result (IsAtEnd (R.remaining reader.new)) }
     ensures failed { D.model.keeps_model disk ≡ true →
-        IfErr result (Fails D.model D.crashes disk
+        IfErr result (DrillFails D.model D.crashes disk
         (record { unread = R.remaining reader.old; written = W.contents writer.old })
         (record { unread = R.remaining reader.new; written = W.contents writer.new })) }
 {
@@ -108,7 +108,7 @@ struct Console<D: CrashDisk> {
 
 impl<D: CrashDisk> Console<D> {
     fn new(alloc: Global, disk: D) -> Result<Self, (Fault, D)>
-        ensures ready { IfOk result (λ console. IsReady console.drill) }
+        ensures ready { IfOk result (λ console. IsReadyDrill console.drill) }
         ensures begun { D.model.keeps_model disk ≡ true →
             IfOk result (λ console. IsBegun D.model disk console.drill) }
         ensures line { IfOk result (λ console. console.line ≡ Some []) }
@@ -132,7 +132,7 @@ impl<D: CrashDisk> Console<D> {
         reader: &mut R,
         writer: &mut W,
     ) -> Result<D, (Fault, D)>
-        requires ready { IsReady self.drill }
+        requires ready { IsReadyDrill self.drill }
         requires number { self.number ≡ 0 }
         ensures ended { IfOk result (λ last. Exchanges
             (record { unread = R.remaining reader.old; written = W.contents writer.old })
@@ -168,16 +168,16 @@ impl<D: CrashDisk> Console<D> {
         piece: &[u8],
         writer: &mut W,
     ) -> Result<Self, (Fault, D)>
-        requires ready { IsReady self.drill }
+        requires ready { IsReadyDrill self.drill }
         requires number { self.number + length piece.now < 2 ^ 64 - 1 }
-        ensures ready { IfOk result (λ console. IsReady console.drill) }
+        ensures ready { IfOk result (λ console. IsReadyDrill console.drill) }
         ensures number { IfOk result (λ console. console.number ≤ self.number + length piece.now) }
         ensures taken { IfOk result (λ console.
-            Writes (W.contents writer.old) (W.contents writer.new)
-            (λ text. Takes D.model D.crashes self piece.now [] text console)) }
+            WritesPart (W.contents writer.old) (W.contents writer.new)
+            (λ text. TakesPiece D.model D.crashes self piece.now [] text console)) }
         ensures failed { IfErr result (λ refused.
-            Writes (W.contents writer.old) (W.contents writer.new)
-            (BreaksOff D.model D.crashes self (lines_on self.line piece.now) refused)) }
+            WritesPart (W.contents writer.old) (W.contents writer.new)
+            (LinesBreakOff D.model D.crashes self (lines_on self.line piece.now) refused)) }
         ensures fault { IfErr result (λ refused. IsOfWork refused.0) }
     {
         let mut text = Vec::new(alloc);
@@ -193,13 +193,13 @@ impl<D: CrashDisk> Console<D> {
 
     /// Ends the input, and gives the disk back. Its last line may lack its line feed.
     fn finish<W: Write>(self, writer: &mut W) -> Result<D, (Fault, D)>
-        requires ready { IsReady self.drill }
+        requires ready { IsReadyDrill self.drill }
         requires number { self.number < 2 ^ 64 - 1 }
         ensures ended { IfOk result (λ last.
-            Writes (W.contents writer.old) (W.contents writer.new)
+            WritesPart (W.contents writer.old) (W.contents writer.new)
             (λ text. EndsWith D.model D.crashes self (lines_on self.line []) text last)) }
         ensures failed { IfErr result (λ refused.
-            Writes (W.contents writer.old) (W.contents writer.new)
+            WritesPart (W.contents writer.old) (W.contents writer.new)
             (EndsEarly D.model D.crashes self (lines_on self.line []) refused)) }
         ensures fault { IfErr result (λ refused. IsOfWork refused.0) }
     {

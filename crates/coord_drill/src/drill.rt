@@ -8,7 +8,7 @@ ghost use Rattle.coord_drill.specs.Course.{NotMade};
 ghost use Rattle.coord_drill.specs.Drill.{drill_over};
 ghost use Rattle.coord_drill.specs.Drilled.{asked_by};
 ghost use Rattle.coord_drill.specs.Faults.{IsOfDisk, MayEnd};
-ghost use Rattle.coord_drill.specs.Holding.{IsReady, Tells, front_of, state_of};
+ghost use Rattle.coord_drill.specs.Holding.{IsReadyDrill, Tells, front_of, state_of};
 ghost use Rattle.coord_drill.specs.Moments.{CarriesIf, CutsIf, IsBegun, IsMade};
 ghost use Rattle.coord_drill.specs.declared.fault.Fault.TheVariants.{OutOfMemory};
 
@@ -47,7 +47,7 @@ impl<D: CrashDisk> Drill<D> {
     /// A drill in the world before any step: its store, with halves of 65,536 bytes, is made on the
     /// disk. A refusal gives the disk back.
     pub fn new(alloc: Global, disk: D) -> Result<Self, (Fault, D)>
-        ensures ready { IfOk result IsReady }
+        ensures ready { IfOk result IsReadyDrill }
         ensures begun { D.model.keeps_model disk ≡ true → IfOk result (IsBegun D.model disk) }
         ensures state { IfOk result (λ drill. state_of drill ≡ drill_over (no_world 1)) }
         ensures fault { IfErr result (λ refused. IsOfDisk refused.0) }
@@ -78,8 +78,8 @@ impl<D: CrashDisk> Drill<D> {
     /// Carries out what a request asks for, and adds the answer's lines to a text. At each moment of
     /// it the headline holds of the drill's disk. A call that fails gives the disk back.
     pub fn answer(self, request: &Request, text: &mut String) -> Result<Self, (Fault, D)>
-        requires ready { IsReady self }
-        ensures ready { IfOk result IsReady }
+        requires ready { IsReadyDrill self }
+        ensures ready { IfOk result IsReadyDrill }
         ensures told { IfOk result (λ drill. Tells (string_bytes text.old) (string_bytes text.new)
             (λ told. CarriesIf D.model D.crashes self (asked (front_of self) request.now) told
             drill)) }
@@ -93,8 +93,8 @@ impl<D: CrashDisk> Drill<D> {
 
     /// Carries out what is asked, and adds the answer's lines to a text.
     fn carry_out(self, wanted: Asked, text: &mut String) -> Result<Self, (Fault, D)>
-        requires ready { IsReady self }
-        ensures ready { IfOk result IsReady }
+        requires ready { IsReadyDrill self }
+        ensures ready { IfOk result IsReadyDrill }
         ensures told { IfOk result (λ drill. Tells (string_bytes text.old) (string_bytes text.new)
             (λ told. CarriesIf D.model D.crashes self wanted told drill)) }
         ensures cut { IfErr result (CutsIf D.model D.crashes wanted self) }

@@ -2,7 +2,7 @@
 
 ghost use Rattle.std.specs.Prelude.{◌≡◌, map};
 ghost use Rattle.coord_drill.specs.Drilled.{parsed};
-ghost use Rattle.coord_drill.specs.Format.{Reads, read_by};
+ghost use Rattle.coord_drill.specs.Format.{ReadsWords, read_by};
 ghost use Rattle.coord_drill.specs.Grammar.{commands, next_row, messages, requests, request_of, order_fields, data_fields, receipt_fields, version_fields};
 
 use crate::request::Request;
@@ -35,7 +35,7 @@ fn read_line(version: Version, line: &str) -> Option<Request>
 
 #[tactic(auto, unfolding(crate::specs::Grammar::other_requests))]
 fn read_request(version: Version, verb: &str, words: &mut Words<'_>) -> Option<Request>
-    ensures { Reads (read_by (requests version) verb.now words.old) result words.new }
+    ensures { ReadsWords (read_by (requests version) verb.now words.old) result words.new }
 {
     match verb {
         "order" => read_order(words),
@@ -56,7 +56,7 @@ fn read_request(version: Version, verb: &str, words: &mut Words<'_>) -> Option<R
 
 #[tactic(auto, unfolding(crate::specs::Grammar::order_fields))]
 fn read_order(words: &mut Words<'_>) -> Option<Request>
-    ensures { Reads (order_fields.read words.old) result words.new }
+    ensures { ReadsWords (order_fields.read words.old) result words.new }
 {
     let client = words.client()?;
     let number = words.number()?;
@@ -66,7 +66,7 @@ fn read_order(words: &mut Words<'_>) -> Option<Request>
 
 #[tactic(auto, unfolding(crate::specs::Grammar::data_fields))]
 fn read_data(version: Version, words: &mut Words<'_>) -> Option<Request>
-    ensures { Reads ((data_fields version).read words.old) result words.new }
+    ensures { ReadsWords ((data_fields version).read words.old) result words.new }
 {
     let from = words.node()?;
     let to = words.node()?;
@@ -85,7 +85,7 @@ fn read_data(version: Version, words: &mut Words<'_>) -> Option<Request>
 
 #[tactic(auto, unfolding(crate::specs::Grammar::messages))]
 fn read_message(version: Version, name: &str, words: &mut Words<'_>) -> Option<Msg>
-    ensures { Reads (read_by (messages version) name.now words.old) result words.new }
+    ensures { ReadsWords (read_by (messages version) name.now words.old) result words.new }
 {
     match name {
         "abort" => Some(Msg::Abort(words.distance(version)?)),
@@ -97,7 +97,7 @@ fn read_message(version: Version, name: &str, words: &mut Words<'_>) -> Option<M
 
 #[tactic(auto, unfolding(crate::specs::Grammar::receipt_fields))]
 fn read_receipt(words: &mut Words<'_>) -> Option<Request>
-    ensures { Reads (receipt_fields.read words.old) result words.new }
+    ensures { ReadsWords (receipt_fields.read words.old) result words.new }
 {
     Some(Request::Receipt(ReceiptPacket {
         from: words.node()?,
@@ -109,7 +109,7 @@ fn read_receipt(words: &mut Words<'_>) -> Option<Request>
 
 #[tactic(auto, unfolding(crate::specs::Grammar::version_fields))]
 fn read_version(words: &mut Words<'_>) -> Option<Request>
-    ensures { Reads (version_fields.read words.old) result words.new }
+    ensures { ReadsWords (version_fields.read words.old) result words.new }
 {
     match words.next()? {
         "2" => Some(Request::Version2),
@@ -120,14 +120,14 @@ fn read_version(words: &mut Words<'_>) -> Option<Request>
 /// A command alone is an order of the operator.
 #[tactic(auto, using(crate::proofs::requests::Spelled::read_by_next))]
 fn read_next(verb: &str, words: &mut Words<'_>) -> Option<Request>
-    ensures { Reads (read_by (map next_row commands) verb.now words.old) result words.new }
+    ensures { ReadsWords (read_by (map next_row commands) verb.now words.old) result words.new }
 {
     Some(Request::Next(read_command(verb, words)?))
 }
 
 #[tactic(auto, unfolding(crate::specs::Grammar::commands))]
 fn read_command(verb: &str, words: &mut Words<'_>) -> Option<Command>
-    ensures { Reads (read_by commands verb.now words.old) result words.new }
+    ensures { ReadsWords (read_by commands verb.now words.old) result words.new }
 {
     match verb {
         "add" => Some(Command::Add(words.node()?, words.group()?)),

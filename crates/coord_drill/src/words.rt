@@ -1,7 +1,7 @@
 //! The words of a line, read one after the other.
 
 ghost use Rattle.std.specs.Prelude.{◌≡◌, MatchOption, ◌∷◌, [], Some, None, nat_lt, option_and_then, if◌then◌else◌};
-ghost use Rattle.coord_drill.specs.Format.{Reads};
+ghost use Rattle.coord_drill.specs.Format.{ReadsWords};
 ghost use Rattle.coord_drill.specs.Grammar.{words_of, number_of, number, node, group, client, distance};
 
 use coord_types::{Client, Group, NodeId, Version};
@@ -51,7 +51,7 @@ impl<'a> Words<'a> {
     /// The next word as a number: decimal digits alone, below 2^64.
     #[tactic(auto, unfolding(crate::specs::Grammar::number))]
     pub fn number(&mut self) -> Option<u64>
-        ensures { Reads (number.read self.old) result self.new }
+        ensures { ReadsWords (number.read self.old) result self.new }
     {
         number_in(self.next()?)
     }
@@ -59,7 +59,7 @@ impl<'a> Words<'a> {
     /// The next word as the number of a node, 1 to 64.
     #[tactic(auto, unfolding(crate::specs::Grammar::node))]
     pub fn node(&mut self) -> Option<NodeId>
-        ensures { Reads (node.read self.old) result self.new }
+        ensures { ReadsWords (node.read self.old) result self.new }
     {
         NodeId::new(small_number_in(self.next()?)?)
     }
@@ -67,7 +67,7 @@ impl<'a> Words<'a> {
     /// The next word as the number of a group, 1 to 16.
     #[tactic(auto, unfolding(crate::specs::Grammar::group))]
     pub fn group(&mut self) -> Option<Group>
-        ensures { Reads (group.read self.old) result self.new }
+        ensures { ReadsWords (group.read self.old) result self.new }
     {
         Group::new(small_number_in(self.next()?)?)
     }
@@ -75,7 +75,7 @@ impl<'a> Words<'a> {
     /// The next word as the number of a client, 1 to 16.
     #[tactic(auto, unfolding(crate::specs::Grammar::client))]
     pub fn client(&mut self) -> Option<Client>
-        ensures { Reads (client.read self.old) result self.new }
+        ensures { ReadsWords (client.read self.old) result self.new }
     {
         Client::new(small_number_in(self.next()?)?)
     }
@@ -83,7 +83,7 @@ impl<'a> Words<'a> {
     /// The distance behind an Abort: in version 2 the next word as a number, and in version 1 no word.
     #[tactic(auto, unfolding(crate::specs::Grammar::distance))]
     pub fn distance(&mut self, version: Version) -> Option<u64>
-        ensures { Reads ((distance version).read self.old) result self.new }
+        ensures { ReadsWords ((distance version).read self.old) result self.new }
     {
         if version.number() == 2 {
             self.number()

@@ -2,7 +2,7 @@
 use Rattle.std.proofs.Common.{◌≡◌, Bool, true, false, Option, Some, None, Result, Ok, Err, List, length, refl, sym, subst, IfOk, IsSomeAnd, arith}
 use Rattle.coord_ledger.specs.declared.mark.Mark.TheVariants.{New, Good}
 use Rattle.coord_ledger.specs.declared.release.Release.{Release}
-use Rattle.coord_ledger.specs.Facade.{FlightState, keeps_store, next_flight, releases_in, with_out}
+use Rattle.coord_ledger.specs.Facade.{FlightState, keeps_store, next_flight, releases_in, with_store_out}
 use Rattle.coord_engine.specs.Facade.{AnswersBegin, Basis, CanHold, Flushes, GuardedState, Leaves, with_ledger}
 
 module _ {D E : Type 0} (b : Basis D) (g later : GuardedState D) (is : CanHold b g) where
@@ -13,7 +13,7 @@ module _ {D E : Type 0} (b : Basis D) (g later : GuardedState D) (is : CanHold b
   abbrev Begun : Result (Option (FlightState D)) E → Type 0
   Begun r =
       keeps_store g.ledger ≡ false
-      → IfOk r (λ begun. IsSomeAnd begun (λ flight. (flight ≡ next_flight g.ledger.log flight.disk) × (g.ledger.disk ≡ Some flight.disk) × (later ≡ with_ledger g (with_out g.ledger (length flight.steps)))))
+      → IfOk r (λ begun. IsSomeAnd begun (λ flight. (flight ≡ next_flight g.ledger.log flight.disk) × (g.ledger.disk ≡ Some flight.disk) × (later ≡ with_ledger g (with_store_out g.ledger (length flight.steps)))))
 
   begun_by : (home : Bool) → keeps_store g.ledger ≡ home → (r : Result (Option (FlightState D)) E) → Nothing r → Begun r → AnswersBegin b r
   begun_by true at r nothing begun = subst (AnswersBegin b) (sym (nothing at).0) (record { state = g; held = is; so = at })

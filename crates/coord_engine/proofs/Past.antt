@@ -15,7 +15,7 @@ use Rattle.coord_store.specs.declared.faults.CommitFault.TheVariants.{Again, Dev
 use Rattle.coord_ledger.specs.declared.mark.Mark.{Mark}
 use Rattle.coord_ledger.specs.declared.mark.Mark.TheVariants.{New, Good, Torn}
 use Rattle.coord_ledger.specs.Facade.{FlightState, GivesSettled, IsConsistentLog, IsOut, LedgerGives, LedgerState, Log, log_back, pending, settled_world, taken_back, world_after}
-use Rattle.coord_engine.specs.Facade.{AtSomeMoment, Basis, Commits, FliesOnTheWay, HasLeft, IsOnTheWay, IsPastOf, Leaves, LeavesFlown, Past, StaysOnTheWay, flown_world, last_world, past_in}
+use Rattle.coord_engine.specs.Facade.{AtSomeMoment, Basis, CommitsFlight, FliesOnTheWay, HasLeft, IsOnTheWay, IsPastOf, Leaves, LeavesFlown, Past, StaysOnTheWay, flown_world, last_world, past_in}
 
 -- ---- moments
 
@@ -186,7 +186,7 @@ module _ {D : Type 0} (m : DiskModel D) where
     }
 
   flies_on : (first : Past) (base w : World) (path : List Step) (left now : FlightState D) → IsTrail base path → fold base path ≡ w → IsTrail w left.steps → left.world ≡ w → StaysOnTheWay m first base w left.disk
-      → (answer : Result (Unit {0}) CommitFault) → Commits m.failures left answer now → LeavesFlown m left now answer → FliesOnTheWay m first base now
+      → (answer : Result (Unit {0}) CommitFault) → CommitsFlight m.failures left answer now → LeavesFlown m left now answer → FliesOnTheWay m first base now
   flies_on first base w path left now to led more from stays (Ok done) tried run =
       rw tried.mark_is (rw (tried.same_world ∙ from) (rw tried.same_steps (flown first base w path left.steps to led more left.disk now.disk run.same_model (subst (λ v. m.keeps_model left.disk ≡ true → LeavesOnly m left.disk now.disk (GivesEither v (fold v left.steps))) from run.moments) stays)))
   flies_on first base w path left now to led more from stays (Err Device) tried run =
@@ -199,7 +199,7 @@ module _ {D : Type 0} (m : DiskModel D) where
 
   -- a flight that left, and was committed
   pub committed : (b : Basis D) (first : Past) (left now : FlightState D) → AtSomeMoment b (Leaves left) → FliesOnTheWay m first b.base left
-      → (answer : Result (Unit {0}) CommitFault) → (left.mark ≡ New → Commits m.failures left answer now) → (left.mark ≡ New → LeavesFlown m left now answer) → FliesOnTheWay m first b.base now
+      → (answer : Result (Unit {0}) CommitFault) → (left.mark ≡ New → CommitsFlight m.failures left answer now) → (left.mark ≡ New → LeavesFlown m left now answer) → FliesOnTheWay m first b.base now
   committed b first left now leaves stays answer tried run =
       let log = leaves.state.ledger.log in
       let is = leaves.held.log.trail in

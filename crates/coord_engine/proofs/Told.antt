@@ -5,7 +5,7 @@ use Rattle.coord_store.specs.declared.faults.CommitFault.TheVariants.{Again, Dev
 use Rattle.coord_ledger.specs.declared.mark.Mark.TheVariants.{New}
 use Rattle.coord_ledger.specs.declared.release.Release.{Release}
 use Rattle.coord_ledger.specs.Facade.{FlightState, releases_in}
-use Rattle.coord_engine.specs.Facade.{AnswersFlush, AtSomeMoment, Basis, ComesBack, Commits, Flushes, Leaves, RefusesFlush}
+use Rattle.coord_engine.specs.Facade.{AnswersFlush, AtSomeMoment, Basis, ComesBack, CommitsFlight, Flushes, Leaves, RefusesFlush}
 use Rattle.coord_engine.proofs.Flights.{flushed}
 
 module _ {D : Type 0} (b : Basis D) where
@@ -15,7 +15,7 @@ module _ {D : Type 0} (b : Basis D) where
   Flown (Err fault) released = RefusesFlush b fault
 
   flown : (left back : FlightState D) (released : List Release) → AtSomeMoment b (Leaves left) → released ≡ releases_in back back.mark → AtSomeMoment b (ComesBack back)
-      → (answer : Result (Unit {0}) CommitFault) → Commits b.failures left answer back → Flown answer released
+      → (answer : Result (Unit {0}) CommitFault) → CommitsFlight b.failures left answer back → Flown answer released
   flown left back released leaves is comes (Ok done) tried = record { state = leaves.state; held = leaves.held; so = flushed left back leaves.state released leaves.so (λ _. tried.mark_is) tried.same_steps tried.same_world is }
   flown left back released leaves is comes (Err Device) tried = record { left = left; back = back; leaves = leaves; tried = tried; comes = comes }
   flown left back released leaves is comes (Err OutOfMemory) tried = inr (record { left = left; back = back; leaves = leaves; tried = tried; comes = comes })
@@ -29,7 +29,7 @@ module _ {D : Type 0} (b : Basis D) where
   answered (Err fault) released told is so = subst (AnswersFlush b) (sym is) so
 
   -- what a flush answers, once its flight is back
-  pub told_back : (left back : FlightState D) (released : List Release) → AtSomeMoment b (Leaves left) → (committed : Result (Unit {0}) CommitFault) → (left.mark ≡ New → Commits b.failures left committed back)
+  pub told_back : (left back : FlightState D) (released : List Release) → AtSomeMoment b (Leaves left) → (committed : Result (Unit {0}) CommitFault) → (left.mark ≡ New → CommitsFlight b.failures left committed back)
       → released ≡ releases_in back back.mark → AtSomeMoment b (ComesBack back) → (told : Result (Option (List Release)) CommitFault)
       → MatchResult committed (λ _. told ≡ Ok (Some released)) (λ fault. told ≡ Err fault) → AnswersFlush b told
   told_back left back released leaves committed tried is comes told same =

@@ -4,20 +4,20 @@ use Rattle.std.specs.declared.alloc.Global.{Global}
 use Rattle.std.proofs.lemmas.List.{append-nil, append_assoc}
 use Rattle.coord_types.specs.declared.packets.Packet.{Packet}
 use Rattle.coord_ledger.specs.declared.ticket.Note.{Note}
-use Rattle.coord_engine.specs.Facade.{AddsPackets, Basis, Takes, Tries, TriesAll, Works, packets_of, step_of}
+use Rattle.coord_engine.specs.Facade.{AddsPackets, Basis, TakesPacket, Tries, TriesAll, Works, all_packets, step_of}
 use Rattle.coord_engine.specs.declared.hand.Hand.{Hand}
 use Rattle.coord_engine.proofs.PacketNotes.{adds_more, adds_none, adds_packet}
 
-one_parcel_more : (came : List (Vec Packet Global)) (parcel : Vec Packet Global) → packets_of (came ++ parcel ∷ []) ≡ packets_of came ++ parcel.items
+one_parcel_more : (came : List (Vec Packet Global)) (parcel : Vec Packet Global) → all_packets (came ++ parcel ∷ []) ≡ all_packets came ++ parcel.items
 one_parcel_more [] parcel = append-nil parcel.items
-one_parcel_more (p ∷ came) parcel = ap (λ l. p.items ++ l) (one_parcel_more came parcel) ∙ sym (append_assoc p.items (packets_of came) parcel.items)
+one_parcel_more (p ∷ came) parcel = ap (λ l. p.items ++ l) (one_parcel_more came parcel) ∙ sym (append_assoc p.items (all_packets came) parcel.items)
 
 module _ {D : Type 0} (b : Basis D) where
   -- one more was taken, and then those that wait were tried
-  pub works_last : (notes next taken later : List Note) (hand rest kept : Hand) (came left : List Packet) (p : Packet) → Works b notes hand came next rest → Takes b next rest p taken kept → TriesAll b taken kept.waiting later left
+  pub works_last : (notes next taken later : List Note) (hand rest kept : Hand) (came left : List Packet) (p : Packet) → Works b notes hand came next rest → TakesPacket b next rest p taken kept → TriesAll b taken kept.waiting later left
       → Works b notes hand (came ++ p ∷ []) later (record kept { waiting = left })
   works_last notes next taken later hand rest kept [] left p so takes tries =
-      (taken, kept, later, left, subst (λ h. Takes b notes h p taken kept) so.1 (subst (λ n. Takes b n rest p taken kept) so.0 takes), tries, (refl, refl))
+      (taken, kept, later, left, subst (λ h. TakesPacket b notes h p taken kept) so.1 (subst (λ n. TakesPacket b n rest p taken kept) so.0 takes), tries, (refl, refl))
   works_last notes next taken later hand rest kept (q ∷ came) left p so takes tries =
       (so.0, so.1, so.2, so.3, so.4, so.5, works_last so.2 next taken later (record so.1 { waiting = so.3 }) rest kept came left p so.6 takes tries)
 
@@ -28,10 +28,10 @@ module _ {D : Type 0} (b : Basis D) where
       (so.0, so.1, so.2, so.3, so.4, so.5, works_on so.2 next later (record so.1 { waiting = so.3 }) rest left came more so.6 then)
 
   -- those of one parcel more
-  pub works_parcel : (notes next later : List Note) (hand rest left : Hand) (came : List (Vec Packet Global)) (parcel : Vec Packet Global) → Works b notes hand (packets_of came) next rest → Works b next rest parcel.items later left
-      → Works b notes hand (packets_of (came ++ parcel ∷ [])) later left
+  pub works_parcel : (notes next later : List Note) (hand rest left : Hand) (came : List (Vec Packet Global)) (parcel : Vec Packet Global) → Works b notes hand (all_packets came) next rest → Works b next rest parcel.items later left
+      → Works b notes hand (all_packets (came ++ parcel ∷ [])) later left
   works_parcel notes next later hand rest left came parcel so then =
-      subst (λ l. Works b notes hand l later left) (sym (one_parcel_more came parcel)) (works_on notes next later hand rest left (packets_of came) parcel.items so then)
+      subst (λ l. Works b notes hand l later left) (sym (one_parcel_more came parcel)) (works_on notes next later hand rest left (all_packets came) parcel.items so then)
 
   tried_one : (notes later : List Note) (p : Packet) (waits : Bool) → Tries b notes p waits later → AddsPackets notes later
   tried_one notes later p waits is = adds_packet b p (step_of p) refl is.answer notes later is.submits

@@ -1,10 +1,10 @@
 -- The definitions in which the proofs and the crates above speak of this crate.
-pub use Rattle.coord_engine.specs.Calls.{AnswersStep, CollectsAs, IsTold, LedgerAndNotes, RefusesTicket, engine_verdict, note_of}
+pub use Rattle.coord_engine.specs.Calls.{AnswersStep, CollectsAs, IsToldTicket, LedgerAndNotes, RefusesTicket, engine_verdict, note_of}
 pub use Rattle.coord_engine.specs.Closing.{IsSince, RefusesClosing}
-pub use Rattle.coord_engine.specs.Flights.{AnswersBegin, AnswersFlush, Begins, ComesBack, Commits, RefusesFlush}
+pub use Rattle.coord_engine.specs.Flights.{AnswersBegin, AnswersFlush, Begins, ComesBack, CommitsFlight, RefusesFlush}
 pub use Rattle.coord_engine.specs.Named.{AreNoted, IsNamed, all_notes, notes_of}
 pub use Rattle.coord_engine.specs.Past.{FliesOnTheWay, HasLeft, IsOnTheWay, IsPastOf, LeavesFlown, Past, StaysOnTheWay, flown_world, last_world, no_past, past_in, past_of}
 pub use Rattle.coord_engine.specs.Port.{AreAsked, AreHanded, IsAsked, deliveries_of, delivery_of, step_of}
 pub use Rattle.coord_engine.specs.State.{Basis, CanHold, GuardedState, based_on, with_ledger}
 pub use Rattle.coord_engine.specs.Threads.{AnswersShow, AnswersTicket, AtSomeMoment, Closes, Flushes, Leaves, RefusesShow, SendsAgain, Shows}
-pub use Rattle.coord_engine.specs.Working.{AddsPackets, IsOfPacket, Keeps, Takes, Tries, TriesAll, Works, packets_of, waits_after}
+pub use Rattle.coord_engine.specs.Working.{AddsPackets, IsOfPacket, Keeps, TakesPacket, Tries, TriesAll, Works, all_packets, waits_after}

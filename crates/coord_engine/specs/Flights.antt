@@ -31,11 +31,11 @@ pub record IsTried {D : Type 0} (failures : D → ℕ) (left now : FlightState D
   pub failures_are : failures now.disk ≡ failures left.disk + failed
 
 -- a new flight was committed with this answer: it is good; or torn, by a call that its device failed; or still new, for want of memory
-abbrev pub Commits : {D : Type 0} → (D → ℕ) → FlightState D → Result (Unit {0}) CommitFault → FlightState D → Type 0
-Commits failures left (Ok done) now = IsTried failures left now Good 0
-Commits failures left (Err Device) now = IsTried failures left now Torn 1
-Commits failures left (Err OutOfMemory) now = IsTried failures left now New 0
-Commits failures left (Err fault) now = ⊥
+abbrev pub CommitsFlight : {D : Type 0} → (D → ℕ) → FlightState D → Result (Unit {0}) CommitFault → FlightState D → Type 0
+CommitsFlight failures left (Ok done) now = IsTried failures left now Good 0
+CommitsFlight failures left (Err Device) now = IsTried failures left now Torn 1
+CommitsFlight failures left (Err OutOfMemory) now = IsTried failures left now New 0
+CommitsFlight failures left (Err fault) now = ⊥
 
 -- a flight left, and came back with this mark; its disk failed so often meanwhile
 pub record FlewBack {D : Type 0} (b : Basis D) (mark : Mark) (failed : ℕ) : Type 0 where

@@ -27,18 +27,18 @@ finds_no_memory answer = false
 -- the meaning of an engine, and of the port that it hands to
 module _ {D P : Type 0} (b : Basis D) (carried : P → ℕ → Packet → Bool → P → Type 0) (signalled : P → ℕ → ℕ → Bool → P → Type 0) (handed_on : P → ℕ → P → Type 0) where
   -- what follows a flush before the next one: all that was released is asked of the port, each delivery once and in order, and then it is to hand on what it has gathered; where none left or there was no memory, nothing is; behind any other fault no flush follows
-  abbrev pub Follows : P → Result (Option (List Release)) CommitFault → P → Type 0
-  Follows port (Ok None) later = later ≡ port
-  Follows port (Ok (Some released)) later = AreHanded carried signalled handed_on port (deliveries_of released) later
-  Follows port (Err OutOfMemory) later = later ≡ port
-  Follows port (Err fault) later = ⊥
+  abbrev pub FollowsFlush : P → Result (Option (List Release)) CommitFault → P → Type 0
+  FollowsFlush port (Ok None) later = later ≡ port
+  FollowsFlush port (Ok (Some released)) later = AreHanded carried signalled handed_on port (deliveries_of released) later
+  FollowsFlush port (Err OutOfMemory) later = later ≡ port
+  FollowsFlush port (Err fault) later = ⊥
 
   -- flushes, this many: each behind a moment at which something could be flushed, and each followed as above
   abbrev pub Flushed : ℕ → P → P → Type 0
   Flushed zero port later = later ≡ port
   Flushed (suc n) port later =
       (next : P) × Flushed n port next
-      × (AtSomeMoment b (λ g. is_idle g ≡ false) × ((answer : Result (Option (List Release)) CommitFault) × AnswersFlush b answer × Follows next answer later))
+      × (AtSomeMoment b (λ g. is_idle g ≡ false) × ((answer : Result (Option (List Release)) CommitFault) × AnswersFlush b answer × FollowsFlush next answer later))
 
   -- some flushes, and then nothing will be flushed any more, or one more has failed for good
   abbrev pub HasFlushed : P → P → Type 0

@@ -11,7 +11,7 @@ use Rattle.coord_ledger.specs.declared.release.Release.{Release}
 use Rattle.coord_ledger.specs.declared.ticket.Note.{Note}
 use Rattle.coord_ledger.specs.Facade.{Claim, FlightState, LedgerState, accepted_count, keeps_store, next_flight, pending, releases_of, resent, settled_count, settled_world}
 use Rattle.coord_view.specs.Shown.{Shown, shown}
-use Rattle.coord_engine.specs.Calls.{AnswersStep, IsTold, engine_verdict}
+use Rattle.coord_engine.specs.Calls.{AnswersStep, IsToldTicket, engine_verdict}
 use Rattle.coord_engine.specs.Closing.{MayClose}
 use Rattle.coord_engine.specs.State.{Basis, CanHold, GuardedState}
 
@@ -43,7 +43,7 @@ AnswersShow {D} b (Err refusal) seen later = AtSomeMoment b (RefusesShow {D = D}
 
 -- what is answered to a ticket that was waited for
 abbrev pub AnswersTicket : {D : Type 0} → Basis D → Claim → Result Reply (Refusal × Claim) → Type 0
-AnswersTicket {D} b claim answer = AtSomeMoment {D = D} b (λ g. IsTold g.ledger claim answer)
+AnswersTicket {D} b claim answer = AtSomeMoment {D = D} b (λ g. IsToldTicket g.ledger claim answer)
 
 -- this flight went out
 abbrev pub Leaves : {D : Type 0} → FlightState D → GuardedState D → Type 0

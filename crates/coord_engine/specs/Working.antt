@@ -47,8 +47,8 @@ Keeps true hand p kept = (kept ≡ record hand { waiting = with_packet hand.wait
 Keeps false hand p kept = kept ≡ hand
 
 -- the packets of what came together, in order
-abbrev pub packets_of : List (Vec Packet Global) → List Packet
-packets_of parcels = flat_map (λ parcel. parcel.items) parcels
+abbrev pub all_packets : List (Vec Packet Global) → List Packet
+all_packets parcels = flat_map (λ parcel. parcel.items) parcels
 
 module _ {D : Type 0} (b : Basis D) where
   -- a packet's step was submitted, and whether the packet has to wait
@@ -65,7 +65,7 @@ module _ {D : Type 0} (b : Basis D) where
       × (((waits ≡ true) × (later ≡ next) × (left ≡ p ∷ ps)) ⊎ ((waits ≡ false) × TriesAll next ps later left))
 
   -- a packet that came was submitted, kept where it has to wait, and put down
-  pub record Takes (notes : List Note) (hand : Hand) (p : Packet) (later : List Note) (left : Hand) : Type 0 where
+  pub record TakesPacket (notes : List Note) (hand : Hand) (p : Packet) (later : List Note) (left : Hand) : Type 0 where
     pub waits : Bool
     pub tries : Tries notes p waits later
     pub kept : Hand
@@ -77,4 +77,4 @@ module _ {D : Type 0} (b : Basis D) where
   Works notes hand [] later left = (later ≡ notes) × (left ≡ hand)
   Works notes hand (p ∷ came) later left =
       (taken : List Note) × (kept : Hand) × (next : List Note) × (rest : List Packet)
-      × Takes notes hand p taken kept × TriesAll taken kept.waiting next rest × Works next (record kept { waiting = rest }) came later left
+      × TakesPacket notes hand p taken kept × TriesAll taken kept.waiting next rest × Works next (record kept { waiting = rest }) came later left

@@ -5,9 +5,9 @@ ghost use Rattle.std.specs.Sync.Mutex.{mutex_guard_value};
 ghost use Rattle.coord_ledger.specs.declared.mark.Mark.TheVariants.{New};
 ghost use Rattle.coord_ledger.specs.ledger.Calls.{releases_in};
 ghost use Rattle.coord_world.specs.protocol.Next.{fold};
-ghost use Rattle.coord_engine.specs.Calls.{IsTold};
+ghost use Rattle.coord_engine.specs.Calls.{IsToldTicket};
 ghost use Rattle.coord_engine.specs.Closing.{IsSince, RefusesClosing};
-ghost use Rattle.coord_engine.specs.Flights.{AnswersBegin, AnswersFlush, ComesBack, Commits};
+ghost use Rattle.coord_engine.specs.Flights.{AnswersBegin, AnswersFlush, ComesBack, CommitsFlight};
 ghost use Rattle.coord_engine.specs.Past.{FliesOnTheWay, IsPastOf, LeavesFlown, StaysOnTheWay};
 ghost use Rattle.coord_engine.specs.State.{based_on, most_shares};
 ghost use Rattle.coord_engine.specs.Threads.{AnswersShow, AnswersTicket, AtSomeMoment, Closes, SendsAgain, Submits};
@@ -27,7 +27,7 @@ use std::time::Clock;
 /// Commits a flight. A crash at any moment of the call leaves the world from before its steps, or the
 /// one after them.
 fn commit<D: Disk>(flight: &mut Flight<D>) -> Result<(), CommitFault>
-    ensures commits { flight.old.mark ≡ New → Commits D.model.failures flight.old result flight.new }
+    ensures commits { flight.old.mark ≡ New → CommitsFlight D.model.failures flight.old result flight.new }
     ensures moments { flight.old.mark ≡ New → LeavesFlown D.model flight.old flight.new result }
 {
     flight.commit()
@@ -155,7 +155,7 @@ impl<D: Disk, L: Origin> Engine<D, L> {
         MutexGuard<'g, Guarded<D, L>>,
         Result<Reply, (Refusal, Ticket)>,
     )
-        ensures { IsTold (mutex_guard_value result.0).ledger ticket result.1 }
+        ensures { IsToldTicket (mutex_guard_value result.0).ledger ticket result.1 }
     {
         let mut waiting = ticket;
         let mut guarded = self.guarded.lock(rt);

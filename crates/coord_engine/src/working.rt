@@ -4,7 +4,7 @@ ghost use Rattle.std.specs.Prelude.{◌≡◌, List, Vec};
 ghost use Rattle.std.specs.Iterator.{Drains, IsFinite};
 ghost use Rattle.coord_types.specs.declared.packets.Packet.{Packet as Asked};
 ghost use Rattle.coord_engine.specs.State.{based_on};
-ghost use Rattle.coord_engine.specs.Working.{AddsPackets, Takes, Tries, TriesAll, Works, has_to_wait, packets_of};
+ghost use Rattle.coord_engine.specs.Working.{AddsPackets, TakesPacket, Tries, TriesAll, Works, all_packets, has_to_wait};
 
 use crate::port::step_of;
 use crate::{Engine, Guarded, Hand, Origin, PacketShare, Share, Waiting};
@@ -66,7 +66,7 @@ fn take<D: Disk, L: Origin>(
     share: &mut Share<L>,
     hand: &mut Hand,
 )
-    ensures { Takes (based_on D.model L.base L.before) share.old hand.old
+    ensures { TakesPacket (based_on D.model L.base L.before) share.old hand.old
         packet.now share.new hand.new }
 {
     let has_to_wait = submit(guarded, *packet, share);
@@ -127,7 +127,7 @@ pub fn worker<D: Disk, L: Origin, I: Iterator<Item = Vec<Packet>>, R: Wait>(
 ) -> Share<L>
     requires { I.can_next parcels × IsFinite (I.remaining parcels) }
     ensures worked { (came : List (Vec Asked Global)) × Drains I.next_gives parcels came ×
-        Works (based_on D.model L.base L.before) share hand.old (packets_of came) result hand.new }
+        Works (based_on D.model L.base L.before) share hand.old (all_packets came) result hand.new }
     ensures packets { AddsPackets share result }
 {
     let mut share = share;

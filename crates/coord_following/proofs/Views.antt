@@ -13,7 +13,7 @@ use Rattle.coord_member.specs.declared.view.Row.{Row}
 use Rattle.coord_member.specs.Honest as honest
 use Rattle.coord_member.specs.Honest.{IsView}
 use Rattle.coord_member.specs.NoMix.{IsOneOf}
-use Rattle.coord_look.specs.Shown.{IsLinkOf, IsOnce, IsPartyOf, IsShownTo}
+use Rattle.coord_look.specs.Shown.{AllDistinct, IsPartyOf, IsShownTo, IsWorldLink}
 use Rattle.coord_following.specs.Histories.{Turn, IsHistory, world_at}
 use Rattle.coord_following.proofs.Lives.{life_at, made_by, made_in_life, sound_at}
 
@@ -87,7 +87,7 @@ itself_alone w i n now sound party none [] same = same
 itself_alone w i n now sound party none (x ∷ path) links = absurd (let link = linked_shown w i x now sound party links.0 in none link.0 link.1 link.2)
 
 -- all that stand in a list are this one, and it stands there once
-only : {A : Type 0} (x : A) (xs : List A) → IsOneOf x xs → IsOnce xs → ((y : A) → IsOneOf y xs → y ≡ x) → xs ≡ x ∷ []
+only : {A : Type 0} (x : A) (xs : List A) → IsOneOf x xs → AllDistinct xs → ((y : A) → IsOneOf y xs → y ≡ x) → xs ≡ x ∷ []
 only x [] in_xs once all = absurd in_xs
 only x (y ∷ []) in_xs once all = ap (λ z. z ∷ []) (all y (inl refl))
 only x (y ∷ z ∷ xs) in_xs once all = absurd (once.0 (inl (all y (inl refl) ∙ sym (all z (inr (inl refl))))))
@@ -112,7 +112,7 @@ link_made : (w : World) (k : ℕ) (turns : List Turn) (i : ℕ) (now : List Entr
 link_made w k turns i now sound history party (Node n e) in_now none = absurd none
 link_made w k turns i now sound history party (Link a b incarnation) in_now ends = of ends (party.links a b incarnation in_now).1
   where
-    of : (a ≡ i) ⊎ (b ≡ i) → IsLinkOf (world_at w k turns) a b incarnation → made_by w turns i incarnation ≡ life_at k turns i
+    of : (a ≡ i) ⊎ (b ≡ i) → IsWorldLink (world_at w k turns) a b incarnation → made_by w turns i incarnation ≡ life_at k turns i
     of (inl first) is = subst (λ n. made_by w turns n incarnation ≡ life_at k turns n) first (subst (λ n. made_by w turns a n ≡ life_at k turns a) is.made (made_in_life w k turns a b is.lane sound history is.there))
     of (inr second) is =
         let links = (world_at w k turns).links in

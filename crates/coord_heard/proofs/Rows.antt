@@ -13,7 +13,7 @@ use Rattle.coord_view.specs.declared.view.LinkView.{LinkView}
 use Rattle.coord_view.specs.declared.view.NodeView.{NodeView}
 use Rattle.coord_admin.specs.Replies.{link_row, node_row, parent_number}
 use Rattle.coord_wire.specs.ShowLine.{each, from_1_to, from_each, in_front, link_in, mode_named, node_in}
-use Rattle.coord_heard.specs.Heard.{IsIn, IsLink, IsNode, IsParent, IsWord}
+use Rattle.coord_heard.specs.Heard.{IsIn, IsLink, IsNodeRow, IsParent, IsWord}
 use Rattle.coord_heard.proofs.Lines.{ArePlain, AreSame, IsPlain, IsSame, array_same, number_same}
 
 -- ---- as values
@@ -26,13 +26,13 @@ mode_read Ready = refl
 mode_read Abort = refl
 mode_read Converge = refl
 
-node_read : (v : NodeView) → IsNode v → node_in (node_row v) ≡ Some v
+node_read : (v : NodeView) → IsNodeRow v → node_in (node_row v) ≡ Some v
 node_read v is = grind (arith, within, mode_read)
 
 link_read : (l : LinkView) → IsLink l → link_in (link_row l) ≡ Some l
 link_read l is = grind (arith, within)
 
-pub nodes_read : (vs : List NodeView) → AllByRecursion IsNode vs → each node_in (items_of (map node_row vs)) ≡ Some vs
+pub nodes_read : (vs : List NodeView) → AllByRecursion IsNodeRow vs → each node_in (items_of (map node_row vs)) ≡ Some vs
 nodes_read [] is = refl
 nodes_read (v ∷ vs) is = ap (λ o. from_each o (each node_in (items_of (map node_row vs)))) (node_read v is.0) ∙ ap (in_front v) (nodes_read vs is.1)
 
@@ -52,13 +52,13 @@ of_parent : (o : Option ℕ) → IsParent o → parent_number o < 2 ^ 64
 of_parent None is = grind arith
 of_parent (Some u) is = of_node u is
 
-node_plain : (v : NodeView) → IsNode v → IsPlain (node_row v)
+node_plain : (v : NodeView) → IsNodeRow v → IsPlain (node_row v)
 node_plain v is = (of_node v.node is.node, (of_group v.group is.group, (tt, (of_parent v.parent is.parent, (is.epoch, (is.confirmed, tt))))))
 
 link_plain : (l : LinkView) → IsLink l → IsPlain (link_row l)
 link_plain l is = (of_node l.a is.a, (of_node l.b is.b, (is.inc, tt)))
 
-node_same : (v : NodeView) → IsNode v → IsSame (node_row v)
+node_same : (v : NodeView) → IsNodeRow v → IsSame (node_row v)
 node_same v is =
     array_same _ (
       number_same v.node (of_node v.node is.node),
@@ -85,14 +85,14 @@ pub rows_flat : {X : Type 0} (row : X → Data) → ((x : X) → depth (outline 
 rows_flat row flat [] = grind arith
 rows_flat row flat (x ∷ xs) = omega (arith, flat x, rows_flat row flat xs)
 
-pub nodes_plain : (vs : List NodeView) → AllByRecursion IsNode vs → ArePlain (items_of (map node_row vs))
-nodes_plain vs is = rows_plain node_row IsNode node_plain vs is
+pub nodes_plain : (vs : List NodeView) → AllByRecursion IsNodeRow vs → ArePlain (items_of (map node_row vs))
+nodes_plain vs is = rows_plain node_row IsNodeRow node_plain vs is
 
 pub links_plain : (ls : List LinkView) → AllByRecursion IsLink ls → ArePlain (items_of (map link_row ls))
 links_plain ls is = rows_plain link_row IsLink link_plain ls is
 
-pub nodes_same : (vs : List NodeView) → AllByRecursion IsNode vs → AreSame (items_of (map node_row vs))
-nodes_same vs is = rows_same node_row IsNode node_same vs is
+pub nodes_same : (vs : List NodeView) → AllByRecursion IsNodeRow vs → AreSame (items_of (map node_row vs))
+nodes_same vs is = rows_same node_row IsNodeRow node_same vs is
 
 pub links_same : (ls : List LinkView) → AllByRecursion IsLink ls → AreSame (items_of (map link_row ls))
 links_same ls is = rows_same link_row IsLink link_same ls is

@@ -24,7 +24,7 @@ abbrev pub IsParent : Option ℕ → Type 0
 IsParent None = Unit {0}
 IsParent (Some u) = IsIn MAX_NODES u
 
-pub record IsNode (v : NodeView) : Type 0 where
+pub record IsNodeRow (v : NodeView) : Type 0 where
   pub node : IsIn MAX_NODES v.node
   pub group : IsIn MAX_GROUPS v.group
   pub parent : IsParent v.parent
@@ -39,7 +39,7 @@ pub record IsLink (l : LinkView) : Type 0 where
 pub record IsView (v : Shown) : Type 0 where
   pub accepted : IsWord v.accepted
   pub settled : IsWord v.settled
-  pub nodes : AllByRecursion IsNode v.nodes
+  pub nodes : AllByRecursion IsNodeRow v.nodes
   pub links : AllByRecursion IsLink v.links
 
 -- ---- what is read

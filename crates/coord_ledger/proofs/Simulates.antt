@@ -3,7 +3,7 @@ use Rattle.std.proofs.Common.{◌≡◌, ℕ, ◌+◌, ◌≤◌, length, Option
 use Rattle.std.proofs.lemmas.Bool.Decides.{nat_tests}
 use Rattle.std.specs.Option.{option_map}
 use Rattle.std.proofs.lemmas.List.{length-take}
-use Rattle.coord_ledger.specs.Facade.{DoubtFits, DriverState, FitsOut, FlightFits, FlightState, HoldsFlight, IsConsistent, IsConsistentLog, LedgerState, flight_out, machine_of, started, Answer, Claim, Fresh, Handed, HandedTo, IsOneOf, Machine, Refusal, RefusesStep, Repeat, Simulates, Step, Submit, accepted_count, after_submit, answer_to, claimed, to_submit, verdict, Begin, Begun, Nothing, Refused, answers, keeps_store, next_size, pending, cannot_flush, Finish, Finished, Log, Mark, at_home, log_back, settled_count, taken_back, to_finish, Crash, ImagesGive, IsReopened, Opened, adopted, kept, kept_by, settled_world, world_after, Event, Represents, after, crashed, goes_to, is_crash, rebased}
+use Rattle.coord_ledger.specs.Facade.{DoubtFits, DriverState, FitsOut, FlightFits, FlightState, HoldsFlight, IsConsistent, IsConsistentLog, LedgerState, flight_out, machine_of, started, Answer, Claim, Fresh, Handed, HandedTo, IsOneOf, Machine, Refusal, RefusesStep, Repeat, Simulates, Step, Submit, accepted_count, after_submit, answer_to, claimed, to_submit, verdict, Begin, Begun, Nothing, Refused, answers, keeps_store, next_size, pending, cannot_flush, Finish, Finished, Log, Mark, at_home, log_back, settled_count, taken_back, to_finish, Crash, ImagesGiveOneOf, IsReopened, Opened, adopted, kept, kept_by, settled_world, world_after, Event, Represents, after, crashed, goes_to, is_crash, rebased}
 use Rattle.coord_world.specs.declared.verdicts.Verdict.{Verdict}
 use Rattle.coord_ledger.specs.declared.handed.Handed.TheVariants.{Accepted, Repeated}
 use Rattle.coord_ledger.proofs.machine.ConsistentSteps.{reply_is}
@@ -105,7 +105,7 @@ module _ {D : Type 0} (d : DriverState D) (f : FlightState D) (holds : d.flight 
 -- ---- the disk crashes, and a ledger is made anew: an event of the driver's machine
 
 pub simulates_opened : {D : Type 0} (d : DriverState D) (l : LedgerState D) (model : DiskModel D) (crashes : D → D → Type 0) (before : D) → IsConsistent (machine_of d (started d.ledger)) →
-    ImagesGive (model.keeps_model before) (model.present before) d.ledger.log (kept_by d.ledger.log.settled (option_map flight_out d.flight) d.ledger.log.doubt) → model.keeps_model before ≡ true → IsReopened model crashes before l → Simulates d Crash (Opened (settled_world l.log).count) (at_home l)
+    ImagesGiveOneOf (model.keeps_model before) (model.present before) d.ledger.log (kept_by d.ledger.log.settled (option_map flight_out d.flight) d.ledger.log.doubt) → model.keeps_model before ≡ true → IsReopened model crashes before l → Simulates d Crash (Opened (settled_world l.log).count) (at_home l)
 simulates_opened {D} d l model crashes before is images keeps opened =
     let log = d.ledger.log in
     let from = opened.from keeps in

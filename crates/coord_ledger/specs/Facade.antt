@@ -25,8 +25,8 @@ pub use Rattle.coord_ledger.specs.machine.After.{after, after_finish, after_subm
 pub use Rattle.coord_ledger.specs.machine.Runs.{Answered, run}
 pub use Rattle.coord_ledger.specs.machine.Consistent.{DoubtFits, EventInRange, FitsOut, FlightFits, IsConsistent, IsConsistentLog, IsTold, TicketFits}
 pub use Rattle.coord_ledger.specs.ledger.State.{Claim, FlightState, IsCollectable, IsGranted, IsInTrail, IsKeptBy, LedgerState, ledger_over, reply_of, started}
-pub use Rattle.coord_ledger.specs.ledger.Flights.{GivesOneOf, HoldsFlight, ImagesGive, IsOut, flight_out}
-pub use Rattle.coord_ledger.specs.ledger.Calls.{FlightGives, GivesFlown, GivesSettled, HandedTo, LedgerGives, RefusesFlight, RefusesStep, claimed, keeps_store, next_flight, releases_in, taken_back, with_accepted, with_out}
+pub use Rattle.coord_ledger.specs.ledger.Flights.{GivesOneOf, HoldsFlight, ImagesGiveOneOf, IsOut, flight_out}
+pub use Rattle.coord_ledger.specs.ledger.Calls.{FlightGives, GivesFlown, GivesSettled, HandedTo, LedgerGives, RefusesFlight, RefusesStep, claimed, keeps_store, next_flight, releases_in, taken_back, with_accepted, with_store_out}
 pub use Rattle.coord_ledger.specs.ledger.Driver.{RunSoFar, HasFailed, DiskSurvives, DiskEffect, IsEventFault, IsLost, IsPromised, IsReopenFault, IsReopened, MayBegin, brought_home}
 pub use Rattle.coord_ledger.specs.ledger.DriverState.{DriverState, IsAnew, answer_to, at_home, disk_held, disk_with, finish_answer, model_held}
 pub use Rattle.coord_ledger.specs.ledger.Simulates.{Simulates, Represents, goes_to, machine_of}
@@ -35,5 +35,5 @@ pub use Rattle.coord_ledger.specs.declared.event_driver.run.Run.{Run}
 pub use Rattle.coord_ledger.specs.promises.Parts.{IsPartOf, released_first}
 pub use Rattle.coord_ledger.specs.promises.Moments.{LeavesWithin, Reopens, touches_disk}
 pub use Rattle.coord_ledger.specs.promises.Headline.{CrashPrefix, EachMoment, IsAgainOf, IsLeft, IsReplyOf, IsSafe, IsTrulyAgain, Promised, Completed, Survives, Touches, ended, found_by_crash, is_crash, is_signal}
-pub use Rattle.coord_ledger.specs.promises.Faults.{failed_at, failed_in, failed_until, run_fault_number}
-pub use Rattle.coord_ledger.specs.promises.Broken.{EndedEarly, EndsAt, HasCause, IsCommitted, IsCutShort, IsGivenBack, IsGivenUp, IsLeftOut, IsLostInCrash, wants_memory}
+pub use Rattle.coord_ledger.specs.promises.Faults.{failed_at, failed_in_run, failed_until, run_fault_number}
+pub use Rattle.coord_ledger.specs.promises.Broken.{EndedEarly, EndsAt, HasCauseToEnd, IsCommitted, IsCutShort, IsGivenBack, IsGivenUp, IsLeftOut, IsLostInCrash, wants_memory}

@@ -2,7 +2,7 @@
 
 ghost use Rattle.std.specs.Prelude.{◌≡◌, IfErr, IfOk, IsSomeAnd, None, Some};
 ghost use Rattle.std.specs.Option.{option_map};
-ghost use Rattle.coord_ledger.specs.Facade.{DiskSurvives, Good, ImagesGive, IsConsistent, Machine, MayBegin, Represents, at_home, brought_home, disk_held, flight_out, kept_by};
+ghost use Rattle.coord_ledger.specs.Facade.{DiskSurvives, Good, ImagesGiveOneOf, IsConsistent, Machine, MayBegin, Represents, at_home, brought_home, disk_held, flight_out, kept_by};
 
 mod crashing;
 mod flying;
@@ -96,7 +96,7 @@ impl<D: CrashDisk> Driver<D> {
     /// Gives the disk up, the ledger's or that of the flight that is out.
     pub fn into_disk(self) -> D
         ensures disk { disk_held self ≡ Some result }
-        ensures images { ImagesGive (D.model.keeps_model result) (D.model.present result) self.ledger.log
+        ensures images { ImagesGiveOneOf (D.model.keeps_model result) (D.model.present result) self.ledger.log
             (kept_by self.ledger.log.settled
             (option_map flight_out self.flight) self.ledger.log.doubt) }
     {

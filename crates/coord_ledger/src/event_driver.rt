@@ -2,7 +2,7 @@
 
 ghost use Rattle.std.specs.Prelude.{◌≡◌, ◌+◌, ℕ, IfErr, IfOk, MatchResult, None, Some, length, take};
 ghost use Rattle.std.specs.Option.{option_map};
-ghost use Rattle.coord_ledger.specs.Facade.{Completed, EndedEarly, HasCause, HasFailed, Promised, failed_in, failed_until, started};
+ghost use Rattle.coord_ledger.specs.Facade.{Completed, EndedEarly, HasCauseToEnd, HasFailed, Promised, failed_in_run, failed_until, started};
 
 mod crashes;
 mod ending;
@@ -57,7 +57,7 @@ pub fn run_events_keeping_disk<D: CrashDisk>(
         (started ledger) events.now r.0.at r.0.trace.answers.items r.0.trace.released.items r.0.kind
         (D.model.keeps_model before) before r.1)) }
     ensures cause { IfErr result (λ r. (before : D) → ledger.disk ≡ Some before →
-        HasCause (D.model.keeps_model before) events.now r.0.at r.0.trace.released.items r.0.kind) }
+        HasCauseToEnd (D.model.keeps_model before) events.now r.0.at r.0.trace.released.items r.0.kind) }
 
     // On any disk: an answer to each event, and how often the device has failed.
     ensures answers { MatchResult result (λ r. length r.0.answers.items ≡ length events.now) (λ r.
@@ -66,7 +66,7 @@ pub fn run_events_keeping_disk<D: CrashDisk>(
         → MatchResult result (λ r.
         HasFailed D.model.failures r.1.disk (n + failed_until events.now r.0.answers.items)) (λ r.
         D.model.failures r.1 ≡ (n + failed_until (take r.0.at events.now) r.0.trace.answers.items) +
-        failed_in r.0.kind) }
+        failed_in_run r.0.kind) }
 {
     let driver = Driver::over(ledger);
     driver.lemma_begins();
@@ -119,12 +119,12 @@ pub fn run_events<D: CrashDisk>(
     ensures broke { IfErr result (λ fault. (before : D) → ledger.disk ≡ Some before
         → (lost : D) × ((D.model.failures lost ≡
         (D.model.failures before + failed_until (take fault.at events.now) fault.trace.answers.items) +
-        failed_in fault.kind)
+        failed_in_run fault.kind)
         × Promised (D.model.keeps_model before) events.now (EndedEarly D.model D.crashes
         (started ledger) events.now fault.at fault.trace.answers.items fault.trace.released.items
         fault.kind (D.model.keeps_model before) before lost))) }
     ensures cause { IfErr result (λ fault. (before : D) → ledger.disk ≡ Some before →
-        HasCause (D.model.keeps_model before) events.now fault.at fault.trace.released.items fault.kind) }
+        HasCauseToEnd (D.model.keeps_model before) events.now fault.at fault.trace.released.items fault.kind) }
 
     // On any disk: an answer to each event, and how often the device has failed.
     ensures answers { MatchResult result (λ r. length r.0.answers.items ≡ length events.now)

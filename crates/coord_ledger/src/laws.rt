@@ -2,7 +2,7 @@
 //! are the laws.
 
 ghost use Rattle.coord_ledger.specs.laws.Commits.{CommitIsSafe};
-ghost use Rattle.coord_ledger.specs.laws.Laws.{AdoptedIsConsistent, FinishKeepsKept, HasAnswer, KeptIsSafe, LogStays, PrefixFromImages, RunGoesOn, RunIsConsistent, SettledStays, SignalsOnce, StaysConsistent, SubmitOrder};
+ghost use Rattle.coord_ledger.specs.laws.Laws.{AdoptedIsConsistent, FinishKeepsKept, HasAnswer, KeptIsSafe, LogStays, NoSignalTwice, PrefixFromImages, RunGoesOn, RunIsConsistent, SettledStays, StaysConsistent, SubmitOrder};
 ghost use Rattle.coord_ledger.specs.laws.Rebasing.{CrashReopens, RebasedAnswersAlike, RebasedGoesOn, RebasedIsConsistent};
 
 /// The first refusal that applies: Stopped; unless it is a repeat, PendingFull; then Exhausted, and
@@ -71,7 +71,7 @@ pub fn commit_is_safe()
 
 /// No step has signalled a node twice, crashes included.
 pub fn signals_once()
-    ensures { SignalsOnce }
+    ensures { NoSignalTwice }
 {}
 
 /// Taking a flight back at the end of a run changes nothing of what a crash may keep.

@@ -9,7 +9,7 @@ use Rattle.coord_types.proofs.Tables.{get-entries}
 use Rattle.coord_tables.proofs.KeyedLists.{each_entry, find-below}
 use Rattle.coord_tables.proofs.SortedEntries.{is_true}
 use Rattle.coord_member.specs.NoMix.{IsOneOf}
-use Rattle.coord_look.specs.Shown.{IsOnce}
+use Rattle.coord_look.specs.Shown.{AllDistinct}
 
 -- ---- lists
 
@@ -84,7 +84,7 @@ pub all_pass : {A : Type 0} (p : A → Bool) (xs : List A) → ((x : A) → IsOn
 all_pass p [] each = refl
 all_pass p (x ∷ xs) each = ap (λ b. b && list_all p xs) (each x (inl refl)) ∙ all_pass p xs (λ y one. each y (inr one))
 
-pub once_both : {A : Type 0} (xs ys : List A) → IsOnce xs → IsOnce ys → ((x : A) → IsOneOf x xs → IsOneOf x ys → ⊥) → IsOnce (xs ++ ys)
+pub once_both : {A : Type 0} (xs ys : List A) → AllDistinct xs → AllDistinct ys → ((x : A) → IsOneOf x xs → IsOneOf x ys → ⊥) → AllDistinct (xs ++ ys)
 once_both [] ys first second apart = second
 once_both (x ∷ xs) ys first second apart =
     (λ one. elim (one_of_both x xs ys one) [ inl k ↦ first.0 k | inr k ↦ apart x (inl refl) k ], once_both xs ys first.1 second (λ y one two. apart y (inr one) two))
@@ -111,8 +111,8 @@ module _ {K X : Type 0} {R : K → K → Ordering} (o : IsTotalOrder R) (same : 
   is_there m q x e = found_stands (entries m) q x (sym (get-entries m q) ∙ e)
 
   -- what is made of the entries of a table stands once, where it tells the key
-  module _ {E : Type 0} (g : K × X → List E) (HasKey : E → K → Type 0) (one_key : (n : E) (k l : K) → HasKey n k → HasKey n l → k ≡ l) (keys : (e : K × X) (n : E) → IsOneOf n (g e) → HasKey n e.0) (once : (e : K × X) → IsOnce (g e)) where
-    once_flat : (es : List (K × X)) → is_sorted R es ≡ true → IsOnce (flat_map g es)
+  module _ {E : Type 0} (g : K × X → List E) (HasKey : E → K → Type 0) (one_key : (n : E) (k l : K) → HasKey n k → HasKey n l → k ≡ l) (keys : (e : K × X) (n : E) → IsOneOf n (g e) → HasKey n e.0) (once : (e : K × X) → AllDistinct (g e)) where
+    once_flat : (es : List (K × X)) → is_sorted R es ≡ true → AllDistinct (flat_map g es)
     once_flat [] sorted = tt
     once_flat (e ∷ es) sorted =
         let parts = both (below_all R e.0 es) (is_sorted R es) sorted in
@@ -123,5 +123,5 @@ module _ {K X : Type 0} {R : K → K → Ordering} (o : IsTotalOrder R) (same : 
         let some : find R e.0 es ≡ Some other.of.1 = ap (λ k. find R k es) key ∙ stands_found es other.of parts.1 other.one in
         absurd (cc))
 
-    pub once_made : (m : Table o X) → IsOnce (flat_map g (entries m))
+    pub once_made : (m : Table o X) → AllDistinct (flat_map g (entries m))
     once_made m = once_flat (entries m) (is_true _ m.sorted)

@@ -23,8 +23,8 @@ use Rattle.coord_member.specs.NoMix.{IsOneOf}
 use Rattle.coord_member.specs.declared.view.Entry.{Entry}
 use Rattle.coord_member.specs.declared.view.Entry.TheVariants.{Node, Link}
 use Rattle.coord_member.specs.declared.view.Row.{Row}
-use Rattle.coord_look.specs.Reading.{AreConnected, AreLinked, IsReadOf, IsWay, is_of, is_quiet, is_ready, is_through, link_entries, node_entries, party_in, row_in}
-use Rattle.coord_look.specs.Shown.{IsLinkOf, IsOnce, IsPartyOf, IsShownTo, IsThrough}
+use Rattle.coord_look.specs.Reading.{AreConnected, AreLinked, IsReadOf, IsWay, is_of, is_quiet, is_ready_mode, is_through, link_entries, node_entries, party_in, row_in}
+use Rattle.coord_look.specs.Shown.{AllDistinct, IsPartyOf, IsShownTo, IsThrough, IsWorldLink}
 use Rattle.coord_look.specs.Worlds.{LookIsShown, NoLookIsAbsent}
 use Rattle.coord_look.proofs.Listed.{all_pass, each_passes, flat-mapped, flat_one, is_there, mapped_one, once_both, once_made, one_before, one_behind, one_flat, one_mapped, one_of_both, stands}
 use Rattle.coord_look.proofs.Reached.{found_is, none_is}
@@ -85,7 +85,7 @@ not_both : (b : Bool) → b ≡ true → b ≡ false → ⊥
 not_both true e f = absurd (cc)
 not_both false e f = absurd (cc)
 
-ready_is : (m : Mode) → is_ready m ≡ true → m ≡ Ready
+ready_is : (m : Mode) → is_ready_mode m ≡ true → m ≡ Ready
 ready_is Ready e = refl
 ready_is Abort e = absurd (cc)
 ready_is Converge e = absurd (cc)
@@ -200,7 +200,7 @@ module _ (w : World) (range : InRange w) (accepted : ℕ) where
     alone_one true x e = inl refl
     alone_one false x e = absurd (cc)
 
-    once_alone : (b : Bool) (x : Entry) → IsOnce (if b then x ∷ [] else [])
+    once_alone : (b : Bool) (x : Entry) → AllDistinct (if b then x ∷ [] else [])
     once_alone true x = (λ none. none, tt)
     once_alone false x = tt
 
@@ -242,17 +242,17 @@ module _ (w : World) (range : InRange w) (accepted : ℕ) where
         let same : Node a.of.node a.of.epoch ≡ Link b.of.a b.of.b b.of.inc = sym x ∙ y in
         absurd (cc)
 
-    once : IsOnce (party_in s (shown accepted w))
+    once : AllDistinct (party_in s (shown accepted w))
     once = once_both (flat_map (node_entries s) nodes) (flat_map (link_entries s) links)
-        (subst IsOnce (sym nodes_flat) (once_made nat_cmp_total same_number of_node IsNode one_node node_tells (λ e. once_alone (contains s e.0) (Node e.0 e.1.epoch)) w.nodes))
-        (subst IsOnce (sym links_flat) (once_made pair_cmp_total same_pair of_link IsLink one_link link_tells (λ e. once_alone (contains s e.0.0) (Link e.0.0 e.0.1 e.1.forth.inc)) w.links)) apart
+        (subst AllDistinct (sym nodes_flat) (once_made nat_cmp_total same_number of_node IsNode one_node node_tells (λ e. once_alone (contains s e.0) (Node e.0 e.1.epoch)) w.nodes))
+        (subst AllDistinct (sym links_flat) (once_made pair_cmp_total same_pair of_link IsLink one_link link_tells (λ e. once_alone (contains s e.0.0) (Link e.0.0 e.0.1 e.1.forth.inc)) w.links)) apart
 
     every_node : (n : ℕ) → has w.nodes n ≡ true → Connected w i n → IsOneOf (Node n (state w n).epoch) (party_in s (shown accepted w))
     every_node n here path =
         one_before (Node n (state w n).epoch) (flat_map (node_entries s) nodes) (flat_map (link_entries s) links)
         (one_flat (node_entries s) nodes (seen (n, state w n)) (Node n (state w n).epoch) (node_shown n (state w n) (some_state (get w.nodes n) here)) (alone_one (contains s n) (Node n (state w n).epoch) (is_reached n path)))
 
-    every_link : (a b incarnation : ℕ) → Connected w i a → IsLinkOf w a b incarnation → IsOneOf (Link a b incarnation) (party_in s (shown accepted w))
+    every_link : (a b incarnation : ℕ) → Connected w i a → IsWorldLink w a b incarnation → IsOneOf (Link a b incarnation) (party_in s (shown accepted w))
     every_link a b incarnation path is =
         let link = link_of_lane w.links a b is.lane is.turned is.there in
         let made : link.lanes.forth.inc ≡ incarnation = ap (λ (l : Lane). l.inc) link.forth ∙ is.made in
@@ -288,7 +288,7 @@ module _ (w : World) (range : InRange w) (accepted : ℕ) where
         let v = flat_one (node_entries s) nodes (Node n e) (of_nodes n e one) in
         node_is n e v.of (node_seen v.of v.one) (one_alone (contains s v.of.node) (Node v.of.node v.of.epoch) (Node n e) v.among)
 
-    link_is : (a b incarnation : ℕ) (v : LinkView) → IsSeenLink w v → (contains s v.a ≡ true) × (Link a b incarnation ≡ Link v.a v.b v.inc) → Connected w i a × IsLinkOf w a b incarnation
+    link_is : (a b incarnation : ℕ) (v : LinkView) → IsSeenLink w v → (contains s v.a ≡ true) × (Link a b incarnation ≡ Link v.a v.b v.inc) → Connected w i a × IsWorldLink w a b incarnation
     link_is a b incarnation v is test =
         let first : a ≡ v.a = let same = test.1 in cc in
         let second : b ≡ v.b = let same = test.1 in cc in
@@ -304,7 +304,7 @@ module _ (w : World) (range : InRange w) (accepted : ℕ) where
           },
         )
 
-    links_are : (a b incarnation : ℕ) → IsOneOf (Link a b incarnation) (party_in s (shown accepted w)) → Connected w i a × IsLinkOf w a b incarnation
+    links_are : (a b incarnation : ℕ) → IsOneOf (Link a b incarnation) (party_in s (shown accepted w)) → Connected w i a × IsWorldLink w a b incarnation
     links_are a b incarnation one =
         let v = flat_one (link_entries s) links (Link a b incarnation) (of_links a b incarnation one) in
         link_is a b incarnation v.of (link_seen v.of v.one) (one_alone (contains s v.of.a) (Link v.of.a v.of.b v.of.inc) (Link a b incarnation) v.among)
@@ -327,12 +327,12 @@ module _ (w : World) (range : InRange w) (accepted : ℕ) where
       both_of false c e = absurd (cc)
 
       quiet_all : list_all (is_quiet s) nodes ≡ true → (v : ℕ) → Connected w i v → (state w v).mode ≡ Ready
-      quiet_all all v path = ready_is (state w v).mode (first_out (contains s v) (is_ready (state w v).mode) (is_reached v path) (each_passes (is_quiet s) nodes (seen (v, state w v)) all (node_shown v (state w v) (there v path))))
+      quiet_all all v path = ready_is (state w v).mode (first_out (contains s v) (is_ready_mode (state w v).mode) (is_reached v path) (each_passes (is_quiet s) nodes (seen (v, state w v)) all (node_shown v (state w v) (there v path))))
 
       through_all : list_all (is_through s) nodes ≡ true → (v : ℕ) → Connected w i v → IsThrough w v
       through_all all v path =
-          let test = first_out (contains s v) (is_ready (state w v).mode && ((state w v).epoch == (state w v).confirmed)) (is_reached v path) (each_passes (is_through s) nodes (seen (v, state w v)) all (node_shown v (state w v) (there v path))) in
-          let parts = both_of (is_ready (state w v).mode) ((state w v).epoch == (state w v).confirmed) test in
+          let test = first_out (contains s v) (is_ready_mode (state w v).mode && ((state w v).epoch == (state w v).confirmed)) (is_reached v path) (each_passes (is_through s) nodes (seen (v, state w v)) all (node_shown v (state w v) (there v path))) in
+          let parts = both_of (is_ready_mode (state w v).mode) ((state w v).epoch == (state w v).confirmed) test in
           let same = parts.1 in
           record { ready = ready_is (state w v).mode parts.0; confirmed = grind (arith, nat_tests, same) }
 
@@ -340,18 +340,18 @@ module _ (w : World) (range : InRange w) (accepted : ℕ) where
       passes true c f = f refl
       passes false c f = refl
 
-      ready_one : (m : Mode) → m ≡ Ready → is_ready m ≡ true
-      ready_one m e = ap is_ready e
+      ready_one : (m : Mode) → m ≡ Ready → is_ready_mode m ≡ true
+      ready_one m e = ap is_ready_mode e
 
       quiet_one : ((v : ℕ) → Connected w i v → (state w v).mode ≡ Ready) → (v : NodeView) → IsSeen w v → is_quiet s v ≡ true
-      quiet_one all v is = subst (λ u. is_quiet s u ≡ true) (sym is.same) (passes (contains s is.entry.0) (is_ready is.entry.1.mode) (λ e.
+      quiet_one all v is = subst (λ u. is_quiet s u ≡ true) (sym is.same) (passes (contains s is.entry.0) (is_ready_mode is.entry.1.mode) (λ e.
           ready_one is.entry.1.mode (sym (ap (λ (r : NodeState). r.mode) (state_is is.entry.0 is.entry.1 is.there)) ∙ all is.entry.0 (reached is.entry.0 e))))
 
-      through_state : (r : NodeState) → r.mode ≡ Ready → r.epoch ≡ r.confirmed → (is_ready r.mode && (r.epoch == r.confirmed)) ≡ true
+      through_state : (r : NodeState) → r.mode ≡ Ready → r.epoch ≡ r.confirmed → (is_ready_mode r.mode && (r.epoch == r.confirmed)) ≡ true
       through_state r ready same = let first = ready_one r.mode ready in let second : (r.epoch == r.confirmed) ≡ true = grind (arith, nat_tests, same) in ap (λ b. b && (r.epoch == r.confirmed)) first ∙ second
 
       through_one : ((v : ℕ) → Connected w i v → IsThrough w v) → (v : NodeView) → IsSeen w v → is_through s v ≡ true
-      through_one all v is = subst (λ u. is_through s u ≡ true) (sym is.same) (passes (contains s is.entry.0) (is_ready is.entry.1.mode && (is.entry.1.epoch == is.entry.1.confirmed)) (λ e.
+      through_one all v is = subst (λ u. is_through s u ≡ true) (sym is.same) (passes (contains s is.entry.0) (is_ready_mode is.entry.1.mode && (is.entry.1.epoch == is.entry.1.confirmed)) (λ e.
           let one = all is.entry.0 (reached is.entry.0 e) in
           let at = state_is is.entry.0 is.entry.1 is.there in
           through_state is.entry.1 (subst (λ (r : NodeState). r.mode ≡ Ready) at one.ready) (subst (λ (r : NodeState). r.epoch ≡ r.confirmed) at one.confirmed)))

@@ -39,18 +39,18 @@ AreConnected links u reached = (v : ℕ) → (contains reached v ≡ true) ↔ (
 abbrev pub is_of : ℕ → NodeView → Bool
 is_of node row = row.node == node
 
-abbrev pub is_ready : Mode → Bool
-is_ready Ready = true
-is_ready Abort = false
-is_ready Converge = false
+abbrev pub is_ready_mode : Mode → Bool
+is_ready_mode Ready = true
+is_ready_mode Abort = false
+is_ready_mode Converge = false
 
 -- a node that is one of these is in no reset
 abbrev pub is_quiet : NodeSet → NodeView → Bool
-is_quiet reached row = not (contains reached row.node) || is_ready row.mode
+is_quiet reached row = not (contains reached row.node) || is_ready_mode row.mode
 
 -- a node that is one of these is in no reset, nor awaited: its epoch is confirmed
 abbrev pub is_through : NodeSet → NodeView → Bool
-is_through reached row = not (contains reached row.node) || (is_ready row.mode && (row.epoch == row.confirmed))
+is_through reached row = not (contains reached row.node) || (is_ready_mode row.mode && (row.epoch == row.confirmed))
 
 -- ---- who they are
 

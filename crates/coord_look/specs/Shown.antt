@@ -12,12 +12,12 @@ use Rattle.coord_member.specs.declared.view.Entry.TheVariants.{Node, Link}
 use Rattle.coord_member.specs.declared.view.Row.{Row}
 
 -- no item stands twice
-abbrev pub IsOnce : {A : Type 0} → List A → Type 0
-IsOnce [] = Unit {0}
-IsOnce (x ∷ xs) = (IsOneOf x xs → ⊥) × IsOnce xs
+abbrev pub AllDistinct : {A : Type 0} → List A → Type 0
+AllDistinct [] = Unit {0}
+AllDistinct (x ∷ xs) = (IsOneOf x xs → ⊥) × AllDistinct xs
 
 -- a link of the world, with its lesser end first
-pub record IsLinkOf (w : World) (a b incarnation : ℕ) : Type 0 where
+pub record IsWorldLink (w : World) (a b incarnation : ℕ) : Type 0 where
   pub turned : a < b
   pub lane : Lane
   pub there : lane_at w.links a b ≡ Some lane
@@ -26,10 +26,10 @@ pub record IsLinkOf (w : World) (a b incarnation : ℕ) : Type 0 where
 -- just the nodes that are connected with node i, each at its epoch, and just the links between them
 pub record IsPartyOf (w : World) (i : ℕ) (now : List Entry) : Type 0 where
   pub every_node : (n : ℕ) → has w.nodes n ≡ true → Connected w i n → IsOneOf (Node n (state w n).epoch) now
-  pub every_link : (a b incarnation : ℕ) → Connected w i a → IsLinkOf w a b incarnation → IsOneOf (Link a b incarnation) now
+  pub every_link : (a b incarnation : ℕ) → Connected w i a → IsWorldLink w a b incarnation → IsOneOf (Link a b incarnation) now
   pub nodes : (n e : ℕ) → IsOneOf (Node n e) now → (has w.nodes n ≡ true) × (Connected w i n × (e ≡ (state w n).epoch))
-  pub links : (a b incarnation : ℕ) → IsOneOf (Link a b incarnation) now → Connected w i a × IsLinkOf w a b incarnation
-  pub once : IsOnce now
+  pub links : (a b incarnation : ℕ) → IsOneOf (Link a b incarnation) now → Connected w i a × IsWorldLink w a b incarnation
+  pub once : AllDistinct now
 
 -- out of its resets, with its epoch confirmed
 pub record IsThrough (w : World) (v : ℕ) : Type 0 where

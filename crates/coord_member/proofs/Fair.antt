@@ -5,7 +5,7 @@ use Rattle.coord_member.specs.declared.view.Entry.{Entry}
 use Rattle.coord_member.specs.declared.view.Entry.TheVariants.{Node}
 use Rattle.coord_member.specs.declared.view.Row.{Row}
 use Rattle.coord_member.specs.Rule.{Kept, new_kept, due}
-use Rattle.coord_member.specs.Members.{Talked, World, new_world, Event, Look, Load, Crash, Forget, Lose, Send, Hear, happens, run}
+use Rattle.coord_member.specs.Members.{Talked, MemberWorld, new_world, Event, Look, Load, Crash, Forget, Lose, Send, Hear, happens, run}
 use Rattle.coord_member.specs.NoMix.{IsOneOf, IsUnmixed, KeepsFiles, NoMix}
 use Rattle.std.specs.List.{AllByRecursion}
 use Rattle.coord_member.specs.Honest.{Shown, nothing_shown, with_shown, IsHonest, IsLater, IsLinkOf, IsView, NoMixHonest}
@@ -43,7 +43,7 @@ lasts keeps made last =
     }
 
 -- a look of one that keeps its files
-rules_kept : (keeps : ℕ → Bool) (made : ℕ → Entry → ℕ) (last : ℕ → Shown) (w : World) (i : ℕ) (row : Row) (now : List Entry) → Holds by_party (is_fair keeps made last) w → keeps i ≡ true → Rules by_party (is_fair keeps made last) (is_fair keeps made last) w i row now
+rules_kept : (keeps : ℕ → Bool) (made : ℕ → Entry → ℕ) (last : ℕ → Shown) (w : MemberWorld) (i : ℕ) (row : Row) (now : List Entry) → Holds by_party (is_fair keeps made last) w → keeps i ≡ true → Rules by_party (is_fair keeps made last) (is_fair keeps made last) w i row now
 rules_kept keeps made last w i row now h keep =
     let kept = (w.member i).kept in
     let before : (t : Talked) → IsOneOf t w.talked → t.start.node ≡ i → IsOneOf t.party kept.history =
@@ -64,7 +64,7 @@ rules_kept keeps made last w i row now h keep =
     }
 
 -- the rules hold of a member that may lose its files
-rules_over : (keeps : ℕ → Bool) (made : ℕ → Entry → ℕ) (last : ℕ → Shown) (w : World) (i life : ℕ) (row : Row) (now : List Entry) → Holds by_party (is_fair keeps made last) w → keeps i ≡ false → IsLater (last i) life row → IsView made i life row.epoch now →
+rules_over : (keeps : ℕ → Bool) (made : ℕ → Entry → ℕ) (last : ℕ → Shown) (w : MemberWorld) (i life : ℕ) (row : Row) (now : List Entry) → Holds by_party (is_fair keeps made last) w → keeps i ≡ false → IsLater (last i) life row → IsView made i life row.epoch now →
     Rules by_party (is_fair keeps made last) (is_fair keeps made (with_shown last i life row)) w i row now
 rules_over keeps made last w i life row now h loses later view =
     let kept = (w.member i).kept in
@@ -102,7 +102,7 @@ rules_over keeps made last w i life row now h loses later view =
           );
     }
 
-runs : (keeps : ℕ → Bool) (made : ℕ → Entry → ℕ) (last : ℕ → Shown) (w : World) (events : List Event) → IsFair keeps made last events → Holds by_party (is_fair keeps made last) w → IsUnmixed (run w events)
+runs : (keeps : ℕ → Bool) (made : ℕ → Entry → ℕ) (last : ℕ → Shown) (w : MemberWorld) (events : List Event) → IsFair keeps made last events → Holds by_party (is_fair keeps made last) w → IsUnmixed (run w events)
 runs keeps made last w [] fair h = unmixed (is_fair keeps made last) w h
 runs keeps made last w (Look i row now ∷ events) (inl fair) h =
     let past = is_fair keeps made last in

@@ -8,7 +8,7 @@ use Rattle.coord_member.specs.declared.view.Row.{Row}
 use Rattle.coord_member.specs.declared.rule.Due.{Due}
 use Rattle.coord_member.specs.declared.rule.Due.TheVariants.{Talk, Wait, Begin, Reset}
 use Rattle.coord_member.specs.Rule.{Kept, new_kept, is_at, is_begun, admits, due, kept_for, history_with, begun_with, is_alone, run_of, without_work, same_entry, same_party, was_before}
-use Rattle.coord_member.specs.Members.{Start, Member, Message, Talked, World, idle, new_world, with_member, talked_by, member_for, looked, loaded, message_of, is_of_run, heard}
+use Rattle.coord_member.specs.Members.{Start, Member, Message, Talked, MemberWorld, idle, new_world, with_member, talked_by, member_for, looked, loaded, message_of, is_of_run, heard}
 use Rattle.coord_member.specs.NoMix.{IsOneOf}
 
 -- ---- lists
@@ -96,7 +96,7 @@ pub record Claim : Type 1 where
   pub alike : Talked → Talked → Type 0
   pub itself : (t : Talked) → alike t t
 
-pub record Holds (c : Claim) (past : Past) (w : World) : Type 0 where
+pub record Holds (c : Claim) (past : Past) (w : MemberWorld) : Type 0 where
   pub members : (i : ℕ) → IsMember w.talked w.serial i (w.member i)
   pub ruled : (t : Talked) → IsOneOf t w.talked → past t.start.node (w.member t.start.node).kept (w.member t.start.node).loading t
   pub serials : (t : Talked) → IsOneOf t w.talked → t.start.serial < w.serial
@@ -117,7 +117,7 @@ StaysFor past later i = (j : ℕ) (k : Kept) (l : Option ℕ) (t : Talked) → (
 -- ---- one member changes
 
 -- member j, where member i becomes m
-at_member : (P : Member → Type 0) (w : World) (i j : ℕ) (m : Member) → (j ≡ i → P m) → (j ≢ i → P (w.member j)) → P (if j == i then m else w.member j)
+at_member : (P : Member → Type 0) (w : MemberWorld) (i j : ℕ) (m : Member) → (j ≡ i → P m) → (j ≢ i → P (w.member j)) → P (if j == i then m else w.member j)
 at_member P w i j m same other =
     elim (j == i) as (λ b. ((j == i) ≡ b) → P (if b then m else w.member j)) [
       | true ↦ λ e. same (grind (arith, nat_tests))
@@ -139,7 +139,7 @@ member_stays more talked serial next i m le others is =
     }
 
 -- of some that talked first, all are of node i, and no other is taken for them
-pub record IsNewOf (c : Claim) (w : World) (i : ℕ) (more : List Talked) : Type 0 where
+pub record IsNewOf (c : Claim) (w : MemberWorld) (i : ℕ) (more : List Talked) : Type 0 where
   pub node : (t : Talked) → IsOneOf t more → t.start.node ≡ i
   pub serial : (t : Talked) → IsOneOf t more → t.start.serial < w.serial
   pub one : (t u : Talked) → IsOneOf t more → IsOneOf u more → t ≡ u
@@ -147,10 +147,10 @@ pub record IsNewOf (c : Claim) (w : World) (i : ℕ) (more : List Talked) : Type
   pub new : (t u : Talked) → IsOneOf t more → IsOneOf u w.talked → c.same t u → c.alike t u
   pub old : (t u : Talked) → IsOneOf t w.talked → IsOneOf u more → c.same t u → c.alike t u
 
-pub nobody_new : (c : Claim) (w : World) (i : ℕ) → IsNewOf c w i []
+pub nobody_new : (c : Claim) (w : MemberWorld) (i : ℕ) → IsNewOf c w i []
 nobody_new c w i = record { node = λ t f. absurd f; serial = λ t f. absurd f; one = λ t u f. absurd f; unlike = λ t u f. absurd f; new = λ t u f. absurd f; old = λ t u e f. absurd f }
 
-pub replaced : (c : Claim) (past later : Past) (w : World) (i : ℕ) (m : Member) (more : List Talked) → Holds c past w → IsMember (more ++ w.talked) w.serial i m → IsNewOf c w i more → StaysFor past later i →
+pub replaced : (c : Claim) (past later : Past) (w : MemberWorld) (i : ℕ) (m : Member) (more : List Talked) → Holds c past w → IsMember (more ++ w.talked) w.serial i m → IsNewOf c w i more → StaysFor past later i →
     ((t : Talked) → IsOneOf t (more ++ w.talked) → t.start.node ≡ i → later i m.kept m.loading t) → Holds c later (with_member (record w { talked = more ++ w.talked }) i m)
 replaced c past later w i m more h is new stays over =
     record {
@@ -182,17 +182,17 @@ replaced c past later w i m more h is new stays over =
     }
 
 -- at node i
-pub past_at : (c : Claim) (past : Past) (w : World) (i : ℕ) (t : Talked) → Holds c past w → IsOneOf t w.talked → t.start.node ≡ i → past i (w.member i).kept (w.member i).loading t
+pub past_at : (c : Claim) (past : Past) (w : MemberWorld) (i : ℕ) (t : Talked) → Holds c past w → IsOneOf t w.talked → t.start.node ≡ i → past i (w.member i).kept (w.member i).loading t
 past_at c past w i t h in_t e = subst (λ n. past n (w.member n).kept (w.member n).loading t) e (h.ruled t in_t)
 
-pub same_kept : (c : Claim) (past : Past) (w : World) (i : ℕ) (m : Member) → Holds c past w → IsMember w.talked w.serial i m → m.kept ≡ (w.member i).kept → m.loading ≡ (w.member i).loading → Holds c past (with_member w i m)
+pub same_kept : (c : Claim) (past : Past) (w : MemberWorld) (i : ℕ) (m : Member) → Holds c past w → IsMember w.talked w.serial i m → m.kept ≡ (w.member i).kept → m.loading ≡ (w.member i).loading → Holds c past (with_member w i m)
 same_kept c past w i m h is same loading =
     replaced c past past w i m [] h is (nobody_new c w i) (λ j k l t away is. is)
     (λ t in_t e. subst (λ l. past i m.kept l t) (sym loading) (subst (λ (k : Kept). past i k (w.member i).loading t) (sym same) (past_at c past w i t h in_t e)))
 
 -- ---- a member falls silent, or tells what it has heard
 
-pub crashed : (c : Claim) (past : Past) (w : World) (i : ℕ) → Lasts past → Holds c past w → Holds c past (with_member w i (record (w.member i) { tag = None; loading = None }))
+pub crashed : (c : Claim) (past : Past) (w : MemberWorld) (i : ℕ) → Lasts past → Holds c past w → Holds c past (with_member w i (record (w.member i) { tag = None; loading = None }))
 crashed c past w i lasts h =
     let is = h.members i in
     replaced c past past w i (record (w.member i) { tag = None; loading = None }) [] h
@@ -200,13 +200,13 @@ crashed c past w i lasts h =
     (nobody_new c w i) (λ j k l t away is. is)
     (λ t in_t e. lasts.silent i (w.member i).kept (w.member i).loading t (past_at c past w i t h in_t e))
 
-pub silent : (c : Claim) (past : Past) (w : World) (i : ℕ) → Holds c past w → Holds c past (with_member w i (record (w.member i) { tag = None }))
+pub silent : (c : Claim) (past : Past) (w : MemberWorld) (i : ℕ) → Holds c past w → Holds c past (with_member w i (record (w.member i) { tag = None }))
 silent c past w i h =
     let is = h.members i in
     same_kept c past w i (record (w.member i) { tag = None }) h
     (record { works = is.works; begun = is.begun; loads = is.loads; named = λ p e. absurd (cc); own = is.own; cone = is.cone; alone = is.alone; fresh = is.fresh }) refl refl
 
-pub sent : (c : Claim) (past : Past) (w : World) (i : ℕ) (tag : Option (List Entry)) → Holds c past w → (w.member i).tag ≡ tag → Holds c past (record w { messages = message_of tag (w.member i).cone ++ w.messages })
+pub sent : (c : Claim) (past : Past) (w : MemberWorld) (i : ℕ) (tag : Option (List Entry)) → Holds c past w → (w.member i).tag ≡ tag → Holds c past (record w { messages = message_of tag (w.member i).cone ++ w.messages })
 sent c past w i None h e = record { members = h.members; ruled = h.ruled; serials = h.serials; messages = h.messages; runs = h.runs; starts = h.starts }
 sent c past w i (Some p) h e =
     record {
@@ -232,7 +232,7 @@ of_run None tag e = absurd (cc)
 of_run (Some own) tag e = ap Some (same_parties own tag e)
 
 -- a cone grows by one of the same run
-hearing : (c : Claim) (past : Past) (w : World) (i : ℕ) (message : Message) → Holds c past w → IsOneOf message w.messages → (w.member i).tag ≡ Some message.tag → IsMember w.talked w.serial i (record (w.member i) { cone = message.cone ++ (w.member i).cone })
+hearing : (c : Claim) (past : Past) (w : MemberWorld) (i : ℕ) (message : Message) → Holds c past w → IsOneOf message w.messages → (w.member i).tag ≡ Some message.tag → IsMember w.talked w.serial i (record (w.member i) { cone = message.cone ++ (w.member i).cone })
 hearing c past w i message h in_m e =
     let is = h.members i in
     let party : run_of (w.member i).kept.party ≡ Some message.tag = is.named message.tag e in
@@ -251,7 +251,7 @@ hearing c past w i message h in_m e =
       alone = λ s f in_s. absurd (cc);
     }
 
-pub hears : (c : Claim) (past : Past) (w : World) (i : ℕ) (e : Option Message) → Holds c past w → ((m : Message) → e ≡ Some m → IsOneOf m w.messages) → Holds c past (with_member w i (heard (w.member i) e))
+pub hears : (c : Claim) (past : Past) (w : MemberWorld) (i : ℕ) (e : Option Message) → Holds c past w → ((m : Message) → e ≡ Some m → IsOneOf m w.messages) → Holds c past (with_member w i (heard (w.member i) e))
 hears c past w i None h in_w = same_kept c past w i (w.member i) h (h.members i) refl refl
 hears c past w i (Some message) h in_w =
     elim (is_of_run (w.member i).tag message.tag) as
@@ -263,7 +263,7 @@ hears c past w i (Some message) h in_w =
 -- ---- the common start is loaded
 
 -- a start has had the last number
-next_serial : (c : Claim) (past : Past) (w : World) → Holds c past w → Holds c past (record w { serial = w.serial + 1 })
+next_serial : (c : Claim) (past : Past) (w : MemberWorld) → Holds c past w → Holds c past (record w { serial = w.serial + 1 })
 next_serial c past w h =
     record {
       members = λ i. member_stays [] w.talked w.serial (w.serial + 1) i (w.member i) (omega arith) (λ s t e f none same. none) (h.members i);
@@ -274,7 +274,7 @@ next_serial c past w h =
       starts = h.starts;
     }
 
-pub loads : (c : Claim) (past : Past) (w : World) (i : ℕ) (e : Option ℕ) → Lasts past → Holds c past w → (w.member i).loading ≡ e → Holds c past (loaded w i e)
+pub loads : (c : Claim) (past : Past) (w : MemberWorld) (i : ℕ) (e : Option ℕ) → Lasts past → Holds c past w → (w.member i).loading ≡ e → Holds c past (loaded w i e)
 loads c past w i None lasts h e = h
 loads c past w i (Some epoch) lasts h e =
     let kept = (w.member i).kept in
@@ -296,7 +296,7 @@ loads c past w i (Some epoch) lasts h e =
           let at : t.start.serial ≡ w.serial = ap (λ (s : Start). s.serial) (same ∙ sym new) in
           absurd (omega (arith, less, at));
     } in
-    let next : World = record w { serial = w.serial + 1 } in
+    let next : MemberWorld = record w { serial = w.serial + 1 } in
     replaced c past past next i m [] (next_serial c past w h) is (nobody_new c next i) (λ j k l t away is. is)
     (λ t in_t f. lasts.loads i kept epoch t (subst (λ l. past i kept l t) e (past_at c past w i t h in_t f)))
 
@@ -335,20 +335,20 @@ idle_is talked serial i kept loading none party =
     record { works = λ s e. absurd (cc); begun = λ n e. absurd (cc); loads = λ e f. (none, party e f); named = λ p e. absurd (cc); own = λ p s e f. absurd (cc); cone = λ p s e f. absurd f; alone = λ s e f. absurd f; fresh = λ s t e f. absurd (cc) }
 
 -- a member has nothing in hand any more, and keeps this
-pub drops : (c : Claim) (past later : Past) (w : World) (i : ℕ) (kept : Kept) (loading : Option ℕ) → Holds c past w → kept.begun ≡ None → ((e : ℕ) → loading ≡ Some e → kept.party ≡ None) → StaysFor past later i →
+pub drops : (c : Claim) (past later : Past) (w : MemberWorld) (i : ℕ) (kept : Kept) (loading : Option ℕ) → Holds c past w → kept.begun ≡ None → ((e : ℕ) → loading ≡ Some e → kept.party ≡ None) → StaysFor past later i →
     ((t : Talked) → IsOneOf t w.talked → t.start.node ≡ i → later i kept loading t) →
     Holds c later (with_member w i (record { kept = kept; tag = None; loading = loading; work = None; cone = [] }))
 drops c past later w i kept loading h none party stays over =
     replaced c past later w i (record { kept = kept; tag = None; loading = loading; work = None; cone = [] }) [] h (idle_is w.talked w.serial i kept loading none party) (nobody_new c w i) stays over
 
 -- a member loses its work, and nothing else
-pub forgets : (c : Claim) (past : Past) (w : World) (i : ℕ) → Lasts past → Holds c past w → Holds c past (with_member w i (idle (without_work (w.member i).kept)))
+pub forgets : (c : Claim) (past : Past) (w : MemberWorld) (i : ℕ) → Lasts past → Holds c past w → Holds c past (with_member w i (idle (without_work (w.member i).kept)))
 forgets c past w i lasts h =
     drops c past past w i (without_work (w.member i).kept) None h refl (λ e f. absurd (cc)) (λ j k l t away is. is)
     (λ t in_t e. lasts.forgets i (w.member i).kept (w.member i).loading t (past_at c past w i t h in_t e))
 
 -- what is asked of the rules: for node i, which has been shown these
-pub record Rules (c : Claim) (past later : Past) (w : World) (i : ℕ) (row : Row) (now : List Entry) : Type 0 where
+pub record Rules (c : Claim) (past later : Past) (w : MemberWorld) (i : ℕ) (row : Row) (now : List Entry) : Type 0 where
   pub others : StaysFor past later i
   pub stays : (t : Talked) → IsOneOf t w.talked → t.start.node ≡ i → later i (w.member i).kept (w.member i).loading t
   -- what is claimed of a start stays as the member begins
@@ -362,7 +362,7 @@ pub record Rules (c : Claim) (past later : Past) (w : World) (i : ℕ) (row : Ro
   pub new : (s : Start) (u : Talked) → s.node ≡ i → s.epoch ≡ row.epoch → (w.member i).kept.party ≡ None → (w.member i).kept.begun ≡ Some row.epoch → is_alone now ≡ false → (IsOneOf now (w.member i).kept.history → ⊥) → IsOneOf u w.talked →
       (c.same (record { start = s; party = now }) u → c.alike (record { start = s; party = now }) u) × (c.same u (record { start = s; party = now }) → c.alike u (record { start = s; party = now }))
 
-again : (c : Claim) (past : Past) (w : World) (t : Talked) → Holds c past w → IsOneOf t w.talked → Holds c past (record w { talked = t ∷ w.talked })
+again : (c : Claim) (past : Past) (w : MemberWorld) (t : Talked) → Holds c past w → IsOneOf t w.talked → Holds c past (record w { talked = t ∷ w.talked })
 again c past w t h in_t =
     record {
       members = λ i. member_stays (t ∷ []) w.talked w.serial w.serial i (w.member i) (omega arith)
@@ -379,7 +379,7 @@ again c past w t h in_t =
     }
 
 -- nothing of what is kept changes, but what was shown may
-shown_more : (c : Claim) (past later : Past) (w : World) (i : ℕ) (row : Row) (now : List Entry) → Holds c past w → Rules c past later w i row now → Holds c later w
+shown_more : (c : Claim) (past later : Past) (w : MemberWorld) (i : ℕ) (row : Row) (now : List Entry) → Holds c past w → Rules c past later w i row now → Holds c later w
 shown_more c past later w i row now h rules =
     record {
       members = h.members;
@@ -405,7 +405,7 @@ run_alone : (p : List Entry) → is_alone p ≡ true → run_of (Some p) ≡ Non
 run_alone p e = ap (λ b. if b then None else Some p) e
 
 -- a start that works for the first time, alone
-settles : (c : Claim) (past later : Past) (w : World) (i : ℕ) (row : Row) (now : List Entry) → Holds c past w → Rules c past later w i row now → (w.member i).kept.party ≡ None → (w.member i).kept.begun ≡ Some row.epoch → is_alone now ≡ true →
+settles : (c : Claim) (past later : Past) (w : MemberWorld) (i : ℕ) (row : Row) (now : List Entry) → Holds c past w → Rules c past later w i row now → (w.member i).kept.party ≡ None → (w.member i).kept.begun ≡ Some row.epoch → is_alone now ≡ true →
     Holds c later (with_member w i (record (w.member i) { kept = record (w.member i).kept { party = Some now }; tag = None }))
 settles c past later w i row now h rules party begun alone =
     let is = h.members i in
@@ -425,7 +425,7 @@ settles c past later w i row now h rules party begun alone =
     (nobody_new c w i) rules.others rules.settles
 
 -- a start that was alone at first works on
-alone_still : (c : Claim) (past : Past) (w : World) (i : ℕ) (q : List Entry) → Holds c past w → (w.member i).kept.party ≡ Some q → is_alone q ≡ true →
+alone_still : (c : Claim) (past : Past) (w : MemberWorld) (i : ℕ) (q : List Entry) → Holds c past w → (w.member i).kept.party ≡ Some q → is_alone q ≡ true →
     Holds c past (with_member w i (record (w.member i) { kept = record (w.member i).kept { party = Some q }; tag = None }))
 alone_still c past w i q h party alone =
     let is = h.members i in
@@ -445,7 +445,7 @@ alone_still c past w i q h party alone =
     (ap (λ q. record (w.member i).kept { party = q }) (sym party)) refl
 
 -- a start that talks for the first time, with those that are shown
-first_talk : (c : Claim) (past later : Past) (w : World) (i : ℕ) (row : Row) (s : Start) (now : List Entry) → Holds c past w → Rules c past later w i row now → (w.member i).work ≡ Some s → (w.member i).kept.party ≡ None →
+first_talk : (c : Claim) (past later : Past) (w : MemberWorld) (i : ℕ) (row : Row) (s : Start) (now : List Entry) → Holds c past w → Rules c past later w i row now → (w.member i).work ≡ Some s → (w.member i).kept.party ≡ None →
     (w.member i).kept.begun ≡ Some row.epoch → is_alone now ≡ false → (IsOneOf now (w.member i).kept.history → ⊥) → s.epoch ≡ row.epoch → row.epoch ≡ row.confirmed →
     Holds c later (with_member (record w { talked = record { start = s; party = now } ∷ w.talked }) i
     (record (w.member i) { kept = record (w.member i).kept { party = Some now; history = (w.member i).kept.history ++ (now ∷ []) }; tag = Some now }))
@@ -489,13 +489,13 @@ first_talk c past later w i row s now h rules work party begun others unheard ep
     ])
 
 -- a start that talked before talks again
-more_talk : (c : Claim) (past : Past) (w : World) (i : ℕ) (s : Start) (p : List Entry) → Holds c past w → (w.member i).work ≡ Some s → (w.member i).kept.party ≡ Some p → is_alone p ≡ false →
+more_talk : (c : Claim) (past : Past) (w : MemberWorld) (i : ℕ) (s : Start) (p : List Entry) → Holds c past w → (w.member i).work ≡ Some s → (w.member i).kept.party ≡ Some p → is_alone p ≡ false →
     Holds c past (with_member (record w { talked = record { start = s; party = p } ∷ w.talked }) i (record (w.member i) { kept = record (w.member i).kept { party = Some p }; tag = Some p }))
 more_talk c past w i s p h work party others =
     let is = h.members i in
     let t : Talked = record { start = s; party = p } in
     let m : Member = record (w.member i) { kept = record (w.member i).kept { party = Some p }; tag = Some p } in
-    let v : World = record w { talked = t ∷ w.talked } in
+    let v : MemberWorld = record w { talked = t ∷ w.talked } in
     let run = run_with_others p others in
     let own : run_of (w.member i).kept.party ≡ Some p = ap run_of party ∙ run in
     let before = again c past w t h (is.own p s own work) in
@@ -517,7 +517,7 @@ more_talk c past w i s p h work party others =
 abbrev talking : Member → Option (List Entry) → List Entry → Member
 talking m p now = record m { kept = record m.kept { party = Some (unwrap_or p now); history = history_with p m.kept.history now }; tag = run_of (Some (unwrap_or p now)) }
 
-look_talks : (c : Claim) (past later : Past) (w : World) (i : ℕ) (row : Row) (now : List Entry) (p : Option (List Entry)) → Holds c past w → Rules c past later w i row now → is_begun (w.member i).kept.begun row ≡ true → (w.member i).kept.party ≡ p →
+look_talks : (c : Claim) (past later : Past) (w : MemberWorld) (i : ℕ) (row : Row) (now : List Entry) (p : Option (List Entry)) → Holds c past w → Rules c past later w i row now → is_begun (w.member i).kept.begun row ≡ true → (w.member i).kept.party ≡ p →
     admits p (was_before now (w.member i).kept.history) now ≡ true → Holds c later (looked w i (talking (w.member i) p now))
 look_talks c past later w i row now p h rules e party admitted =
     let is = h.members i in
@@ -552,10 +552,10 @@ nothing_said : (o : Option Start) → talked_by o None ≡ []
 nothing_said None = refl
 nothing_said (Some s) = refl
 
-look_silent : (c : Claim) (past : Past) (w : World) (i : ℕ) → Holds c past w → Holds c past (looked w i (record (w.member i) { tag = None }))
+look_silent : (c : Claim) (past : Past) (w : MemberWorld) (i : ℕ) → Holds c past w → Holds c past (looked w i (record (w.member i) { tag = None }))
 look_silent c past w i h = subst (λ more. Holds c past (with_member (record w { talked = more ++ w.talked }) i (record (w.member i) { tag = None }))) (sym (nothing_said (w.member i).work)) (silent c past w i h)
 
-pub looks : (c : Claim) (past later : Past) (w : World) (i : ℕ) (row : Row) (now : List Entry) (d : Due) → Holds c past w → Rules c past later w i row now → due (w.member i).kept row now ≡ d →
+pub looks : (c : Claim) (past later : Past) (w : MemberWorld) (i : ℕ) (row : Row) (now : List Entry) (d : Due) → Holds c past w → Rules c past later w i row now → due (w.member i).kept row now ≡ d →
     Holds c later (looked w i (member_for (w.member i) (kept_for (w.member i).kept now d) row d))
 looks c past later w i row now Talk h rules e =
     let kept = (w.member i).kept in

@@ -2,7 +2,7 @@
 use Rattle.std.proofs.Common.{◌≡◌, ℕ, List, Option, Some, None, refl, ap}
 use Rattle.coord_member.specs.declared.view.Entry.{Entry}
 use Rattle.coord_member.specs.Rule.{run_of}
-use Rattle.coord_member.specs.Members.{Start, Talked, World}
+use Rattle.coord_member.specs.Members.{MemberWorld, Start, Talked}
 use Rattle.coord_member.specs.NoMix.{IsOneOf, HasOneOfEach, IsUnmixed}
 use Rattle.coord_member.proofs.Holding.{Claim, Past, Holds, all_of}
 
@@ -13,15 +13,15 @@ by_party = record { same = λ t u. (t.start.node ≡ u.start.node) × (t.party �
 -- ---- what holds leaves no mix
 
 -- starts that talked in one run
-one_of_each : (past : Past) (w : World) (p : List Entry) (cone : List Start) → Holds by_party past w → ((s : Start) → IsOneOf s cone → IsOneOf (record { start = s; party = p }) w.talked) → HasOneOfEach cone
+one_of_each : (past : Past) (w : MemberWorld) (p : List Entry) (cone : List Start) → Holds by_party past w → ((s : Start) → IsOneOf s cone → IsOneOf (record { start = s; party = p }) w.talked) → HasOneOfEach cone
 one_of_each past w p cone h talked s t in_s in_t same = ap (λ (k : Talked). k.start) (h.starts _ _ (talked s in_s) (talked t in_t) (same, refl))
 
-unmixed_member : (past : Past) (w : World) (i : ℕ) (p : Option (List Entry)) → Holds by_party past w → run_of (w.member i).kept.party ≡ p → HasOneOfEach (w.member i).cone
+unmixed_member : (past : Past) (w : MemberWorld) (i : ℕ) (p : Option (List Entry)) → Holds by_party past w → run_of (w.member i).kept.party ≡ p → HasOneOfEach (w.member i).cone
 unmixed_member past w i None h e =
     λ s t in_s in_t same. let a = (h.members i).alone s e in_s in let b = (h.members i).alone t e in_t in cc
 unmixed_member past w i (Some p) h e = one_of_each past w p (w.member i).cone h (λ s in_s. (h.members i).cone p s e in_s)
 
-pub unmixed : (past : Past) (w : World) → Holds by_party past w → IsUnmixed w
+pub unmixed : (past : Past) (w : MemberWorld) → Holds by_party past w → IsUnmixed w
 unmixed past w h =
     record {
       members = λ i. unmixed_member past w i (run_of (w.member i).kept.party) h refl;

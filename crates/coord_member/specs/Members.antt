@@ -28,7 +28,7 @@ pub record Talked : Type 0 where
   pub start : Start
   pub party : List Entry
 
-pub record World : Type 0 where
+pub record MemberWorld : Type 0 where
   pub member : ℕ → Member
   pub messages : List Message  -- all that were ever sent, the newest first
   pub talked : List Talked  -- all that ever were
@@ -38,7 +38,7 @@ pub record World : Type 0 where
 abbrev pub idle : Kept → Member
 idle kept = record { kept = kept; tag = None; loading = None; work = None; cone = [] }
 
-abbrev pub new_world : World
+abbrev pub new_world : MemberWorld
 new_world = record { member = λ i. idle new_kept; messages = []; talked = []; serial = 0 }
 
 -- what may happen next, to member i. A message that is lost is never heard
@@ -51,7 +51,7 @@ pub data Event : Type 0 where
   Send : (i : ℕ) → Event
   Hear : (i k : ℕ) → Event  -- the k-th message comes, late, again or for the first time
 
-abbrev pub with_member : World → ℕ → Member → World
+abbrev pub with_member : MemberWorld → ℕ → Member → MemberWorld
 with_member w i m = record w { member = λ j. if j == i then m else w.member j }
 
 -- ---- a look
@@ -68,12 +68,12 @@ member_for m kept row d = record m { kept = kept; tag = tag_for kept d }
 abbrev pub member_after : Member → Row → List Entry → Member
 member_after m row now = member_for m (kept_after m.kept row now) row (due m.kept row now)
 
-abbrev pub looked : World → ℕ → Member → World
+abbrev pub looked : MemberWorld → ℕ → Member → MemberWorld
 looked w i m = with_member (record w { talked = talked_by m.work m.tag ++ w.talked }) i m
 
 -- ---- a begin's second half
 
-abbrev pub loaded : World → ℕ → Option ℕ → World
+abbrev pub loaded : MemberWorld → ℕ → Option ℕ → MemberWorld
 loaded w i None = w
 loaded w i (Some epoch) =
     let start : Start = record { node = i; epoch = epoch; serial = w.serial } in
@@ -96,7 +96,7 @@ heard m (Some message) = if is_of_run m.tag message.tag then record m { cone = m
 
 -- ----
 
-abbrev pub happens : World → Event → World
+abbrev pub happens : MemberWorld → Event → MemberWorld
 happens w (Look i row now) = looked w i (member_after (w.member i) row now)
 happens w (Load i) = loaded w i (w.member i).loading
 happens w (Crash i) = with_member w i (record (w.member i) { tag = None; loading = None })
@@ -105,6 +105,6 @@ happens w (Lose i) = with_member w i (idle new_kept)
 happens w (Send i) = record w { messages = message_of (w.member i).tag (w.member i).cone ++ w.messages }
 happens w (Hear i k) = with_member w i (heard (w.member i) (slice_get w.messages k))
 
-abbrev pub run : World → List Event → World
+abbrev pub run : MemberWorld → List Event → MemberWorld
 run w [] = w
 run w (event ∷ events) = run (happens w event) events

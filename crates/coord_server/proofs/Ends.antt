@@ -11,7 +11,7 @@ use Rattle.coord_world.specs.protocol.NumberedWorld.{World}
 use Rattle.coord_admin.specs.Connections.{Talk}
 use Rattle.coord_server.specs.EngineDesk.{DeskState}
 use Rattle.coord_server.specs.Ending.{AddsWorkers, HasRun, IsLife, IsNotClosed, IsOneHistory, IsServedToClose, LeavesNothing, Local, Serves, ServesLife, fault_at_end}
-use Rattle.coord_server.specs.Lives.{EndsLives, HasLived, HasLivedToClose, IsOver, Lives, Rests, life_steps, talked_any}
+use Rattle.coord_server.specs.Lives.{EndsLives, HasLived, HasLivedToClose, IsLastLife, Lives, Rests, life_steps, talked_any}
 use Rattle.coord_server.specs.declared.fault.ServerFault.{ServerFault}
 use Rattle.coord_server.specs.declared.fault.ServerFault.TheVariants as fault
 use Rattle.coord_server.specs.declared.life.Life.{Life}
@@ -63,7 +63,7 @@ module _ {D : Type 0} (b : Basis D) {V : Type 0} (talked : V → List Talk → V
   served_so : (port : Local) (v w : V) (desk : DeskState Local) (served : Option ServerFault) → ServesLife b talked failed most port v w desk (Ended served) → Serves b talked failed most port v w desk served
   served_so port v w desk served h1 = grind arith
 
-  served_at_last : (port : Local) (v w : V) (desk : DeskState Local) (left : LifeEnd) (served : Option ServerFault) → ServesLife b talked failed most port v w desk left → IsOver left served → Serves b talked failed most port v w desk served
+  served_at_last : (port : Local) (v w : V) (desk : DeskState Local) (left : LifeEnd) (served : Option ServerFault) → ServesLife b talked failed most port v w desk left → IsLastLife left served → Serves b talked failed most port v w desk served
   served_at_last port v w desk Resting served s over = subst (Serves b talked failed most port v w desk) (sym over) s
   served_at_last port v w desk (Ended why) served s over = subst (Serves b talked failed most port v w desk) (sym over) (served_so port v w desk why s)
 
@@ -91,7 +91,7 @@ module _ {D : Type 0} (m : DiskModel D) {V : Type 0} (talked : V → List Talk �
 
   -- the last life has ended
   pub lives_end : (began : World) (v : V) (life : Life D V) (ended : ServerEnd D V) → EndsLives m talked failed most began v life
-      → IsOver life.left ended.served → ended.closed ≡ life.closed → ended.callers ≡ life.callers → HasLived m talked failed most began v ended
+      → IsLastLife life.left ended.served → ended.closed ≡ life.closed → ended.callers ≡ life.callers → HasLived m talked failed most began v ended
   lives_end began v life ended (n, world, u, lives, so) over same same_w = (
     n,
     world,

@@ -11,7 +11,7 @@ use Rattle.coord_ledger.specs.declared.ticket.Note.{Note}
 use Rattle.coord_ledger.specs.Facade.{Claim, IsCollectable, LedgerGives, Log, GivesSettled as LogGives, reply_of, settled_world}
 use Rattle.coord_engine.specs.declared.closed.Closed.{Closed}
 use Rattle.coord_engine.specs.Facade.{AnswersStep, AtSomeMoment, Basis, LedgerAndNotes, engine_verdict, note_of}
-use Rattle.coord_server.specs.Told.{GivesSettled, LivesLeaveSteps, NamesItsStep, NotesEndALife, RepliesNameSteps}
+use Rattle.coord_server.specs.Told.{LifeGives, LivesLeaveSteps, NamesItsStep, NotesEndALife, RepliesNameSteps}
 
 -- ---- replies
 
@@ -43,7 +43,7 @@ of_disk o d P is so = subst (λ x. IfSome x P) is so
 
 gives : {D : Type 0} (left : Closed D) (log : Log) (doubt : Option ℕ) (image : List ℕ) → log.doubt ≡ doubt
     → left.base ≡ log.base → left.trail.items ≡ log.trail → left.settled ≡ log.base.count + log.settled → left.store.world ≡ settled_world log → has_stopped left.store ≡ is_some log.doubt
-    → IfSome doubt (λ size. log.settled + size ≤ length log.trail) → LogGives log doubt image → GivesSettled left image
+    → IfSome doubt (λ size. log.settled + size ≤ length log.trail) → LogGives log doubt image → LifeGives left image
 gives left log None image at same_base same_trail counted world stopped fits is = inl (subst (Recovered image) (sym world) is)
 gives left log (Some size) image at same_base same_trail counted world stopped fits (inl is) = inl (subst (Recovered image) (sym world) is)
 gives left log (Some size) image at same_base same_trail counted world stopped fits (inr is) =

@@ -42,18 +42,18 @@ module _ {D : Type 0} (b : Basis D) {V : Type 0} (talked : V → List Talk → V
   IsClosed most port v w desk = ServedToClose (DeskAnswers b) (DeskKeeps b) most talked v (new_desk port) w desk
 
   -- those who called were served by such a desk until no one came any more
-  abbrev pub IsLeft : {P : Type 0} → ℕ → P → V → V → DeskState P → Type 0
-  IsLeft most port v w desk = ServedOpen (DeskAnswers b) (DeskKeeps b) most talked v (new_desk port) w desk
+  abbrev pub ServedWhileOpen : {P : Type 0} → ℕ → P → V → V → DeskState P → Type 0
+  ServedWhileOpen most port v w desk = ServedOpen (DeskAnswers b) (DeskKeeps b) most talked v (new_desk port) w desk
 
   -- `failed v w`: those who call were v, and have failed
   module _ (failed : V → V → Type 0) (most : ℕ) where
     -- How the desk went on in a life of so many steps, from this port. It rests only once it keeps them; and it ends by a close, by a fault before anyone was served, or because those who call have failed.
     abbrev pub ServesLife : {P : Type 0} → P → V → V → DeskState P → LifeEnd → Type 0
-    ServesLife port v w desk end.Resting = IsLeft most port v w desk × HasKept (DeskKeeps b) desk most
+    ServesLife port v w desk end.Resting = ServedWhileOpen most port v w desk × HasKept (DeskKeeps b) desk most
     ServesLife port v w desk (end.Ended None) = IsClosed most port v w desk
     ServesLife port v w desk (end.Ended (Some fault.OutOfMemory)) = talked v [] w × (desk ≡ new_desk port)
     ServesLife port v w desk (end.Ended (Some fault.Write)) = talked v [] w × (desk ≡ new_desk port)
-    ServesLife port v w desk (end.Ended (Some fault.Socket)) = (talked v [] w × (desk ≡ new_desk port)) ⊎ ((last : V) × IsLeft most port v last desk × failed last w)
+    ServesLife port v w desk (end.Ended (Some fault.Socket)) = (talked v [] w × (desk ≡ new_desk port)) ⊎ ((last : V) × ServedWhileOpen most port v last desk × failed last w)
     ServesLife port v w desk (end.Ended (Some other)) = ⊥
 
     -- how the desk went on in the last life of a server that ends so: a store that has stopped is met where a life rests

@@ -26,15 +26,15 @@ pub record DeskState (P : Type 0) : Type 0 where
   pub port : P
 
 -- a step was submitted, and its ticket is this claim
-abbrev pub IsAccepted : {D : Type 0} → Basis D → Step → Claim → List Note → List Note → Type 0
-IsAccepted {D} b s claim before after = AtSomeMoment b (Submits {D = D} s (Ok claim) before after)
+abbrev pub AcceptsOrder : {D : Type 0} → Basis D → Step → Claim → List Note → List Note → Type 0
+AcceptsOrder {D} b s claim before after = AtSomeMoment b (Submits {D = D} s (Ok claim) before after)
 
 -- A reply is given once its step is settled. A refusal is one of the submitting, or it comes while the reply is waited for: then the step was accepted, and a repeat of its number tells.
-abbrev pub Orders : {D : Type 0} → Basis D → Step → Result Reply Refusal → List Note → List Note → Type 0
-Orders {D} b s (Ok reply) before after = (claim : Claim) × IsAccepted b s claim before after × AtSomeMoment b (λ g. CollectsAs {D = D} g.ledger claim (Settled reply))
-Orders {D} b s (Err refusal) before after =
+abbrev pub AnswersOrder : {D : Type 0} → Basis D → Step → Result Reply Refusal → List Note → List Note → Type 0
+AnswersOrder {D} b s (Ok reply) before after = (claim : Claim) × AcceptsOrder b s claim before after × AtSomeMoment b (λ g. CollectsAs {D = D} g.ledger claim (Settled reply))
+AnswersOrder {D} b s (Err refusal) before after =
     AtSomeMoment b (Submits {D = D} s (Err refusal) before after)
-    ⊎ ((claim : Claim) × IsAccepted b s claim before after × AtSomeMoment b (λ g. CollectsAs {D = D} g.ledger claim (Refused refusal claim)))
+    ⊎ ((claim : Claim) × AcceptsOrder b s claim before after × AtSomeMoment b (λ g. CollectsAs {D = D} g.ledger claim (Refused refusal claim)))
 
 abbrev pub seen_after : Result Reply Refusal → ℕ → ℕ
 seen_after (Ok reply) seen = max seen reply.step
@@ -59,7 +59,7 @@ HandsAgain {D} b carried signalled handed_on count port later =
 
 abbrev pub DeskAnswers : {D P : Type 0} → Basis D → DeskState P → Request → Answer → DeskState P → Type 0
 DeskAnswers {D} b d (request.Order client number command) answer e =
-    (result : Result Reply Refusal) × (answer ≡ order_answer result) × Orders b (step.Order client number command) result d.notes e.notes × (e.seen ≡ seen_after result d.seen) × (e.port ≡ d.port)
+    (result : Result Reply Refusal) × (answer ≡ order_answer result) × AnswersOrder b (step.Order client number command) result d.notes e.notes × (e.seen ≡ seen_after result d.seen) × (e.port ≡ d.port)
 DeskAnswers {D} b d request.Show answer e =
     (result : Result shown.Shown Refusal) × (answer ≡ show_answer result) × AnswersShow b result d.seen e.seen × (e.notes ≡ d.notes) × (e.port ≡ d.port)
 DeskAnswers {D} b d request.Resend answer e = (result : Result ℕ Refusal) × (answer ≡ resend_answer result) × Resends b result × (e.notes ≡ d.notes) × (e.seen ≡ d.seen)

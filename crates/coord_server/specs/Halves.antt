@@ -11,9 +11,9 @@ use Rattle.coord_admin.specs.declared.request.Request.{Request}
 use Rattle.coord_admin.specs.declared.request.Request.TheVariants as request
 use Rattle.coord_engine.specs.Facade.{Basis}
 use Rattle.coord_engine.specs.Threads.{AtSomeMoment, Submits}
-use Rattle.coord_server.specs.EngineDesk.{DeskAnswers, DeskKeeps, DeskPosts, DeskReplies, DeskState, Orders, Replies, seen_after}
+use Rattle.coord_server.specs.EngineDesk.{AnswersOrder, DeskAnswers, DeskKeeps, DeskPosts, DeskReplies, DeskState, Replies, seen_after}
 
-both : {D : Type 0} (b : Basis D) (s : Step) (posted : Result Claim Refusal) (reply : Result Reply Refusal) (before after : List Note) → AtSomeMoment b (Submits {D = D} s posted before after) → Replies b posted reply → Orders b s reply before after
+both : {D : Type 0} (b : Basis D) (s : Step) (posted : Result Claim Refusal) (reply : Result Reply Refusal) (before after : List Note) → AtSomeMoment b (Submits {D = D} s posted before after) → Replies b posted reply → AnswersOrder b s reply before after
 both b s (Ok claim) (Ok reply) before after put told = (claim, put, told)
 both b s (Ok claim) (Err refusal) before after put told = inr (claim, put, told)
 both b s (Err why) (Ok reply) before after put told = absurd told

@@ -12,7 +12,7 @@ use Rattle.coord_admin.specs.declared.patience.Patience.{Patience}
 use Rattle.coord_engine.specs.State.{Basis, based_on}
 use Rattle.coord_engine.specs.declared.closed.Closed.{Closed}
 use Rattle.coord_server.specs.EngineDesk.{DeskState}
-use Rattle.coord_server.specs.Ending.{IsLeft, IsLife, IsOneHistory, IsServedToClose, Local, Serves}
+use Rattle.coord_server.specs.Ending.{IsLife, IsOneHistory, IsServedToClose, Local, ServedWhileOpen, Serves}
 use Rattle.coord_server.specs.declared.fault.ServerFault.{ServerFault}
 use Rattle.coord_server.specs.declared.fault.ServerFault.TheVariants as fault
 use Rattle.coord_server.specs.declared.life.Life.{Life}
@@ -21,9 +21,9 @@ use Rattle.coord_server.specs.declared.life_end.LifeEnd.TheVariants as end
 use Rattle.coord_server.specs.declared.server_end.ServerEnd.{ServerEnd}
 
 -- how a server ends whose last life was left so: one that rests over a store that has stopped ends it too
-abbrev pub IsOver : LifeEnd → Option ServerFault → Type 0
-IsOver end.Resting served = served ≡ Some fault.Device
-IsOver (end.Ended why) served = served ≡ why
+abbrev pub IsLastLife : LifeEnd → Option ServerFault → Type 0
+IsLastLife end.Resting served = served ≡ Some fault.Device
+IsLastLife (end.Ended why) served = served ≡ why
 
 -- nobody is told apart from anybody
 abbrev pub talked_any : Unit {0} → List Talk → Unit {0} → Type 0
@@ -44,7 +44,7 @@ module _ {D : Type 0} (m : DiskModel D) {V : Type 0} (talked : V → List Talk �
     pub port : Local
     pub desk : DeskState Local
     pub left : Closed D
-    pub served : IsLeft (begun_over began) talked most port v w desk
+    pub served : ServedWhileOpen (begun_over began) talked most port v w desk
     pub old : most ≤ length left.trail.items
     pub history : IsOneHistory (begun_over began) desk.notes left
     pub all_settled : left.settled ≡ left.base.count + length left.trail.items

@@ -12,7 +12,7 @@ use Rattle.coord_engine.specs.State.{Basis}
 use Rattle.coord_engine.specs.Threads.{AtSomeMoment}
 use Rattle.coord_engine.specs.declared.closed.Closed.{Closed}
 use Rattle.coord_admin.specs.LifeLimit.{HasKeptFewer}
-use Rattle.coord_server.specs.EngineDesk.{DeskKeeps, DeskState, Orders}
+use Rattle.coord_server.specs.EngineDesk.{AnswersOrder, DeskKeeps, DeskState}
 use Rattle.coord_server.specs.Ending.{IsOneHistory}
 
 -- An order that is told a reply was noted just then, with the number that it is told; or nothing was, since it repeats one. At some moment of that life the step was settled: the log had it at that number and answered it with that kind, or the base kept that reply for that order.
@@ -22,11 +22,11 @@ pub record NamesItsStep {D : Type 0} (b : Basis D) (s : Step) (reply : Reply) (b
 
 -- each reply that a desk gives to an order names its step
 abbrev pub RepliesNameSteps : Type 0 → Type 0
-RepliesNameSteps D = (b : Basis D) (s : Step) (reply : Reply) (before after : List Note) → Orders b s (Ok reply) before after → NamesItsStep b s reply before after
+RepliesNameSteps D = (b : Basis D) (s : Step) (reply : Reply) (before after : List Note) → AnswersOrder b s (Ok reply) before after → NamesItsStep b s reply before after
 
 -- these bytes give the world after the settled steps of a life; or after a stop that of those and the next ones, which were in doubt
-abbrev pub GivesSettled : {D : Type 0} → Closed D → List ℕ → Type 0
-GivesSettled left bytes =
+abbrev pub LifeGives : {D : Type 0} → Closed D → List ℕ → Type 0
+LifeGives left bytes =
     Recovered bytes left.store.world
     ⊎ ((size : ℕ) × (has_stopped left.store ≡ true) × (left.settled + size ≤ left.base.count + length left.trail.items)
     × Recovered bytes (fold left.base (take (left.settled - left.base.count + size) left.trail.items)))
@@ -35,7 +35,7 @@ GivesSettled left bytes =
 abbrev pub LivesLeaveSteps : Type 0 → Type 0
 LivesLeaveSteps D =
     (b : Basis D) (desk : List Note) (left : Closed D) → IsOneHistory b desk left
-    → b.keeps_model left.store.disk ≡ true → (image : List ℕ) → IsImage (b.present left.store.disk) image → GivesSettled left image
+    → b.keeps_model left.store.disk ≡ true → (image : List ℕ) → IsImage (b.present left.store.disk) image → LifeGives left image
 
 -- a desk that has noted as many steps as its life has does not keep fewer, whatever its engine keeps
 abbrev pub NotesEndALife : Type 0 → Type 0 → Type 0

@@ -13,7 +13,7 @@ ghost use Rattle.coord_world.specs.protocol.Next.{fold};
 use crate::life_end::LifeEnd;
 use crate::printing::Opening;
 use crate::setting::Setting;
-use crate::threads::{Begun, Completed, run};
+use crate::threads::{Begun, JoinedThreads, run};
 use crate::{ServerFault, WORKERS};
 use coord_admin::Callers;
 use coord_disk::Disk;
@@ -123,7 +123,7 @@ fn begin<D: Disk, L: Origin, R: Wait>(
 /// What is left of a life, once its engine is taken apart with all shares.
 fn closed_life<D: Disk, L: Origin, C: Drop>(
     engine: Engine<D, L>,
-    completed: Completed<L, C>,
+    completed: JoinedThreads<L, C>,
 ) -> Result<Life<D, C>, ServerFault>
     requires parts { L.parts ≡ 65536 }
     requires all { length completed.shares.items ≡ 9 }
@@ -137,7 +137,7 @@ fn closed_life<D: Disk, L: Origin, C: Drop>(
     ensures nothing { IfErr result
         (IsNotClosed (based_on D.model L.base L.before) completed.shares.items) }
 {
-    let Completed {
+    let JoinedThreads {
         shares,
         callers,
         left,

@@ -5,7 +5,7 @@ ghost use Rattle.std.specs.Thread.{IsSend, IsSync};
 ghost use Rattle.coord_store.specs.Kept.{has_stopped};
 ghost use Rattle.coord_server.specs.Ending.{LeavesNothing};
 ghost use Rattle.coord_server.specs.declared.life_end.LifeEnd.TheVariants as LifeEndAs;
-ghost use Rattle.coord_server.specs.Lives.{EndsLives, EndsOneHistory, HasLived, IsOver};
+ghost use Rattle.coord_server.specs.Lives.{EndsLives, EndsOneHistory, HasLived, IsLastLife};
 ghost use Rattle.coord_server.specs.Moments.{AtEachMoment};
 
 use crate::life::{Life, serve_life};
@@ -213,7 +213,7 @@ fn next_of<D: Disk, C>(most: usize, life: Life<D, C>) -> Result<(Store<D>, C), L
 
 /// How a server ended, by its last life. One that rests is the last only where its store has stopped.
 fn end_of<D: Disk, C>(life: Life<D, C>, output: OutputEnd) -> ServerEnd<D, C>
-    ensures { IsOver life.left result.served × (result.closed ≡ life.closed) ×
+    ensures { IsLastLife life.left result.served × (result.closed ≡ life.closed) ×
         (result.callers ≡ life.callers) × (result.output ≡ output) }
 {
     let Life {

@@ -38,7 +38,7 @@ pub struct Begun<L: Count> {
 
 /// What they leave once all have ended: all shares, the desk's first.
 #[derive(Drop)]
-pub struct Completed<L: Count, C> {
+pub struct JoinedThreads<L: Count, C> {
     pub shares: Vec<Share<L>>,
     pub callers: C,
     pub left: LifeEnd,
@@ -69,7 +69,7 @@ pub fn run<
     begun: Begun<L>,
     callers: C,
     opening: Option<Opening<W>>,
-) -> Result<Completed<L, C>, (C, Option<Opening<W>>)>
+) -> Result<JoinedThreads<L, C>, (C, Option<Opening<W>>)>
     ensures completed { IfOk result (λ completed.
         HasRun (based_on D.model L.base L.before) C.talked C.failed setting.now.life_steps
         callers completed.callers completed.left completed.shares.items) }
@@ -78,7 +78,7 @@ pub fn run<
     thread::scope(
         thread::scope_env(),
         setting.rt,
-        |scope| -> Result<Completed<L, C>, (C, Option<Opening<W>>)>
+        |scope| -> Result<JoinedThreads<L, C>, (C, Option<Opening<W>>)>
             requires { IsSend D.row × IsSend L.row × IsSync L.row × IsSync R.row }
             ensures completed { IfOk result (λ completed.
                 HasRun (based_on D.model L.base L.before) C.talked C.failed
@@ -107,7 +107,7 @@ fn run_in<
     begun: Begun<L>,
     callers: C,
     opening: Option<Opening<W>>,
-) -> Result<Completed<L, C>, (C, Option<Opening<W>>)>
+) -> Result<JoinedThreads<L, C>, (C, Option<Opening<W>>)>
     ensures completed { IfOk result (λ completed.
         HasRun (based_on D.model L.base L.before) C.talked C.failed setting.now.life_steps
         callers completed.callers completed.left completed.shares.items) }
@@ -126,7 +126,7 @@ fn run_in<
     engine.finish(rt);
     flushing.join(rt);
     setting.port.hang_up();
-    Ok(Completed {
+    Ok(JoinedThreads {
         shares: all_joined(rt, room, own, workers),
         callers,
         left,

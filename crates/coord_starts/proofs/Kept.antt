@@ -15,7 +15,7 @@ use Rattle.coord_world.specs.laws.Raised.{raised}
 use Rattle.coord_world.proofs.Facade.{kept_reply_law}
 use Rattle.coord_ledger.specs.machine.Answers.{IsOneOf}
 use Rattle.coord_following.specs.Histories.{Raises, Takes, Turn, turned}
-use Rattle.coord_starts.specs.Told.{IsLastOrder, KeepsLast, led, outcomes}
+use Rattle.coord_starts.specs.Told.{IsLastKeptOrder, KeepsLast, led, outcomes}
 use Rattle.coord_starts.proofs.Turns.{one_behind, outcome_of, outcomes-append}
 
 -- ---- one step
@@ -52,7 +52,7 @@ leaves_one w s c = elim (kept_reply_law w (s ∷ []) c) [
 
 -- ---- all turns
 
-later : (w : World) (t : Turn) (turns : List Turn) (c : ℕ) (o : Session) → IsLastOrder (turned w t) turns c o → IsLastOrder w (t ∷ turns) c o
+later : (w : World) (t : Turn) (turns : List Turn) (c : ℕ) (o : Session) → IsLastKeptOrder (turned w t) turns c o → IsLastKeptOrder w (t ∷ turns) c o
 later w t turns c o last = record { before = t ∷ last.before; rest = last.rest; order = ap (λ l. t ∷ l) last.order; last = last.last; replied = last.replied }
 
 pub keeps_last : (turns : List Turn) (w : World) (c : ℕ) → KeepsLast w turns c
@@ -78,7 +78,7 @@ replies w turns = map (λ (o : StepOutcome). o.reply) (outcomes w turns)
 abbrev pub IsReplyIn : World → List Turn → Reply → Type 0
 IsReplyIn w turns r = IsOneOf r (replies w turns) ⊎ ((client : ℕ) × ((last : Session) × ((get w.sessions client ≡ Some last) × (last.reply ≡ r))))
 
-last_is_given : (w : World) (turns : List Turn) (c : ℕ) (o : Session) → IsLastOrder w turns c o → IsOneOf o.reply (replies w turns)
+last_is_given : (w : World) (turns : List Turn) (c : ℕ) (o : Session) → IsLastKeptOrder w turns c o → IsOneOf o.reply (replies w turns)
 last_is_given w turns c o last =
     let q = Order c o.number o.command in
     let given = outcomes-append last.before (Takes q ∷ last.rest) w in

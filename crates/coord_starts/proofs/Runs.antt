@@ -24,10 +24,10 @@ use Rattle.coord_ledger.specs.ledger.State.{LedgerState, ledger_over, started}
 use Rattle.coord_ledger.specs.machine.Consistent.{EventInRange}
 use Rattle.coord_ledger.specs.machine.Log.{world_after}
 use Rattle.coord_ledger.specs.machine.Machine.{adopted}
-use Rattle.coord_ledger.specs.promises.Broken.{HasCause}
+use Rattle.coord_ledger.specs.promises.Broken.{HasCauseToEnd}
 use Rattle.coord_ledger.specs.promises.Headline.{Completed, Promised}
 use Rattle.coord_ledger.proofs.machine.Consistent.{adopted_is_consistent}
-use Rattle.coord_starts.specs.Runs.{AreOf, HasRun, IsOf, ServesOnce, StartsOnce, idle, told_as}
+use Rattle.coord_starts.specs.Runs.{AreOf, HasRun, IsOf, ServesOnce, StartsOnce, idle_start, told_as}
 use Rattle.coord_starts.specs.Starts.{AreStarts, IsStart, MayServe, Raises, Serves, Start, at_end, left_by, turns_in}
 use Rattle.coord_starts.specs.Told.{led}
 use Rattle.coord_starts.specs.declared.starts.Outcome.{Outcome}
@@ -91,13 +91,13 @@ starts_serving w v task events items trace bytes same is listed once =
     subst (λ t. StartsOnce w t (Served trace) bytes) (sym is) (record { start = Serves events.items trace.answers.items at.kept; is_of = (at.kept, refl, at.all); may = at.may; left = at.left })
 
 -- a run ends early for want of memory, or since the device fails
-pub passing_kind : (keeps : Bool) (events : List Event) (at : ℕ) (released : List Release) (why : RunFaultKind) → HasCause keeps events at released why → keeps ≡ true → IsPassing (told_as why)
+pub passing_kind : (keeps : Bool) (events : List Event) (at : ℕ) (released : List Release) (why : RunFaultKind) → HasCauseToEnd keeps events at released why → keeps ≡ true → IsPassing (told_as why)
 passing_kind keeps events at released kind.OutOfMemory cause k = inl refl
 passing_kind keeps events at released (kind.Store fault) cause k = cause.2 k
 
 -- ---- a start that raises
 
-idle_may : (w : World) → IsStart w idle
+idle_may : (w : World) → IsStart w idle_start
 idle_may w = record { named = tt; answered = tt; kept = inl refl }
 
 second : (w : World) → w.version ≡ 2 → risen w ≡ w
@@ -107,11 +107,11 @@ first : (w : World) → w.version ≡ 1 → risen w ≡ raised w
 first w one = ap (λ v. cond (eqb v 1) (raised w) w) one
 
 pub raised_once : (w : World) (bytes : List ℕ) → (w.version ≡ 2) ⊎ IsQuiet w → Recovered bytes (risen w) → StartsOnce w Migrate Raised bytes
-raised_once w bytes (inl two) gives = record { start = idle; is_of = inr (refl, two); may = idle_may w; left = subst (Recovered bytes) (second w two) gives }
+raised_once w bytes (inl two) gives = record { start = idle_start; is_of = inr (refl, two); may = idle_may w; left = subst (Recovered bytes) (second w two) gives }
 raised_once w bytes (inr quiet) gives = record { start = Raises; is_of = inl refl; may = (quiet.first, quiet.ready); left = subst (Recovered bytes) (first w quiet.first) gives }
 
 pub not_raised : (w : World) (bytes : List ℕ) (fault : StoreFault) → RefusesMigration w fault → Recovered bytes w → StartsOnce w Migrate (Refused fault) bytes
-not_raised w bytes fault refuses gives = record { start = idle; is_of = (refuses, inl refl); may = idle_may w; left = gives }
+not_raised w bytes fault refuses gives = record { start = idle_start; is_of = (refuses, inl refl); may = idle_may w; left = gives }
 
 pub raised_or_not : (w : World) (bytes : List ℕ) → RefusesMigration w Device → Recovered bytes w ⊎ Recovered bytes (risen w) → StartsOnce w Migrate (Refused Device) bytes
 raised_or_not w bytes quiet (inl gives) = not_raised w bytes Device quiet gives

@@ -11,7 +11,7 @@ use Rattle.coord_starts.specs.Starts.{AreStarts, Start, left_by, released_of, re
 use Rattle.coord_starts.specs.Told.{IsReplyTo, KeepsLast, led, outcomes, steps_of}
 
 -- What the starts of a store have made of an empty world.
-pub record IsOneHistory (w : World) (starts : List Start) : Type 0 where
+pub record IsHistoryOfStarts (w : World) (starts : List Start) : Type 0 where
   -- The steps that were kept are one history, each of them fresh over the world after those before it, and the last
   -- start left the legal world after all of them.
   pub history : IsHistory w (turns_of w starts)
@@ -30,4 +30,4 @@ pub record IsOneHistory (w : World) (starts : List Start) : Type 0 where
 
 -- Whatever the starts of a store were, from the making of the store on.
 abbrev pub StartsAreOne : Type 0
-StartsAreOne = (version : ℕ) (starts : List Start) → 1 ≤ version → version ≤ MAX_VERSIONS → AreStarts (no_world version) starts → IsOneHistory (no_world version) starts
+StartsAreOne = (version : ℕ) (starts : List Start) → 1 ≤ version → version ≤ MAX_VERSIONS → AreStarts (no_world version) starts → IsHistoryOfStarts (no_world version) starts

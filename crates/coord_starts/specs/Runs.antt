@@ -9,7 +9,7 @@ use Rattle.coord_ledger.specs.declared.events.Event.{Event}
 use Rattle.coord_ledger.specs.declared.release.Release.{Release}
 use Rattle.coord_ledger.specs.declared.trace.RunFaultKind.{RunFaultKind}
 use Rattle.coord_ledger.specs.declared.trace.RunFaultKind.TheVariants as kind
-use Rattle.coord_starts.specs.OneHistory.{IsOneHistory}
+use Rattle.coord_starts.specs.OneHistory.{IsHistoryOfStarts}
 use Rattle.coord_starts.specs.Starts.{AreStarts, IsStart, MayServe, Raises, Serves, Start, at_end, left_by, turns_in}
 use Rattle.coord_starts.specs.Told.{led}
 use Rattle.coord_starts.specs.declared.starts.Outcome.{Outcome}
@@ -23,16 +23,16 @@ told_as kind.OutOfMemory = OutOfMemory
 told_as (kind.Store fault) = fault
 
 -- nothing is asked, and nothing is kept
-abbrev pub idle : Start
-idle = Serves [] [] 0
+abbrev pub idle_start : Start
+idle_start = Serves [] [] 0
 
 -- The start that a task was, by what came of it. A store of version 2 is raised by doing nothing. After a failure of the
 -- device it is raised or not.
 abbrev pub IsOf : World → Task → Outcome → Start → Type 0
 IsOf w (Serve events) (Served trace) start =
     (n : ℕ) × (start ≡ Serves events.items trace.answers.items n) × (trace.released.items ≡ (at_end w events.items trace.answers.items).released)
-IsOf w Migrate Raised start = (start ≡ Raises) ⊎ ((start ≡ idle) × (w.version ≡ 2))
-IsOf w Migrate (Refused fault) start = RefusesMigration w fault × ((start ≡ idle) ⊎ ((start ≡ Raises) × (fault ≡ Device)))
+IsOf w Migrate Raised start = (start ≡ Raises) ⊎ ((start ≡ idle_start) × (w.version ≡ 2))
+IsOf w Migrate (Refused fault) start = RefusesMigration w fault × ((start ≡ idle_start) ⊎ ((start ≡ Raises) × (fault ≡ Device)))
 IsOf w task outcome start = ⊥
 
 -- a start that serves these events, with these answers and releases, and leaves these bytes once the power was cut behind it
@@ -65,4 +65,4 @@ pub record HasRun (version : ℕ) (tasks : List Task) (outcomes : List Outcome) 
 -- the tasks were starts of a store that was just made, and all of them are one history
 pub record IsOneRun (version : ℕ) (tasks : List Task) (outcomes : List Outcome) (bytes : List ℕ) : Type 0 where
   pub run : HasRun version tasks outcomes bytes
-  pub one : IsOneHistory (no_world version) run.starts
+  pub one : IsHistoryOfStarts (no_world version) run.starts

@@ -38,7 +38,7 @@ pub record IsReplyTo (count : ℕ) (given : List StepOutcome) (r : Reply) : Type
   pub number : r.step ≡ count + length before + 1
 
 -- what client c's last order among these turns leaves: its number, its command and its reply
-pub record IsLastOrder (w : World) (turns : List Turn) (c : ℕ) (o : Session) : Type 0 where
+pub record IsLastKeptOrder (w : World) (turns : List Turn) (c : ℕ) (o : Session) : Type 0 where
   pub before : List Turn
   pub rest : List Turn
   pub order : turns ≡ before ++ Takes (Order c o.number o.command) ∷ rest
@@ -49,5 +49,5 @@ pub record IsLastOrder (w : World) (turns : List Turn) (c : ℕ) (o : Session) :
 -- of the client.
 abbrev pub KeepsLast : World → List Turn → ℕ → Type 0
 KeepsLast w turns c =
-    ((o : Session) × ((get (led w turns).sessions c ≡ Some o) × IsLastOrder w turns c o))
+    ((o : Session) × ((get (led w turns).sessions c ≡ Some o) × IsLastKeptOrder w turns c o))
     ⊎ ((get (led w turns).sessions c ≡ get w.sessions c) × AllByRecursion (IsNotBy c) (steps_of turns))

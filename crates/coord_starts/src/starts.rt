@@ -79,7 +79,7 @@ fn start<D: CrashDisk>(alloc: Global, disk: D, task: &Task) -> Result<(Outcome, 
 /// Makes a store on an empty disk, and starts it for each task, one start after the other. Behind
 /// each start the power is cut: the next one opens what the crash has left.
 ///
-/// The main theorem: all starts together are one history (`IsOneHistory`), and the disk gives the
+/// The main theorem: all starts together are one history (`IsHistoryOfStarts`), and the disk gives the
 /// world after it. A fault ends the starts: the store was not made, or there was no memory, or the
 /// device failed.
 pub fn run_starts<D: CrashDisk>(

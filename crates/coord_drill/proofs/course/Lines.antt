@@ -7,7 +7,7 @@ use Rattle.coord_ledger.specs.declared.events.Event.{Event}
 use Rattle.coord_ledger.specs.Facade.{CrashPrefix, Machine, adopted, disk_held, run, front_world}
 use Rattle.coord_drill.specs.Drill.{DrillState, line_events}
 use Rattle.coord_drill.specs.declared.asked.Asked.TheVariants.{Crash, Version2}
-use Rattle.coord_drill.specs.Facade.{Asked, CutShort, Cuts, Drill, Fault, IsEmptyLog, IsLeftBy, IsOfDisk, IsOfMemory, IsPromised, IsSettled, LacksMemory, LineResponds, MayCutShort, MayEndBy, Place, RaisesPart, RunsOn, Stands, failed_by, opens_disk, CarriesIf, CarriesLine, CutsIf, FirstCutShort, Goes, LineGoes, Moves, Prints, Refusal, Request, Responds, Step, Tells, UnlessSkipped, asked_in, bad_line, front_of, state_of, told_in}
+use Rattle.coord_drill.specs.Facade.{Asked, CutShort, Cuts, Drill, Fault, IsEmptyLog, IsLeftBy, IsOfDisk, IsOfMemory, LineIsPromised, IsSettled, LacksMemory, LineResponds, MayCutShort, MayEndBy, Place, RaisesPart, RunsOn, Stands, failed_by, opens_disk, CarriesIf, CarriesLine, CutsIf, FirstCutShort, Goes, LineGoes, Moves, Prints, Refusal, Request, Responds, Step, Tells, UnlessSkipped, asked_in, bad_line, front_of, state_of, told_in}
 use Rattle.coord_drill.proofs.does.Moments.{is_version}
 use Rattle.coord_drill.proofs.course.Standing.{none_told, raises, reached_by, runs_on}
 use Rattle.coord_lines.specs.Lines.{Line}
@@ -64,7 +64,7 @@ module _ {D : Type 0} (disk : DiskModel D) (crashes : D → D → Type 0) (d : D
       let same : part.old ≡ p.disk = cc (part.there, at.holds) in
       cut_before_events Version2 refused (λ _. none_told disk crashes d d p at empty) (part.cause empty) (raises disk crashes d d p at empty part.old refused.1 part.there part.moments) (part.failed ∙ ap (λ x. disk.failures x + failed_by refused.0) same)
 
-  pub cut_by : (a : Asked) (refused : Fault × D) → IsPromised disk d a → Cuts disk crashes a d refused → CutShort disk crashes p a refused
+  pub cut_by : (a : Asked) (refused : Fault × D) → LineIsPromised disk d a → Cuts disk crashes a d refused → CutShort disk crashes p a refused
   cut_by Version2 refused promised part = cut_raising refused (promised.1 refl) part
   cut_by Crash refused promised (inl part) = cut_part Crash refused refl part
   cut_by Crash refused promised (inr part) =
@@ -134,7 +134,7 @@ module _ {D : Type 0} (disk : DiskModel D) (crashes : D → D → Type 0) where
         stays (Some line) (bad_line n) (asks_nothing line kept none) (rw kept (rw own (refl, ap bad_line number, refl)))
 
     -- what it asks for is promised
-    promised : (line : List ℕ) (r : Request) → asked_by (state_of d) line ≡ Some r → IsPromised disk d (asked (front_of d) r)
+    promised : (line : List ℕ) (r : Request) → asked_by (state_of d) line ≡ Some r → LineIsPromised disk d (asked (front_of d) r)
     promised line r is = grind (arith, only_request, not_late)
 
     module _ (line : List ℕ) (r : Request) (kept : is_skipped line ≡ false) (is : asked_by (state_of d) line ≡ Some r) where

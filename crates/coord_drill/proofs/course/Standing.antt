@@ -18,7 +18,7 @@ use Rattle.coord_drill.specs.Answered.{IsAnswered, asked_lines}
 use Rattle.coord_drill.specs.Drill.{DrillState, after_asked, line_events}
 use Rattle.coord_drill.specs.Told.{told_by}
 use Rattle.coord_drill.specs.declared.asked.Asked.TheVariants.{Version2}
-use Rattle.coord_drill.specs.Facade.{Answer, Asked, Carries, Drill, GivesEmpty, GivesRaised, IsEmptyLog, IsPromised, IsSettled, Leads, Led, Moves, Place, Raises, RaisesTo, RunsOn, RunsTo, Stands, start, state_of}
+use Rattle.coord_drill.specs.Facade.{Answer, Asked, Carries, Drill, GivesEmpty, GivesRaised, IsEmptyLog, IsSettled, Leads, Led, LineIsPromised, Moves, Place, RaisesEmpty, RaisesTo, RunsOn, RunsTo, Stands, start, state_of}
 use Rattle.coord_drill.proofs.does.Moments.{is_version}
 use Rattle.coord_drill.proofs.course.Empty.{risen_empty, stays_empty}
 use Rattle.coord_drill.proofs.course.Settled.{settled_grows, told_settled}
@@ -138,7 +138,7 @@ module _ {D : Type 0} (disk : DiskModel D) (crashes : D → D → Type 0) where
         }
 
     -- each moment of the raising
-    pub raises : IsEmptyLog d.driver.ledger.log → (old lost : D) → disk_held d.driver ≡ Some old → (has_stopped d.driver.ledger.log ≡ false → disk.keeps_model old ≡ true → LeavesOnly disk old lost (GivesRaised d.driver)) → Raises disk p.disk lost
+    pub raises : IsEmptyLog d.driver.ledger.log → (old lost : D) → disk_held d.driver ≡ Some old → (has_stopped d.driver.ledger.log ≡ false → disk.keeps_model old ≡ true → LeavesOnly disk old lost (GivesRaised d.driver)) → RaisesEmpty disk p.disk lost
     raises empty old lost there moments =
         let same : old ≡ p.disk = cc (there, at.holds) in
         let leaves = moments (none_stopped d.driver.ledger.log empty) (ap disk.keeps_model same ∙ at.keeps) in
@@ -177,6 +177,6 @@ module _ {D : Type 0} (disk : DiskModel D) (crashes : D → D → Type 0) where
           };
         }
 
-    pub reached_by : (a : Asked) (text : List ℕ) → IsPromised disk d a → (carries : Carries disk crashes d a text new) → Reached d new p a carries.given text
+    pub reached_by : (a : Asked) (text : List ℕ) → LineIsPromised disk d a → (carries : Carries disk crashes d a text new) → Reached d new p a carries.given text
     reached_by Version2 text promised carries = reached_raised carries.given text (promised.1 refl) carries.moments
     reached_by a text promised carries = reached a carries.given text refl carries.answered carries.moments

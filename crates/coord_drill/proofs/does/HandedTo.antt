@@ -15,7 +15,7 @@ use Rattle.coord_drill.specs.declared.asked.Asked.TheVariants.{Submit}
 use Rattle.coord_ledger.specs.declared.handed.Handed.{Handed}
 use Rattle.coord_drill.specs.Answered.{asked_lines}
 use Rattle.coord_drill.specs.Drill.{after_asked, line_events}
-use Rattle.coord_drill.specs.Facade.{Answer, Begins, Carries, Drill, DrillState, Flies, Hands, IsHeld, IsReady, IsReadyWith, Leads, LeadsPart, Refusal, Reply, Step, Verdict, claims_of, drill_of, flight_events, flight_lines, kept_line, machine_of, pending_line, refusal_line, seen_as, state_of}
+use Rattle.coord_drill.specs.Facade.{Answer, Begins, Carries, Drill, DrillState, Flies, Hands, IsHeld, IsReadyDrill, IsReadyWith, Leads, LeadsPart, Refusal, Reply, Step, Verdict, claims_of, drill_of, flight_events, flight_lines, kept_line, machine_of, pending_line, refusal_line, seen_as, state_of}
 use Rattle.coord_drill.proofs.does.Does.{flown_after, flown_line, held_after, held_line, refused_after, refused_line, repeat_after, repeat_lines}
 use Rattle.coord_drill.proofs.does.Moments.{Survive, carries, leads_then, none_led}
 use Rattle.coord_drill.proofs.does.Verdicts.{no_refusal, other_refusal}
@@ -42,7 +42,7 @@ repeated_granted {D} l new x t to =
 
 -- ---- the drill then, and what is printed
 
-module _ {D : Type 0} (disk : DiskModel D) (crashes : D → D → Type 0) (d : Drill D) (w : DriverState D) (x : Step) (ready : IsReady d) where
+module _ {D : Type 0} (disk : DiskModel D) (crashes : D → D → Type 0) (d : Drill D) (w : DriverState D) (x : Step) (ready : IsReadyDrill d) where
   abbrev v : DriverState D
   v = d.driver
 

@@ -9,7 +9,7 @@ use Rattle.coord_store.specs.declared.faults.StoreFault.{StoreFault}
 use Rattle.coord_store.specs.declared.faults.StoreFault.TheVariants.{OutOfMemory, Device, NotQuiet, Stopped}
 use Rattle.coord_world.specs.Facade.{World, is_ready, no_world, state, state_or_none}
 use Rattle.coord_ledger.specs.Facade.{DriverState, LedgerState, Log, disk_held, disk_with, settled_world}
-use Rattle.coord_drill.specs.Facade.{IsEmptyLog, IsPassing, store_fault}
+use Rattle.coord_drill.specs.Facade.{IsEmptyLog, IsPassingFault, store_fault}
 
 pub none_torn : {A : Type 0} (o : Option A) → is_some o ≡ false → o ≡ None
 none_torn None is = refl
@@ -31,7 +31,7 @@ is_empty_world log (inl one) = (1, ap settled_world one)
 is_empty_world log (inr two) = (2, ap settled_world two)
 
 -- why that of an empty world is not raised
-pub raising_cause : (log : Log) (w : World) (fault : StoreFault) → w ≡ settled_world log → IsEmptyLog log → RefusesMigration w fault → (fault ≡ Stopped → ⊥) → IsPassing (store_fault fault)
+pub raising_cause : (log : Log) (w : World) (fault : StoreFault) → w ≡ settled_world log → IsEmptyLog log → RefusesMigration w fault → (fault ≡ Stopped → ⊥) → IsPassingFault (store_fault fault)
 raising_cause log w OutOfMemory is empty refuses going = inl refl
 raising_cause log w Device is empty refuses going = inr refl
 raising_cause log w (NotQuiet u) is empty refuses going = let one = is_empty_world log empty in absurd (never_busy w one.0 u (is ∙ one.1) refuses.1.busy)

@@ -3,10 +3,10 @@ use Rattle.std.proofs.Common.{◌≡◌, ℕ, ◌≤◌, List, [], ◌++◌, len
 use Rattle.std.specs.Io.KnownBytes.{Appends, Keeps}
 use Rattle.std.proofs.KnownBytes.{Appends-kept, Appends-nil}
 use Rattle.coord_drill.specs.Drilled.{IsFirstPart, WritesFirstPart}
-use Rattle.coord_drill.specs.Written.{IsShortPart, Writes, WritesShort}
+use Rattle.coord_drill.specs.Written.{IsShortPart, WritesPart, WritesShort}
 
 -- what was written to a list that was empty has P
-pub writes_list : (items : List ℕ) (P : List ℕ → Type 0) → Writes (Some []) (Some items) P → P items
+pub writes_list : (items : List ℕ) (P : List ℕ → Type 0) → WritesPart (Some []) (Some items) P → P items
 writes_list items P one = subst P (sym one.1) one.2
 
 -- ---- first parts

@@ -4,7 +4,7 @@ use Rattle.coord_disk.specs.Model.DiskModel.{DiskModel}
 use Rattle.coord_ledger.specs.Facade.{disk_held}
 use Rattle.coord_lines.specs.Lines.{IsWithin, Line, before_line_feed, behind_line_feed, extended, lines_on}
 use Rattle.coord_lines.proofs.LinesOn.{extended-nothing, lines_on-ended, lines_on-unended}
-use Rattle.coord_drill.specs.Facade.{Breaks, BreaksOff, CarriesLine, CarriesOut, Console, CutsLine, EndsEarly, EndsWith, Fault, FirstCutShort, IsOfWriting, IsShortPart, Place, Stops, StopsWork, Takes}
+use Rattle.coord_drill.specs.Facade.{Breaks, CarriesLine, CarriesOut, Console, CutsLine, EndsEarly, EndsWith, Fault, FirstCutShort, IsOfWriting, IsShortPart, LinesBreakOff, Place, StopsDrill, StopsWork, TakesPiece}
 use Rattle.coord_drill.specs.declared.fault.Fault.TheVariants.{Read, TooManyReads}
 use Rattle.coord_drill.proofs.course.Lines.{goes_both, goes_one}
 use Rattle.coord_drill.proofs.prints.FirstParts.{short_behind, short_longer}
@@ -33,7 +33,7 @@ module _ {D : Type 0} (disk : DiskModel D) (crashes : D → D → Type 0) where
     goes = λ p at. let one = breaks.goes p at in (one.0, one.1, so p one.0 breaks.others one.2);
   }
 
-  pub works_early : (c : Console D) (ls : List Line) (refused : Fault × D) (t : List ℕ) → BreaksOff disk crashes c ls refused t → EndsEarly disk crashes c ls refused t
+  pub works_early : (c : Console D) (ls : List Line) (refused : Fault × D) (t : List ℕ) → LinesBreakOff disk crashes c ls refused t → EndsEarly disk crashes c ls refused t
   works_early c ls refused t breaks = breaks_so c ls t t _ _ (λ p q others work. inr (inr work)) breaks
 
   carries_none : (c : Console D) → CarriesOut disk crashes c [] [] c
@@ -82,13 +82,13 @@ module _ {D : Type 0} (disk : DiskModel D) (crashes : D → D → Type 0) where
       (one.0, (one.1, omega (arith, one.3.lines, at.1, number)), one.2, goes_one disk crashes p one.0 line one.3 one.1.survives)
 
   -- its text was not written whole
-  pub line_unwritten : (c new : Console D) (line : Line) (text part : List ℕ) (refused : Fault × D) → CarriesLine disk crashes c.drill (c.number + 1) line text new.drill → new.number ≡ c.number + 1 → IsShortPart part text → IsOfWriting refused.0 → disk_held new.drill.driver ≡ Some refused.1 → BreaksOff disk crashes c (line ∷ []) refused part
+  pub line_unwritten : (c new : Console D) (line : Line) (text part : List ℕ) (refused : Fault × D) → CarriesLine disk crashes c.drill (c.number + 1) line text new.drill → new.number ≡ c.number + 1 → IsShortPart part text → IsOfWriting refused.0 → disk_held new.drill.driver ≡ Some refused.1 → LinesBreakOff disk crashes c (line ∷ []) refused part
   line_unwritten c new line text part refused carries number short writing there =
       breaks_behind c new (line ∷ []) [] (line ∷ []) text part refused.1 _ refl (carries_line c new line text carries number) there
       (λ p q same printed. inr (record { cause = writing; wrote = short_behind p.printed text part q.printed printed short; given_back = inl same }))
 
   -- it was cut short
-  pub line_cut : (c : Console D) (line : Line) (refused : Fault × D) → CutsLine disk crashes c.drill line refused → BreaksOff disk crashes c (line ∷ []) refused []
+  pub line_cut : (c : Console D) (line : Line) (refused : Fault × D) → CutsLine disk crashes c.drill line refused → LinesBreakOff disk crashes c (line ∷ []) refused []
   line_cut c line refused cuts = record {
     ended = [];
     others = line ∷ [];
@@ -116,10 +116,10 @@ module _ {D : Type 0} (disk : DiskModel D) (crashes : D → D → Type 0) where
 
   -- ---- pieces
 
-  pub takes_none : (c : Console D) (piece : List ℕ) → Takes disk crashes c piece piece [] c
+  pub takes_none : (c : Console D) (piece : List ℕ) → TakesPiece disk crashes c piece piece [] c
   takes_none c piece = record { ended = []; lines = λ more. refl; out = carries_none c }
 
-  module _ (c : Console D) (piece rest t : List ℕ) (now : Console D) (taken : Takes disk crashes c piece rest t now) where
+  module _ (c : Console D) (piece rest t : List ℕ) (now : Console D) (taken : TakesPiece disk crashes c piece rest t now) where
     -- all of it
     whole : lines_on c.line piece ≡ taken.ended ++ lines_on now.line rest
     whole = ap (lines_on c.line) (sym (append-nil piece)) ∙ taken.lines [] ∙ ap (λ r. taken.ended ++ lines_on now.line r) (append-nil rest)
@@ -129,7 +129,7 @@ module _ {D : Type 0} (disk : DiskModel D) (crashes : D → D → Type 0) where
       at_feed : (more : List ℕ) → lines_on now.line (rest ++ more) ≡ longer ∷ lines_on (Some []) (behind ++ more)
       at_feed more = lines_on-ended now.line rest more behind (sym feed) ∙ ap (λ l. l ∷ lines_on (Some []) (behind ++ more)) (sym is)
 
-      pub takes_line : (u : List ℕ) (new : Console D) → new.line ≡ Some [] → CarriesOut disk crashes (record now { line = longer }) (longer ∷ []) u new → Takes disk crashes c piece behind (t ++ u) new
+      pub takes_line : (u : List ℕ) (new : Console D) → new.line ≡ Some [] → CarriesOut disk crashes (record now { line = longer }) (longer ∷ []) u new → TakesPiece disk crashes c piece behind (t ++ u) new
       takes_line u new empty out = record {
         ended = taken.ended ++ longer ∷ [];
         lines = λ more.
@@ -138,21 +138,21 @@ module _ {D : Type 0} (disk : DiskModel D) (crashes : D → D → Type 0) where
         out = carries_after c now taken.ended (longer ∷ []) t u taken.out new out;
       }
 
-      pub takes_cut : (refused : Fault × D) (u : List ℕ) → BreaksOff disk crashes (record now { line = longer }) (longer ∷ []) refused u → BreaksOff disk crashes c (lines_on c.line piece) refused (t ++ u)
+      pub takes_cut : (refused : Fault × D) (u : List ℕ) → LinesBreakOff disk crashes (record now { line = longer }) (longer ∷ []) refused u → LinesBreakOff disk crashes c (lines_on c.line piece) refused (t ++ u)
       takes_cut refused u breaks =
           let more = lines_on (Some []) (behind ++ []) in
           let all = ap (lines_on c.line) (sym (append-nil piece)) ∙ taken.lines [] ∙ ap (λ l. taken.ended ++ l) (at_feed []) in
           breaks_after c (record now { line = longer }) taken.ended (longer ∷ []) t u taken.out _ more (lines_on c.line piece) all (work_more refused more) breaks
 
     -- with none the line goes on
-    pub takes_rest : (longer : Line) → None ≡ behind_line_feed rest → longer ≡ extended now.line (before_line_feed rest) → Takes disk crashes c piece [] t (record now { line = longer })
+    pub takes_rest : (longer : Line) → None ≡ behind_line_feed rest → longer ≡ extended now.line (before_line_feed rest) → TakesPiece disk crashes c piece [] t (record now { line = longer })
     takes_rest longer none is = record {
       ended = taken.ended;
       lines = λ more. taken.lines more ∙ ap (λ l. taken.ended ++ l) (lines_on-unended now.line rest more (sym none) ∙ ap (λ l. lines_on l more) (sym is));
       out = taken.out;
     }
 
-  module _ (c : Console D) (piece t : List ℕ) (now : Console D) (taken : Takes disk crashes c piece [] t now) where
+  module _ (c : Console D) (piece t : List ℕ) (now : Console D) (taken : TakesPiece disk crashes c piece [] t now) where
     all : lines_on c.line piece ≡ taken.ended ++ lines_on now.line []
     all = whole c piece [] t now taken
 
@@ -169,7 +169,7 @@ module _ {D : Type 0} (disk : DiskModel D) (crashes : D → D → Type 0) where
     both : (came more : List ℕ) → lines_on c.line ((piece ++ came) ++ more) ≡ taken.ended ++ lines_on now.line (came ++ more)
     both came more = ap (lines_on c.line) (append_assoc piece came more) ∙ taken.lines (came ++ more)
 
-    pub takes_piece : (came u : List ℕ) (new : Console D) → Takes disk crashes now came [] u new → Takes disk crashes c (piece ++ came) [] (t ++ u) new
+    pub takes_piece : (came u : List ℕ) (new : Console D) → TakesPiece disk crashes now came [] u new → TakesPiece disk crashes c (piece ++ came) [] (t ++ u) new
     takes_piece came u new next = record {
       ended = taken.ended ++ next.ended;
       lines = λ more. both came more ∙ ap (λ l. taken.ended ++ l) (next.lines more) ∙ sym (append_assoc taken.ended next.ended (lines_on new.line more));
@@ -180,16 +180,16 @@ module _ {D : Type 0} (disk : DiskModel D) (crashes : D → D → Type 0) where
     takes_break came u refused breaks =
         let split = ap (lines_on c.line) (sym (append-nil (piece ++ came))) ∙ both came [] ∙ ap (λ r. taken.ended ++ lines_on now.line r) (append-nil came) ∙ ap (λ l. taken.ended ++ l) (sym (append-nil (lines_on now.line came))) in
         breaks_after c now taken.ended (lines_on now.line came) t u taken.out _ [] (lines_on c.line (piece ++ came)) split
-        (λ q others written stops. subst (λ ls. Stops disk crashes q ls written refused) (sym (append-nil others)) stops) breaks
+        (λ q others written stops. subst (λ ls. StopsDrill disk crashes q ls written refused) (sym (append-nil others)) stops) breaks
 
     -- not all of the text of a piece was written
-    pub takes_unwritten : (part : List ℕ) (refused : Fault × D) → IsShortPart part t → IsOfWriting refused.0 → disk_held now.drill.driver ≡ Some refused.1 → BreaksOff disk crashes c (lines_on c.line piece) refused part
+    pub takes_unwritten : (part : List ℕ) (refused : Fault × D) → IsShortPart part t → IsOfWriting refused.0 → disk_held now.drill.driver ≡ Some refused.1 → LinesBreakOff disk crashes c (lines_on c.line piece) refused part
     takes_unwritten part refused short writing there =
         breaks_behind c now taken.ended (lines_on now.line []) (lines_on c.line piece) t part refused.1 _ all taken.out there
         (λ p q same printed. inr (record { cause = writing; wrote = short_behind p.printed t part q.printed printed short; given_back = inl same }))
 
   -- nor where a line failed before, and then the writer's fault is told
-  pub breaks_unwritten : (c : Console D) (ls : List Line) (fault later : Fault) (lost : D) (t part : List ℕ) → IsOfWriting later → BreaksOff disk crashes c ls (fault, lost) t → IsShortPart part t → BreaksOff disk crashes c ls (later, lost) part
+  pub breaks_unwritten : (c : Console D) (ls : List Line) (fault later : Fault) (lost : D) (t part : List ℕ) → IsOfWriting later → LinesBreakOff disk crashes c ls (fault, lost) t → IsShortPart part t → LinesBreakOff disk crashes c ls (later, lost) part
   breaks_unwritten c ls fault later lost t part writing breaks short = breaks_so c ls t part _ _ put breaks
     where
       put : (p q : Place D) (others : List Line) → StopsWork disk crashes q others (p.printed ++ t) (fault, lost) → StopsWork disk crashes q others (p.printed ++ part) (later, lost)

@@ -7,7 +7,7 @@ use Rattle.coord_lines.specs.Lines.{Line, lines_of, lines_on}
 use Rattle.coord_lines.proofs.LinesOn.{lines_on-empty}
 use Rattle.coord_store.specs.declared.faults.StoreFault.{StoreFault}
 use Rattle.coord_store.specs.declared.faults.StoreFault.TheVariants.{OutOfMemory}
-use Rattle.coord_drill.specs.Facade.{BrokeOff, Console, Ended, EndsEarly, EndsWith, Fault, InOut, IsBegun, Place, Prints, Stops, WritesFirstPart, drill_over, start, store_fault}
+use Rattle.coord_drill.specs.Facade.{BrokeOff, Console, DrillEnded, EndsEarly, EndsWith, Fault, InOut, IsBegun, Place, Prints, StopsDrill, WritesFirstPart, drill_over, start, store_fault}
 use Rattle.coord_drill.specs.declared.fault.Fault.TheVariants.{TooManyReads}
 use Rattle.coord_drill.specs.Drilled.{IsDrilled, IsFirstPart}
 use Rattle.coord_world.specs.Facade.{no_world}
@@ -25,14 +25,14 @@ Consumes-none a b c seen bytes count first second e =
 
 module _ {D : Type 0} (disk : DiskModel D) (crashes : D → D → Type 0) (given : D) (input : List ℕ) where
   -- what was printed of all of it may be
-  pub ended_prints : (text : List ℕ) (last : D) → Ended disk crashes given input text last → IsDrilled input text
+  pub ended_prints : (text : List ℕ) (last : D) → DrillEnded disk crashes given input text last → IsDrilled input text
   ended_prints text last ended =
       let lines = lines_of input in
       let prints = goes_prints disk crashes _ ended.place lines [] [] ended.course.goes refl in
       subst (IsDrilled input) (sym (ended.wrote ∙ prints.1 ∙ sym (append-nil prints.0))) (subst (λ ls. Prints (drill_over (no_world 1)) 1 ls (prints.0 ++ [])) (append-nil lines) prints.2)
 
   -- a first part was written, whatever stopped it
-  stops_written : (refused : Fault × D) (q : Place D) (others : List Line) (written rest : List ℕ) → Stops disk crashes q others written refused → IsFirstPart written (q.printed ++ rest)
+  stops_written : (refused : Fault × D) (q : Place D) (others : List Line) (written rest : List ℕ) → StopsDrill disk crashes q others written refused → IsFirstPart written (q.printed ++ rest)
   stops_written refused q others written rest (inl read) = first_part-all written q.printed rest read.wrote
   stops_written refused q others written rest (inr (inl flush)) = first_part-all written q.printed rest flush.wrote
   stops_written refused q others written rest (inr (inr (inl line))) = first_part-all written q.printed rest line.wrote
@@ -50,7 +50,7 @@ module _ {D : Type 0} (disk : DiskModel D) (crashes : D → D → Type 0) (given
     lines_are : lines_on c.line input ≡ lines_of input
     lines_are = ap (λ l. lines_on l input) empty ∙ lines_on-empty input
 
-    pub ended_of : (text : List ℕ) (last : D) → EndsWith disk crashes c (lines_on c.line input) text last → Ended disk crashes given input text last
+    pub ended_of : (text : List ℕ) (last : D) → EndsWith disk crashes c (lines_on c.line input) text last → DrillEnded disk crashes given input text last
     ended_of text last ends =
         let one = ends (start begun.begun) (begun.stands, sym none) in
         record {

@@ -6,11 +6,11 @@ ghost use Rattle.coord_ledger.specs.Facade.{disk_held};
 ghost use Rattle.coord_lines.specs.Lines.{lines_on, IsWithin};
 ghost use Rattle.coord_drill.specs.Drilled.{is_skipped};
 ghost use Rattle.coord_drill.specs.Faults.{IsOfDisk, IsOfWork};
-ghost use Rattle.coord_drill.specs.Holding.{IsReady, Tells};
+ghost use Rattle.coord_drill.specs.Holding.{IsReadyDrill, Tells};
 ghost use Rattle.coord_drill.specs.Printed.{bad_line};
 ghost use Rattle.coord_drill.specs.declared.fault.Fault.TheVariants.{OutOfMemory};
-ghost use Rattle.coord_drill.specs.Lines.{BreaksOff, CarriesLine, CarriesOut, CutsLine, Takes};
-ghost use Rattle.coord_drill.specs.Written.{Writes};
+ghost use Rattle.coord_drill.specs.Lines.{CarriesLine, CarriesOut, CutsLine, LinesBreakOff, TakesPiece};
+ghost use Rattle.coord_drill.specs.Written.{WritesPart};
 
 use super::Console;
 use crate::drill::Drill;
@@ -23,16 +23,16 @@ use std::io::Write;
 impl<D: CrashDisk> Console<D> {
     /// Takes a piece of the input.
     pub(super) fn take<W: Write>(self, piece: &[u8], writer: &mut W) -> Result<Self, (Fault, D)>
-        requires ready { IsReady self.drill }
+        requires ready { IsReadyDrill self.drill }
         requires number { self.number + length piece.now < 2 ^ 64 - 1 }
-        ensures ready { IfOk result (λ console. IsReady console.drill) }
+        ensures ready { IfOk result (λ console. IsReadyDrill console.drill) }
         ensures number { IfOk result (λ console. console.number ≤ self.number + length piece.now) }
         ensures taken { IfOk result (λ console.
-            Writes (W.contents writer.old) (W.contents writer.new)
-            (λ text. Takes D.model D.crashes self piece.now [] text console)) }
+            WritesPart (W.contents writer.old) (W.contents writer.new)
+            (λ text. TakesPiece D.model D.crashes self piece.now [] text console)) }
         ensures failed { IfErr result (λ refused.
-            Writes (W.contents writer.old) (W.contents writer.new)
-            (BreaksOff D.model D.crashes self (lines_on self.line piece.now) refused)) }
+            WritesPart (W.contents writer.old) (W.contents writer.new)
+            (LinesBreakOff D.model D.crashes self (lines_on self.line piece.now) refused)) }
         ensures fault { IfErr result (λ refused. IsOfWork refused.0) }
     {
         let mut console = self;
@@ -46,15 +46,15 @@ impl<D: CrashDisk> Console<D> {
 
     /// Carries out the line that has come in, prints its answer, and begins the next one.
     pub(super) fn end_line<W: Write>(self, writer: &mut W) -> Result<Self, (Fault, D)>
-        requires ready { IsReady self.drill }
+        requires ready { IsReadyDrill self.drill }
         requires number { self.number < 2 ^ 64 - 1 }
-        ensures ready { IfOk result (λ console. IsReady console.drill) }
+        ensures ready { IfOk result (λ console. IsReadyDrill console.drill) }
         ensures carried { IfOk result (λ console.
-            Writes (W.contents writer.old) (W.contents writer.new)
+            WritesPart (W.contents writer.old) (W.contents writer.new)
             (λ text. CarriesOut D.model D.crashes self (self.line ∷ []) text console)) }
         ensures failed { IfErr result (λ refused.
-            Writes (W.contents writer.old) (W.contents writer.new)
-            (BreaksOff D.model D.crashes self (self.line ∷ []) refused)) }
+            WritesPart (W.contents writer.old) (W.contents writer.new)
+            (LinesBreakOff D.model D.crashes self (self.line ∷ []) refused)) }
         ensures fault { IfErr result (λ refused. IsOfWork refused.0) }
         ensures number { IfOk result (λ console. console.number ≡ self.number + 1) }
         ensures line { IfOk result (λ console. console.line ≡ Some []) }
@@ -69,9 +69,9 @@ impl<D: CrashDisk> Console<D> {
 
     /// Carries out the line that has come in, with its answer as the text, and begins the next one.
     fn answer_line(self) -> Result<Self, (Fault, D)>
-        requires ready { IsReady self.drill }
+        requires ready { IsReadyDrill self.drill }
         requires number { self.number < 2 ^ 64 - 1 }
-        ensures ready { IfOk result (λ console. IsReady console.drill) }
+        ensures ready { IfOk result (λ console. IsReadyDrill console.drill) }
         ensures carried { IfOk result (λ console. CarriesLine D.model D.crashes
             self.drill (self.number + 1) self.line (string_bytes console.text) console.drill) }
         ensures cut { IfErr result (CutsLine D.model D.crashes self.drill self.line) }
@@ -107,8 +107,8 @@ fn respond<D: CrashDisk>(
     number: u64,
     text: &mut String,
 ) -> Result<Drill<D>, (Fault, D)>
-    requires ready { IsReady drill }
-    ensures ready { IfOk result IsReady }
+    requires ready { IsReadyDrill drill }
+    ensures ready { IfOk result IsReadyDrill }
     ensures carried { IfOk result (λ new. Tells (string_bytes text.old) (string_bytes text.new)
         (λ told. CarriesLine D.model D.crashes drill number (option_copied line.entry) told
         new)) }

@@ -2,7 +2,7 @@
 
 ghost use Rattle.std.specs.Prelude.{◌≡◌, IfErr, IfOk, string_bytes};
 ghost use Rattle.coord_drill.specs.Faults.{IsOfDisk, reopen_fault};
-ghost use Rattle.coord_drill.specs.Holding.{IsReady, Tells};
+ghost use Rattle.coord_drill.specs.Holding.{IsReadyDrill, Tells};
 ghost use Rattle.coord_drill.specs.Moments.{CarriesIf, CutsIf};
 ghost use Rattle.coord_drill.specs.declared.asked.Asked.TheVariants as ask;
 
@@ -15,8 +15,8 @@ use coord_ledger::RunFaultKind;
 impl<D: CrashDisk> Drill<D> {
     /// Crashes the disk, and goes on with what is opened. Pending steps are lost.
     pub(super) fn crash(self, text: &mut String) -> Result<Self, (Fault, D)>
-        requires ready { IsReady self }
-        ensures ready { IfOk result IsReady }
+        requires ready { IsReadyDrill self }
+        ensures ready { IfOk result IsReadyDrill }
         ensures told { IfOk result (λ drill. Tells (string_bytes text.old) (string_bytes text.new)
             (λ told. CarriesIf D.model D.crashes self ask.Crash told drill)) }
         ensures cut { IfErr result (CutsIf D.model D.crashes ask.Crash self) }

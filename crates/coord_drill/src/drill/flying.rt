@@ -8,7 +8,7 @@ ghost use Rattle.coord_ledger.specs.declared.release.Release.{Release as Row};
 ghost use Rattle.coord_ledger.specs.Facade.{IsGranted, disk_held, next_size, reply_of, settled_count, settled_world, settling_releases};
 ghost use Rattle.coord_drill.specs.Drill.{flight_events, landing_events};
 ghost use Rattle.coord_drill.specs.Faults.{IsOfMemory};
-ghost use Rattle.coord_drill.specs.Holding.{AreGranted, FlownTo, IsReady, Lands, Tells, behind, collected_lines, flown_answers, flown_lines, landed_answers, left, left_by, released_lines, waiting};
+ghost use Rattle.coord_drill.specs.Holding.{AreGranted, FlownTo, IsReadyDrill, Lands, Tells, behind, collected_lines, flown_answers, flown_lines, landed_answers, left, left_by, released_lines, waiting};
 ghost use Rattle.coord_drill.specs.Moments.{CarriesIf, CutsIf, Flies, GoesBy, Leads, LeadsPart};
 ghost use Rattle.coord_drill.specs.declared.asked.Asked.TheVariants as ask;
 ghost use Rattle.coord_drill.specs.declared.fault.Fault.TheVariants.{OutOfMemory};
@@ -42,8 +42,8 @@ struct Landing<D: CrashDisk> {
 impl<D: CrashDisk> Drill<D> {
     /// Settles pending steps in one flight, and prints how many steps are settled then.
     pub(super) fn flush(self, text: &mut String) -> Result<Self, (Fault, D)>
-        requires ready { IsReady self }
-        ensures ready { IfOk result IsReady }
+        requires ready { IsReadyDrill self }
+        ensures ready { IfOk result IsReadyDrill }
         ensures told { IfOk result (λ drill. Tells (string_bytes text.old) (string_bytes text.new)
             (λ told. CarriesIf D.model D.crashes self ask.Flush told drill)) }
         ensures cut { IfErr result (CutsIf D.model D.crashes ask.Flush self) }
@@ -60,8 +60,8 @@ impl<D: CrashDisk> Drill<D> {
     /// Settles the next pending steps by one flight, if a flight may leave. Prints what it settled,
     /// or why it was not committed.
     pub(super) fn fly(self, text: &mut String) -> Result<Self, (Fault, D)>
-        requires ready { IsReady self }
-        ensures ready { IfOk result IsReady }
+        requires ready { IsReadyDrill self }
+        ensures ready { IfOk result IsReadyDrill }
         ensures told { IfOk result (λ drill. Tells (string_bytes text.old) (string_bytes text.new)
             (λ told. Flies D.model D.crashes self told drill)) }
         ensures cut { IfErr result (λ refused.

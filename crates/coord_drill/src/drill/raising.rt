@@ -3,7 +3,7 @@
 ghost use Rattle.std.specs.Prelude.{◌≡◌, None, Some, [], IfErr, IfOk, is_some};
 ghost use Rattle.coord_ledger.specs.Facade.{at_home, disk_held, has_stopped, settled_world};
 ghost use Rattle.coord_drill.specs.Faults.{IsOfDisk};
-ghost use Rattle.coord_drill.specs.Holding.{IsReady};
+ghost use Rattle.coord_drill.specs.Holding.{IsReadyDrill};
 ghost use Rattle.coord_drill.specs.Moments.{CarriesIf, CutsIf, RaisesPart, RaisesTo};
 ghost use Rattle.coord_drill.specs.declared.asked.Asked.TheVariants as ask;
 
@@ -17,8 +17,8 @@ use std::alloc::Global;
 impl<D: CrashDisk> Drill<D> {
     /// Goes on in version 2.
     pub(super) fn begin_version_2(self) -> Result<Self, (Fault, D)>
-        requires ready { IsReady self }
-        ensures ready { IfOk result IsReady }
+        requires ready { IsReadyDrill self }
+        ensures ready { IfOk result IsReadyDrill }
         ensures told { IfOk result (λ drill.
             CarriesIf D.model D.crashes self ask.Version2 [] drill) }
         ensures cut { IfErr result (CutsIf D.model D.crashes ask.Version2 self) }

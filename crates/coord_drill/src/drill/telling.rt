@@ -6,7 +6,7 @@ ghost use Rattle.coord_ledger.specs.Facade.{settled_world};
 ghost use Rattle.coord_drill.specs.Answered.{asked_lines, shown_lines};
 ghost use Rattle.coord_drill.specs.Drill.{changes_nothing};
 ghost use Rattle.coord_drill.specs.Faults.{IsOfMemory};
-ghost use Rattle.coord_drill.specs.Holding.{IsReady, Tells, drill_of};
+ghost use Rattle.coord_drill.specs.Holding.{IsReadyDrill, Tells, drill_of};
 ghost use Rattle.coord_drill.specs.Moments.{CarriesIf, CutsIf};
 ghost use Rattle.coord_drill.specs.Printed.{output_lines};
 ghost use Rattle.coord_drill.specs.declared.asked.Asked.TheVariants as ask;
@@ -26,9 +26,9 @@ use std::alloc::AllocError;
 impl<D: CrashDisk> Drill<D> {
     /// Prints the answer to what changes nothing.
     pub(super) fn tell(self, wanted: Asked, text: &mut String) -> Result<Self, (Fault, D)>
-        requires ready { IsReady self }
+        requires ready { IsReadyDrill self }
         requires nothing { changes_nothing wanted ≡ true }
-        ensures ready { IfOk result IsReady }
+        ensures ready { IfOk result IsReadyDrill }
         ensures told { IfOk result (λ drill. Tells (string_bytes text.old) (string_bytes text.new)
             (λ told. CarriesIf D.model D.crashes self wanted told drill)) }
         ensures cut { IfErr result (CutsIf D.model D.crashes wanted self) }
@@ -44,8 +44,8 @@ impl<D: CrashDisk> Drill<D> {
 
     /// From now on accepted steps are not settled at once.
     pub(super) fn hold(self) -> Self
-        requires ready { IsReady self }
-        ensures ready { IsReady result }
+        requires ready { IsReadyDrill self }
+        ensures ready { IsReadyDrill result }
         ensures told { CarriesIf D.model D.crashes self ask.Hold [] result }
     {
         let mut drill = self;

@@ -3,7 +3,7 @@
 ghost use Rattle.std.specs.Prelude.{◌≡◌, ◌-◌, false, true, None, Ok, length, IfErr, IfOk, IfSome, IsSomeAnd, OnErr, OnOk, Some};
 ghost use Rattle.coord_engine.specs.Past.{FliesOnTheWay};
 ghost use Rattle.coord_engine.specs.State.{with_ledger};
-ghost use Rattle.coord_ledger.specs.ledger.Calls.{RefusesFlight, keeps_store, next_flight, releases_in, taken_back, with_out};
+ghost use Rattle.coord_ledger.specs.ledger.Calls.{RefusesFlight, keeps_store, next_flight, releases_in, taken_back, with_store_out};
 ghost use Rattle.coord_ledger.specs.ledger.Flights.{IsOut};
 ghost use Rattle.coord_ledger.specs.machine.Log.{pending};
 
@@ -30,7 +30,7 @@ impl<D: Disk, L: Origin> Guarded<D, L> {
             IfOk result (λ begun. IsSomeAnd begun (λ flight.
             (flight ≡ next_flight self.old.ledger.log flight.disk) ×
             (self.old.ledger.disk ≡ Some flight.disk) ×
-            (self.new ≡ with_ledger self.old (with_out self.old.ledger (length flight.steps))))) }
+            (self.new ≡ with_ledger self.old (with_store_out self.old.ledger (length flight.steps))))) }
         ensures err { OnErr result (self.new ≡ self.old) }
         ensures way { IfOk result (λ begun. IfSome begun (FliesOnTheWay D.model L.disk L.base)) }
     {

@@ -2,7 +2,7 @@
 use Rattle.std.proofs.Common.{◌≡◌, ◌-◌, length, ap, ◌∙◌, arith, ℕ, zero, suc, ◌+◌, Bool, true, List, [], ◌∷◌, take, Option, Some, None, refl, sym, subst, inl, inr}
 use Rattle.std.proofs.lemmas.Bool.Decides.{nat_tests}
 use Rattle.std.specs.Option.{option_map}
-use Rattle.coord_ledger.specs.Facade.{DriverState, IsConsistent, Log, Machine, Represents, Step, accepted_count, flight_out, has_stopped, pending, rebased, settled_count, settled_world, verdict, FlightGives, FlightState, GivesFlown, GivesOneOf, GivesSettled, Good, ImagesGive, IsOut, LedgerGives, LedgerState, Mark, New, Torn, kept_by, next_flight, with_out, world_after, IsOneOf, kept}
+use Rattle.coord_ledger.specs.Facade.{DriverState, IsConsistent, Log, Machine, Represents, Step, accepted_count, flight_out, has_stopped, pending, rebased, settled_count, settled_world, verdict, FlightGives, FlightState, GivesFlown, GivesOneOf, GivesSettled, Good, ImagesGiveOneOf, IsOut, LedgerGives, LedgerState, Mark, New, Torn, kept_by, next_flight, with_store_out, world_after, IsOneOf, kept}
 use Rattle.coord_world.specs.Facade.{fold}
 use Rattle.coord_ledger.proofs.machine.Logs.{count_after, rebased_accepted, rebased_count, rebased_pending, rebased_settled, world-add}
 use Rattle.coord_ledger.proofs.machine.Rebased.{rebased_verdict, kept_later}
@@ -52,7 +52,7 @@ module _ {D : Type 0} (d : DriverState D) (s : Machine) (is : IsConsistent s) (r
 -- ---- flights go out
 
 -- the flight that goes out next is the ledger's own
-pub next_is_out : {D : Type 0} (l : LedgerState D) (disk : D) → IsOut (with_out l (length (take MAX_BATCH_STEPS (pending l.log)))) (next_flight l.log disk)
+pub next_is_out : {D : Type 0} (l : LedgerState D) (disk : D) → IsOut (with_store_out l (length (take MAX_BATCH_STEPS (pending l.log)))) (next_flight l.log disk)
 next_is_out l disk = record { size = refl; first = refl; steps = taken_twice MAX_BATCH_STEPS (pending l.log); world = refl }
   where
     taken_twice : {A : Type 0} (n : ℕ) (xs : List A) → take n xs ≡ take (length (take n xs)) xs
@@ -63,7 +63,7 @@ next_is_out l disk = record { size = refl; first = refl; steps = taken_twice MAX
 -- ---- images
 
 -- of a ledger's disk, while its store is at home
-pub ledger_images : {D : Type 0} (l : LedgerState D) (disk : D) (keeps_model : Bool) (present : D → Present) → (keeps_model ≡ true → LedgerGives present l disk) → ImagesGive keeps_model (present disk) l.log (kept_by l.log.settled None l.log.doubt)
+pub ledger_images : {D : Type 0} (l : LedgerState D) (disk : D) (keeps_model : Bool) (present : D → Present) → (keeps_model ≡ true → LedgerGives present l disk) → ImagesGiveOneOf keeps_model (present disk) l.log (kept_by l.log.settled None l.log.doubt)
 ledger_images l disk keeps_model present gives model image here = by_doubt l.log.doubt (gives model image here)
   where
     by_doubt : (o : Option ℕ) → GivesSettled l.log o image → GivesOneOf l.log (kept_by l.log.settled None o) image
@@ -85,7 +85,7 @@ flight_gives l f image own gives = by_mark f.mark gives
     by_mark Torn (inr given) = record { steps = l.log.settled + length f.steps; allowed = inr (inl refl); recovered = subst (Recovered image) all given }
 
 -- of the disk of a flight that is out
-pub flight_images : {D : Type 0} (l : LedgerState D) (f : FlightState D) (keeps_model : Bool) (present : D → Present) → IsOut l f → (keeps_model ≡ true → FlightGives present f) → ImagesGive keeps_model (present f.disk) l.log (kept_by l.log.settled (Some (flight_out f)) l.log.doubt)
+pub flight_images : {D : Type 0} (l : LedgerState D) (f : FlightState D) (keeps_model : Bool) (present : D → Present) → IsOut l f → (keeps_model ≡ true → FlightGives present f) → ImagesGiveOneOf keeps_model (present f.disk) l.log (kept_by l.log.settled (Some (flight_out f)) l.log.doubt)
 flight_images l f keeps_model present own gives model image here = flight_gives l f image own (gives model image here)
 
 -- ---- crashes
@@ -107,5 +107,5 @@ given_follows d s image represents given =
 
 -- what the images of a disk give of the ledger's log, they give of the machine's
 pub images_follow : {D : Type 0} (d : DriverState D) (s : Machine) (keeps_model : Bool) (present : Present) → Represents d s →
-    ImagesGive keeps_model present d.ledger.log (kept_by d.ledger.log.settled (option_map flight_out d.flight) d.ledger.log.doubt) → ImagesGive keeps_model present s.log (kept s)
+    ImagesGiveOneOf keeps_model present d.ledger.log (kept_by d.ledger.log.settled (option_map flight_out d.flight) d.ledger.log.doubt) → ImagesGiveOneOf keeps_model present s.log (kept s)
 images_follow d s keeps_model present represents gives model image here = given_follows d s image represents (gives model image here)

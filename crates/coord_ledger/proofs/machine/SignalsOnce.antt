@@ -14,7 +14,7 @@ use Rattle.coord_types.specs.declared.steps.Command.TheVariants.{Add, Remove, Jo
 use Rattle.coord_types.specs.declared.steps.Step.TheVariants.{Order, Take, Clear}
 use Rattle.coord_world.proofs.Facade.{EachFresh, by_test, fresh_order, same_or_apart, signals_given, trail_each_fresh, trail_is_cut}
 use Rattle.coord_world.specs.laws.Waves.{is_signal_of}
-use Rattle.coord_ledger.specs.laws.Laws.{SignalsOnce}
+use Rattle.coord_ledger.specs.laws.Laws.{NoSignalTwice}
 
 -- ---- releases
 
@@ -143,7 +143,7 @@ of_first n u (r ∷ rs) le =
     (λ _ e. let none : signal_in n u r ≡ 0 = grind (arith, nat_tests, e, le) in omega (arith, none, of_first n u rs le, sum_by-cons (signal_in n u) r rs))
     refl
 
-pub signals_once : SignalsOnce
+pub signals_once : NoSignalTwice
 signals_once s is n u le =
     let first = (trail_is_cut s.log.base s.log.trail s.log.settled is.log.trail).first in
     omega (arith, of_first n u s.released le, in_part (is_signal n u) (released_first s.released) (releases_of (outs s.log.base (settled_steps s.log))) is.told.once, all_signals n u s.log.base (settled_steps s.log) (trail_each_fresh s.log.base (settled_steps s.log) first))

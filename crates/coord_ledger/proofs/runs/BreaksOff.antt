@@ -2,7 +2,7 @@
 use Rattle.std.proofs.Common.{◌≡◌, ◌≤◌, List, ◌++◌, length, ap, ◌∙◌, ℕ, ◌<◌, Bool, [], get_or, Option, Some, None, refl, sym, subst, arith, inl, inr, slice_get, take, IsSomeAnd}
 use Rattle.std.specs.Option.{option_map}
 use Rattle.std.proofs.lemmas.Option.{slice_get_past}
-use Rattle.coord_ledger.specs.Facade.{Answer, Event, Follows, IsLeftOut, IsOneOf, Machine, Release, Run, after, answers, EndedEarly, EndsAt, FlightOut, FlightState, Good, HasCause, IsCommitted, IsConsistent, IsCutShort, IsEventFault, IsGivenBack, IsGivenUp, IsLost, IsPromised, LedgerState, Promised, RunFaultKind, disk_held, flight_out, model_held, run, started}
+use Rattle.coord_ledger.specs.Facade.{Answer, Event, Follows, IsLeftOut, IsOneOf, Machine, Release, Run, after, answers, EndedEarly, EndsAt, FlightOut, FlightState, Good, HasCauseToEnd, IsCommitted, IsConsistent, IsCutShort, IsEventFault, IsGivenBack, IsGivenUp, IsLost, IsPromised, LedgerState, Promised, RunFaultKind, disk_held, flight_out, model_held, run, started}
 use Rattle.coord_disk.specs.Model.DiskModel.{DiskModel}
 use Rattle.coord_ledger.specs.declared.trace.RunFaultKind.TheVariants.{OutOfMemory, Store}
 use Rattle.coord_ledger.proofs.follows.Follows.{flight_is}
@@ -75,13 +75,13 @@ module _ {D : Type 0} (model : DiskModel D) (crashes : D → D → Type 0) where
           } in
           rw here (rw same one)
 
-      pub caused : (at2 : ℕ) (kind : RunFaultKind) (released : List Release) → at2 ≡ at → IsEventFault (model_held model h.driver) e kind → (before : D) → start.disk ≡ Some before → HasCause (model.keeps_model before) events at2 released kind
+      pub caused : (at2 : ℕ) (kind : RunFaultKind) (released : List Release) → at2 ≡ at → IsEventFault (model_held model h.driver) e kind → (before : D) → start.disk ≡ Some before → HasCauseToEnd (model.keeps_model before) events at2 released kind
       caused at2 kind released here cause before disk = rw here (by_kind kind cause)
         where
           there : slice_get events at ≡ Some e
           there = event_there model crashes start events at given h loop e below is
 
-          by_kind : (k : RunFaultKind) → IsEventFault (model_held model h.driver) e k → HasCause (model.keeps_model before) events at released k
+          by_kind : (k : RunFaultKind) → IsEventFault (model_held model h.driver) e k → HasCauseToEnd (model.keeps_model before) events at released k
           by_kind OutOfMemory cause = inr (inr (e, (there, cause)))
           by_kind (Store fault) cause =
               (there ∙ ap Some cause.0, cause.1, λ on. cause.2 (model_there model crashes start events at given h loop e below is before disk ∙ ap Some on))

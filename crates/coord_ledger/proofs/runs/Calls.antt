@@ -4,7 +4,7 @@ use Rattle.std.proofs.lemmas.Bool.Decides.{nat_tests}
 use Rattle.std.proofs.lemmas.List.{length-take, take-append-le, set-set, set-get_or}
 use Rattle.std.specs.Option.{option_map}
 use Rattle.coord_types.specs.declared.limits.TheConstants.{MAX_BATCH_STEPS}
-use Rattle.coord_ledger.specs.Facade.{FlightState, IsOut, LedgerState, keeps_store, next_flight, pending, releases_in, settling_releases, taken_back, with_out, Handed, HandedTo, HoldsFlight, IsConsistentLog, Refusal, Step, with_accepted, Answer, Crash, Event, FollowsTo, ImagesGive, IsCutShort, IsEventFault, IsPromised, IsReopenFault, Log, Machine, Release, Run, RunFaultKind, world_after, Commit, HasFailed, failed_at, failed_in, failed_until, spent, ticket}
+use Rattle.coord_ledger.specs.Facade.{FlightState, IsOut, LedgerState, keeps_store, next_flight, pending, releases_in, settling_releases, taken_back, with_store_out, Handed, HandedTo, HoldsFlight, IsConsistentLog, Refusal, Step, with_accepted, Answer, Crash, Event, FollowsTo, ImagesGiveOneOf, IsCutShort, IsEventFault, IsPromised, IsReopenFault, Log, Machine, Release, Run, RunFaultKind, world_after, Commit, HasFailed, failed_at, failed_in_run, failed_until, spent, ticket}
 use Rattle.coord_ledger.proofs.follows.Follows.{next_is_out}
 use Rattle.coord_ledger.proofs.machine.Logs.{pending_with}
 use Rattle.coord_disk.specs.Model.Present.{Present}
@@ -21,17 +21,17 @@ pub record Departs {D : Type 0} (l left : LedgerState D) (f : FlightState D) : T
   pub goes : keeps_store l ≡ false
   pub is : f ≡ next_flight l.log f.disk
   pub home : l.disk ≡ Some f.disk
-  pub now : left ≡ with_out l (length f.steps)
+  pub now : left ≡ with_store_out l (length f.steps)
 
 pub departs_own : {D : Type 0} (l left : LedgerState D) (f : FlightState D) → Departs l left f → IsOut left f
 departs_own l left f departs =
     let steps : f.steps ≡ take MAX_BATCH_STEPS (pending l.log) = ap (λ (g : FlightState _). g.steps) departs.is in
-    let same : left ≡ with_out l (length (take MAX_BATCH_STEPS (pending l.log))) = departs.now ∙ ap (λ k. with_out l (length k)) steps in
-    rw same (subst (IsOut (with_out l (length (take MAX_BATCH_STEPS (pending l.log))))) (sym departs.is) (next_is_out l f.disk))
+    let same : left ≡ with_store_out l (length (take MAX_BATCH_STEPS (pending l.log))) = departs.now ∙ ap (λ k. with_store_out l (length k)) steps in
+    rw same (subst (IsOut (with_store_out l (length (take MAX_BATCH_STEPS (pending l.log))))) (sym departs.is) (next_is_out l f.disk))
 
 -- as the call says it
 abbrev IsBegun : {D : Type 0} → LedgerState D → LedgerState D → Option (FlightState D) → Type 0
-IsBegun l left o = IsSomeAnd o (λ f. (f ≡ next_flight l.log f.disk) × (l.disk ≡ Some f.disk) × (left ≡ with_out l (length f.steps)))
+IsBegun l left o = IsSomeAnd o (λ f. (f ≡ next_flight l.log f.disk) × (l.disk ≡ Some f.disk) × (left ≡ with_store_out l (length f.steps)))
 
 module _ {D E : Type 0} (l left : LedgerState D) (r : Result (Option (FlightState D)) E) (nothing : keeps_store l ≡ true → (r ≡ Ok None) × (left ≡ l)) (begun : keeps_store l ≡ false → IfOk r (IsBegun l left)) where
   pub begun_some : (f : FlightState D) → r ≡ Ok (Some f) → Departs l left f
@@ -89,7 +89,7 @@ pub crash_on : (model : Option Bool) → IsPromised model Crash → model ≡ So
 crash_on model (inl on) = on
 crash_on model (inr other) = let none : ⊥ = cc in absurd none
 
-pub crash_fault : (model : Option Bool) (b : Bool) (present lost : Present) (log : Log) (counts : List ℕ) (k : RunFaultKind) → model ≡ Some b → ImagesGive b present log counts → IsReopenFault b present lost k → IsEventFault model Crash k
+pub crash_fault : (model : Option Bool) (b : Bool) (present lost : Present) (log : Log) (counts : List ℕ) (k : RunFaultKind) → model ≡ Some b → ImagesGiveOneOf b present log counts → IsReopenFault b present lost k → IsEventFault model Crash k
 crash_fault model b present lost log counts OutOfMemory is images cause = refl
 crash_fault model b present lost log counts (Store fault) is images cause = (
   refl,
@@ -135,7 +135,7 @@ pub failed_aside : {D : Type 0} (failures : D → ℕ) (o p : Option D) (e what 
 failed_aside failures o p e what a n event none same so = grind (arith, nat_tests, failed_as, failed_same)
 
 -- for want of memory the disk is given back as it is
-pub failed_giving_up : {D : Type 0} (failures : D → ℕ) (o : Option D) (lost : D) (kind : RunFaultKind) (n : ℕ) → o ≡ Some lost → kind ≡ OutOfMemory → HasFailed failures o n → failures lost ≡ n + failed_in kind
+pub failed_giving_up : {D : Type 0} (failures : D → ℕ) (o : Option D) (lost : D) (kind : RunFaultKind) (n : ℕ) → o ≡ Some lost → kind ≡ OutOfMemory → HasFailed failures o n → failures lost ≡ n + failed_in_run kind
 failed_giving_up failures o lost kind n there memory so = grind (arith, nat_tests, failed_so)
 
 -- ---- tickets by their index

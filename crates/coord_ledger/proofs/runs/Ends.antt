@@ -5,7 +5,7 @@ use Rattle.std.proofs.Math.Seq.{take-length}
 use Rattle.coord_disk.specs.Model.Present.{Present}
 use Rattle.coord_disk.specs.Model.DiskModel.{DiskModel}
 use Rattle.coord_store.specs.Recovered.{Recovered}
-use Rattle.coord_ledger.specs.Facade.{Answer, Completed, DriverState, EachMoment, Event, FlightOut, FlightState, Follows, ImagesGive, IsConsistent, IsLeft, IsOneOf, LedgerGives, LedgerState, Machine, Promised, Release, Represents, Run, RunSoFar, at_home, brought_home, disk_held, disk_with, ended, finished, kept, kept_by, run, started, world_after}
+use Rattle.coord_ledger.specs.Facade.{Answer, Completed, DriverState, EachMoment, Event, FlightOut, FlightState, Follows, ImagesGiveOneOf, IsConsistent, IsLeft, IsOneOf, LedgerGives, LedgerState, Machine, Promised, Release, Represents, Run, RunSoFar, at_home, brought_home, disk_held, disk_with, ended, finished, kept, kept_by, run, started, world_after}
 use Rattle.coord_ledger.proofs.follows.Follows.{ledger_images, flight_is, log_rebased, images_follow}
 use Rattle.coord_ledger.proofs.Simulates.{simulates_back, represents_to}
 use Rattle.coord_ledger.proofs.runs.SoFar.{Holds, LoopInvariant, same_model}
@@ -28,7 +28,7 @@ same_worlds : (s : Machine) (f : Option FlightOut) (n : ℕ) → world_after (fi
 same_worlds s f n = grind (arith, nat_tests)
 
 -- the images of a ledger at home give what the machine may keep
-home_images : {D : Type 0} (l : LedgerState D) (s : Machine) (keeps_model : Bool) (present : Present) → IsConsistent s → Represents (at_home l) (ended s) → ImagesGive keeps_model present l.log (kept_by l.log.settled None l.log.doubt) → ImagesGive keeps_model present s.log (kept s)
+home_images : {D : Type 0} (l : LedgerState D) (s : Machine) (keeps_model : Bool) (present : Present) → IsConsistent s → Represents (at_home l) (ended s) → ImagesGiveOneOf keeps_model present l.log (kept_by l.log.settled None l.log.doubt) → ImagesGiveOneOf keeps_model present s.log (kept s)
 home_images l s keeps_model present is back images model image here =
     let one = images_follow (at_home l) (ended s) keeps_model present back images model image here in
     record {

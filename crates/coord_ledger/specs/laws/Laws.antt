@@ -15,7 +15,7 @@ use Rattle.coord_world.specs.laws.Trails.{IsSound}
 use Rattle.coord_world.specs.Facade.{IsFresh, StepInRange, World, against, is_exhausted, or_repeat, state}
 use Rattle.coord_ledger.specs.declared.events.Answer.{Answer}
 use Rattle.coord_ledger.specs.declared.events.Event.{Event}
-use Rattle.coord_ledger.specs.ledger.Flights.{ImagesGive}
+use Rattle.coord_ledger.specs.ledger.Flights.{ImagesGiveOneOf}
 use Rattle.coord_ledger.specs.machine.After.{after, finished}
 use Rattle.coord_ledger.specs.machine.Answers.{IsOneOf, answers, kept}
 use Rattle.coord_ledger.specs.machine.Consistent.{EventInRange, IsConsistent, IsConsistentLog}
@@ -85,8 +85,8 @@ abbrev pub KeptIsSafe : Type 0
 KeptIsSafe = (s : Machine) (n : ℕ) → IsConsistent s → IsOneOf n (kept s) → IsSafe s n
 
 -- no step's signal was released twice
-abbrev pub SignalsOnce : Type 0
-SignalsOnce = (s : Machine) → IsConsistent s → SignalledOnce s
+abbrev pub NoSignalTwice : Type 0
+NoSignalTwice = (s : Machine) → IsConsistent s → SignalledOnce s
 
 -- a flight that comes back at the end of a run changes nothing of what a crash may keep
 abbrev pub FinishKeepsKept : Type 0
@@ -94,4 +94,4 @@ FinishKeepsKept = (s : Machine) → IsConsistent s → kept (finished s s.flight
 
 -- where each image of a disk gives the world after steps that a crash may keep, the crash prefix holds
 abbrev pub PrefixFromImages : Type 0
-PrefixFromImages = (s : Machine) (keeps_model : Bool) (present : Present) → IsConsistent s → ImagesGive keeps_model present s.log (kept s) → CrashPrefix s keeps_model present
+PrefixFromImages = (s : Machine) (keeps_model : Bool) (present : Present) → IsConsistent s → ImagesGiveOneOf keeps_model present s.log (kept s) → CrashPrefix s keeps_model present

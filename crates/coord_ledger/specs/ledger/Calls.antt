@@ -76,8 +76,8 @@ abbrev pub next_flight : {D : Type 0} → Log → D → FlightState D
 next_flight log disk = record { first = settled_count log + 1; steps = take MAX_BATCH_STEPS (pending log); world = settled_world log; mark = New; disk = disk }
 
 -- the ledger's store is out with so many steps
-abbrev pub with_out : {D : Type 0} → LedgerState D → ℕ → LedgerState D
-with_out l n = record l { out = Some n; disk = None }
+abbrev pub with_store_out : {D : Type 0} → LedgerState D → ℕ → LedgerState D
+with_store_out l n = record l { out = Some n; disk = None }
 
 -- a flight of n steps is back
 abbrev pub taken_back : {D : Type 0} → LedgerState D → ℕ → Mark → D → LedgerState D

@@ -14,8 +14,8 @@ pub record GivesOneOf (log : Log) (counts bytes : List ℕ) : Type 0 where
   pub recovered : Recovered bytes (world_after log steps)
 
 -- each image of a disk gives the log's world after one of these numbers of steps
-abbrev pub ImagesGive : Bool → Present → Log → List ℕ → Type 0
-ImagesGive keeps_model present log counts = keeps_model ≡ true → (image : List ℕ) → IsImage present image → GivesOneOf log counts image
+abbrev pub ImagesGiveOneOf : Bool → Present → Log → List ℕ → Type 0
+ImagesGiveOneOf keeps_model present log counts = keeps_model ≡ true → (image : List ℕ) → IsImage present image → GivesOneOf log counts image
 
 -- the flight is the one that went out of this ledger: its number, its steps and its world are those of what is next
 pub record IsOut {D : Type 0} (l : LedgerState D) (f : FlightState D) : Type 0 where

@@ -14,9 +14,9 @@ run_fault_number OutOfMemory = 1
 run_fault_number (Store fault) = 2
 
 -- how often the device has failed in the opening that ends a run so
-abbrev pub failed_in : RunFaultKind → ℕ
-failed_in OutOfMemory = 0
-failed_in (Store fault) = failed_in_opening fault
+abbrev pub failed_in_run : RunFaultKind → ℕ
+failed_in_run OutOfMemory = 0
+failed_in_run (Store fault) = failed_in_opening fault
 
 -- how often the device has failed in an event that is answered so: only a commit tells it
 abbrev pub failed_at : Event → Answer → ℕ

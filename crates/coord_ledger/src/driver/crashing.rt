@@ -4,7 +4,7 @@ ghost use Rattle.std.specs.Prelude.{◌≡◌, ◌+◌, false, true, ℕ, IfErr,
 ghost use Rattle.coord_disk.specs.Model.Present.{IsImage};
 ghost use Rattle.coord_store.specs.Kept.{has_stopped};
 ghost use Rattle.coord_ledger.specs.declared.trace.RunFaultKind.TheVariants.{OutOfMemory};
-ghost use Rattle.coord_ledger.specs.Facade.{Crash, DiskEffect, HasFailed, IsAnew, IsConsistent, IsEventFault, IsLost, IsReopenFault, IsReopened, Machine, Opened, Reopens, Represents, Simulates, disk_held, failed_in, ledger_over, model_held, settled_count};
+ghost use Rattle.coord_ledger.specs.Facade.{Crash, DiskEffect, HasFailed, IsAnew, IsConsistent, IsEventFault, IsLost, IsReopenFault, IsReopened, Machine, Opened, Reopens, Represents, Simulates, disk_held, failed_in_run, ledger_over, model_held, settled_count};
 
 use super::Driver;
 use crate::{Ledger, RunFaultKind};
@@ -20,7 +20,7 @@ fn reopen<D: CrashDisk>(alloc: Global, disk: D) -> Result<Ledger<D>, (RunFaultKi
         IsReopenFault (D.model.keeps_model disk) (D.model.present disk) (D.model.present refused.1) refused.0) }
     ensures failures { MatchResult result (λ ledger.
         HasFailed D.model.failures ledger.disk (D.model.failures disk)) (λ refused. D.model.failures refused.1 ≡
-        D.model.failures disk + failed_in refused.0) }
+        D.model.failures disk + failed_in_run refused.0) }
     ensures lost { IfErr result (λ refused. D.model.keeps_model disk ≡ true →
         Reopens D.model D.crashes
         (IsImage (D.model.present disk)) disk refused.1) }
@@ -62,7 +62,7 @@ impl<D: CrashDisk> Driver<D> {
             (disk_held self) refused.1) }
         ensures failures { (n : ℕ) → HasFailed D.model.failures (disk_held self) n
             → MatchResult result (λ opened. HasFailed D.model.failures (disk_held opened.1) n)
-            (λ refused. D.model.failures refused.1 ≡ n + failed_in refused.0) }
+            (λ refused. D.model.failures refused.1 ≡ n + failed_in_run refused.0) }
         ensures model { IfOk result (λ opened. model_held D.model opened.1 ≡
             model_held D.model self) }
         ensures cause { IfErr result (λ refused.

@@ -1,7 +1,7 @@
 //! Crashes of the disk in a run.
 
 ghost use Rattle.std.specs.Prelude.{◌≡◌, ◌+◌, true, ℕ, IfErr, IfOk, MatchResult};
-ghost use Rattle.coord_ledger.specs.Facade.{Crash, DiskEffect, Follows, FollowsTo, HasFailed, IsConsistent, IsCutShort, IsEventFault, IsLost, IsPromised, Machine, disk_held, failed_in, model_held};
+ghost use Rattle.coord_ledger.specs.Facade.{Crash, DiskEffect, Follows, FollowsTo, HasFailed, IsConsistent, IsCutShort, IsEventFault, IsLost, IsPromised, Machine, disk_held, failed_in_run, model_held};
 
 use super::flights::Broken;
 use super::released::forget_all;
@@ -24,7 +24,7 @@ impl<D: CrashDisk> Run<D> {
             broken.kind (disk_held self.driver) broken.disk) }
         ensures failures { (n : ℕ) → HasFailed D.model.failures (disk_held self.driver) n
             → MatchResult result (λ held. HasFailed D.model.failures (disk_held held.1.driver) n)
-            (λ broken. D.model.failures broken.disk ≡ n + failed_in broken.kind) }
+            (λ broken. D.model.failures broken.disk ≡ n + failed_in_run broken.kind) }
         ensures model { IfOk result (λ held. model_held D.model held.1.driver ≡
             model_held D.model self.driver) }
         ensures cause { IfErr result (λ broken.

@@ -2,7 +2,7 @@
 
 ghost use Rattle.std.specs.Prelude.{◌≡◌, ◌+◌, ℕ, IfErr, IfOk, MatchResult, Some};
 ghost use Rattle.coord_ledger.specs.declared.trace.RunFaultKind.TheVariants.{OutOfMemory};
-ghost use Rattle.coord_ledger.specs.Facade.{DiskEffect, EventInRange, Follows, FollowsTo, HasFailed, IsConsistent, IsCutShort, IsEventFault, IsLost, IsPromised, Machine, disk_held, failed_at, failed_in, found_by_crash, model_held, touches_disk};
+ghost use Rattle.coord_ledger.specs.Facade.{DiskEffect, EventInRange, Follows, FollowsTo, HasFailed, IsConsistent, IsCutShort, IsEventFault, IsLost, IsPromised, Machine, disk_held, failed_at, failed_in_run, found_by_crash, model_held, touches_disk};
 
 use super::flights::Broken;
 use super::released::forget_all;
@@ -49,7 +49,7 @@ impl<D: CrashDisk> Run<D> {
         ensures failures { (n : ℕ) → HasFailed D.model.failures (disk_held self.driver) n
             → MatchResult result (λ held.
             HasFailed D.model.failures (disk_held held.1.driver) (n + failed_at event held.0)) (λ broken.
-            D.model.failures broken.disk ≡ n + failed_in broken.kind) }
+            D.model.failures broken.disk ≡ n + failed_in_run broken.kind) }
         ensures named { EventInRange event }
         ensures model { IfOk result (λ held. model_held D.model held.1.driver ≡
             model_held D.model self.driver) }

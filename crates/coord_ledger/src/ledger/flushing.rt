@@ -3,7 +3,7 @@
 ghost use Rattle.std.specs.Prelude.{◌≡◌, ◌≢◌, ◌+◌, ◌↔◌, ◌≤◌, false, true, is_some, None, Ok, Some, drop, length, take, IfErr, IfOk, IsSomeAnd, IsTrue, OnErr, OnOk};
 ghost use Rattle.coord_types.specs.declared.limits.TheConstants.{MAX_BATCH_STEPS};
 ghost use Rattle.coord_world.specs.protocol.Next.{fold};
-ghost use Rattle.coord_ledger.specs.Facade.{IsOut, RefusesFlight, keeps_store, next_flight, pending, releases_in, settled_world, taken_back, with_out};
+ghost use Rattle.coord_ledger.specs.Facade.{IsOut, RefusesFlight, keeps_store, next_flight, pending, releases_in, settled_world, taken_back, with_store_out};
 
 use super::Ledger;
 use crate::settling::{are_same, drop_first, is_same_world, released};
@@ -69,7 +69,7 @@ impl<D: Disk> Ledger<D> {
         requires led { later ≡ fold (settled_world self.old.log) steps.items }
         ensures flight { result ≡ next_flight self.old.log result.disk }
         ensures disk { self.old.disk ≡ Some result.disk }
-        ensures out { self.new ≡ with_out self.old (length result.steps) }
+        ensures out { self.new ≡ with_store_out self.old (length result.steps) }
     {
         let first = self.settled_count() + 1;
         let size = steps.len();
@@ -95,7 +95,7 @@ impl<D: Disk> Ledger<D> {
         ensures begun { keeps_store self.old ≡ false →
             IfOk result (λ begun. IsSomeAnd begun (λ flight.
             (flight ≡ next_flight self.old.log flight.disk) × (self.old.disk ≡ Some flight.disk) ×
-            (self.new ≡ with_out self.old (length flight.steps)))) }
+            (self.new ≡ with_store_out self.old (length flight.steps)))) }
         ensures err { OnErr result (self.new ≡ self.old) }
         ensures log { self.new.log ≡ self.old.log }
     {

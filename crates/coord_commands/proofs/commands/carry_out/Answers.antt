@@ -2,7 +2,7 @@ use Rattle.std.proofs.Common.{inr, subst}
 use Rattle.coord_commands.proofs.Endings.{serves_weaker}
 use Rattle.coord_commands.proofs.Opening.{of_ending}
 use Rattle.coord_commands.specs.Folders.{reads}
-use Rattle.coord_commands.specs.Serving.{IsOfServing, Serves}
+use Rattle.coord_commands.specs.Serving.{IsOfServing, ServesAt}
 use Rattle.coord_commands.specs.Words.{serve}
 use Rattle.coord_commands.proofs.commands.carry_out.Goals as goal
 
@@ -18,6 +18,6 @@ returns-in-Err g c =
     inr (
       serve file address,
       c.in-Err.ensures.left,
-      subst (λ e. Serves (IsOfServing (reads (g.F.Folder.holds c.args.folder.now file))) address (reads (g.F.Folder.holds c.args.folder.now file)) (reads after) status (g.E.Write.contents e) errors) c.in-Err.ensures.unprinted.2
-          (subst (λ f. Serves (IsOfServing (reads (g.F.Folder.holds f file))) address (reads (g.F.Folder.holds f file)) (reads after) status (g.E.Write.contents c.run_in.new.errors) errors) c.in-Err.ensures.unopened served),
+      subst (λ e. ServesAt (IsOfServing (reads (g.F.Folder.holds c.args.folder.now file))) address (reads (g.F.Folder.holds c.args.folder.now file)) (reads after) status (g.E.Write.contents e) errors) c.in-Err.ensures.unprinted.2
+          (subst (λ f. ServesAt (IsOfServing (reads (g.F.Folder.holds f file))) address (reads (g.F.Folder.holds f file)) (reads after) status (g.E.Write.contents c.run_in.new.errors) errors) c.in-Err.ensures.unopened served),
     )

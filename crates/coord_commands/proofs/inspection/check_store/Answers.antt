@@ -1,7 +1,7 @@
 use Rattle.std.proofs.Common.{◌≡◌, inl, inr, rules, subst}
 use Rattle.coord_store.specs.Refused.{RefusesOpen}
 use Rattle.coord_store.specs.declared.faults.StoreFault.{StoreFault}
-use Rattle.coord_commands.specs.Ending.{IsCutShort}
+use Rattle.coord_commands.specs.Ending.{OutputCutShort}
 use Rattle.coord_commands.specs.Folders.{bytes_of}
 use Rattle.coord_commands.specs.Inspection.{IsCheckedLine}
 use Rattle.coord_commands.specs.Printed.{legal_line, violated_line}
@@ -20,7 +20,7 @@ pub returns-in_err-print-in-Ok-clause-cut : goal.returns-in_err-print-in-Ok-clau
 returns-in_err-print-in-Ok-clause-cut g c =
     let w = c.in-Ok.store.world in
     let text : c.deref.result.now ≡ legal_line w.count = search rules in
-    let P : Fault → Type 0 = IsCutShort (IsCheckedLine (bytes_of g.D.Disk.model c.args.disk)) (g.W.Write.contents c.args.output.now) (g.W.Write.contents c.print.new.output) in
+    let P : Fault → Type 0 = OutputCutShort (IsCheckedLine (bytes_of g.D.Disk.model c.args.disk)) (g.W.Write.contents c.args.output.now) (g.W.Write.contents c.print.new.output) in
     err_last P _ c.in_err-print-in-Ok.field-0.0 (search rules)
     (inr (
       c.in_err-print-in-Ok.ensures.fault,
@@ -35,7 +35,7 @@ pub returns-in_err-print-in-Violated-clause-cut : goal.returns-in_err-print-in-V
 returns-in_err-print-in-Violated-clause-cut g c =
     let violation = c.in-Violated.violation in
     let text : c.deref-in-Violated.result.now ≡ violated_line violation = search rules in
-    let P : Fault → Type 0 = IsCutShort (IsCheckedLine (bytes_of g.D.Disk.model c.args.disk)) (g.W.Write.contents c.args.output.now) (g.W.Write.contents c.print-in-Violated.new.output) in
+    let P : Fault → Type 0 = OutputCutShort (IsCheckedLine (bytes_of g.D.Disk.model c.args.disk)) (g.W.Write.contents c.args.output.now) (g.W.Write.contents c.print-in-Violated.new.output) in
     err_last P _ c.in_err-print-in-Violated.field-0.0 (search rules)
     (inr (
       c.in_err-print-in-Violated.ensures.fault,

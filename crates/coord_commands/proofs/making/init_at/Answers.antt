@@ -4,7 +4,7 @@ use Rattle.coord_config.specs.Topology.{content}
 use Rattle.coord_commands.proofs.Endings.{cut_last}
 use Rattle.coord_commands.proofs.Judged.{refused_file, refused_store, said_of}
 use Rattle.coord_commands.specs.Folders.{reads}
-use Rattle.coord_commands.specs.Making.{IsMade, IsOfMaking, RefusesStore, begun}
+use Rattle.coord_commands.specs.Making.{IsFounded, IsOfMaking, RefusesStore, begun}
 use Rattle.coord_commands.specs.Printed.{created_line}
 use Rattle.coord_commands.proofs.making.init_at.Goals as goal
 
@@ -38,6 +38,6 @@ returns-clause-cut g c =
     let after = reads (g.F.Folder.holds c.make-made.new.folder c.args.file.now) in
     let topology = content c.in_ok-topology.topology in
     let said = said_of file _ c.topology_from.result c.in_ok-topology.topology c.in-Ok.ensures c.in_ok-topology.was c.topology_from.ensures.ok in
-    let made : IsMade topology (begun topology) before after = subst (λ r. OnOk r (IsMade topology (begun topology) before after)) c.in_ok-count.was c.make-made.ensures.made in
+    let made : IsFounded topology (begun topology) before after = subst (λ r. OnOk r (IsFounded topology (begun topology) before after)) c.in_ok-count.was c.make-made.ensures.made in
     let counted : c.deref.result.now ≡ created_line (begun topology).count = search rules in
     cut_last _ c.print.result _ _ c.deref.result.now (record { topology = topology; said = said; is_made = made; counted = counted }) c.print.ensures.err c.print.ensures.fault

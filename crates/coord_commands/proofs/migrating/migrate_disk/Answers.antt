@@ -3,7 +3,7 @@ use Rattle.coord_disk.proofs.MomentLemmas.{and_then, weaker}
 use Rattle.coord_disk.specs.Model.Present.{IsImage, Present}
 use Rattle.coord_store.specs.Facade.{Kept, Recovered, has_stopped, risen}
 use Rattle.coord_world.specs.protocol.NumberedWorld.{World}
-use Rattle.coord_commands.specs.Migrating.{IsEitherVersion, failures_in}
+use Rattle.coord_commands.specs.Migrating.{IsEitherVersion, failures_in_migration}
 use Rattle.coord_commands.proofs.Raising.{either_of, fault_of, going_on, if_both, if_present, line_of, not_opened}
 use Rattle.coord_commands.proofs.migrating.migrate_disk.Goals as goal
 
@@ -58,7 +58,7 @@ returns-in-Ok-clause-raises g c =
           (λ image either. ⊎_elim (λ was. inl was) (λ gives. inr (store.world, c.in-Ok.ensures.world keeps, gives)) either));
       failures =
           let opening : g.D.Disk.model.failures store.disk ≡ g.D.Disk.model.failures c.args.disk + 0 = c.in-Ok.ensures.runs.failures in
-          let counted : g.D.Disk.model.failures c.into_disk.result ≡ g.D.Disk.model.failures store.disk + failures_in c.migrate_store-line.result = ap g.D.Disk.model.failures back ∙ c.migrate_store-line.ensures.failures in
+          let counted : g.D.Disk.model.failures c.into_disk.result ≡ g.D.Disk.model.failures store.disk + failures_in_migration c.migrate_store-line.result = ap g.D.Disk.model.failures back ∙ c.migrate_store-line.ensures.failures in
           omega (arith, opening, counted);
     }
 

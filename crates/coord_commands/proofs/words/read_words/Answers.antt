@@ -3,7 +3,7 @@ use Rattle.std.proofs.lemmas.List.{length-map}
 use Rattle.std.specs.Option.{ok_or}
 use Rattle.clap.specs.Words.{App, Row, Text, app_of, is_simple, subcommand_of, takes}
 use Rattle.clap.proofs.OnLiterals.{clap_on_literals}
-use Rattle.coord_commands.specs.Words.{Asked, asked_by, asked_of, in_words, resetd, task_of}
+use Rattle.coord_commands.specs.Words.{AskedCommand, asked_of, asked_of_name, in_words, resetd, task_of}
 use Rattle.coord_commands.specs.declared.fault.Fault.TheVariants.{OutOfMemory, Usage}
 use Rattle.coord_commands.specs.declared.words.Task.{Task}
 use Rattle.coord_commands.proofs.words.read_words.Goals as goal
@@ -13,7 +13,7 @@ unfolding clap_on_literals
 is_simple_resetd = refl
 
 -- the task is the one that is asked for, or nothing is
-ok_of : (found : Option Task) (asked : Option Asked) → option_map asked_of found ≡ asked → IfOk (ok_or found Usage) (λ task. asked ≡ Some (asked_of task))
+ok_of : (found : Option Task) (asked : Option AskedCommand) → option_map asked_of found ≡ asked → IfOk (ok_or found Usage) (λ task. asked ≡ Some (asked_of task))
 ok_of None asked is = tt
 ok_of (Some task) asked is = sym is
 
@@ -29,7 +29,7 @@ returns-in-Ok c =
     let found = c.in-Ok.ensures.matches (ap is_simple program_is ∙ is_simple_resetd) in
     let command = found.1 ∙ ap (λ (a : App). subcommand_of a words) program_is in
     let count : length c.args.words.now ≡ length words = sym (length-map c.args.words.now (λ s. string_bytes s)) in
-    let asked : ℕ → Option (Text × List Row) → Option Asked = λ n f. option_and_then (in_words n) (option_and_then (λ (p : Text × List Row). asked_by p.0 p.1) f) in
+    let asked : ℕ → Option (Text × List Row) → Option AskedCommand = λ n f. option_and_then (in_words n) (option_and_then (λ (p : Text × List Row). asked_of_name p.0 p.1) f) in
     let is : option_map asked_of c.task_in.result ≡ task_of words = c.task_in.ensures ∙ ap₂ asked count command in
     record {
       ok = rw c.ok_or.ensures.value (ok_of c.task_in.result (task_of words) is);

@@ -1,5 +1,5 @@
 use Rattle.std.proofs.Common.{subst}
-use Rattle.coord_engine.specs.Facade.{Works, based_on, packets_of}
+use Rattle.coord_engine.specs.Facade.{Works, all_packets, based_on}
 use Rattle.coord_engine.proofs.Worked.{works_adds, works_parcel}
 use Rattle.coord_engine.proofs.working.worker.Goals as goal
 
@@ -15,4 +15,4 @@ loop-packets-preserved g c =
 
 pub returns-clause-packets : goal.returns-clause-packets
 returns-clause-packets g c =
-    works_adds (based_on g.D.Disk.model g.L.Origin.base g.L.Origin.before) c.args.share c.loop-packets.share c.args.hand.now c.loop-packets.hand (packets_of c.loop-packets.yielded) c.loop-packets.invariant.2
+    works_adds (based_on g.D.Disk.model g.L.Origin.base g.L.Origin.before) c.args.share c.loop-packets.share c.args.hand.now c.loop-packets.hand (all_packets c.loop-packets.yielded) c.loop-packets.invariant.2

@@ -2,7 +2,7 @@ use Rattle.std.proofs.Common.{◌≡◌, ◌+◌, [], length, false, Some, Ok, E
 use Rattle.std.proofs.Math.Seq.{take-length}
 use Rattle.std.proofs.lemmas.List.{length-take-le, length_push}
 use Rattle.coord_store.proofs.Freshness.{take-push}
-use Rattle.coord_ledger.specs.Facade.{Completed, IsCutShort, IsEventFault, IsLost, RunFaultKind, disk_held, disk_with, failed_at, failed_in, failed_until, model_held, started}
+use Rattle.coord_ledger.specs.Facade.{Completed, IsCutShort, IsEventFault, IsLost, RunFaultKind, disk_held, disk_with, failed_at, failed_in_run, failed_until, model_held, started}
 use Rattle.coord_ledger.proofs.runs.BreaksOff.{ended_after, ended_first, ended_at, caused}
 use Rattle.coord_ledger.proofs.runs.SoFar.{invariant_first, invariant_on}
 use Rattle.coord_ledger.proofs.runs.Ends.{completed_all}
@@ -35,7 +35,7 @@ returns-then-is_err-clause-failures g c n so =
     let same : disk ≡ c.args.ledger.disk = ap disk_held c.over-driver.ensures in
     let none : n ≡ n + failed_until (take c.at.result.0.at c.args.events.now) c.at.result.0.trace.answers.items = let no : n ≡ n + 0 = omega arith in no ∙ ap (λ k. n + failed_until (take k c.args.events.now) c.at.result.0.trace.answers.items) (sym c.at.ensures.at) in
     failed_giving_up g.D.Disk.model.failures disk c.at.result.1 c.at.result.0.kind n there (c.at.ensures.kind ∙ c.lose.ensures.kind) (failed_same g.D.Disk.model.failures c.args.ledger.disk disk n same so)
-    ∙ ap (λ m. m + failed_in c.at.result.0.kind) none
+    ∙ ap (λ m. m + failed_in_run c.at.result.0.kind) none
 
 pub returns-in-Err-clause-broke : goal.returns-in-Err-clause-broke
 returns-in-Err-clause-broke g c =
@@ -54,7 +54,7 @@ returns-in-Err-clause-cause g c =
 pub returns-in-Err-clause-failures : goal.returns-in-Err-clause-failures
 returns-in-Err-clause-failures g c n so =
     ap g.D.Disk.model.failures c.at-in-Err.ensures.disk ∙ c.in-Err.ensures.failures (n + failed_until (take c.loop-at.at c.args.events.now) c.loop-at.answers.items) (c.loop-at.invariant.failed n so)
-    ∙ sym (λ i. (n + failed_until (take (c.at-in-Err.ensures.at i) c.args.events.now) (c.at-in-Err.ensures.answers i)) + failed_in (c.at-in-Err.ensures.kind i))
+    ∙ sym (λ i. (n + failed_until (take (c.at-in-Err.ensures.at i) c.args.events.now) (c.at-in-Err.ensures.answers i)) + failed_in_run (c.at-in-Err.ensures.kind i))
 
 pub loop-at-preserved : goal.loop-at-preserved
 loop-at-preserved g c =
@@ -103,4 +103,4 @@ returns-in-Err-end-clause-failures g c n so =
     let at = c.at-in-Err-end.ensures.at ∙ sym last in
     failed_giving_up g.D.Disk.model.failures (disk_held c.loop-at.held.driver) c.at-in-Err-end.result.1 c.at-in-Err-end.result.0.kind (n + failed_until (take c.loop-at.at c.args.events.now) c.loop-at.answers.items) (c.in-Err-end.ensures.disk ∙ ap Some (sym c.at-in-Err-end.ensures.disk))
     (c.at-in-Err-end.ensures.kind ∙ c.in-Err-end.ensures.kind) (c.loop-at.invariant.failed n so)
-    ∙ sym (λ i. (n + failed_until (take (at i) c.args.events.now) (c.at-in-Err-end.ensures.answers i)) + failed_in c.at-in-Err-end.result.0.kind)
+    ∙ sym (λ i. (n + failed_until (take (at i) c.args.events.now) (c.at-in-Err-end.ensures.answers i)) + failed_in_run c.at-in-Err-end.result.0.kind)

@@ -1,13 +1,13 @@
 use Rattle.std.proofs.Common.{◌≤◌, ◌+◌, length}
-use Rattle.coord_drill.specs.Facade.{IsReady, Takes, Writes}
+use Rattle.coord_drill.specs.Facade.{IsReadyDrill, TakesPiece, WritesPart}
 use Rattle.coord_drill.proofs.console.Console.take.Given as goal
 
 -- what was carried out of the piece, and written of it
 abbrev pub invariant-loop-behind : goal.invariant-loop-behind
 invariant-loop-behind g l =
-    IsReady l.console.drill
+    IsReadyDrill l.console.drill
     × (l.console.number + length l.rest ≤ l.fn.self.number + length l.piece)
-    × Writes (g.W.Write.contents l.fn.writer) (g.W.Write.contents l.writer) (λ text. Takes g.D.Disk.model g.D.CrashDisk.crashes l.fn.self l.piece l.rest text l.console)
+    × WritesPart (g.W.Write.contents l.fn.writer) (g.W.Write.contents l.writer) (λ text. TakesPiece g.D.Disk.model g.D.CrashDisk.crashes l.fn.self l.piece l.rest text l.console)
 
 abbrev pub decreases-loop-behind : goal.decreases-loop-behind
 decreases-loop-behind g l = length l.rest

@@ -2,7 +2,7 @@ use Rattle.std.proofs.Common.{◌≡◌, ◌+◌, ◌++◌, [], ◌∷◌, refl,
 use Rattle.coord_ledger.specs.declared.events.Event.TheVariants as event
 use Rattle.coord_ledger.specs.Facade.{HasFailed, disk_held}
 use Rattle.coord_drill.specs.Drill.{line_events}
-use Rattle.coord_drill.specs.Facade.{IsPassing, IsPromised, Leads, Opened, drill_of, failed_by, opened_line}
+use Rattle.coord_drill.specs.Facade.{IsPassingFault, Leads, LineIsPromised, Opened, drill_of, failed_by, opened_line}
 use Rattle.coord_drill.specs.declared.asked.Asked.TheVariants.{Crash}
 use Rattle.coord_drill.proofs.does.Crashes.{crash_cause, crash_failed}
 use Rattle.coord_drill.proofs.does.Cuts.{cuts_part}
@@ -16,7 +16,7 @@ returns-in-Err-clause-cut g c promised =
     let told = c.fault_of.ensures.told in
     inr (record {
       moments = λ s is represents old there keeps. (c.in-Err.ensures.disk s is represents old there keeps).reopens;
-      cause = λ on. subst IsPassing (sym told) (crash_cause _ c.in-Err.kind c.in-Err.ensures.cause on);
+      cause = λ on. subst IsPassingFault (sym told) (crash_cause _ c.in-Err.kind c.in-Err.ensures.cause on);
       failed = λ n has. c.in-Err.ensures.failures n has ∙ ap (λ k. n + k) (sym (ap failed_by told ∙ crash_failed c.in-Err.kind));
     })
 
@@ -28,7 +28,7 @@ returns-in-Ok-print_opened-clause-told g c =
     let line = opened_line count in
     let text : string_bytes c.print_opened.new.text ≡ string_bytes c.args.text.now ++ line = search rules in
     let begins = begins_by g.D.Disk.model g.D.CrashDisk.crashes d.driver c.lemma_begins.ensures in
-    let leads : IsPromised g.D.Disk.model d Crash → Leads g.D.Disk.model g.D.CrashDisk.crashes d.driver (event.Crash ∷ []) (Opened count ∷ []) w =
+    let leads : LineIsPromised g.D.Disk.model d Crash → Leads g.D.Disk.model g.D.CrashDisk.crashes d.driver (event.Crash ∷ []) (Opened count ∷ []) w =
     λ promised. leads_one g.D.Disk.model g.D.CrashDisk.crashes d.driver w event.Crash (Opened count) tt c.lemma_survives.ensures c.lemma_survives-2.ensures c.in-Ok.ensures.model
     (λ n has. let none : n ≡ n + 0 = omega arith in subst (HasFailed g.D.Disk.model.failures (disk_held w)) none (c.in-Ok.ensures.failures n has))
     (c.in-Ok.ensures.simulates promised.0) c.in-Ok.ensures.disk in (

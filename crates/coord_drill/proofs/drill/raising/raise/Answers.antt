@@ -3,7 +3,7 @@ use Rattle.coord_disk.specs.Model.Moments.{LeavesOnly}
 use Rattle.coord_store.specs.Facade.{risen}
 use Rattle.coord_store.specs.Refused.{failed_in}
 use Rattle.coord_ledger.specs.Facade.{DriverState, LedgerState, disk_held, has_stopped, ledger_over, settled_world}
-use Rattle.coord_drill.specs.Facade.{GivesRaised, IsPassing, RaisesPart, failed_by}
+use Rattle.coord_drill.specs.Facade.{GivesRaised, IsPassingFault, RaisesPart, failed_by}
 use Rattle.coord_drill.proofs.course.Standing.{none_stopped}
 use Rattle.coord_drill.proofs.does.Crashes.{told_failures}
 use Rattle.coord_drill.proofs.does.Moments.{passed_on}
@@ -27,7 +27,7 @@ returns-in-Err-clause-cut g c =
       old = store.disk;
       there = taken.disk;
       moments = λ on keeps. rw lost (moments on keeps);
-      cause = λ empty. subst IsPassing (sym told) (raising_cause d.ledger.log store.world fault taken.world empty c.in-Err.ensures.fault (λ stopped. never_stopped store.torn (going (none_stopped g.D.Disk.model g.D.CrashDisk.crashes d.ledger.log empty)) fault stopped c.in-Err.ensures.stopped.0));
+      cause = λ empty. subst IsPassingFault (sym told) (raising_cause d.ledger.log store.world fault taken.world empty c.in-Err.ensures.fault (λ stopped. never_stopped store.torn (going (none_stopped g.D.Disk.model g.D.CrashDisk.crashes d.ledger.log empty)) fault stopped c.in-Err.ensures.stopped.0));
       failed = ap g.D.Disk.model.failures lost ∙ failed ∙ ap (λ n. g.D.Disk.model.failures store.disk + n) (sym (ap failed_by told ∙ told_failures fault));
     }
 

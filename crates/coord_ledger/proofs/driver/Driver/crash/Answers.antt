@@ -1,7 +1,7 @@
 use Rattle.std.proofs.Common.{◌≡◌, ◌+◌, true, sym, ap, ◌∙◌, subst}
 use Rattle.std.specs.Option.{option_map}
 use Rattle.coord_world.specs.protocol.NumberedWorld.{World}
-use Rattle.coord_ledger.specs.Facade.{Crash, DriverState, ImagesGive, Opened, Simulates, at_home, disk_held, failed_in, flight_out, kept_by, model_held, settled_world}
+use Rattle.coord_ledger.specs.Facade.{Crash, DriverState, ImagesGiveOneOf, Opened, Simulates, at_home, disk_held, failed_in_run, flight_out, kept_by, model_held, settled_world}
 use Rattle.coord_ledger.proofs.runs.Calls.{crash_fault, some_is, failed_as, failed_same, failed_so}
 use Rattle.coord_ledger.proofs.runs.EachMoment.{crash_lost, crash_touches}
 use Rattle.coord_ledger.proofs.Simulates.{simulates_opened, own_consistent}
@@ -32,7 +32,7 @@ returns-in-Ok-clause-failures g c n so =
     (failed_as g.D.Disk.model.failures c.in-Ok.ledger.disk (g.D.Disk.model.failures c.into_disk.result) n before c.in-Ok.ensures.failures)
 
 pub returns-in-Err-clause-failures : goal.returns-in-Err-clause-failures
-returns-in-Err-clause-failures g c n so = c.in-Err.ensures.failures ∙ ap (λ k. k + failed_in c.in-Err.refused.0) (failed_so g.D.Disk.model.failures (disk_held c.args.self) c.into_disk.result n so c.into_disk.ensures.disk)
+returns-in-Err-clause-failures g c n so = c.in-Err.ensures.failures ∙ ap (λ k. k + failed_in_run c.in-Err.refused.0) (failed_so g.D.Disk.model.failures (disk_held c.args.self) c.into_disk.result n so c.into_disk.ensures.disk)
 
 -- the call is an event of the driver's machine
 pub returns-in-Ok-clause-simulates : goal.returns-in-Ok-clause-simulates
@@ -43,7 +43,7 @@ returns-in-Ok-clause-simulates g c on =
     let kept = c.lemma_log_is_consistent.ensures in
     let is = own_consistent inside c.self.invariant kept.log kept.out kept.doubted kept.stopped in
     let met : Simulates c.args.self Crash (Opened (settled_world c.in-Ok.ledger.log).count) (at_home c.in-Ok.ledger) =
-    subst (λ (x : DriverState g.row.D.Denot). ImagesGive (g.D.Disk.model.keeps_model d) (g.D.Disk.model.present d) x.ledger.log (kept_by x.ledger.log.settled (option_map flight_out x.flight) x.ledger.log.doubt) → Simulates x Crash (Opened (settled_world c.in-Ok.ledger.log).count) (at_home c.in-Ok.ledger)) c.self.view_is
+    subst (λ (x : DriverState g.row.D.Denot). ImagesGiveOneOf (g.D.Disk.model.keeps_model d) (g.D.Disk.model.present d) x.ledger.log (kept_by x.ledger.log.settled (option_map flight_out x.flight) x.ledger.log.doubt) → Simulates x Crash (Opened (settled_world c.in-Ok.ledger.log).count) (at_home c.in-Ok.ledger)) c.self.view_is
     (λ images. simulates_opened inside c.in-Ok.ledger g.D.Disk.model g.D.CrashDisk.crashes d is images keeps c.in-Ok.ensures.opened) c.into_disk.ensures.images in
     let count = c.count-count.ensures ∙ ap (λ (w : World). w.count) c.settled.ensures in
     rw c.over.ensures (rw count met)

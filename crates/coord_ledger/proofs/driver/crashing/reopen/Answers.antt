@@ -4,7 +4,7 @@ use Rattle.std.specs.Option.{option_map}
 use Rattle.coord_disk.proofs.TornWrites.{whole_image}
 use Rattle.coord_disk.specs.Model.Present.{IsImage, Present}
 use Rattle.coord_store.specs.Refused.{failed_in as failed_in_opening}
-use Rattle.coord_ledger.specs.Facade.{IsReopenFault, LedgerState, failed_in}
+use Rattle.coord_ledger.specs.Facade.{IsReopenFault, LedgerState, failed_in_run}
 use Rattle.coord_ledger.specs.ledger.Driver.{IsOpenedOnce}
 use Rattle.coord_ledger.proofs.driver.crashing.reopen.Goals as goal
 
@@ -44,7 +44,7 @@ returns-clause-failures g c =
     (IfOk-weaker c.adopt.result _ _ (λ ledger is. ap (λ (l : LedgerState g.row.D.Denot). option_map g.D.Disk.model.failures l.disk) is ∙ ap Some same) c.adopt.ensures.adopted)
     (IfErr-weaker c.adopt.result _ _ (λ refused is.
     let lost : g.D.Disk.model.failures refused.1 ≡ g.D.Disk.model.failures c.args.disk = ap g.D.Disk.model.failures is.1 ∙ same in
-    let none : failed_in refused.0 ≡ 0 = ap failed_in is.0 in
+    let none : failed_in_run refused.0 ≡ 0 = ap failed_in_run is.0 in
     omega (arith, lost, none))
     (both c.adopt.result _ _ c.adopt.ensures.memory c.adopt.ensures.back))
 
