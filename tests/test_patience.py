@@ -243,6 +243,18 @@ class Patience(Case):
                 connection.socket.settimeout(PATIENCE)
                 self.assertEqual(connection.line(), RESENT)
 
+    def test_lines_that_are_read_slowly(self) -> None:
+        """Each line has its own time, also where a server reads on for long before it replies: 250 orders, sent at once, are
+        answered by one to which each read takes a second."""
+        self.needs("a C compiler", preloaded.has_compiler())
+        orders: list[Answer] = [{"op": "reset", "client": 1, "number": number, "node": 1} for number in range(1, 251)]
+        with self.serving(env=preloaded.environment(self.folder, STILL=1, READ_SECONDS=1)) as server, \
+                server.connect() as connection:
+            connection.send(*orders)
+            connection.socket.settimeout(PATIENCE)
+            for number in range(1, 251):
+                self.assertEqual(connection.line(), b'{"kind":"finished","step":%d}\n' % (number + 1))
+
     def test_waits_that_are_interrupted(self) -> None:
         """Again and again, as by stops of the process. Each goes on, and by a clock that is only put forward as long as it may. A
         connection that is given up keeps no descriptor."""

@@ -48,8 +48,9 @@ int accept4(int socket, struct sockaddr *address, socklen_t *length, int flags) 
     }
     return client;
 }
-// The clock is ahead by as many seconds as the file CLOCK has at this moment, a number of 8 bytes. With STILL it stands still
-// but for that.
+// The clock is ahead by as many seconds as the file CLOCK has at this moment, a number of 8 bytes, and by READ_SECONDS for
+// each read of a socket. With STILL it stands still but for that.
+static long sockets_read;
 int clock_gettime(clockid_t id, struct timespec *time) {
     static long *ahead;
     static struct timespec first;
@@ -63,6 +64,7 @@ int clock_gettime(clockid_t id, struct timespec *time) {
     if (!first.tv_sec) first = *time;
     if (setting("STILL")) *time = first;
     if (ahead) time->tv_sec += *ahead;
+    time->tv_sec += setting("READ_SECONDS") * __atomic_load_n(&sockets_read, __ATOMIC_SEQ_CST);
     return 0;
 }
 // Calls of a device and what goes out are written down in the file CALLS, a line each: what is to be written before it is,
@@ -226,6 +228,7 @@ ssize_t recv(int socket, void *buffer, size_t count, int flags) {
         return syscall(SYS_recvfrom, socket, buffer, count, flags, 0, 0);
     }
     if (storms("RECEIVE_STORM", &stormed) || (setting("INTERRUPTS") && ++receives % 2)) return interrupted();
+    __atomic_add_fetch(&sockets_read, 1, __ATOMIC_SEQ_CST);
     if (!setting("STOPS")) return syscall(SYS_recvfrom, socket, buffer, piece(count), flags, 0, 0);
     ssize_t received = syscall(SYS_recvfrom, socket, buffer, piece(count), flags | MSG_DONTWAIT, 0, 0);
     if (received >= 0 || errno != EAGAIN) return received;
