@@ -5,7 +5,7 @@ use Rattle.std.specs.List.{AllByRecursion}
 use Rattle.std.specs.Io.KnownBytes.{Appends}
 use Rattle.coord_server.specs.Ending.{IsOfStart}
 use Rattle.coord_server.specs.Lines.{after_line, is_next}
-use Rattle.coord_server.specs.Printed.{Follow, HasTold, IsOfPrinting, IsPrinted, PrinterState, Prints, PrintsEach, TellsAddress, lines_of, listening_line, signal_line, with_lost}
+use Rattle.coord_server.specs.Printed.{Follow, HasTold, IsOfPrinting, IsPrinted, PrinterState, Prints, PrintsEach, TellsAddress, signal_lines, listening_line, signal_line, with_lost}
 use Rattle.coord_server.specs.Signals.{StepSignal}
 use Rattle.coord_server.specs.declared.fault.ServerFault.{ServerFault}
 use Rattle.coord_server.specs.declared.last_line.LastLine.{LastLine}
@@ -59,14 +59,14 @@ module _ {W : Type 0} (contents : W → Option (List ℕ)) where
     told_next p m q s told one (inl is) = record {
       signals = told.signals ++ s ∷ [];
       bytes =
-          let lines : lines_of (told.signals ++ s ∷ []) ≡ lines_of told.signals ++ signal_line s.node s.epoch = flat_map-append (λ (x : StepSignal). signal_line x.node x.epoch) told.signals (s ∷ []) ∙ ap (λ l. lines_of told.signals ++ l) (append-nil (signal_line s.node s.epoch)) in
-          subst (Appends (contents p.output) (contents q.output)) (sym lines) (appends_both (contents p.output) (contents m.output) (contents q.output) (lines_of told.signals) (signal_line s.node s.epoch) told.bytes is.1);
+          let lines : signal_lines (told.signals ++ s ∷ []) ≡ signal_lines told.signals ++ signal_line s.node s.epoch = flat_map-append (λ (x : StepSignal). signal_line x.node x.epoch) told.signals (s ∷ []) ∙ ap (λ l. signal_lines told.signals ++ l) (append-nil (signal_line s.node s.epoch)) in
+          subst (Appends (contents p.output) (contents q.output)) (sym lines) (appends_both (contents p.output) (contents m.output) (contents q.output) (signal_lines told.signals) (signal_line s.node s.epoch) told.bytes is.1);
       may_be_told = each_may told.signals s told.may_be_told one;
       follow = subst (Follow p.last (told.signals ++ s ∷ [])) (sym is.4) (follow_last p.last m.last told.signals s told.follow is.0);
     }
     told_next p m q s told one (inr is) = record {
       signals = told.signals;
-      bytes = subst (λ (x : PrinterState W). Appends (contents p.output) (contents x.output) (lines_of told.signals)) (sym is) told.bytes;
+      bytes = subst (λ (x : PrinterState W). Appends (contents p.output) (contents x.output) (signal_lines told.signals)) (sym is) told.bytes;
       may_be_told = told.may_be_told;
       follow = subst (λ (x : PrinterState W). Follow p.last told.signals x.last) (sym is) told.follow;
     }
@@ -94,7 +94,7 @@ module _ {W : Type 0} (contents : W → Option (List ℕ)) where
       first = listening_line opened.0;
       signals = told.signals;
       opened = inr (opened.0, refl);
-      bytes = appends_both (contents p.output) (contents m.output) (contents q.output) (listening_line opened.0) (lines_of told.signals) opened.1 told.bytes;
+      bytes = appends_both (contents p.output) (contents m.output) (contents q.output) (listening_line opened.0) (signal_lines told.signals) opened.1 told.bytes;
       may_be_told = told.may_be_told;
       follow = subst (λ l. Follow l told.signals q.last) opened.3 told.follow;
     })

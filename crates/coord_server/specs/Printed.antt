@@ -31,8 +31,8 @@ abbrev pub new_printer : {W : Type 0} → W → ℕ → PrinterState W
 new_printer output since = record { output = output; is_broken = false; lost = 0; last = nothing_since since }
 
 -- the lines of some signals, in their order
-abbrev pub lines_of : List StepSignal → List ℕ
-lines_of signals = flat_map (λ s. signal_line s.node s.epoch) signals
+abbrev pub signal_lines : List StepSignal → List ℕ
+signal_lines signals = flat_map (λ s. signal_line s.node s.epoch) signals
 
 -- each of these signals comes behind the one before it, the first behind this one; and that is the last of them
 abbrev pub Follow : LastLine → List StepSignal → LastLine → Type 0
@@ -73,7 +73,7 @@ module _ {W : Type 0} (contents : W → Option (List ℕ)) where
     -- the lines of such signals were printed, each behind the one before it
     pub record HasTold (p q : PrinterState W) : Type 0 where
       pub signals : List StepSignal
-      pub bytes : Appends (contents p.output) (contents q.output) (lines_of signals)
+      pub bytes : Appends (contents p.output) (contents q.output) (signal_lines signals)
       pub may_be_told : AllByRecursion (λ s. may s.step s.node s.epoch) signals
       pub follow : Follow p.last signals q.last
 
@@ -82,7 +82,7 @@ module _ {W : Type 0} (contents : W → Option (List ℕ)) where
       pub first : List ℕ
       pub signals : List StepSignal
       pub opened : ((first ≡ []) × (signals ≡ [])) ⊎ ((address : SocketAddr) × (first ≡ listening_line address))
-      pub bytes : Appends (contents p.output) (contents q.output) (first ++ lines_of signals)
+      pub bytes : Appends (contents p.output) (contents q.output) (first ++ signal_lines signals)
       pub may_be_told : AllByRecursion (λ s. may s.step s.node s.epoch) signals
       pub follow : Follow p.last signals q.last
 
