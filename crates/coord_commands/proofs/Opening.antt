@@ -9,7 +9,8 @@ use Rattle.coord_engine.specs.Facade.{IsOnTheWay}
 use Rattle.coord_engine.specs.declared.closed.Closed.{Closed}
 use Rattle.coord_admin.specs.declared.patience.Patience.{Patience}
 use Rattle.coord_server.specs.Ending.{LeavesNothing, fault_at_end}
-use Rattle.coord_server.specs.Lives.{HasLivedToClose, HasServed}
+use Rattle.coord_server.specs.Lives.{HasLivedToClose, HasServed, silent}
+use Rattle.coord_server.specs.Printed.{is_amiss}
 use Rattle.coord_server.specs.declared.server_end.ServerEnd.{ServerEnd}
 use Rattle.coord_server.specs.Moments.{AtEachMoment}
 use Rattle.coord_store.specs.Facade.{Kept, Recovered}
@@ -80,7 +81,7 @@ module _ {D : Type 0} (model : DiskModel D) where
   opened before taken store was world failures same_model moments same = grind (arith, nat_tests, if_keeps)
 
   -- a store that was opened, served to a close and put back keeps to the way
-  pub keeps_to_the_way : (before after : Option Present) (store : Kept D) (end : ServerEnd D Patience) (closed : Closed D) (back : D) → IsOpenedStore model before store → HasLivedToClose model store.world closed → AtEachMoment model store end.closed
+  pub keeps_to_the_way : {W : Type 0} (before after : Option Present) (store : Kept D) (end : ServerEnd D Patience W) (closed : Closed D) (back : D) → IsOpenedStore model before store → HasLivedToClose model store.world closed → AtEachMoment model store end.closed
       → closed ≡ end.closed → back ≡ closed.store.disk → IfSome after (λ known. known_of model back ≡ Some known) → KeepsToTheWay model before after
   keeps_to_the_way before after store end closed back is lived moments of_end same put =
       let here : AtEachMoment model store closed = subst (AtEachMoment model store) (sym of_end) moments in
@@ -107,13 +108,13 @@ module _ {D : Type 0} (model : DiskModel D) where
   lost before after store fault is nothing = inr (inr (record { began = store.world; opened = is.world; fault = fault; ends = inl nothing; named = refl }))
 
   -- a server over it has ended, and its disk is put back
-  pub ended : (before after : Option Present) (store : Kept D) (end : ServerEnd D Patience) (closed : Closed D) (fault : ServerFault) (back : D) → IsOpenedStore model before store → HasServed model store.world end
-      → closed ≡ end.closed → fault_at_end (has_stopped end.closed.store) end.served end.output.is_broken ≡ Some fault → back ≡ closed.store.disk → IfSome after (λ known. known_of model back ≡ Some known)
+  pub ended : {W : Type 0} (before after : Option Present) (store : Kept D) (end : ServerEnd D Patience W) (closed : Closed D) (fault : ServerFault) (back : D) → IsOpenedStore model before store → HasServed model store.world end
+      → closed ≡ end.closed → fault_at_end (has_stopped end.closed.store) end.served (is_amiss end.printer end.closed.settled) ≡ Some fault → back ≡ closed.store.disk → IfSome after (λ known. known_of model back ≡ Some known)
       → EndsServing model before after (fault_of_server fault)
   ended before after store end closed fault back is served same tells disk put =
       let home = disk ∙ ap (λ (c : Closed D). c.store.disk) same in
       let there = subst (λ d. IfSome after (λ known. known_of model d ≡ Some known)) home put in
-      inr (inr (record { began = store.world; opened = is.world; fault = fault; ends = inr (end, served, tells, there); named = refl }))
+      inr (inr (record { began = store.world; opened = is.world; fault = fault; ends = inr (silent end, served, tells, there); named = refl }))
 
   of_unopened : (before after : Option Present) (fault : StoreFault) → ((fault ≡ Device) × (after ≡ before)) ⊎ (IsOfOpening (reads before) (Store fault) × IsPutBack model (failed_in fault) before after) → IsOfServing (reads before) (Store fault)
   of_unopened before after fault (inl none) = inl none.0

@@ -12,6 +12,7 @@ use Rattle.coord_engine.specs.declared.closed.Closed.{Closed}
 use Rattle.coord_admin.specs.declared.patience.Patience.{Patience}
 use Rattle.coord_server.specs.Ending.{LeavesNothing, fault_at_end}
 use Rattle.coord_server.specs.Lives.{HasLivedToClose, HasServed}
+use Rattle.coord_server.specs.Printed.{is_amiss}
 use Rattle.coord_server.specs.declared.fault.ServerFault.{ServerFault}
 use Rattle.coord_server.specs.declared.server_end.ServerEnd.{ServerEnd}
 use Rattle.coord_store.specs.Facade.{Kept, Recovered}
@@ -80,8 +81,8 @@ module _ {D : Type 0} (model : DiskModel D) where
   abbrev pub EndsAfterLives : World → ServerFault → Option Present → Type 0
   EndsAfterLives began fault after =
       LeavesNothing model fault
-      ⊎ ((ended : ServerEnd D Patience) × HasServed model began ended
-      × (fault_at_end (has_stopped ended.closed.store) ended.served ended.output.is_broken ≡ Some fault)
+      ⊎ ((ended : ServerEnd D Patience (Unit {0})) × HasServed model began ended
+      × (fault_at_end (has_stopped ended.closed.store) ended.served (is_amiss ended.printer ended.closed.settled) ≡ Some fault)
       × IfSome after (λ known. known_of model ended.closed.store.disk ≡ Some known))
 
   -- a server over the world of the disk has ended, and tells this

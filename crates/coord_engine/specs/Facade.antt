@@ -4,7 +4,7 @@ pub use Rattle.coord_engine.specs.Closing.{IsSince, RefusesClosing}
 pub use Rattle.coord_engine.specs.Flights.{AnswersBegin, AnswersFlush, Begins, ComesBack, CommitsFlight, RefusesFlush}
 pub use Rattle.coord_engine.specs.Named.{AreNoted, IsNamed, all_notes, notes_of}
 pub use Rattle.coord_engine.specs.Past.{FliesOnTheWay, HasLeft, IsOnTheWay, IsPastOf, LeavesFlown, Past, StaysOnTheWay, flown_world, last_world, no_past, past_in, past_of}
-pub use Rattle.coord_engine.specs.Port.{AreAsked, AreHanded, IsAsked, deliveries_of, delivery_of, step_of}
+pub use Rattle.coord_engine.specs.Port.{AreAsked, AreHanded, IsAsked, MayAsk, MayAskAll, deliveries_of, delivery_of, step_of}
 pub use Rattle.coord_engine.specs.State.{Basis, CanHold, GuardedState, based_on, with_ledger}
 pub use Rattle.coord_engine.specs.Threads.{AnswersShow, AnswersTicket, AtSomeMoment, Closes, Flushes, Leaves, RefusesShow, SendsAgain, Shows}
 pub use Rattle.coord_engine.specs.Working.{AddsPackets, IsOfPacket, Keeps, TakesPacket, Tries, TriesAll, Works, all_packets, waits_after}

@@ -1,5 +1,5 @@
 -- What is asked of a port for what was released, and which step each packet makes.
-use Rattle.std.specs.Prelude.{◌≡◌, ℕ, Bool, List, [], ◌∷◌, map}
+use Rattle.std.specs.Prelude.{◌≡◌, ℕ, Bool, List, [], ◌∷◌, ◌++◌, map}
 use Rattle.coord_types.specs.declared.outputs.Output.{Output}
 use Rattle.coord_types.specs.declared.outputs.Output.TheVariants as output
 use Rattle.coord_types.specs.declared.packets.Packet.{Packet}
@@ -10,27 +10,36 @@ use Rattle.coord_ledger.specs.declared.release.Release.{Release}
 use Rattle.coord_engine.specs.declared.port.Delivery.{Delivery}
 use Rattle.coord_engine.specs.declared.port.Delivery.TheVariants.{Carry, Signal}
 
--- data is carried to the node that it is for, and a receipt back to the node whose data it names
-abbrev pub delivery_of : Output → Delivery
-delivery_of (output.Sent p) = Carry p.to (Carried p)
-delivery_of (output.Receipted p) = Carry p.from (Receipted p)
-delivery_of (output.Signalled u epoch) = Signal u epoch
+-- data is carried to the node that it is for, and a receipt back to the node whose data it names; a signal has the number of its step
+abbrev pub delivery_of : ℕ → Output → Delivery
+delivery_of step (output.Sent p) = Carry p.to (Carried p)
+delivery_of step (output.Receipted p) = Carry p.from (Receipted p)
+delivery_of step (output.Signalled u epoch) = Signal step u epoch
 
 -- what is asked for some releases, in their order
 abbrev pub deliveries_of : List Release → List Delivery
-deliveries_of released = map (λ r. delivery_of r.output) released
+deliveries_of released = map (λ r. delivery_of r.step r.output) released
 
 -- the node that a packet came to takes data, and clears what a receipt names
 abbrev pub step_of : Packet → Step
 step_of (Carried p) = Take p
 step_of (Receipted p) = Clear p
 
+-- `may`: of which signals a port may be asked, by step, node and epoch. Any may be asked for a packet
+abbrev pub MayAsk : (ℕ → ℕ → ℕ → Type 0) → Delivery → Type 0
+MayAsk may (Carry to packet) = Unit {0}
+MayAsk may (Signal step node epoch) = may step node epoch
+
+-- it may be asked for each signal among these
+abbrev pub MayAskAll : (ℕ → ℕ → ℕ → Type 0) → List Release → Type 0
+MayAskAll may released = (before after : List Release) (step node epoch : ℕ) → released ≡ before ++ record { step = step; output = output.Signalled node epoch } ∷ after → may step node epoch
+
 -- `carried`, `signalled`: what a port may be once it was asked so, and answered so
-module _ {P : Type 0} (carried : P → ℕ → Packet → Bool → P → Type 0) (signalled : P → ℕ → ℕ → Bool → P → Type 0) where
+module _ {P : Type 0} (carried : P → ℕ → Packet → Bool → P → Type 0) (signalled : P → ℕ → ℕ → ℕ → Bool → P → Type 0) where
   -- a port was asked for a delivery
   abbrev pub IsAsked : P → Delivery → P → Type 0
   IsAsked port (Carry to packet) later = (answer : Bool) × carried port to packet answer later
-  IsAsked port (Signal node epoch) later = (answer : Bool) × signalled port node epoch answer later
+  IsAsked port (Signal step node epoch) later = (answer : Bool) × signalled port step node epoch answer later
 
   -- for these, each once and in order
   abbrev pub AreAsked : P → List Delivery → P → Type 0

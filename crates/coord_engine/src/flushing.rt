@@ -1,13 +1,14 @@
 //! Flights as they are needed, and what they release handed to a port.
 
-ghost use Rattle.std.specs.Prelude.{◌≡◌, false, true, length};
+ghost use Rattle.std.specs.Prelude.{◌≡◌, List, false, true, length};
 ghost use Rattle.std.specs.Sync.Mutex.{mutex_guard_value};
 ghost use Rattle.coord_engine.specs.Flights.{AnswersFlush};
 ghost use Rattle.coord_engine.specs.Flushing.{HasFlushed, finds_no_memory};
 ghost use Rattle.coord_engine.specs.Pacing.{is_idle, is_over};
-ghost use Rattle.coord_engine.specs.Port.{AreAsked, AreHanded, IsAsked, deliveries_of};
+ghost use Rattle.coord_engine.specs.Port.{AreAsked, AreHanded, IsAsked, MayAsk, MayAskAll, deliveries_of};
 ghost use Rattle.coord_engine.specs.State.{based_on};
-ghost use Rattle.coord_engine.specs.Threads.{AtSomeMoment};
+ghost use Rattle.coord_ledger.specs.declared.release.Release.{Release};
+ghost use Rattle.coord_engine.specs.Threads.{AtSomeMoment, Flushes};
 
 use crate::port::{Delivery, Port};
 use crate::{Engine, Guarded, Origin};
@@ -117,11 +118,12 @@ impl<D: Disk, L: Origin> Engine<D, L> {
 /// Asks a port for a delivery. Whether a packet is in its hand by that: a signal is no packet, and
 /// one may be lost.
 fn ask<P: Port>(port: &mut P, delivery: Delivery) -> bool
+    requires { MayAsk P.may_signal delivery }
     ensures { IsAsked P.carried P.signalled port.old delivery port.new }
 {
     match delivery {
-        Delivery::Signal(node, epoch) => {
-            port.signal(node, epoch);
+        Delivery::Signal(step, node, epoch) => {
+            port.signal(step, node, epoch);
             false
         }
         Delivery::Carry(to, packet) => port.carry(to, packet),
@@ -130,6 +132,7 @@ fn ask<P: Port>(port: &mut P, delivery: Delivery) -> bool
 
 /// Asks a port for a delivery for each release, in order. How many packets are in its hand by that.
 fn ask_for_all<P: Port>(port: &mut P, releases: Releases) -> u64
+    requires { MayAskAll P.may_signal releases }
     ensures { AreAsked P.carried P.signalled port.old (deliveries_of releases) port.new }
 {
     let mut left = releases;
@@ -137,7 +140,7 @@ fn ask_for_all<P: Port>(port: &mut P, releases: Releases) -> u64
     let mut in_hand = 0u64;
     for _handed in 0..count {
         if let Some(release) = left.next() {
-            let is_in_hand = ask(port, Delivery::of(release.output));
+            let is_in_hand = ask(port, Delivery::of(release.step, release.output));
             in_hand = in_hand.saturating_add(u64::from(is_in_hand));
         }
     }
@@ -145,14 +148,15 @@ fn ask_for_all<P: Port>(port: &mut P, releases: Releases) -> u64
     in_hand
 }
 
-/// Hands all that was released to a port, in order and each delivery once, has it hand that on, and
-/// answers how much it was. What the port answers that it has lost is lost.
+/// Hands all that was released to a port that may be asked for it, in order and each delivery once, has
+/// it hand that on, and answers how much it was. What the port answers that it has lost is lost.
 pub fn hand_over<D: Disk, L: Origin, P: Port, R: Wait>(
     rt: &R,
     engine: &Engine<D, L>,
     port: &mut P,
     releases: Releases,
 ) -> u64
+    requires { MayAskAll P.may_signal releases }
     ensures count { result ≡ length releases }
     ensures handed { AreHanded P.carried P.signalled P.handed_on port.old (deliveries_of releases) port.new }
 {
@@ -215,13 +219,16 @@ fn flush<D: Disk, L: Origin, R: Wait + Clock>(
 /// where they are few, they have a sixteenth of that flight's time. Packets that it released may come
 /// back as steps: they have some milliseconds.
 ///
-/// It ends after a fault of the device, and after `Engine::finish` once nothing is pending. Where it
+/// The port may be asked for the signals that a flight can release. It ends after a fault of the device, and after `Engine::finish` once nothing is pending. Where it
 /// finds no memory it rests and tries again.
 pub fn flusher<D: Disk, L: Origin, P: Port, R: Wait + Clock>(
     rt: &R,
     engine: &Engine<D, L>,
     port: &mut P,
 )
+    requires { (released : List Release) →
+        AtSomeMoment (based_on D.model L.base L.before) (Flushes released) →
+        MayAskAll P.may_signal released }
     ensures { HasFlushed (based_on D.model L.base L.before)
         P.carried P.signalled P.handed_on port.old port.new }
 {

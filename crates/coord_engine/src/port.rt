@@ -18,8 +18,12 @@ pub trait Port {
     /// What it may be once it was asked to carry a packet to a node, and answered so.
     ghost carried: { Self → ℕ → Asked → Bool → Self → Type 0 } = { λ _ _ _ _ _. ⊤ };
 
-    /// What it may be once it was asked to signal an epoch to a node, and answered so.
-    ghost signalled: { Self → ℕ → ℕ → Bool → Self → Type 0 } = { λ _ _ _ _ _. ⊤ };
+    /// Of which signals it may be asked: by the number of the step that gives one out, the node and
+    /// the epoch.
+    ghost may_signal: { ℕ → ℕ → ℕ → Type 0 } = { λ _ _ _. ⊤ };
+
+    /// What it may be once it was asked to signal an epoch to a node, for a step, and answered so.
+    ghost signalled: { Self → ℕ → ℕ → ℕ → Bool → Self → Type 0 } = { λ _ _ _ _ _ _. ⊤ };
 
     /// What it may be once it was told to hand on what it has gathered, and answered so.
     ghost handed_on: { Self → ℕ → Self → Type 0 } = { λ _ _ _. ⊤ };
@@ -28,9 +32,11 @@ pub trait Port {
     fn carry(&mut self, to: NodeId, packet: Packet) -> bool
         ensures { carried self.old to packet result self.new };
 
-    /// Says to the service at this node that a reset has ended there, with the epoch that began.
-    fn signal(&mut self, node: NodeId, epoch: u64) -> bool
-        ensures { signalled self.old node epoch result self.new };
+    /// Says to the service at this node that a reset has ended there, with the epoch that began. The
+    /// step with this number gives the signal out.
+    fn signal(&mut self, step: u64, node: NodeId, epoch: u64) -> bool
+        requires { may_signal step node epoch }
+        ensures { signalled self.old step node epoch result self.new };
 
     /// Hands on the packets that it has gathered: nothing more is asked of it for now. Answers how many
     /// of them it knows to be lost by that.
@@ -38,24 +44,24 @@ pub trait Port {
         ensures { handed_on self.old result self.new };
 }
 
-/// What is asked of a port for an output.
+/// What is asked of a port for an output; for a signal with the number of its step.
 #[derive(Clone, Copy)]
 pub enum Delivery {
     Carry(NodeId, Packet),
-    Signal(NodeId, u64),
+    Signal(u64, NodeId, u64),
 }
 
 impl Delivery {
     /// Data goes to its `to`, and a receipt to its `from`, who sent the data.
-    pub fn of(output: Output) -> Self
-        ensures { result ≡ delivery_of output }
+    pub fn of(step: u64, output: Output) -> Self
+        ensures { result ≡ delivery_of step output }
     {
         match output {
             Output::Sent(data) => Delivery::Carry(data.to, Packet::Carried(data)),
             Output::Receipted(receipt) => {
                 Delivery::Carry(receipt.from, Packet::Receipted(receipt))
             }
-            Output::Signalled(node, epoch) => Delivery::Signal(node, epoch),
+            Output::Signalled(node, epoch) => Delivery::Signal(step, node, epoch),
         }
     }
 }

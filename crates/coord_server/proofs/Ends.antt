@@ -1,6 +1,7 @@
 -- A server of which no fault is told was closed by a line.
-use Rattle.std.proofs.Common.{◌≡◌, ℕ, zero, suc, ◌+◌, ◌≤◌, List, [], ◌∷◌, ◌++◌, All, length, Bool, true, false, Option, None, refl, sym, ap, ◌∙◌, subst, append_assoc, arith, drop, inl, inr, is_some}
+use Rattle.std.proofs.Common.{◌≡◌, ℕ, zero, suc, ◌+◌, ◌≤◌, ◌||◌, not, nat_le, List, [], ◌∷◌, ◌++◌, All, length, Bool, true, false, Option, None, refl, sym, ap, ◌∙◌, subst, append_assoc, arith, drop, inl, inr, is_some}
 use Rattle.std.proofs.lemmas.List.Elements.{All-push}
+use Rattle.std.proofs.lemmas.Bool.Decides.{nat_tests}
 use Rattle.coord_engine.specs.Facade.{AtSomeMoment, Basis, Closes, IsNamed, IsOfPacket, IsSince, based_on}
 use Rattle.coord_engine.specs.declared.closed.Closed.{Closed}
 use Rattle.coord_types.specs.declared.steps.Step.{Step}
@@ -12,6 +13,7 @@ use Rattle.coord_admin.specs.Connections.{Talk}
 use Rattle.coord_server.specs.EngineDesk.{DeskState}
 use Rattle.coord_server.specs.Ending.{AddsWorkers, HasRun, IsLife, IsNotClosed, IsOneHistory, IsServedToClose, LeavesNothing, Local, Serves, ServesLife, fault_at_end}
 use Rattle.coord_server.specs.Lives.{EndsLives, HasLived, HasLivedToClose, IsLastLife, Lives, Rests, life_steps, talked_any}
+use Rattle.coord_server.specs.Printed.{is_amiss}
 use Rattle.coord_server.specs.declared.fault.ServerFault.{ServerFault}
 use Rattle.coord_server.specs.declared.fault.ServerFault.TheVariants as fault
 use Rattle.coord_server.specs.declared.life.Life.{Life}
@@ -90,7 +92,7 @@ module _ {D : Type 0} (m : DiskModel D) {V : Type 0} (talked : V → List Talk �
       )
 
   -- the last life has ended
-  pub lives_end : (began : World) (v : V) (life : Life D V) (ended : ServerEnd D V) → EndsLives m talked failed most began v life
+  pub lives_end : {W : Type 0} (began : World) (v : V) (life : Life D V) (ended : ServerEnd D V W) → EndsLives m talked failed most began v life
       → IsLastLife life.left ended.served → ended.closed ≡ life.closed → ended.callers ≡ life.callers → HasLived m talked failed most began v ended
   lives_end began v life ended (n, world, u, lives, so) over same same_w = (
     n,
@@ -125,17 +127,21 @@ module _ {D : Type 0} (m : DiskModel D) {V : Type 0} (talked : V → List Talk �
   lives_any (suc n) began next v w is = (is.0, tt, lives_any n began is.0 v is.1 is.2, rested_any is.0 next is.1 w is.3)
 
 -- of a server whose lives have the steps that its own have
-pub closed_lives : {D : Type 0} (m : DiskModel D) {V : Type 0} (talked : V → List Talk → V → Type 0) (failed : V → V → Type 0) (began : World) (v : V) (ended : ServerEnd D V)
-    → fault_at_end (has_stopped ended.closed.store) ended.served ended.output.is_broken ≡ None → HasLived m talked failed life_steps began v ended → HasLivedToClose m began ended.closed
+pub closed_lives : {D W : Type 0} (m : DiskModel D) {V : Type 0} (talked : V → List Talk → V → Type 0) (failed : V → V → Type 0) (began : World) (v : V) (ended : ServerEnd D V W)
+    → fault_at_end (has_stopped ended.closed.store) ended.served (is_amiss ended.printer ended.closed.settled) ≡ None → HasLived m talked failed life_steps began v ended → HasLivedToClose m began ended.closed
 closed_lives m talked failed began v ended none is =
     let b = based_on m is.1 [] in (
       is.0,
       is.1,
       lives_any m talked life_steps is.0 began is.1 v is.2 is.3,
-      (is.4.0, is.4.1, closed_if_none b talked failed life_steps (has_stopped ended.closed.store) ended.served ended.output.is_broken is.4.0 is.2 ended.callers is.4.1 none is.4.2, is.4.3),
+      (is.4.0, is.4.1, closed_if_none b talked failed life_steps (has_stopped ended.closed.store) ended.served (is_amiss ended.printer ended.closed.settled) is.4.0 is.2 ended.callers is.4.1 none is.4.2, is.4.3),
     )
 
 -- of a store that has stopped a fault is told
 pub not_stopped : (stopped : Bool) (served : Option ServerFault) (is_broken : Bool) → fault_at_end stopped served is_broken ≡ None → stopped ≡ false
 not_stopped true served is_broken none = absurd cc
 not_stopped false served is_broken none = refl
+
+-- nor of one whose output failed, or has a signal of a step that is not settled
+pub whole_if_none : (stopped : Bool) (served : Option ServerFault) (is_broken : Bool) (last settled : ℕ) → fault_at_end stopped served (is_broken || not (nat_le last settled)) ≡ None → (is_broken ≡ false) × (last ≤ settled)
+whole_if_none stopped served is_broken last settled none = grind (arith, nat_tests)

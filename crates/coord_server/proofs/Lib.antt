@@ -2,5 +2,6 @@ pub mod Begins
 pub mod Ends
 pub mod Moments
 pub mod OneHistory
+pub mod Signals
 pub mod Starts
 pub mod Told

@@ -63,7 +63,7 @@ fresh-append : (xs ys : List Step) (w : World) → EachFresh w xs → EachFresh 
 fresh-append [] ys w each on = on
 fresh-append (x ∷ xs) ys w each on = (each.0, fresh-append xs ys (next w x) each.1 on)
 
-outs-append : (xs ys : List Step) (w : World) → outs w (xs ++ ys) ≡ outs w xs ++ outs (fold w xs) ys
+pub outs-append : (xs ys : List Step) (w : World) → outs w (xs ++ ys) ≡ outs w xs ++ outs (fold w xs) ys
 outs-append [] ys w = refl
 outs-append (x ∷ xs) ys w = ap (λ l. record { reply = reply w x; outputs = outputs w x } ∷ l) (outs-append xs ys (next w x))
 
@@ -135,13 +135,13 @@ module _ {D : Type 0} (m : DiskModel D) {V : Type 0} (talked : V → List Talk �
   lives_go_on (suc n) began next v w lives = rest_goes_on began lives.0 next (steps_of m talked most n began v lives.0 lives.1 lives.2) lives.1 w lives.3 (lives_go_on n began lives.0 v lives.1 lives.2)
 
 module _ {D : Type 0} (m : DiskModel D) {V : Type 0} (talked : V → List Talk → V → Type 0) (failed : V → V → Type 0) (most : ℕ) where
-  pub lives_are_one : LivesAreOne m talked failed most
-  lives_are_one began v ended lived =
+  pub lives_are_one : (W : Type 0) → LivesAreOne W m talked failed most
+  lives_are_one W began v ended lived =
       one_history began lived.1 (steps_of m talked most lived.0 began v lived.1 lived.2 lived.3) ended.closed (lives_go_on m talked most lived.0 began lived.1 v lived.2 lived.3) (tells (based_on m lived.1 []) lived.4.1.notes ended.closed lived.4.3)
 
   -- what the last life leaves ends one history
-  pub ends : (began : World) (v : V) (ended : ServerEnd D V) → HasLived m talked failed most began v ended → EndsOneHistory began ended.closed
-  ends began v ended lived = (steps_of m talked most lived.0 began v lived.1 lived.2 lived.3, lives_are_one began v ended lived)
+  pub ends : {W : Type 0} (began : World) (v : V) (ended : ServerEnd D V W) → HasLived m talked failed most began v ended → EndsOneHistory began ended.closed
+  ends {W} began v ended lived = (steps_of m talked most lived.0 began v lived.1 lived.2 lived.3, lives_are_one W began v ended lived)
 
 pub closed_lives_are_one : {D : Type 0} (m : DiskModel D) → ClosedLivesAreOne m
 closed_lives_are_one {D} m began left lived =

@@ -1,27 +1,100 @@
 -- What is printed first, and behind it.
-use Rattle.std.proofs.Common.{◌≡◌, ℕ, Bool, true, false, List, [], ◌∷◌, ◌++◌, Option, inl, inr, refl, sym, subst}
+use Rattle.std.proofs.Common.{◌≡◌, ◌⊎◌, ℕ, Bool, true, false, List, [], ◌∷◌, ◌++◌, Option, None, Some, inl, inr, refl, sym, ap, ◌∙◌, subst, append-nil, append_assoc}
+use Rattle.std.proofs.lemmas.Grind.{flat_map-append}
+use Rattle.std.specs.List.{AllByRecursion}
 use Rattle.std.specs.Io.KnownBytes.{Appends}
 use Rattle.coord_server.specs.Ending.{IsOfStart}
-use Rattle.coord_server.specs.Printed.{IsOfPrinting, PrinterState, Prints, PrintsEach, signal_line, with_lost}
+use Rattle.coord_server.specs.Lines.{after_line, is_next}
+use Rattle.coord_server.specs.Printed.{Follow, HasTold, IsOfPrinting, IsPrinted, PrinterState, Prints, PrintsEach, TellsAddress, signal_lines, listening_line, signal_line, with_lost}
+use Rattle.coord_server.specs.Signals.{StepSignal}
 use Rattle.coord_server.specs.declared.fault.ServerFault.{ServerFault}
-use Rattle.coord_server.specs.declared.local.Signal.{Signal}
+use Rattle.coord_server.specs.declared.last_line.LastLine.{LastLine}
 
 -- a first line that was not printed
 pub printing_is_of_start : (told : ServerFault) → IsOfPrinting told → IsOfStart told
 printing_is_of_start told (inl memory) = subst IsOfStart (sym memory) tt
 printing_is_of_start told (inr write) = subst IsOfStart (sym write) tt
 
-prints_last : {W : Type 0} (contents : W → Option (List ℕ)) (p m q : PrinterState W) (came : List Signal) (s : Signal) → PrintsEach contents p came m → Prints contents m s q → PrintsEach contents p (came ++ s ∷ []) q
-prints_last contents p m q [] s is last = (q, rw (sym is) last, refl)
-prints_last contents p m q (x ∷ came) s is last = (is.0, is.1, prints_last contents is.0 m q came s is.2 last)
+module _ {W : Type 0} (contents : W → Option (List ℕ)) where
+  prints_last : (p m q : PrinterState W) (came : List StepSignal) (s : StepSignal) → PrintsEach contents p came m → Prints contents m s q → PrintsEach contents p (came ++ s ∷ []) q
+  prints_last p m q [] s is last = (q, rw (sym is) last, refl)
+  prints_last p m q (x ∷ came) s is last = (is.0, is.1, prints_last is.0 m q came s is.2 last)
 
-printed : {W : Type 0} (contents : W → Option (List ℕ)) (m q : PrinterState W) (s : Signal) (is_written : Bool) → (is_written ≡ true → Appends (contents m.output) (contents q.output) (signal_line s.node s.epoch)) → (is_written ≡ true → (q.is_broken ≡ false) × (q.lost ≡ m.lost)) → (is_written ≡ false → q.is_broken ≡ false → q ≡ with_lost m)
-    → q.is_broken ≡ false → Prints contents m s q
-printed contents m q s true written whole failed going = inl (written refl, (whole refl).0, (whole refl).1)
-printed contents m q s false written whole failed going = inr (failed refl going)
+  -- what printing a signal says
+  pub printed : (m q : PrinterState W) (s : StepSignal) (is_written : Bool) → (is_written ≡ true → Appends (contents m.output) (contents q.output) (signal_line s.node s.epoch)) → (is_written ≡ true → (is_next m.last s.step s.node ≡ true) × (q.last ≡ after_line m.last s.step s.node)) → (is_written ≡ true → (q.is_broken ≡ false) × (q.lost ≡ m.lost))
+      → (is_written ≡ false → q.is_broken ≡ false → q ≡ with_lost m) → q.is_broken ≡ false → Prints contents m s q
+  printed m q s true written next whole failed going = inl ((next refl).0, written refl, (whole refl).0, (whole refl).1, (next refl).1)
+  printed m q s false written next whole failed going = inr (failed refl going)
 
--- one more signal is printed
-pub prints_next : {W : Type 0} (contents : W → Option (List ℕ)) (p m q : PrinterState W) (came : List Signal) (s : Signal) (is_written : Bool) → PrintsEach contents p came m
-    → (is_written ≡ true → Appends (contents m.output) (contents q.output) (signal_line s.node s.epoch)) → (is_written ≡ true → (q.is_broken ≡ false) × (q.lost ≡ m.lost)) → (is_written ≡ false → q.is_broken ≡ false → q ≡ with_lost m)
-    → q.is_broken ≡ false → PrintsEach contents p (came ++ s ∷ []) q
-prints_next contents p m q came s is_written is written whole failed going = prints_last contents p m q came s is (printed contents m q s is_written written whole failed going)
+  -- one more signal is printed
+  pub prints_next : (p m q : PrinterState W) (came : List StepSignal) (s : StepSignal) → PrintsEach contents p came m → Prints contents m s q → PrintsEach contents p (came ++ s ∷ []) q
+  prints_next p m q came s is one = prints_last p m q came s is one
+
+  appends_none : (b : Option (List ℕ)) → Appends b b []
+  appends_none None = tt
+  appends_none (Some xs) = sym (append-nil xs)
+
+  -- one text behind another
+  appends_both : (a b c : Option (List ℕ)) (xs ys : List ℕ) → Appends a b xs → Appends b c ys → Appends a c (xs ++ ys)
+  appends_both None b c xs ys one other = tt
+  appends_both (Some front) None c xs ys one other = absurd one
+  appends_both (Some front) (Some bs) None xs ys one other = absurd other
+  appends_both (Some front) (Some bs) (Some cs) xs ys one other = other ∙ ap (λ l. l ++ ys) one ∙ append_assoc front xs ys
+
+  follow_last : (first m : LastLine) (signals : List StepSignal) (s : StepSignal) → Follow first signals m → is_next m s.step s.node ≡ true → Follow first (signals ++ s ∷ []) (after_line m s.step s.node)
+  follow_last first m [] s is next = (subst (λ l. is_next l s.step s.node ≡ true) is next, ap (λ l. after_line l s.step s.node) is)
+  follow_last first m (x ∷ signals) s is next = (is.0, follow_last (after_line first x.step x.node) m signals s is.1 next)
+
+  module _ (may : ℕ → ℕ → ℕ → Type 0) where
+    each_may : (signals : List StepSignal) (s : StepSignal) → AllByRecursion (λ x. may x.step x.node x.epoch) signals → may s.step s.node s.epoch → AllByRecursion (λ x. may x.step x.node x.epoch) (signals ++ s ∷ [])
+    each_may [] s all one = (one, tt)
+    each_may (x ∷ signals) s all one = (all.0, each_may signals s all.1 one)
+
+    -- nothing was told yet
+    pub told_none : (p : PrinterState W) → HasTold contents may p p
+    told_none p = record { signals = []; bytes = appends_none (contents p.output); may_be_told = tt; follow = refl }
+
+    -- one more signal that may be told
+    pub told_next : (p m q : PrinterState W) (s : StepSignal) → HasTold contents may p m → may s.step s.node s.epoch → Prints contents m s q → HasTold contents may p q
+    told_next p m q s told one (inl is) = record {
+      signals = told.signals ++ s ∷ [];
+      bytes =
+          let lines : signal_lines (told.signals ++ s ∷ []) ≡ signal_lines told.signals ++ signal_line s.node s.epoch = flat_map-append (λ (x : StepSignal). signal_line x.node x.epoch) told.signals (s ∷ []) ∙ ap (λ l. signal_lines told.signals ++ l) (append-nil (signal_line s.node s.epoch)) in
+          subst (Appends (contents p.output) (contents q.output)) (sym lines) (appends_both (contents p.output) (contents m.output) (contents q.output) (signal_lines told.signals) (signal_line s.node s.epoch) told.bytes is.1);
+      may_be_told = each_may told.signals s told.may_be_told one;
+      follow = subst (Follow p.last (told.signals ++ s ∷ [])) (sym is.4) (follow_last p.last m.last told.signals s told.follow is.0);
+    }
+    told_next p m q s told one (inr is) = record {
+      signals = told.signals;
+      bytes = subst (λ (x : PrinterState W). Appends (contents p.output) (contents x.output) (signal_lines told.signals)) (sym is) told.bytes;
+      may_be_told = told.may_be_told;
+      follow = subst (λ (x : PrinterState W). Follow p.last told.signals x.last) (sym is) told.follow;
+    }
+
+    -- nothing was printed
+    pub printed_none : (p q : PrinterState W) → q ≡ p → IsPrinted contents may p q
+    printed_none p q same = inr (record {
+      first = [];
+      signals = [];
+      opened = inl (refl, refl);
+      bytes = subst (λ (x : PrinterState W). Appends (contents p.output) (contents x.output) []) (sym same) (appends_none (contents p.output));
+      may_be_told = tt;
+      follow = ap (λ (x : PrinterState W). x.last) same;
+    })
+
+    -- the first line was not printed
+    pub printed_failed : (p q : PrinterState W) → (q.is_broken ≡ true) ⊎ (q ≡ p) → IsPrinted contents may p q
+    printed_failed p q (inl broken) = inl broken
+    printed_failed p q (inr same) = printed_none p q same
+
+    -- the first line, and then signals
+    pub printed_all : (p m q : PrinterState W) → TellsAddress contents p m → (q.is_broken ≡ true) ⊎ HasTold contents may m q → IsPrinted contents may p q
+    printed_all p m q opened (inl broken) = inl broken
+    printed_all p m q opened (inr told) = inr (record {
+      first = listening_line opened.0;
+      signals = told.signals;
+      opened = inr (opened.0, refl);
+      bytes = appends_both (contents p.output) (contents m.output) (contents q.output) (listening_line opened.0) (signal_lines told.signals) opened.1 told.bytes;
+      may_be_told = told.may_be_told;
+      follow = subst (λ l. Follow l told.signals q.last) opened.3 told.follow;
+    })

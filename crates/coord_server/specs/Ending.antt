@@ -98,9 +98,9 @@ LeavesNothing m fault.OutOfMemory = Unit {0}
 LeavesNothing m (fault.NotClosed why) = (world : World) × (shares : List (List Note)) × (length shares ≡ 9) × IsNotClosed (based_on m world []) shares (fault.NotClosed why)
 LeavesNothing m other = ⊥
 
--- what a server that has ended tells: a store that has stopped first, then what ended the serving, then an output that failed
+-- what a server that has ended tells: a store that has stopped first, then what ended the serving, then an output that is amiss
 abbrev pub fault_at_end : Bool → Option ServerFault → Bool → Option ServerFault
-fault_at_end true served is_broken = Some fault.Device
-fault_at_end false (Some why) is_broken = Some why
+fault_at_end true served is_amiss = Some fault.Device
+fault_at_end false (Some why) is_amiss = Some why
 fault_at_end false None true = Some fault.Write
 fault_at_end false None false = None

@@ -53,7 +53,7 @@ Resends {D} b (Ok count) = (released : List Release) × AtSomeMoment b (SendsAga
 Resends {D} b (Err refusal) = refusal ≡ OutOfMemory
 
 -- What may have been lost was asked of a port again, each packet once and in order, and then it was to hand on what it had gathered; and so many they are. `carried`, `signalled`, `handed_on`: what the port may be once it was asked so.
-abbrev pub HandsAgain : {D P : Type 0} → Basis D → (P → ℕ → Packet → Bool → P → Type 0) → (P → ℕ → ℕ → Bool → P → Type 0) → (P → ℕ → P → Type 0) → ℕ → P → P → Type 0
+abbrev pub HandsAgain : {D P : Type 0} → Basis D → (P → ℕ → Packet → Bool → P → Type 0) → (P → ℕ → ℕ → ℕ → Bool → P → Type 0) → (P → ℕ → P → Type 0) → ℕ → P → P → Type 0
 HandsAgain {D} b carried signalled handed_on count port later =
     (released : List Release) × AtSomeMoment b (SendsAgain {D = D} released) × (count ≡ length released) × AreHanded carried signalled handed_on port (deliveries_of released) later
 

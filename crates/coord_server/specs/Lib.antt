@@ -1,8 +1,10 @@
 pub mod Ending
 pub mod EngineDesk
 pub mod Halves
+pub mod Lines
 pub mod Lives
 pub mod Moments
 pub mod Printed
+pub mod Signals
 pub mod Told
 pub mod Workers

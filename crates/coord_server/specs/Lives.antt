@@ -63,8 +63,8 @@ EndsLives {D} m {V} talked failed most began v last =
     × IsLife (based_on m world []) talked failed most u last
 
 -- some lives that rest, and then a last one, which leaves this. `failed v w`: those who call were v, and have failed
-abbrev pub HasLived : {D : Type 0} → DiskModel D → {V : Type 0} → (V → List Talk → V → Type 0) → (V → V → Type 0) → ℕ → World → V → ServerEnd D V → Type 0
-HasLived {D} m {V} talked failed most began v ended =
+abbrev pub HasLived : {D W : Type 0} → DiskModel D → {V : Type 0} → (V → List Talk → V → Type 0) → (V → V → Type 0) → ℕ → World → V → ServerEnd D V W → Type 0
+HasLived {D} {W} m {V} talked failed most began v ended =
     (n : ℕ) × (world : World) × (u : V) × Lives m talked most n began v world u
     × ((port : Local) × (desk : DeskState Local) × Serves (based_on m world []) talked failed most port u ended.callers desk ended.served × IsOneHistory (based_on m world []) desk.notes ended.closed)
 
@@ -75,9 +75,13 @@ HasLivedToClose {D} m began left =
     × ((port : Local) × (desk : DeskState Local) × IsServedToClose (based_on m world []) life_steps port desk × IsOneHistory (based_on m world []) desk.notes left)
 
 -- the lives of a server whose clients are waited for as usual, from this world
-abbrev pub HasServed : {D : Type 0} → DiskModel D → World → ServerEnd D Patience → Type 0
-HasServed {D} m began ended =
+abbrev pub HasServed : {D W : Type 0} → DiskModel D → World → ServerEnd D Patience W → Type 0
+HasServed {D} {W} m began ended =
     (callers : Patience) × IsUsual callers × HasLived m (λ _ _ _. ⊤) (λ _ _. ⊤) life_steps began callers ended
+
+-- how a server ended, whatever it printed to
+abbrev pub silent : {D V W : Type 0} → ServerEnd D V W → ServerEnd D V (Unit {0})
+silent e = record { closed = e.closed; callers = e.callers; served = e.served; printer = record { output = tt; is_broken = e.printer.is_broken; lost = e.printer.lost; last = e.printer.last } }
 
 -- ---- all lives are one history
 
@@ -115,9 +119,9 @@ module _ {D : Type 0} (m : DiskModel D) {V : Type 0} (talked : V → List Talk �
   steps_of (suc n) began v next w lives = steps_of n began v lives.0 lives.1 lives.2 ++ steps_in lives.3.left ∷ []
 
 -- lives that rest, and the one behind them that left this, are one history
-abbrev pub LivesAreOne : {D : Type 0} → DiskModel D → {V : Type 0} → (V → List Talk → V → Type 0) → (V → V → Type 0) → ℕ → Type 0
-LivesAreOne {D} m {V} talked failed most =
-    (began : World) (v : V) (ended : ServerEnd D V) (lived : HasLived m talked failed most began v ended)
+abbrev pub LivesAreOne : {D : Type 0} → (W : Type 0) → DiskModel D → {V : Type 0} → (V → List Talk → V → Type 0) → (V → V → Type 0) → ℕ → Type 0
+LivesAreOne {D} W m {V} talked failed most =
+    (began : World) (v : V) (ended : ServerEnd D V W) (lived : HasLived m talked failed most began v ended)
     → AreOneHistory began (steps_of m talked most lived.0 began v lived.1 lived.2 lived.3 ++ steps_in ended.closed ∷ []) ended.closed.store ended.closed.settled
 
 -- the same where a line has closed the last one

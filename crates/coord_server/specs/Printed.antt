@@ -1,12 +1,15 @@
 -- The lines that a server prints, and what prints them.
-use Rattle.std.specs.Prelude.{◌≡◌, ◌⊎◌, ℕ, Bool, false, List, [], ◌∷◌, ◌++◌, Option, codes, decimal}
+use Rattle.std.specs.List.{AllByRecursion}
+use Rattle.std.specs.Prelude.{◌≡◌, ◌⊎◌, ℕ, Bool, false, true, List, [], ◌∷◌, ◌++◌, Option, ◌||◌, codes, decimal, flat_map, nat_le, not}
 use Rattle.std.specs.Io.KnownBytes.{Appends}
 use Rattle.std.specs.Net.Text.{socket_text}
 use Rattle.std.specs.declared.net.socket_addr.SocketAddr.{SocketAddr}
 use Rattle.coord_engine.specs.Working.{one_more}
 use Rattle.coord_server.specs.declared.fault.ServerFault.{ServerFault}
 use Rattle.coord_server.specs.declared.fault.ServerFault.TheVariants as fault
-use Rattle.coord_server.specs.declared.local.Signal.{Signal}
+use Rattle.coord_server.specs.declared.last_line.LastLine.{LastLine}
+use Rattle.coord_server.specs.Lines.{after_line, is_next, nothing_since}
+use Rattle.coord_server.specs.Signals.{StepSignal}
 
 -- the server listens at this address
 abbrev pub listening_line : SocketAddr → List ℕ
@@ -16,19 +19,33 @@ listening_line address = codes "listening " ++ socket_text address ++ codes "\n"
 abbrev pub signal_line : ℕ → ℕ → List ℕ
 signal_line node epoch = codes "signal " ++ decimal node ++ codes " " ++ decimal epoch ++ codes "\n"
 
--- an output as contracts see it, whether a line to it has failed, and how many signals were lost, since there was no memory for their lines
+-- an output as contracts see it, whether a line to it has failed, how many signals were lost, since there was no memory for their lines or they did not come behind the last one, and the last one that was printed
 pub record PrinterState (W : Type 0) : Type 0 where
   pub output : W
   pub is_broken : Bool
   pub lost : ℕ
+  pub last : LastLine
 
--- nothing was printed to it yet
-abbrev pub new_printer : {W : Type 0} → W → PrinterState W
-new_printer output = record { output = output; is_broken = false; lost = 0 }
+-- nothing was printed to it yet, and signals will be of the steps behind this one
+abbrev pub new_printer : {W : Type 0} → W → ℕ → PrinterState W
+new_printer output since = record { output = output; is_broken = false; lost = 0; last = nothing_since since }
+
+-- the lines of some signals, in their order
+abbrev pub signal_lines : List StepSignal → List ℕ
+signal_lines signals = flat_map (λ s. signal_line s.node s.epoch) signals
+
+-- each of these signals comes behind the one before it, the first behind this one; and that is the last of them
+abbrev pub Follow : LastLine → List StepSignal → LastLine → Type 0
+Follow first [] last = last ≡ first
+Follow first (s ∷ later) last = (is_next first s.step s.node ≡ true) × Follow (after_line first s.step s.node) later last
 
 -- one more signal was lost
 abbrev pub with_lost : {W : Type 0} → PrinterState W → PrinterState W
 with_lost p = record p { lost = one_more p.lost }
+
+-- whether a line to it has failed, or a signal was printed of a step behind this one
+abbrev pub is_amiss : {W : Type 0} → PrinterState W → ℕ → Bool
+is_amiss p settled = p.is_broken || not (nat_le p.last.step settled)
 
 -- what is told of a line that was not printed
 abbrev pub IsOfPrinting : ServerFault → Type 0
@@ -38,13 +55,37 @@ IsOfPrinting told = (told ≡ fault.OutOfMemory) ⊎ (told ≡ fault.Write)
 module _ {W : Type 0} (contents : W → Option (List ℕ)) where
   -- the line of an address was printed
   abbrev pub TellsAddress : PrinterState W → PrinterState W → Type 0
-  TellsAddress p q = (address : SocketAddr) × Appends (contents p.output) (contents q.output) (listening_line address) × (q.is_broken ≡ false)
+  TellsAddress p q = (address : SocketAddr) × Appends (contents p.output) (contents q.output) (listening_line address) × (q.is_broken ≡ false) × (q.last ≡ p.last)
 
-  -- the line of a signal was printed; or nothing of it, for want of memory, and it was counted as lost
-  abbrev pub Prints : PrinterState W → Signal → PrinterState W → Type 0
-  Prints p s q = (Appends (contents p.output) (contents q.output) (signal_line s.node s.epoch) × (q.is_broken ≡ false) × (q.lost ≡ p.lost)) ⊎ (q ≡ with_lost p)
+  -- the line of a signal that comes behind the last one was printed; or nothing of it, and it was counted as lost
+  abbrev pub Prints : PrinterState W → StepSignal → PrinterState W → Type 0
+  Prints p s q =
+      ((is_next p.last s.step s.node ≡ true) × Appends (contents p.output) (contents q.output) (signal_line s.node s.epoch) × (q.is_broken ≡ false) × (q.lost ≡ p.lost) × (q.last ≡ after_line p.last s.step s.node))
+      ⊎ (q ≡ with_lost p)
 
   -- these signals were printed or lost, each once and in order
-  abbrev pub PrintsEach : PrinterState W → List Signal → PrinterState W → Type 0
+  abbrev pub PrintsEach : PrinterState W → List StepSignal → PrinterState W → Type 0
   PrintsEach p [] q = q ≡ p
   PrintsEach p (s ∷ later) q = (m : PrinterState W) × Prints p s m × PrintsEach m later q
+
+  -- `may`: of which signals may be told, by step, node and epoch
+  module _ (may : ℕ → ℕ → ℕ → Type 0) where
+    -- the lines of such signals were printed, each behind the one before it
+    pub record HasTold (p q : PrinterState W) : Type 0 where
+      pub signals : List StepSignal
+      pub bytes : Appends (contents p.output) (contents q.output) (signal_lines signals)
+      pub may_be_told : AllByRecursion (λ s. may s.step s.node s.epoch) signals
+      pub follow : Follow p.last signals q.last
+
+    -- nothing was printed; or the line of an address, and behind it the lines of such signals
+    pub record HasPrinted (p q : PrinterState W) : Type 0 where
+      pub first : List ℕ
+      pub signals : List StepSignal
+      pub opened : ((first ≡ []) × (signals ≡ [])) ⊎ ((address : SocketAddr) × (first ≡ listening_line address))
+      pub bytes : Appends (contents p.output) (contents q.output) (first ++ signal_lines signals)
+      pub may_be_told : AllByRecursion (λ s. may s.step s.node s.epoch) signals
+      pub follow : Follow p.last signals q.last
+
+    -- so it is, unless a line could not be written
+    abbrev pub IsPrinted : PrinterState W → PrinterState W → Type 0
+    IsPrinted p q = (q.is_broken ≡ true) ⊎ HasPrinted p q

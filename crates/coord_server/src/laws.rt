@@ -11,8 +11,8 @@ use coord_engine::Port;
 
 /// All lives of a server are one history: one trail from the world of its first store, of which each
 /// step has a number of its own.
-pub fn lives_are_one<D: Disk, C: Callers>()
-    ensures { (most : ℕ) → LivesAreOne D.model C.talked C.failed most }
+pub fn lives_are_one<D: Disk, C: Callers, W>()
+    ensures { (most : ℕ) → LivesAreOne W D.model C.talked C.failed most }
 {}
 
 /// The same, where a line has closed the last life.

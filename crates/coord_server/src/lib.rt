@@ -14,6 +14,7 @@
 
 mod desk;
 mod fault;
+mod last_line;
 pub mod laws;
 mod life;
 mod life_end;
@@ -24,13 +25,15 @@ mod printing;
 mod server_end;
 mod serving;
 mod setting;
+mod signal;
 mod threads;
 
 pub use desk::EngineDesk;
 pub use fault::ServerFault;
+pub use last_line::LastLine;
 pub use lives::serve_lives;
-pub use local::{LocalPort, Signal, WORKERS};
+pub use local::{LocalPort, WORKERS};
 pub use printer::Printer;
-pub use printing::OutputEnd;
 pub use server_end::ServerEnd;
 pub use serving::{LIFE_STEPS, serve_callers, serve_store};
+pub use signal::{Signal, Telling};

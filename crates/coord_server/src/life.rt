@@ -8,13 +8,14 @@ ghost use Rattle.coord_engine.specs.Closing.{IsSince};
 ghost use Rattle.coord_engine.specs.Threads.{AtSomeMoment, Closes};
 ghost use Rattle.coord_server.specs.Ending.{IsLife, IsNotClosed, LeavesNothing};
 ghost use Rattle.coord_server.specs.Moments.{AtEachMoment};
+ghost use Rattle.coord_server.specs.Signals.{MayTell};
 ghost use Rattle.coord_world.specs.protocol.Next.{fold};
 
 use crate::life_end::LifeEnd;
 use crate::printing::Opening;
 use crate::setting::Setting;
 use crate::threads::{Begun, JoinedThreads, run};
-use crate::{ServerFault, WORKERS};
+use crate::{ServerFault, Telling, WORKERS};
 use coord_admin::Callers;
 use coord_disk::Disk;
 use coord_engine::{Closed, Engine, Origin};
@@ -23,7 +24,6 @@ use coord_store::Store;
 use coord_types::Packet;
 use crossbeam_channel::{Receiver, Sender};
 use std::alloc::{AllocError, Global};
-use std::io::Write;
 use std::marker::Brand;
 use std::sync::Wait;
 use std::sync::ledger::Blank;
@@ -45,15 +45,16 @@ pub struct Life<D: Disk, C> {
 pub fn serve_life<
     D: Disk + Send,
     C: Callers + Drop,
-    W: Write + Drop,
+    O: Telling + Send + Sync,
     R: Threads + Wait + Clock + Sync,
 >(
-    setting: &Setting<'_, R>,
+    setting: &Setting<'_, R, O>,
     store: Store<D>,
     callers: C,
-    opening: Option<Opening<W>>,
+    opening: Option<Opening>,
 ) -> Result<Life<D, C>, ServerFault>
-    requires { has_stopped store ≡ false }
+    requires going { has_stopped store ≡ false }
+    requires tell { MayTell (based_on D.model store.world []) O.may }
     ensures life { IfOk result
         (IsLife (based_on D.model store.world []) C.talked C.failed setting.now.life_steps callers) }
     ensures moments { IfOk result (λ life. AtEachMoment D.model store life.closed) }
@@ -62,7 +63,7 @@ pub fn serve_life<
     let Ok(ledger) = Ledger::adopt(setting.alloc, store) else {
         return Err(ServerFault::OutOfMemory);
     };
-    serve_ledger::<D, Brand, C, W, R>(setting, Blank::new(65536), ledger, callers, opening)
+    serve_ledger::<D, Brand, C, O, R>(setting, Blank::new(65536), ledger, callers, opening)
 }
 
 /// Runs the threads of a life over an engine, and takes the engine apart. `L` names the ledger.
@@ -70,14 +71,14 @@ fn serve_ledger<
     D: Disk + Send,
     L: Origin + Send + Sync,
     C: Callers + Drop,
-    W: Write + Drop,
+    O: Telling + Send + Sync,
     R: Threads + Wait + Clock + Sync,
 >(
-    setting: &Setting<'_, R>,
+    setting: &Setting<'_, R, O>,
     blank: Blank,
     ledger: Ledger<D>,
     callers: C,
-    opening: Option<Opening<W>>,
+    opening: Option<Opening>,
 ) -> Result<Life<D, C>, ServerFault>
     requires name { blank.name ≡ L.name }
     requires parts { (blank.parts ≡ L.parts) × (L.parts ≡ 65536) }
@@ -85,6 +86,7 @@ fn serve_ledger<
     requires base { ledger.log.base ≡ L.base }
     requires before { (ledger.log.trail ≡ L.before) × (L.before ≡ []) }
     requires disk { IfSome ledger.disk (IsPastOf D.model L.disk) }
+    requires tell { MayTell (based_on D.model L.base L.before) O.may }
     ensures life { IfOk result
         (IsLife (based_on D.model L.base L.before) C.talked C.failed setting.now.life_steps callers) }
     ensures way { IfOk result (λ life. StaysOnTheWay D.model L.disk L.base
@@ -105,8 +107,8 @@ fn serve_ledger<
 
 /// Gives out the desk's share, makes room for all that a life may not lose, and connects the port to
 /// a channel for each worker.
-fn begin<D: Disk, L: Origin, R: Wait>(
-    setting: &Setting<'_, R>,
+fn begin<D: Disk, L: Origin, O: Telling, R: Wait>(
+    setting: &Setting<'_, R, O>,
     engine: &Engine<D, L>,
 ) -> Result<Begun<L>, ServerFault>
     ensures { IfErr result (λ fault. fault ≡ ServerFault.OutOfMemory) }

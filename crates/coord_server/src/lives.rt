@@ -1,27 +1,32 @@
 //! The lives of a server, one after the other.
 
-ghost use Rattle.std.specs.Prelude.{◌≡◌, ◌+◌, ◌≤◌, false, true, is_some, length, IfErr, IfOk, OnOk};
+ghost use Rattle.std.specs.Prelude.{◌≡◌, ◌+◌, ◌≤◌, [], false, true, is_some, length, IfErr, IfOk, IfSome, OnOk};
 ghost use Rattle.std.specs.Thread.{IsSend, IsSync};
 ghost use Rattle.coord_store.specs.Kept.{has_stopped};
 ghost use Rattle.coord_server.specs.Ending.{LeavesNothing};
 ghost use Rattle.coord_server.specs.declared.life_end.LifeEnd.TheVariants as LifeEndAs;
 ghost use Rattle.coord_server.specs.Lives.{EndsLives, EndsOneHistory, HasLived, IsLastLife};
 ghost use Rattle.coord_server.specs.Moments.{AtEachMoment};
+ghost use Rattle.coord_server.specs.Printed.{IsPrinted, new_printer};
+ghost use Rattle.coord_server.specs.Signals.{CanSignal, Leads, MayTell};
+ghost use Rattle.coord_engine.specs.State.{based_on};
+ghost use Rattle.coord_world.specs.protocol.NumberedWorld.{World};
 
 use crate::life::{Life, serve_life};
 use crate::life_end::LifeEnd;
-use crate::printing::{Opening, Outlet, OutputEnd, Printing};
+use crate::printing::{Opening, Outlet, Printing, PrintsFrom};
 use crate::setting::Setting;
-use crate::{ServerEnd, ServerFault};
+use crate::{Printer, ServerEnd, ServerFault, Telling};
 use coord_admin::Callers;
 use coord_disk::Disk;
 use coord_engine::Closed;
 use coord_store::Store;
 use std::alloc::Global;
 use std::io::Write;
+use std::marker::Brand;
 use std::sync::Wait;
 use std::thread;
-use std::thread::{JoinHandle, Scope, Threads};
+use std::thread::{PromisedHandle, Scope, Threads};
 use std::time::Clock;
 
 /// Serves a store to those who call, one after the other, until a line closes it, and gives back
@@ -51,18 +56,48 @@ pub fn serve_lives<
     store: Store<D>,
     callers: C,
     output: W,
-) -> Result<ServerEnd<D, C>, ServerFault>
+) -> Result<ServerEnd<D, C, W>, ServerFault>
     requires { has_stopped store ≡ false }
     ensures lives { IfOk result (HasLived D.model C.talked C.failed most store.world callers) }
     ensures whole { IfOk result (λ ended. EndsOneHistory store.world ended.closed) }
     ensures moments { IfOk result (λ ended. AtEachMoment D.model store ended.closed) }
+    ensures printed { IfOk result (λ ended. IsPrinted W.contents (CanSignal store.world)
+        (new_printer output store.world.count) ended.printer) }
     ensures nothing { IfErr result (LeavesNothing D.model) }
 {
+    serve_told::<D, C, W, Brand, R>(rt, alloc, most, store, callers, output)
+}
+
+/// Serves while signals are printed that may be told. `O` names them.
+fn serve_told<
+    D: Disk + Send,
+    C: Callers + Drop,
+    W: Write + Send + Drop,
+    O: Telling + Send + Sync,
+    R: Threads + Wait + Clock + Sync,
+>(
+    rt: &R,
+    alloc: Global,
+    most: usize,
+    store: Store<D>,
+    callers: C,
+    output: W,
+) -> Result<ServerEnd<D, C, W>, ServerFault>
+    requires going { has_stopped store ≡ false }
+    requires tell { (world : World) → Leads store.world world →
+        MayTell (based_on D.model world []) O.may }
+    ensures lived { IfOk result (HasLived D.model C.talked C.failed most store.world callers) }
+    ensures moments { IfOk result (λ ended. AtEachMoment D.model store ended.closed) }
+    ensures printed { IfOk result (λ ended. IsPrinted W.contents O.may
+        (new_printer output store.world.count) ended.printer) }
+    ensures nothing { IfErr result (LeavesNothing D.model) }
+{
+    let since = store.world().count();
     let Outlet {
         port,
         opening,
         printing,
-    } = Outlet::new(rt, alloc, output)?;
+    } = Outlet::<&R, W, O>::new(rt, alloc, output, since)?;
     let setting = Setting {
         rt,
         alloc,
@@ -77,28 +112,35 @@ fn serve_and_print<
     D: Disk + Send,
     C: Callers + Drop,
     W: Write + Send + Drop,
+    O: Telling + Send + Sync,
     R: Threads + Wait + Clock + Sync,
 >(
-    setting: &Setting<'_, R>,
+    setting: &Setting<'_, R, O>,
     store: Store<D>,
     callers: C,
-    opening: Opening<W>,
-    printing: Printing<W>,
-) -> Result<ServerEnd<D, C>, ServerFault>
-    requires { has_stopped store ≡ false }
+    opening: Opening,
+    printing: Printing<W, O>,
+) -> Result<ServerEnd<D, C, W>, ServerFault>
+    requires going { has_stopped store ≡ false }
+    requires tell { (world : World) → Leads store.world world →
+        MayTell (based_on D.model world []) O.may }
     ensures lived { IfOk result
         (HasLived D.model C.talked C.failed setting.now.life_steps store.world callers) }
     ensures moments { IfOk result (λ ended. AtEachMoment D.model store ended.closed) }
+    ensures printed { IfOk result (λ ended. IsPrinted W.contents O.may printing.printer ended.printer) }
     ensures nothing { IfErr result (LeavesNothing D.model) }
 {
     thread::scope(
         thread::scope_env(),
         setting.rt,
-        |scope| -> Result<ServerEnd<D, C>, ServerFault>
-            requires { IsSend D.row × IsSend W.row × IsSync R.row × (has_stopped store ≡ false) }
+        |scope| -> Result<ServerEnd<D, C, W>, ServerFault>
+            requires { IsSend D.row × IsSend W.row × IsSend O.row × IsSync O.row × IsSync R.row ×
+                (has_stopped store ≡ false) × ((world : World) → Leads store.world world →
+                MayTell (based_on D.model world []) O.may) }
             ensures lived { IfOk result
                 (HasLived D.model C.talked C.failed setting.entry.now.life_steps store.world callers) }
             ensures moments { IfOk result (λ ended. AtEachMoment D.model store ended.closed) }
+            ensures printed { IfOk result (λ ended. IsPrinted W.contents O.may printing.printer ended.printer) }
             ensures nothing { IfErr result (LeavesNothing D.model) }
         {
             let printing = start_printing(scope, setting.rt, printing);
@@ -108,12 +150,22 @@ fn serve_and_print<
 }
 
 /// Starts the thread that prints signals, if the system has one to give.
-fn start_printing<'s, 'r: 's, E, W: Write + Send + Drop + 's, R: Wait + Sync>(
+fn start_printing<
+    's,
+    'r: 's,
+    E,
+    W: Write + Send + Drop + 's,
+    O: Telling + Send + Sync + 's,
+    R: Wait + Sync,
+>(
     scope: &Scope<'s, E>,
     rt: &'r R,
-    printing: Printing<W>,
-) -> Option<JoinHandle<OutputEnd>> {
-    scope.spawn(move || printing.print(rt)).ok()
+    printing: Printing<W, O>,
+) -> Option<PromisedHandle<Printer<W>, PrintsFrom<W, O>>>
+    ensures { IfSome result (λ handle. handle.promise.first.value ≡ printing.printer) }
+{
+    let promise = PrintsFrom::new(&printing.printer);
+    scope.spawn_with(promise, move || printing.print(rt)).ok()
 }
 
 /// Lives while a thread prints, which ends behind the last signal. Without that thread nobody is
@@ -122,16 +174,21 @@ fn print_and_live<
     D: Disk + Send,
     C: Callers + Drop,
     W: Write + Drop,
+    O: Telling + Send + Sync,
     R: Threads + Wait + Clock + Sync,
 >(
-    setting: &Setting<'_, R>,
+    setting: &Setting<'_, R, O>,
     store: Store<D>,
     callers: C,
-    opening: Opening<W>,
-    printing: Option<JoinHandle<OutputEnd>>,
-) -> Result<ServerEnd<D, C>, ServerFault>
-    requires { has_stopped store ≡ false }
-    ensures printed { OnOk result (is_some printing ≡ true) }
+    opening: Opening,
+    printing: Option<PromisedHandle<Printer<W>, PrintsFrom<W, O>>>,
+) -> Result<ServerEnd<D, C, W>, ServerFault>
+    requires going { has_stopped store ≡ false }
+    requires tell { (world : World) → Leads store.world world →
+        MayTell (based_on D.model world []) O.may }
+    ensures starts { OnOk result (is_some printing ≡ true) }
+    ensures printed { IfOk result (λ ended. IfSome printing (λ handle.
+        IsPrinted W.contents O.may handle.promise.first.value ended.printer)) }
     ensures lived { IfOk result
         (HasLived D.model C.talked C.failed setting.now.life_steps store.world callers) }
     ensures moments { IfOk result (λ ended. AtEachMoment D.model store ended.closed) }
@@ -142,20 +199,27 @@ fn print_and_live<
     };
     let lived = live(setting, store, callers, opening);
     setting.port.fall_silent();
-    let output = printing.join(setting.rt);
+    let printer = printing.join(setting.rt);
     let life = lived?;
-    Ok(end_of(life, output))
+    Ok(end_of(life, printer))
 }
 
 /// Runs one life after the other, each with the store and the callers that the one before left, and
 /// gives back the last. The first one opens the output.
-fn live<D: Disk + Send, C: Callers + Drop, W: Write + Drop, R: Threads + Wait + Clock + Sync>(
-    setting: &Setting<'_, R>,
+fn live<
+    D: Disk + Send,
+    C: Callers + Drop,
+    O: Telling + Send + Sync,
+    R: Threads + Wait + Clock + Sync,
+>(
+    setting: &Setting<'_, R, O>,
     store: Store<D>,
     callers: C,
-    opening: Opening<W>,
+    opening: Opening,
 ) -> Result<Life<D, C>, ServerFault>
-    requires { has_stopped store ≡ false }
+    requires going { has_stopped store ≡ false }
+    requires tell { (world : World) → Leads store.world world →
+        MayTell (based_on D.model world []) O.may }
     ensures lived { IfOk result
         (EndsLives D.model C.talked C.failed setting.now.life_steps store.world callers) }
     ensures moments { IfOk result (λ life. AtEachMoment D.model store life.closed) }
@@ -212,9 +276,9 @@ fn next_of<D: Disk, C>(most: usize, life: Life<D, C>) -> Result<(Store<D>, C), L
 }
 
 /// How a server ended, by its last life. One that rests is the last only where its store has stopped.
-fn end_of<D: Disk, C>(life: Life<D, C>, output: OutputEnd) -> ServerEnd<D, C>
+fn end_of<D: Disk, C, W: Write>(life: Life<D, C>, printer: Printer<W>) -> ServerEnd<D, C, W>
     ensures { IsLastLife life.left result.served × (result.closed ≡ life.closed) ×
-        (result.callers ≡ life.callers) × (result.output ≡ output) }
+        (result.callers ≡ life.callers) × (result.printer ≡ printer) }
 {
     let Life {
         closed,
@@ -229,6 +293,6 @@ fn end_of<D: Disk, C>(life: Life<D, C>, output: OutputEnd) -> ServerEnd<D, C>
         closed,
         callers,
         served,
-        output,
+        printer,
     }
 }

@@ -3,6 +3,7 @@
 ghost use Rattle.std.specs.Prelude.{◌≡◌};
 ghost use Rattle.coord_server.specs.Workers.{worker_of};
 
+use crate::signal::{Signal, Telling};
 use coord_engine::Port;
 use coord_types::{NodeId, Packet};
 use crossbeam_channel::Sender;
@@ -13,13 +14,6 @@ use std::{array, mem};
 
 /// How many workers there are. A node belongs to the worker with the node's number modulo this.
 pub const WORKERS: u8 = 8;
-
-/// A reset has ended at this node, and this epoch has begun.
-#[derive(Clone, Copy, Debug, PartialEq, Eq, Drop)]
-pub struct Signal {
-    pub node: NodeId,
-    pub epoch: u64,
-}
 
 /// The ways to the workers: the channel of the worker i is the i-th, and the packets that are gathered
 /// for it are the i-th too.
@@ -34,26 +28,26 @@ struct Ways {
 /// nobody: what there is no memory for is lost. No clause can say what lies behind its locks, so contracts
 /// see nothing of it.
 #[derive(Drop)]
-pub struct LocalPort<R: Wait> {
+pub struct LocalPort<R: Wait, O: Telling> {
     rt: R,
     alloc: Global,
     ways: Mutex<Ways>,
-    signals: Mutex<Option<Sender<Signal>>>,
+    signals: Mutex<Option<Sender<Signal<O>>>>,
 }
 
-impl<R: Wait> Model for LocalPort<R> {
+impl<R: Wait, O: Telling> Model for LocalPort<R, O> {
     ghost Value = { Unit {0} };
 
     ghost view = { λ _. tt };
 }
 
-impl<R: Wait> LocalPort<R> {
+impl<R: Wait, O: Telling> LocalPort<R, O> {
     /// The channel of the worker i is the i-th.
     pub fn new(
         rt: R,
         alloc: Global,
         channels: Vec<Sender<Vec<Packet>>>,
-        signals: Sender<Signal>,
+        signals: Sender<Signal<O>>,
     ) -> Self {
         LocalPort {
             rt,
@@ -131,17 +125,20 @@ impl Ways {
     }
 }
 
-impl<R: Wait> Port for &LocalPort<R> {
+impl<R: Wait, O: Telling> Port for &LocalPort<R, O> {
+    ghost may_signal = { O.may };
+
     /// The packet names its node, so `_to` is not used.
     fn carry(&mut self, _to: NodeId, packet: Packet) -> bool {
         let port = *self;
         port.ways.lock(&port.rt).gather(packet)
     }
 
-    fn signal(&mut self, node: NodeId, epoch: u64) -> bool {
+    fn signal(&mut self, step: u64, node: NodeId, epoch: u64) -> bool {
         let port = *self;
+        let signal = Signal::new(step, node, epoch);
         match &*port.signals.lock(&port.rt) {
-            Some(signals) => signals.send(&port.rt, Signal { node, epoch }).is_ok(),
+            Some(signals) => signals.send(&port.rt, signal).is_ok(),
             None => false,
         }
     }

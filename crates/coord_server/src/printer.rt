@@ -1,11 +1,13 @@
 //! What a server prints.
 
-ghost use Rattle.std.specs.Prelude.{◌≡◌, ◌≢◌, Err, IfErr, IsErr, OnErr, OnOk, false, true};
+ghost use Rattle.std.specs.Prelude.{◌≡◌, ◌≢◌, Err, IfErr, IsErr, OnErr, OnOk, false, nat_le, true};
 ghost use Rattle.std.specs.Io.KnownBytes.{Appends};
 ghost use Rattle.std.specs.IoError.{error_kind};
+ghost use Rattle.coord_server.specs.Lines.{after_line, is_next};
 ghost use Rattle.coord_server.specs.Printed.{IsOfPrinting, listening_line, new_printer, signal_line, with_lost};
 
 use crate::ServerFault;
+use crate::last_line::LastLine;
 use coord_types::NodeId;
 use std::alloc::Global;
 use std::io;
@@ -14,14 +16,16 @@ use std::marker::Model;
 use std::net::SocketAddr;
 
 /// An output that gets whole lines, each written at once and flushed. After one that could not be
-/// written no more are: what follows is lost. Contracts see `PrinterState` (`specs/Printed.antt`).
+/// written no more are: what follows is lost. Signals are printed in the order of their steps, each once. Contracts see `PrinterState` (`specs/Printed.antt`).
 #[derive(Drop)]
 pub struct Printer<W: Write> {
     alloc: Global,
     output: W,
     is_broken: bool,
-    /// How many signals were lost, since there was no memory for their lines.
+    /// How many signals were lost, since there was no memory for their lines, or they did not come
+    /// behind the last one.
     lost: u64,
+    last: LastLine,
 }
 
 impl<W: Write> Model for Printer<W> {
@@ -29,20 +33,28 @@ impl<W: Write> Model for Printer<W> {
 
     ghost Value = { PrinterState W };
 
-    ghost view = { λ p. record { output = p.output; is_broken = p.is_broken; lost = p.lost } };
+    ghost view = { λ p. record { output = p.output; is_broken = p.is_broken; lost = p.lost; last = p.last } };
 }
 
 impl<W: Write> Printer<W> {
-    /// Over an output to which nothing was printed yet.
-    pub fn new(alloc: Global, output: W) -> Self
-        ensures { result ≡ new_printer output }
+    /// Over an output to which nothing was printed yet, for signals of the steps behind this one.
+    pub fn new(alloc: Global, output: W, since: u64) -> Self
+        ensures { result ≡ new_printer output since }
     {
         Printer {
             alloc,
             output,
             is_broken: false,
             lost: 0,
+            last: LastLine::since(since),
         }
+    }
+
+    /// The output.
+    pub fn into_output(self) -> W
+        ensures { result ≡ self.output }
+    {
+        self.output
     }
 
     /// Whether a line could not be written.
@@ -52,13 +64,22 @@ impl<W: Write> Printer<W> {
         self.is_broken
     }
 
-    /// Prints `signal N EPOCH`: a reset has ended at node N. Answers whether the line was written.
-    /// If it was not and later lines are, there was no memory for it: no part of it was written, and
-    /// the signal counts as lost.
-    pub fn print_signal(&mut self, node: NodeId, epoch: u64) -> bool
+    /// Whether each step of which a signal was printed is one of these many first ones.
+    pub fn is_within(&self, steps: u64) -> bool
+        ensures { result ≡ nat_le self.now.last.step steps }
+    {
+        self.last.step <= steps
+    }
+
+    /// Prints `signal N EPOCH`: the step with this number has ended a reset at node N. Answers whether
+    /// the line was written. If it was not and later lines are, the signal did not come behind the last
+    /// one, or there was no memory for it: no part of it was written, and the signal counts as lost.
+    pub fn print_signal(&mut self, step: u64, node: NodeId, epoch: u64) -> bool
         ensures written { result ≡ true →
             Appends (W.contents self.old.output) (W.contents self.new.output)
             (signal_line node epoch) }
+        ensures next { result ≡ true → (is_next self.old.last step node ≡ true) ×
+            (self.new.last ≡ after_line self.old.last step node) }
         ensures whole { result ≡ true → (self.new.is_broken ≡ false) ×
             (self.new.lost ≡ self.old.lost) }
         ensures broken { self.old.is_broken ≡ true → (result ≡ false) × (self.new ≡ self.old) }
@@ -68,14 +89,27 @@ impl<W: Write> Printer<W> {
         if self.is_broken {
             return false;
         }
-        let node = node.number();
-        match format!(in self.alloc; "signal {node} {epoch}\n") {
-            Ok(line) => self.print(&line).is_ok(),
-            Err(_) => {
-                self.lost = self.lost.saturating_add(1);
-                false
-            }
+        if !self.last.is_before(step, node) {
+            self.lose();
+            return false;
         }
+        let number = node.number();
+        let Ok(line) = format!(in self.alloc; "signal {number} {epoch}\n") else {
+            self.lose();
+            return false;
+        };
+        if self.print(&line).is_err() {
+            return false;
+        }
+        self.last = self.last.then(step, node);
+        true
+    }
+
+    /// One more signal is lost.
+    fn lose(&mut self)
+        ensures { self.new ≡ with_lost self.old }
+    {
+        self.lost = self.lost.saturating_add(1);
     }
 
     /// Prints the address at which the server listens, or answers why not: the output failed, or
@@ -84,7 +118,7 @@ impl<W: Write> Printer<W> {
     pub fn print_address(&mut self, address: SocketAddr) -> Result<(), ServerFault>
         ensures written { OnOk result (Appends (W.contents self.old.output)
             (W.contents self.new.output) (listening_line address)) }
-        ensures whole { OnOk result (self.new.is_broken ≡ false) }
+        ensures whole { OnOk result ((self.new.is_broken ≡ false) × (self.new.last ≡ self.old.last)) }
         ensures broken { self.old.is_broken ≡ true → IsErr result × (self.new ≡ self.old) }
         ensures failed { OnErr result (self.new.is_broken ≡ false → self.new ≡ self.old) }
         ensures fault { IfErr result IsOfPrinting }
@@ -103,7 +137,7 @@ impl<W: Write> Printer<W> {
         ensures whole { OnOk result (self.new.is_broken ≡ false) }
         ensures broken { self.old.is_broken ≡ true → (result ≡ Err ServerFault.Write) × (self.new ≡ self.old) }
         ensures failed { OnErr result (self.new.is_broken ≡ true) }
-        ensures lost { self.new.lost ≡ self.old.lost }
+        ensures lost { (self.new.lost ≡ self.old.lost) × (self.new.last ≡ self.old.last) }
         ensures fault { IfErr result IsOfPrinting }
     {
         if self.is_broken {

@@ -1,32 +1,39 @@
 //! The thread that prints: first where the server listens, then each signal.
 
-ghost use Rattle.std.specs.Prelude.{◌≡◌, ◌⊎◌, List, Err, IfErr, OnOk, true};
+ghost use Rattle.std.specs.Prelude.{◌≡◌, ◌⊎◌, List, Err, IfErr, IfOk, OnOk, true};
 ghost use Rattle.std.specs.Iterator.{Drains, IsFinite};
 ghost use Rattle.coord_server.specs.Ending.{IsOfStart};
-ghost use Rattle.coord_server.specs.Printed.{PrintsEach, TellsAddress};
-ghost use Rattle.coord_server.specs.declared.local.Signal.{Signal as Printed};
+ghost use Rattle.coord_server.specs.Printed.{HasTold, IsPrinted, PrintsEach, TellsAddress, new_printer};
+ghost use Rattle.coord_server.specs.Signals.{StepSignal};
 
-use crate::{LocalPort, Printer, ServerFault, Signal};
+use crate::{LocalPort, Printer, ServerFault, Signal, Telling};
 use coord_admin::Callers;
 use crossbeam_channel::{Receiver, Sender};
 use std::alloc::{AllocError, Global};
 use std::io::Write;
+use std::marker::{Model, PhantomData};
+use std::net::SocketAddr;
+use std::snapshot::Snapshot;
 use std::sync::Wait;
+use std::thread::Promise;
 
 /// Prints the signals that come, in their order, up to the last one or to a line that could not be
-/// written. A signal for whose line there is no memory is lost.
-pub fn print_signals<W: Write, I: Iterator<Item = Signal>>(
+/// written. A signal for whose line there is no memory is lost, and so is one that does not come behind
+/// the last one.
+#[tactic(auto, using(crate::proofs::Starts::told_none))]
+pub fn print_signals<W: Write, O: Telling, I: Iterator<Item = Signal<O>>>(
     signals: I,
     printer: Printer<W>,
 ) -> Printer<W>
     requires { I.can_next signals × IsFinite (I.remaining signals) }
-    ensures { (result.is_broken ≡ true) ⊎
-        ((came : List Printed) × Drains I.next_gives signals came ×
+    ensures each { (result.is_broken ≡ true) ⊎
+        ((came : List StepSignal) × Drains I.next_gives signals came ×
         PrintsEach W.contents printer came result) }
+    ensures told { (result.is_broken ≡ true) ⊎ HasTold W.contents O.may printer result }
 {
     let mut printer = printer;
     for signal in signals {
-        printer.print_signal(signal.node, signal.epoch);
+        printer.print_signal(signal.step(), signal.node(), signal.epoch());
         if printer.is_broken() {
             return printer;
         }
@@ -34,24 +41,45 @@ pub fn print_signals<W: Write, I: Iterator<Item = Signal>>(
     printer
 }
 
-/// What prints, until the first line is printed; then the thread that prints signals gets it.
+/// What became of the first line: it was printed, or it met one of the faults of a start.
 #[derive(Drop)]
-pub struct Opening<W: Write + Drop> {
-    printer: Printer<W>,
-    to: Sender<Printer<W>>,
+pub struct Opened {
+    result: Result<(), ServerFault>,
 }
 
-impl<W: Write + Drop> Opening<W> {
-    /// Prints the address at which the server listens, and has signals printed behind it; or says
-    /// why that line was not printed.
+impl Model for Opened {
+    ghost use Rattle.std.specs.Prelude.{IfErr, Result};
+    ghost use Rattle.coord_server.specs.Ending.{IsOfStart};
+    ghost use Rattle.coord_server.specs.declared.fault.ServerFault.{ServerFault as Told};
+
+    ghost Value = { Result (Unit {0}) Told };
+
+    ghost view = { λ o. o.result };
+
+    ghost invariant = { λ o. IfErr o.result IsOfStart };
+}
+
+/// Asks the thread that prints for the first line.
+#[derive(Drop)]
+pub struct Opening {
+    to: Sender<SocketAddr>,
+    told: Receiver<Opened>,
+}
+
+impl Opening {
+    /// Has the address printed at which the server listens, and signals behind it; or says why that
+    /// line was not printed.
     pub fn open<C: Callers, R: Wait>(self, rt: &R, callers: &C) -> Result<(), ServerFault>
         ensures { IfErr result IsOfStart }
     {
-        let Opening { printer, to } = self;
-        let mut printer = printer;
-        print_listening(callers, &mut printer)?;
-        match to.send(rt, printer) {
-            Ok(()) => Ok(()),
+        let Ok(address) = callers.address() else {
+            return Err(ServerFault::Socket);
+        };
+        let Ok(()) = self.to.send(rt, address) else {
+            return Err(ServerFault::OutOfMemory);
+        };
+        match self.told.recv(rt) {
+            Ok(opened) => opened.result,
             Err(_) => Err(ServerFault::OutOfMemory),
         }
     }
@@ -59,74 +87,108 @@ impl<W: Write + Drop> Opening<W> {
 
 /// Prints the address at which the server listens; or says why it was not printed.
 #[tactic(auto, using(crate::proofs::Starts::printing_is_of_start))]
-fn print_listening<C: Callers, W: Write>(
-    callers: &C,
+fn print_listening<W: Write>(
+    address: SocketAddr,
     printer: &mut Printer<W>,
 ) -> Result<(), ServerFault>
     ensures printed { OnOk result (TellsAddress W.contents printer.old printer.new) }
+    ensures failed { IfErr result (λ _. (printer.new.is_broken ≡ true) ⊎ (printer.new ≡ printer.old)) }
     ensures start { IfErr result IsOfStart }
     ensures write { result ≡ Err ServerFault.Write → printer.new.is_broken ≡ true }
 {
-    let Ok(address) = callers.address() else {
-        return Err(ServerFault::Socket);
-    };
     printer.print_address(address)
 }
 
-/// What the thread that prints receives: what prints, once the first line is printed, and signals.
+/// What prints, and what its thread receives: the address for the first line, and signals.
 #[derive(Drop)]
-pub struct Printing<W: Write + Drop> {
-    handed: Receiver<Printer<W>>,
-    signals: Receiver<Signal>,
+pub struct Printing<W: Write + Drop, O: Telling> {
+    pub printer: Printer<W>,
+    addresses: Receiver<SocketAddr>,
+    told: Sender<Opened>,
+    signals: Receiver<Signal<O>>,
 }
 
-impl<W: Write + Drop> Printing<W> {
-    /// Prints the signals that come. Why the first line was not printed is told by `Opening::open`. No
-    /// clause can say what comes over a channel: what is printed of it is said by `print_signals`.
-    pub fn print<R: Wait>(self, rt: &R) -> OutputEnd {
-        let Printing { handed, signals } = self;
-        let is_broken = match handed.recv(rt) {
-            Ok(printer) => print_signals(signals.iter(rt), printer).is_broken(),
-            Err(_) => false,
-        };
-        OutputEnd { is_broken }
-    }
-}
-
-/// How an output ended. Only what printed to it makes one, once it has printed all.
-#[derive(Clone, Copy, Drop)]
-pub struct OutputEnd {
-    is_broken: bool,
-}
-
-impl OutputEnd {
-    /// Whether a line could not be written.
-    pub fn is_broken(self) -> bool
-        ensures { result ≡ self.is_broken }
+#[tactic(auto, using(crate::proofs::Starts::printed_none, crate::proofs::Starts::printed_failed, crate::proofs::Starts::printed_all))]
+impl<W: Write + Drop, O: Telling> Printing<W, O> {
+    /// Prints the address that comes, and then the signals that come, and gives back what printed. No
+    /// clause can say what comes over a channel but what the type of a signal says.
+    pub fn print<R: Wait>(self, rt: &R) -> Printer<W>
+        ensures { IsPrinted W.contents O.may self.printer result }
     {
-        self.is_broken
+        let Printing {
+            printer,
+            addresses,
+            told,
+            signals,
+        } = self;
+        let mut printer = printer;
+        let Ok(address) = addresses.recv(rt) else {
+            return printer;
+        };
+        match print_listening(address, &mut printer) {
+            Ok(()) => {
+                let _heard = told.send(rt, Opened { result: Ok(()) });
+                print_signals(signals.iter(rt), printer)
+            }
+            Err(fault) => {
+                let _heard = told.send(rt, Opened { result: Err(fault) });
+                printer
+            }
+        }
     }
+}
+
+/// That what printed has printed from what it was: the address, and signals that may be told.
+#[derive(Drop)]
+pub struct PrintsFrom<W: Write + Drop, O: Telling> {
+    pub first: Snapshot<Printer<W>>,
+    of: PhantomData<O>,
+}
+
+impl<W: Write + Drop, O: Telling> PrintsFrom<W, O> {
+    /// From this.
+    pub fn new(printer: &Printer<W>) -> Self
+        ensures { result.first.value ≡ printer.now }
+    {
+        PrintsFrom {
+            first: Snapshot::of(printer),
+            of: PhantomData,
+        }
+    }
+}
+
+impl<W: Write + Drop, O: Telling> Promise<Printer<W>> for PrintsFrom<W, O> {
+    ghost use Rattle.coord_server.specs.Printed.{IsPrinted};
+
+    ghost kept_by = { λ p r. IsPrinted W.contents O.may p.first.value r };
 }
 
 /// The two sides of an output: the port that signals come to and what opens it, and its thread's.
 #[derive(Drop)]
-pub struct Outlet<R: Wait, W: Write + Drop> {
-    pub port: LocalPort<R>,
-    pub opening: Opening<W>,
-    pub printing: Printing<W>,
+pub struct Outlet<R: Wait, W: Write + Drop, O: Telling> {
+    pub port: LocalPort<R, O>,
+    pub opening: Opening,
+    pub printing: Printing<W, O>,
 }
 
-impl<R: Wait + Drop, W: Write + Drop> Outlet<R, W> {
-    /// Of an output to which nothing was printed yet. No clause can say that the two sides of a channel
-    /// belong together.
-    pub fn new(rt: R, alloc: Global, output: W) -> Result<Self, AllocError> {
-        let (to, handed) = crossbeam_channel::bounded(alloc, 1)?;
+impl<R: Wait + Drop, W: Write + Drop, O: Telling> Outlet<R, W, O> {
+    /// Of an output to which nothing was printed yet, for signals of the steps behind this one. No clause
+    /// can say that the two sides of a channel belong together.
+    pub fn new(rt: R, alloc: Global, output: W, since: u64) -> Result<Self, AllocError>
+        ensures { IfOk result (λ outlet. outlet.printing.printer ≡ new_printer output since) }
+    {
+        let (to, addresses) = crossbeam_channel::bounded(alloc, 1)?;
+        let (told, opened) = crossbeam_channel::bounded(alloc, 1)?;
         let (signalled, signals) = crossbeam_channel::unbounded(alloc)?;
-        let printer = Printer::new(alloc, output);
         Ok(Outlet {
             port: LocalPort::new(rt, alloc, Vec::new(alloc), signalled),
-            opening: Opening { printer, to },
-            printing: Printing { handed, signals },
+            opening: Opening { to, told: opened },
+            printing: Printing {
+                printer: Printer::new(alloc, output, since),
+                addresses,
+                told,
+                signals,
+            },
         })
     }
 }

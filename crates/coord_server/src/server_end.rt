@@ -1,55 +1,70 @@
 //! What a server leaves.
 
-ghost use Rattle.std.specs.Prelude.{◌≡◌, false, IfErr, IfOk, None, Some};
+ghost use Rattle.std.specs.Prelude.{◌≡◌, ◌≤◌, false, IfErr, IfOk, None, Some};
 ghost use Rattle.coord_store.specs.Kept.{has_stopped};
 ghost use Rattle.coord_world.specs.protocol.NumberedWorld.{World};
 ghost use Rattle.coord_server.specs.Ending.{fault_at_end};
+ghost use Rattle.coord_server.specs.Printed.{is_amiss};
 
-use crate::{OutputEnd, ServerFault};
+use crate::{Printer, ServerFault};
 use coord_admin::Callers;
 use coord_disk::Disk;
 use coord_engine::Closed;
+use std::io::Write;
 
 /// What is left of a server's last engine and of those who called, and how the server ended.
 #[derive(Drop)]
-pub struct ServerEnd<D: Disk, C> {
+pub struct ServerEnd<D: Disk, C, W: Write> {
     pub closed: Closed<D>,
     pub callers: C,
     /// What ended the serving, if not a close.
     pub served: Option<ServerFault>,
-    /// How its output ended.
-    pub output: OutputEnd,
+    /// What printed, once it has printed all.
+    pub printer: Printer<W>,
 }
 
-impl<D: Disk, C> ServerEnd<D, C> {
-    /// The one fault to tell: a stopped store first, then what ended the serving, then a failed
-    /// output. None if the server was closed and nothing failed.
+impl<D: Disk, C, W: Write> ServerEnd<D, C, W> {
+    /// The one fault to tell: a stopped store first, then what ended the serving, then an output that
+    /// failed, or has the signal of a step that is not settled: no signal comes to it before that. None
+    /// if the server was closed and nothing failed.
     pub fn fault(&self) -> Option<ServerFault>
         ensures { result ≡ fault_at_end
-            (has_stopped self.now.closed.store) self.now.served self.now.output.is_broken }
+            (has_stopped self.now.closed.store) self.now.served
+            (is_amiss self.now.printer self.now.closed.settled) }
     {
         if self.closed.store.stopped() {
             return Some(ServerFault::Device);
         }
         match self.served {
             Some(fault) => Some(fault),
-            None if self.output.is_broken() => Some(ServerFault::Write),
+            None if self.is_amiss() => Some(ServerFault::Write),
             None => None,
         }
     }
+
+    /// Whether a line could not be written, or a signal was printed of a step that is not settled.
+    fn is_amiss(&self) -> bool
+        ensures { result ≡ is_amiss self.now.printer self.now.closed.settled }
+    {
+        self.printer.is_broken() || !self.printer.is_within(self.closed.settled)
+    }
 }
 
-impl<D: Disk, C: Callers + Drop> ServerEnd<D, C> {
+impl<D: Disk, C: Callers + Drop, W: Write + Drop> ServerEnd<D, C, W> {
     ghost use Rattle.coord_server.specs.Lives.{HasLived, HasLivedToClose, life_steps};
 
     /// What is left of its last engine, or the fault to tell and what is left all the same. No fault is
     /// told of a server only where a line closed it and its store has not stopped.
     pub fn into_closed(self) -> Result<Closed<D>, (ServerFault, Closed<D>)>
         ensures closed { IfOk result (λ closed. (closed ≡ self.closed) ×
-            (fault_at_end (has_stopped self.closed.store) self.served self.output.is_broken ≡ None)) }
+            (fault_at_end (has_stopped self.closed.store) self.served
+            (is_amiss self.printer self.closed.settled) ≡ None)) }
         ensures fault { IfErr result (λ told. (told.1 ≡ self.closed) ×
-            (fault_at_end (has_stopped self.closed.store) self.served self.output.is_broken ≡ Some told.0)) }
+            (fault_at_end (has_stopped self.closed.store) self.served
+            (is_amiss self.printer self.closed.settled) ≡ Some told.0)) }
         ensures going { IfOk result (λ closed. has_stopped closed.store ≡ false) }
+        ensures whole { IfOk result (λ closed. (self.printer.is_broken ≡ false) ×
+            (self.printer.last.step ≤ closed.settled)) }
         ensures lives { (began : World) (v : C) → HasLived D.model C.talked C.failed
             life_steps began v self → IfOk result (HasLivedToClose D.model began) }
     {
@@ -58,9 +73,10 @@ impl<D: Disk, C: Callers + Drop> ServerEnd<D, C> {
             closed,
             callers,
             served: _,
-            output: _,
+            printer,
         } = self;
         drop(callers);
+        drop(printer);
         match fault {
             None => Ok(closed),
             Some(fault) => Err((fault, closed)),

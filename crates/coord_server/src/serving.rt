@@ -6,6 +6,8 @@ ghost use Rattle.coord_store.specs.Kept.{ImagesGive, has_stopped};
 ghost use Rattle.coord_server.specs.Ending.{LeavesNothing};
 ghost use Rattle.coord_server.specs.Lives.{EndsOneHistory, HasLived, HasServed, life_steps};
 ghost use Rattle.coord_server.specs.Moments.{AtEachMoment};
+ghost use Rattle.coord_server.specs.Printed.{IsPrinted, new_printer};
+ghost use Rattle.coord_server.specs.Signals.{CanSignal};
 
 use crate::lives::serve_lives;
 use crate::{ServerEnd, ServerFault};
@@ -40,11 +42,13 @@ pub fn serve_store<
     store: Store<D>,
     listener: &'a A,
     output: W,
-) -> Result<ServerEnd<D, Accepted<'a, A, R>>, ServerFault>
+) -> Result<ServerEnd<D, Accepted<'a, A, R>, W>, ServerFault>
     requires { has_stopped store ≡ false }
     ensures lives { IfOk result (HasServed D.model store.world) }
     ensures whole { IfOk result (λ ended. EndsOneHistory store.world ended.closed) }
     ensures moments { IfOk result (λ ended. AtEachMoment D.model store ended.closed) }
+    ensures printed { IfOk result (λ ended. IsPrinted W.contents (CanSignal store.world)
+        (new_printer output store.world.count) ended.printer) }
     ensures images { IfOk result (λ ended. D.model.keeps_model ended.closed.store.disk ≡ true →
         ImagesGive D.model ended.closed.store) }
     ensures nothing { IfErr result (LeavesNothing D.model) }
@@ -72,12 +76,14 @@ fn serve_accepted<
     store: Store<D>,
     callers: Accepted<'a, A, R>,
     output: W,
-) -> Result<ServerEnd<D, Accepted<'a, A, R>>, ServerFault>
+) -> Result<ServerEnd<D, Accepted<'a, A, R>, W>, ServerFault>
     requires going { has_stopped store ≡ false }
     requires patience { IsUsual callers }
     ensures lives { IfOk result (HasServed D.model store.world) }
     ensures whole { IfOk result (λ ended. EndsOneHistory store.world ended.closed) }
     ensures moments { IfOk result (λ ended. AtEachMoment D.model store ended.closed) }
+    ensures printed { IfOk result (λ ended. IsPrinted W.contents (CanSignal store.world)
+        (new_printer output store.world.count) ended.printer) }
     ensures images { IfOk result (λ ended. D.model.keeps_model ended.closed.store.disk ≡ true →
         ImagesGive D.model ended.closed.store) }
     ensures nothing { IfErr result (LeavesNothing D.model) }
@@ -98,12 +104,14 @@ pub fn serve_callers<
     store: Store<D>,
     callers: C,
     output: W,
-) -> Result<ServerEnd<D, C>, ServerFault>
+) -> Result<ServerEnd<D, C, W>, ServerFault>
     requires { has_stopped store ≡ false }
     ensures lives { IfOk result
         (HasLived D.model C.talked C.failed life_steps store.world callers) }
     ensures whole { IfOk result (λ ended. EndsOneHistory store.world ended.closed) }
     ensures moments { IfOk result (λ ended. AtEachMoment D.model store ended.closed) }
+    ensures printed { IfOk result (λ ended. IsPrinted W.contents (CanSignal store.world)
+        (new_printer output store.world.count) ended.printer) }
     ensures images { IfOk result (λ ended. D.model.keeps_model ended.closed.store.disk ≡ true →
         ImagesGive D.model ended.closed.store) }
     ensures nothing { IfErr result (LeavesNothing D.model) }

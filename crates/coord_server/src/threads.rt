@@ -5,17 +5,17 @@ ghost use Rattle.std.specs.Thread.{IsSend, IsSync};
 ghost use Rattle.coord_engine.specs.State.{based_on};
 ghost use Rattle.coord_server.specs.EngineDesk.{HandsAgain};
 ghost use Rattle.coord_server.specs.Ending.{AddsWorkers, HasRun, IsOfStart, Local, ServesLife, new_desk};
+ghost use Rattle.coord_server.specs.Signals.{MayTell};
 
 use crate::life_end::LifeEnd;
 use crate::printing::Opening;
 use crate::setting::Setting;
-use crate::{EngineDesk, ServerFault};
+use crate::{EngineDesk, ServerFault, Telling};
 use coord_admin::{Callers, Desk, Stop, serve_connections};
 use coord_disk::Disk;
 use coord_engine::{Engine, Origin, PacketShare, Port, Share, flusher, packet_worker};
 use coord_types::Packet;
 use crossbeam_channel::Receiver;
-use std::io::Write;
 use std::sync::Wait;
 use std::sync::ledger::Ledger as Count;
 use std::thread;
@@ -61,15 +61,16 @@ pub fn run<
     D: Disk + Send,
     L: Origin + Send + Sync,
     C: Callers + Drop,
-    W: Write + Drop,
+    O: Telling + Send + Sync,
     R: Threads + Wait + Clock + Sync,
 >(
-    setting: &Setting<'_, R>,
+    setting: &Setting<'_, R, O>,
     engine: &Engine<D, L>,
     begun: Begun<L>,
     callers: C,
-    opening: Option<Opening<W>>,
-) -> Result<JoinedThreads<L, C>, (C, Option<Opening<W>>)>
+    opening: Option<Opening>,
+) -> Result<JoinedThreads<L, C>, (C, Option<Opening>)>
+    requires { MayTell (based_on D.model L.base L.before) O.may }
     ensures completed { IfOk result (λ completed.
         HasRun (based_on D.model L.base L.before) C.talked C.failed setting.now.life_steps
         callers completed.callers completed.left completed.shares.items) }
@@ -78,8 +79,9 @@ pub fn run<
     thread::scope(
         thread::scope_env(),
         setting.rt,
-        |scope| -> Result<JoinedThreads<L, C>, (C, Option<Opening<W>>)>
-            requires { IsSend D.row × IsSend L.row × IsSync L.row × IsSync R.row }
+        |scope| -> Result<JoinedThreads<L, C>, (C, Option<Opening>)>
+            requires { IsSend D.row × IsSend L.row × IsSync L.row × IsSync R.row × IsSend O.row × IsSync O.row ×
+                MayTell (based_on D.model L.base L.before) O.may }
             ensures completed { IfOk result (λ completed.
                 HasRun (based_on D.model L.base L.before) C.talked C.failed
                 setting.entry.now.life_steps callers completed.callers completed.left completed.shares.items) }
@@ -98,16 +100,17 @@ fn run_in<
     D: Disk + Send,
     L: Origin + Send + Sync,
     C: Callers + Drop,
-    W: Write + Drop,
+    O: Telling + Send + Sync,
     R: Threads + Wait + Clock + Sync,
 >(
     scope: &Scope<'s, E>,
-    setting: &Setting<'r, R>,
+    setting: &Setting<'r, R, O>,
     engine: &'e Engine<D, L>,
     begun: Begun<L>,
     callers: C,
-    opening: Option<Opening<W>>,
-) -> Result<JoinedThreads<L, C>, (C, Option<Opening<W>>)>
+    opening: Option<Opening>,
+) -> Result<JoinedThreads<L, C>, (C, Option<Opening>)>
+    requires { MayTell (based_on D.model L.base L.before) O.may }
     ensures completed { IfOk result (λ completed.
         HasRun (based_on D.model L.base L.before) C.talked C.failed setting.now.life_steps
         callers completed.callers completed.left completed.shares.items) }
@@ -134,20 +137,34 @@ fn run_in<
 }
 
 /// Starts a flusher, and a worker on each channel. None where one of them can't be had.
-fn start<'s, 'r: 's, 'e: 's, E, D: Disk + Send, L: Origin + Send + Sync, R: Wait + Clock + Sync>(
+fn start<
+    's,
+    'r: 's,
+    'e: 's,
+    E,
+    D: Disk + Send,
+    L: Origin + Send + Sync,
+    O: Telling + Send + Sync,
+    R: Wait + Clock + Sync,
+>(
     scope: &Scope<'s, E>,
-    setting: &Setting<'r, R>,
+    setting: &Setting<'r, R, O>,
     engine: &'e Engine<D, L>,
     packets: Vec<Receiver<Vec<Packet>>>,
 ) -> Option<Crew<L>>
-    requires { vec_len packets ≡ 8 }
+    requires eight { vec_len packets ≡ 8 }
+    requires tell { MayTell (based_on D.model L.base L.before) O.may }
 {
     let (rt, port) = (setting.rt, setting.port);
     let flushing = scope
-        .spawn(move || {
-            let mut port = port;
-            flusher(rt, engine, &mut port);
-        })
+        .spawn(
+            move ||
+                requires { MayTell (based_on D.model L.base L.before) O.may }
+            {
+                let mut port = port;
+                flusher(rt, engine, &mut port);
+            },
+        )
         .ok()?;
     let workers = start_workers(scope, setting, engine, packets)?;
     Some(Crew { flushing, workers })
@@ -155,9 +172,18 @@ fn start<'s, 'r: 's, 'e: 's, E, D: Disk + Send, L: Origin + Send + Sync, R: Wait
 
 /// Starts a worker on each channel. None where one of them can't be had: the others then end with
 /// the scope.
-fn start_workers<'s, 'r: 's, 'e: 's, E, D: Disk + Send, L: Origin + Send + Sync, R: Wait + Sync>(
+fn start_workers<
+    's,
+    'r: 's,
+    'e: 's,
+    E,
+    D: Disk + Send,
+    L: Origin + Send + Sync,
+    O: Telling,
+    R: Wait + Sync,
+>(
     scope: &Scope<'s, E>,
-    setting: &Setting<'r, R>,
+    setting: &Setting<'r, R, O>,
     engine: &'e Engine<D, L>,
     packets: Vec<Receiver<Vec<Packet>>>,
 ) -> Option<Vec<JoinHandle<PacketShare<L>>>>
@@ -174,9 +200,18 @@ fn start_workers<'s, 'r: 's, 'e: 's, E, D: Disk + Send, L: Origin + Send + Sync,
 }
 
 /// Starts a worker with a share of its own, unless no thread or no share can be had.
-fn start_worker<'s, 'r: 's, 'e: 's, E, D: Disk + Send, L: Origin + Send + Sync, R: Wait + Sync>(
+fn start_worker<
+    's,
+    'r: 's,
+    'e: 's,
+    E,
+    D: Disk + Send,
+    L: Origin + Send + Sync,
+    O: Telling,
+    R: Wait + Sync,
+>(
     scope: &Scope<'s, E>,
-    setting: &Setting<'r, R>,
+    setting: &Setting<'r, R, O>,
     engine: &'e Engine<D, L>,
     packets: Receiver<Vec<Packet>>,
 ) -> Option<JoinHandle<PacketShare<L>>> {
@@ -189,13 +224,13 @@ fn start_worker<'s, 'r: 's, 'e: 's, E, D: Disk + Send, L: Origin + Send + Sync, 
 
 /// Opens the output, and serves those who call by a desk with this share, while a crew is at work.
 /// What ended that, and the share.
-fn serve_over<D: Disk, L: Origin, C: Callers, W: Write + Drop, R: Wait>(
-    setting: &Setting<'_, R>,
+fn serve_over<D: Disk, L: Origin, C: Callers, O: Telling, R: Wait>(
+    setting: &Setting<'_, R, O>,
     engine: &Engine<D, L>,
     _crew: &Crew<L>,
     own: Share<L>,
     callers: &mut C,
-    opening: Option<Opening<W>>,
+    opening: Option<Opening>,
 ) -> (Share<L>, LifeEnd)
     requires { own ≡ [] }
     ensures { (seen : ℕ) × (port : Local) × (later : Local) × ServesLife
@@ -209,10 +244,10 @@ fn serve_over<D: Disk, L: Origin, C: Callers, W: Write + Drop, R: Wait>(
 }
 
 /// Opens the output, where that was not done before; or says why it can't be opened.
-fn open<C: Callers, W: Write + Drop, R: Wait>(
+fn open<C: Callers, R: Wait>(
     rt: &R,
     callers: &C,
-    opening: Option<Opening<W>>,
+    opening: Option<Opening>,
 ) -> Result<(), ServerFault>
     ensures { IfErr result IsOfStart }
 {
@@ -224,8 +259,8 @@ fn open<C: Callers, W: Write + Drop, R: Wait>(
 
 /// Once the output is open, sends again what may have been lost, and serves those who call until
 /// the life is old. What ended it: where the output could not be opened, why.
-fn serve_clients<D: Disk, L: Origin, C: Callers, P: Port, R: Wait>(
-    setting: &Setting<'_, R>,
+fn serve_clients<D: Disk, L: Origin, C: Callers, P: Port, O: Telling, R: Wait>(
+    setting: &Setting<'_, R, O>,
     opened: Result<(), ServerFault>,
     callers: &mut C,
     desk: &mut EngineDesk<'_, D, L, P, R>,
@@ -253,8 +288,8 @@ fn serve_clients<D: Disk, L: Origin, C: Callers, P: Port, R: Wait>(
 
 /// Serves those who call by a desk that has noted nothing, until a line closes it or the life is old.
 /// What ended it.
-fn serve_until_old<D: Disk, L: Origin, C: Callers, P: Port, R: Wait>(
-    setting: &Setting<'_, R>,
+fn serve_until_old<D: Disk, L: Origin, C: Callers, P: Port, O: Telling, R: Wait>(
+    setting: &Setting<'_, R, O>,
     callers: &mut C,
     desk: &mut EngineDesk<'_, D, L, P, R>,
 ) -> LifeEnd

@@ -31,7 +31,7 @@ impl Port for Counting {
         true
     }
 
-    fn signal(&mut self, _node: NodeId, _epoch: u64) -> bool {
+    fn signal(&mut self, _step: u64, _node: NodeId, _epoch: u64) -> bool {
         self.signalled = self.signalled.saturating_add(1);
         true
     }

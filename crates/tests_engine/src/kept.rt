@@ -20,7 +20,8 @@ const NODES: u8 = 3;
 const FLIGHTS: u64 = 4;
 
 fn packet_of(release: Option<Release>) -> Option<Packet> {
-    match Delivery::of(release?.output) {
+    let release = release?;
+    match Delivery::of(release.step, release.output) {
         Delivery::Carry(_, packet) => Some(packet),
         Delivery::Signal(..) => None,
     }

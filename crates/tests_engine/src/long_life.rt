@@ -32,7 +32,7 @@ impl<R: Wait> Port for &Epochs<R> {
         true
     }
 
-    fn signal(&mut self, node: NodeId, epoch: u64) -> bool {
+    fn signal(&mut self, _step: u64, node: NodeId, epoch: u64) -> bool {
         let mut last = self.last.lock(&self.rt);
         let is_next = node.number() == NODE && last.checked_add(1) == Some(epoch);
         if is_next {

@@ -133,7 +133,7 @@ fn are_replied_at_last<E: Desk>(alloc: Global, desk: &mut E, lines: &Lines<'_>) 
 fn flush_then<D: Disk, L: Origin, R: Wait + Clock>(
     rt: &R,
     engine: &Engine<D, L>,
-    port: &LocalPort<&R>,
+    port: &LocalPort<&R, Brand>,
     is_waiting: &AtomicBool,
 ) {
     for _ in 0..LOOKS {
@@ -177,7 +177,7 @@ fn run<D: Disk + Send, L: Origin + Send + Sync, R: Threads + Wait + Clock + Sync
     rt: &R,
     alloc: Global,
     engine: &Engine<D, L>,
-    port: &LocalPort<&R>,
+    port: &LocalPort<&R, Brand>,
     lines: &Lines<'_>,
 ) -> (Share<L>, bool) {
     let is_waiting = AtomicBool::new(false);
@@ -208,7 +208,7 @@ fn run<D: Disk + Send, L: Origin + Send + Sync, R: Threads + Wait + Clock + Sync
 }
 
 /// A port without channels, whose signals nobody receives.
-fn silent_port<R: Wait + Abort>(rt: &R, alloc: Global) -> LocalPort<&R> {
+fn silent_port<R: Wait + Abort>(rt: &R, alloc: Global) -> LocalPort<&R, Brand> {
     let (signals, receiver) = crossbeam_channel::unbounded(alloc).expect(rt, "no channel");
     drop(receiver);
     LocalPort::new(rt, alloc, Vec::new(alloc), signals)

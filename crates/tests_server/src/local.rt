@@ -7,6 +7,7 @@ use coord_server::{LocalPort, Signal, WORKERS};
 use coord_types::{DataPacket, Msg, NodeId, Packet, ReceiptPacket};
 use crossbeam_channel::{Receiver, Sender};
 use std::alloc::Global;
+use std::marker::Brand;
 use std::process::Abort;
 use std::sync::Wait;
 
@@ -79,7 +80,7 @@ fn come_together<R: Wait>(
 /// not again.
 fn both_come<R: Wait>(
     rt: &R,
-    port: &LocalPort<&R>,
+    port: &LocalPort<&R, Brand>,
     inboxes: &[Receiver<Vec<Packet>>],
     packets: &[Packet; 2],
 ) -> bool {
@@ -98,7 +99,7 @@ fn both_come<R: Wait>(
 /// Whether all packets to the node 64 and to another, between the two, come once.
 fn all_come<R: Wait + Abort>(
     rt: &R,
-    port: &LocalPort<&R>,
+    port: &LocalPort<&R, Brand>,
     inboxes: &[Receiver<Vec<Packet>>],
     other: NodeId,
 ) -> bool {
@@ -118,16 +119,20 @@ fn all_come<R: Wait + Abort>(
 /// Whether each signal of a node comes once.
 fn all_told<R: Wait>(
     rt: &R,
-    port: &LocalPort<&R>,
-    signals: &Receiver<Signal>,
+    port: &LocalPort<&R, Brand>,
+    signals: &Receiver<Signal<Brand>>,
     node: NodeId,
 ) -> bool {
     let mut port = port;
     for epoch in NUMBERS {
-        if !port.signal(node, epoch) {
+        let step = epoch.saturating_add(1);
+        if !port.signal(step, node, epoch) {
             return false;
         }
-        if signals.try_recv(rt).ok() != Some(Signal { node, epoch }) {
+        let Ok(signal) = signals.try_recv(rt) else {
+            return false;
+        };
+        if (signal.step(), signal.node(), signal.epoch()) != (step, node, epoch) {
             return false;
         }
     }
@@ -138,7 +143,7 @@ fn all_told<R: Wait>(
 fn is_so<R: Wait + Abort>(rt: &R, alloc: Global) -> bool {
     let (to, inboxes) = channels(rt, alloc);
     let (told, signals) = crossbeam_channel::unbounded(alloc).expect(rt, "no memory");
-    let port = LocalPort::new(rt, alloc, to, told);
+    let port: LocalPort<&R, Brand> = LocalPort::new(rt, alloc, to, told);
     let mut is_so = true;
     for id in 1..=64 {
         let node = NodeId::new(id).expect(rt, "no node");

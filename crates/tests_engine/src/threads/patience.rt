@@ -37,7 +37,7 @@ impl Port for Sink {
         true
     }
 
-    fn signal(&mut self, _node: NodeId, _epoch: u64) -> bool {
+    fn signal(&mut self, _step: u64, _node: NodeId, _epoch: u64) -> bool {
         true
     }
 

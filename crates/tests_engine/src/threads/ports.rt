@@ -211,7 +211,7 @@ impl<R: Wait> Port for &Ring<R> {
         self.carrier.lock(&self.rt).carry(&self.rt, to, packet)
     }
 
-    fn signal(&mut self, node: NodeId, epoch: u64) -> bool {
+    fn signal(&mut self, _step: u64, node: NodeId, epoch: u64) -> bool {
         let mut signals = self.signals.lock(&self.rt);
         signals.push(Signal { node, epoch }).is_ok()
     }

@@ -20,3 +20,8 @@ loop-preserved g c =
     let b = based_on g.D.Disk.model g.L.Origin.base g.L.Origin.before in
     let answers = subst (λ f. AnswersFlush b (Err f)) c.in-Err-OutOfMemory.field-0-is c.in-Err-OutOfMemory.ensures.flushed in
     (tt, tt, search rules, (suc c.loop.invariant.3.0, (c.loop.port, c.loop.invariant.3.1, (c.if-not-waits_for_flight.ensures.starts refl, (Err OutOfMemory, answers, refl)))))
+
+pub hand_over-requires : goal.hand_over-requires
+hand_over-requires g c =
+    let b = based_on g.D.Disk.model g.L.Origin.base g.L.Origin.before in
+    c.requires c.in-Ok-Some.releases (subst (λ o. AnswersFlush b (Ok o)) c.in-Ok-Some.field-0-is c.in-Ok-Some.ensures.flushed)

@@ -4,6 +4,7 @@ use Rattle.coord_server.specs.Moments.{AtEachMoment}
 use Rattle.coord_server.specs.declared.life.Life.{Life}
 use Rattle.coord_server.proofs.Ends.{lives_next}
 use Rattle.coord_server.proofs.Moments.{after_life, next_from}
+use Rattle.coord_server.proofs.Signals.{leads_to}
 use Rattle.coord_server.proofs.lives.live.Goals as goal
 
 pub loop-preserved : goal.loop-preserved
@@ -26,3 +27,6 @@ returns-in-Err-clause-moments g c =
     let life = c.in_ok-life.ensures.life in
     let here = after_life g.D.Disk.model c.args.store c.loop.store c.in_ok-life.life.closed life.desk.notes c.loop.invariant.4 life.history c.in_ok-life.ensures.moments in
     subst (λ (l : Life g.row.D.Denot g.row.C.Denot). AtEachMoment g.D.Disk.model c.args.store l.closed) (sym c.in-Err.ensures.last) here
+
+pub serve_life-requires-clause-tell : goal.serve_life-requires-clause-tell
+serve_life-requires-clause-tell g c = λ _ _. c.requires.tell c.loop.store.world (leads_to g.D.Disk.model c.args.store c.loop.store c.loop.invariant.4)

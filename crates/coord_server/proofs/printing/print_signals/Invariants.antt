@@ -1,6 +1,6 @@
-use Rattle.coord_server.specs.Printed.{PrintsEach}
+use Rattle.coord_server.specs.Printed.{HasTold, PrintsEach}
 use Rattle.coord_server.proofs.printing.print_signals.Given as goal
 
--- those that came so far were printed
+-- those that came so far were printed or lost
 abbrev pub invariant-loop-signal : goal.invariant-loop-signal
-invariant-loop-signal g l = (goal.iterator-loop-signal g).can_next l.signal-iterator × (goal.iterator-loop-signal g).is_finite l.signal-iterator × PrintsEach g.W.Write.contents l.fn.printer l.yielded l.printer
+invariant-loop-signal g l = (goal.iterator-loop-signal g).can_next l.signal-iterator × (goal.iterator-loop-signal g).is_finite l.signal-iterator × PrintsEach g.W.Write.contents l.fn.printer l.yielded l.printer × HasTold g.W.Write.contents g.O.Telling.may l.fn.printer l.printer
