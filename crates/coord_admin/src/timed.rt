@@ -153,6 +153,12 @@ impl<'a, S: Read + Write + OpenStream + Drop, T: Clock> Duplex for TimedStream<'
         let told = &mut self.read_wait;
         let read = read_within(self.clock, &mut self.stream, told, buffer, wait);
         self.has_filled = read == Ok(buffer.len());
+        if let Ok(count) = read {
+            // what a line leaves behind its line feed is another line, which has its own time
+            if buffer[..count].contains(&b'\n') {
+                self.line_begun = None;
+            }
+        }
         read
     }
 
