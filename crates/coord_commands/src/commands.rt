@@ -1,6 +1,6 @@
 //! The commands, over files.
 
-ghost use Rattle.std.specs.Prelude.{None, map, string_bytes};
+ghost use Rattle.std.specs.Prelude.{◌≡◌, None, map, string_bytes};
 ghost use Rattle.coord_commands.specs.Ending.{CommandEnds};
 ghost use Rattle.coord_commands.specs.Inspection.{Checks, ShowsStore};
 ghost use Rattle.coord_commands.specs.Making.{IsCreatedLine, IsOfMaking};
