@@ -6,9 +6,10 @@ use Rattle.coord_commands.proofs.Opening.{gave}
 use Rattle.std.proofs.lemmas.Bool.{false≢true}
 use Rattle.std.specs.Io.KnownBytes.{Appends, Keeps}
 use Rattle.coord_drill.specs.Drilled.{WritesFirstPart}
-use Rattle.coord_commands.specs.Ending.{CommandEnds, IsOfWriting, OutputCutShort, PrintsOne, Streams}
+use Rattle.coord_commands.specs.Ending.{CommandEnds, IsOfWriting, OutputCutShort, PrintsOne}
 use Rattle.coord_commands.specs.Faults.{fault_line, status_of}
 use Rattle.coord_commands.specs.Serving.{IsAddress, IsOfServingAt, IsServedToEnd, ServesAt}
+use Rattle.coord_commands.specs.Streams.{Streams}
 use Rattle.coord_commands.specs.declared.fault.Fault.{Fault}
 
 -- what ended is reported

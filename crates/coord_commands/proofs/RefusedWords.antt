@@ -17,7 +17,7 @@ of_words words fault (inr why) = rw why.0 why.1
 -- nothing but the fault's line is printed
 pub refused_words : (words : List Text) (fault : Fault) (status : ℕ) (input output old new : Option (List ℕ)) (holds : List ℕ → Option Present) (says : List ℕ → Option (List ℕ))
     → (fault ≡ OutOfMemory) ⊎ ((fault ≡ Usage) × (takes resetd words ≡ true → task_of words ≡ None)) → status ≡ fault_status fault → WritesFirstPart old new (fault_line fault)
-    → RefusesWords words status (record { input = input; streams = record { output = output; errors = old }; holds = holds; says = says }) (record { input = input; streams = record { output = output; errors = new }; holds = holds; says = says })
+    → RefusesWords words status (record { streams = record { input = input; output = output; errors = old }; holds = holds; says = says }) (record { streams = record { input = input; output = output; errors = new }; holds = holds; says = says })
 refused_words words fault status input output old new holds says why is told =
     record {
       fails = record { fault = fault; possible = of_words words fault why; number = is; told = told; cut = inl (Keeps-refl output) };
@@ -25,7 +25,7 @@ refused_words words fault status input output old new holds says why is told =
     }
 
 -- words that could not be had
-pub lacks : (fault wanted : Fault) (status : ℕ) (input output old new : Option (List ℕ)) → fault ≡ wanted → status ≡ fault_status fault → WritesFirstPart old new (fault_line fault) → LacksWords wanted status (files_around input output old) (files_around input output new)
+pub lacks : (fault wanted : Fault) (status : ℕ) (input output old new : Option (List ℕ)) → fault ≡ wanted → status ≡ fault_status fault → WritesFirstPart old new (fault_line fault) → LacksWords wanted status (files_around (record { input = input; output = output; errors = old })) (files_around (record { input = input; output = output; errors = new }))
 lacks fault wanted status input output old new is number told = record { fails = record { fault = fault; possible = is; number = number; told = told; cut = inl (Keeps-refl output) }; unread = Keeps-refl input }
 
 pub on_ok : {A E : Type 0} (r : Result A E) (P Q : A → Type 0) → ((x : A) → P x → Q x) → IfOk r P → IfOk r Q

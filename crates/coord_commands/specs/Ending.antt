@@ -3,13 +3,9 @@ use Rattle.std.specs.Prelude.{◌≡◌, ◌⊎◌, ℕ, List, Option}
 use Rattle.std.specs.Io.KnownBytes.{Appends, Keeps}
 use Rattle.coord_drill.specs.Drilled.{WritesFirstPart}
 use Rattle.coord_commands.specs.Faults.{fault_line, fault_status}
+use Rattle.coord_commands.specs.Streams.{Streams}
 use Rattle.coord_commands.specs.declared.fault.Fault.{Fault}
 use Rattle.coord_commands.specs.declared.fault.Fault.TheVariants.{Write, OutOfMemory}
-
--- what the output and standard error hold, where that is known
-pub record Streams : Type 0 where
-  pub output : Option (List ℕ)
-  pub errors : Option (List ℕ)
 
 -- a text that has P is printed, and nothing else
 abbrev pub PrintsOne : (List ℕ → Type 0) → Option (List ℕ) → Option (List ℕ) → Type 0

@@ -4,8 +4,9 @@ use Rattle.coord_check.specs.declared.violation.Violation.{Violation}
 use Rattle.coord_store.specs.Facade.{IsOpenFault, Recovered, RefusesOpen}
 use Rattle.coord_store.specs.declared.faults.StoreFault.TheVariants.{Device, Violated}
 use Rattle.coord_world.specs.Facade.{Legal, World}
-use Rattle.coord_commands.specs.Ending.{CommandEnds, CommandFails, PrintsOne, Streams, Succeeds}
+use Rattle.coord_commands.specs.Ending.{CommandEnds, CommandFails, PrintsOne, Succeeds}
 use Rattle.coord_commands.specs.Printed.{legal_line, shown, violated_line}
+use Rattle.coord_commands.specs.Streams.{Streams}
 use Rattle.coord_commands.specs.declared.fault.Fault.{Fault}
 use Rattle.coord_commands.specs.declared.fault.Fault.TheVariants.{Write, OutOfMemory, Store}
 use Rattle.std.specs.Io.KnownBytes.{Keeps}

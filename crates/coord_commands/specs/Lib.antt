@@ -10,5 +10,6 @@ pub mod Migrating
 pub mod Printed
 pub mod Running
 pub mod Serving
+pub mod Streams
 pub mod Topology
 pub mod Words

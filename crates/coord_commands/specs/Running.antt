@@ -8,55 +8,55 @@ use Rattle.coord_drill.specs.InMemory.{DrillsInMemory, FailsInMemory}
 use Rattle.coord_drill.specs.declared.console.TheConstants.{MOST_READS}
 use Rattle.coord_drill.specs.declared.fault.Fault.{Fault as DrillFault}
 use Rattle.coord_drill.specs.declared.fault.Fault.TheVariants.{TooManyReads}
-use Rattle.coord_commands.specs.Ending.{CommandEnds, CommandFails, Streams}
+use Rattle.coord_commands.specs.Ending.{CommandEnds, CommandFails}
 use Rattle.coord_commands.specs.Faults.{fault_line, fault_of_drill, fault_status}
 use Rattle.coord_commands.specs.Folders.{reads}
 use Rattle.coord_commands.specs.Inspection.{Checks, ShowsStore}
 use Rattle.coord_commands.specs.Making.{IsCreatedLine, IsOfMaking}
 use Rattle.coord_commands.specs.Migrating.{IsMigratedLine, IsOfMigrating}
 use Rattle.coord_commands.specs.Serving.{IsOfServing, ServesAt}
+use Rattle.coord_commands.specs.Streams.{Streams}
 use Rattle.coord_commands.specs.Words.{AskedCommand, check, drill, init, migrate, resetd, serve, show, task_of}
 use Rattle.coord_commands.specs.declared.fault.Fault.{Fault}
 use Rattle.coord_commands.specs.declared.fault.Fault.TheVariants.{Usage, OutOfMemory}
 
--- what is known around a run: of its input what is left, its output and standard error, and by names what disks hold, and the bytes of texts
+-- what is known around a run: its streams, and by names what disks hold, and the bytes of texts
 pub record Around : Type 0 where
-  pub input : Option (List ℕ)
   pub streams : Streams
   pub holds : List ℕ → Option Present
   pub says : List ℕ → Option (List ℕ)
 
 -- the drill has printed what may be printed to all of its input, and was one over a disk in memory
-pub record HasDrilled (input left : Option (List ℕ)) (status : ℕ) (old new : Streams) : Type 0 where
+pub record HasDrilled (status : ℕ) (old new : Streams) : Type 0 where
   pub number : status ≡ 0
-  pub printed : IfSome input (λ known. (text : List ℕ) × IsDrilled known text × Appends old.output new.output text)
-  pub drilled : DrillsInMemory input left old.output new.output
-  pub end : IsAtEnd left
+  pub printed : IfSome old.input (λ known. (text : List ℕ) × IsDrilled known text × Appends old.output new.output text)
+  pub drilled : DrillsInMemory old.input new.input old.output new.output
+  pub end : IsAtEnd new.input
   pub silent : Keeps old.errors new.errors
 
 -- The drill has failed, and printed a first part of what may be printed to the input that was read. By `broke` a drill over
 -- a disk in memory stops so for this fault, where what was read and written ends.
-pub record FailsToDrill (input left : Option (List ℕ)) (status : ℕ) (old new : Streams) : Type 0 where
+pub record FailsToDrill (status : ℕ) (old new : Streams) : Type 0 where
   pub fault : DrillFault
   pub number : status ≡ fault_status (fault_of_drill fault)
   pub told : WritesFirstPart old.errors new.errors (fault_line (fault_of_drill fault))
   pub seen : List ℕ
-  pub read : Consumes input left seen
+  pub read : Consumes old.input new.input seen
   pub printed : (text : List ℕ) × IsDrilled seen text × WritesFirstPart old.output new.output text
-  pub broke : FailsInMemory input left old.output new.output fault
+  pub broke : FailsInMemory old.input new.input old.output new.output fault
   pub reads : fault ≡ TooManyReads → MOST_READS ≤ length seen
 
--- the drill, by its input and what of it is left
-abbrev pub RunsDrill : Option (List ℕ) → Option (List ℕ) → ℕ → Streams → Streams → Type 0
-RunsDrill input left status old new = HasDrilled input left status old new ⊎ FailsToDrill input left status old new
+-- the drill
+abbrev pub RunsDrill : ℕ → Streams → Streams → Type 0
+RunsDrill status old new = HasDrilled status old new ⊎ FailsToDrill status old new
 
 -- around a run over files, of which nothing is known
-abbrev pub files_around : Option (List ℕ) → Option (List ℕ) → Option (List ℕ) → Around
-files_around input output errors = record { input = input; streams = record { output = output; errors = errors }; holds = λ _. None; says = λ _. None }
+abbrev pub files_around : Streams → Around
+files_around streams = record { streams = streams; holds = λ _. None; says = λ _. None }
 
 -- what is asked for is done
 abbrev pub Does : AskedCommand → ℕ → Around → Around → Type 0
-Does drill status old new = RunsDrill old.input new.input status old.streams new.streams
+Does drill status old new = RunsDrill status old.streams new.streams
 Does (init file topology) status old new =
     CommandEnds (IsOfMaking (old.says topology) (reads (old.holds file)) (reads (new.holds file))) (IsCreatedLine (old.says topology) (reads (old.holds file)) (reads (new.holds file))) status old.streams new.streams
 Does (check file) status old new = Checks (reads (old.holds file)) status old.streams new.streams
@@ -73,12 +73,12 @@ IsOfWords words fault = ⊥
 -- where words are refused, nothing but the fault's line is printed, and nothing is read
 pub record RefusesWords (words : List Text) (status : ℕ) (old new : Around) : Type 0 where
   pub fails : CommandFails (IsOfWords words) (λ _. ⊥) status old.streams new.streams
-  pub unread : Keeps old.input new.input
+  pub unread : Keeps old.streams.input new.streams.input
 
 -- the words could not be had: nothing but this fault's line is printed, and nothing is read
 pub record LacksWords (fault : Fault) (status : ℕ) (old new : Around) : Type 0 where
   pub fails : CommandFails (λ told. told ≡ fault) (λ _. ⊥) status old.streams new.streams
-  pub unread : Keeps old.input new.input
+  pub unread : Keeps old.streams.input new.streams.input
 
 -- the words are refused, or what they ask for is done
 abbrev pub RunsWords : List Text → ℕ → Around → Around → Type 0

@@ -1,6 +1,6 @@
 //! The commands, over files.
 
-ghost use Rattle.std.specs.Prelude.{None, map, string_bytes};
+ghost use Rattle.std.specs.Prelude.{◌≡◌, None, map, string_bytes};
 ghost use Rattle.coord_commands.specs.Ending.{CommandEnds};
 ghost use Rattle.coord_commands.specs.Inspection.{Checks, ShowsStore};
 ghost use Rattle.coord_commands.specs.Making.{IsCreatedLine, IsOfMaking};
@@ -13,6 +13,7 @@ use crate::making::init_in;
 use crate::migrating::migrate_in;
 use crate::running::run_in;
 use crate::serving::serve_in;
+use crate::streams::Streams;
 use std::fs::File;
 use std::io::{Read, Write};
 use std::net::Net;
@@ -28,13 +29,12 @@ pub fn run<
     R: Read,
     W: Write + Send,
     E: Write,
->(rt: &S, words: &[String], input: &mut R, output: &mut W, errors: &mut E) -> u8
-    ensures { RunsWords (map string_bytes words.now) result
-        (files_around (R.remaining input.old) (W.contents output.old) (E.contents errors.old))
-        (files_around (R.remaining input.new) (W.contents output.new) (E.contents errors.new)) }
+>(rt: &S, words: &[String], streams: &mut Streams<R, W, E>) -> u8
+    ensures { RunsWords (map string_bytes words.now) result (files_around streams.old.known)
+        (files_around streams.new.known) }
 {
     let mut folder = FileFolder::new(rt);
-    carry_out(rt, &mut folder, words, input, output, errors)
+    carry_out(rt, &mut folder, words, streams)
 }
 
 /// Carries out what the program's words ask for in a folder, and answers the exit status.
@@ -44,101 +44,79 @@ fn carry_out<
     R: Read,
     W: Write + Send,
     E: Write,
->(rt: &S, folder: &mut F, words: &[String], input: &mut R, output: &mut W, errors: &mut E) -> u8
+>(rt: &S, folder: &mut F, words: &[String], streams: &mut Streams<R, W, E>) -> u8
     ensures { RunsWords (map string_bytes words.now) result
         (record {
-          input = R.remaining input.old;
-          streams = record {
-            output = W.contents output.old;
-            errors = E.contents errors.old;
-          };
+          streams = streams.old.known;
           holds = F.holds folder.old;
           says = F.says folder.old;
         })
         (record {
-          input = R.remaining input.new;
-          streams = record {
-            output = W.contents output.new;
-            errors = E.contents errors.new;
-          };
+          streams = streams.new.known;
           holds = F.holds folder.new;
           says = F.says folder.new;
         }) }
 {
-    match run_in(rt.alloc(), folder, words, input, output, errors) {
+    match run_in(rt.alloc(), folder, words, streams) {
         Ok(status) => status,
-        Err(left) => serve_in(rt, folder, left.file, left.address, output, errors),
+        Err(left) => serve_in(rt, folder, left.file, left.address, streams),
     }
 }
 
 /// Makes a store on a file that is not there yet, or empty, with the nodes and links of a topology
 /// file, prints how many steps it has, and answers the exit status. The topology is read and judged
 /// before the file is opened.
-pub fn init<S: Files<File = File> + AllocGlobal, W: Write, E: Write>(
+pub fn init<S: Files<File = File> + AllocGlobal, R: Read, W: Write, E: Write>(
     rt: &S,
     file: &str,
     topology: &str,
-    output: &mut W,
-    errors: &mut E,
+    streams: &mut Streams<R, W, E>,
 ) -> u8
-    ensures { CommandEnds (IsOfMaking None None None) (IsCreatedLine None None None) result
-        (record { output = W.contents output.old; errors = E.contents errors.old })
-        (record { output = W.contents output.new; errors = E.contents errors.new }) }
+    ensures ended { CommandEnds (IsOfMaking None None None) (IsCreatedLine None None None) result
+        streams.old.known streams.new.known }
+    ensures unread { streams.new.input ≡ streams.old.input }
 {
     let mut folder = FileFolder::new(rt);
-    init_in(rt.alloc(), &mut folder, file, topology, output, errors)
+    init_in(rt.alloc(), &mut folder, file, topology, streams)
 }
 
 /// Raises the store on a file to version 2, prints how many steps it has, and answers the exit
 /// status. The file is locked meanwhile, and made where there is none. A store of version 2 is left
 /// as it is, and the same is printed; one with a node in a reset is refused, and left as it is too.
-pub fn migrate<S: Files<File = File> + AllocGlobal, W: Write, E: Write>(
+pub fn migrate<S: Files<File = File> + AllocGlobal, R: Read, W: Write, E: Write>(
     rt: &S,
     file: &str,
-    output: &mut W,
-    errors: &mut E,
+    streams: &mut Streams<R, W, E>,
 ) -> u8
-    ensures { CommandEnds (IsOfMigrating None None) (IsMigratedLine None None) result
-        (record { output = W.contents output.old; errors = E.contents errors.old })
-        (record { output = W.contents output.new; errors = E.contents errors.new }) }
+    ensures ended { CommandEnds (IsOfMigrating None None) (IsMigratedLine None None) result
+        streams.old.known streams.new.known }
+    ensures unread { streams.new.input ≡ streams.old.input }
 {
     let mut folder = FileFolder::new(rt);
-    migrate_in(rt.alloc(), &mut folder, file, output, errors)
+    migrate_in(rt.alloc(), &mut folder, file, streams)
 }
 
 /// Prints whether the store on a file is legal, and how many steps it has, or else the first
 /// predicate that its snapshot violates, and answers the exit status, which is 1 for the latter.
-pub fn check<S: Files<File = File> + AllocGlobal, W: Write, E: Write>(
+pub fn check<S: Files<File = File> + AllocGlobal, R: Read, W: Write, E: Write>(
     rt: &S,
     file: &str,
-    output: &mut W,
-    errors: &mut E,
+    streams: &mut Streams<R, W, E>,
 ) -> u8
-    ensures { Checks None result (record {
-      output = W.contents output.old;
-      errors = E.contents errors.old;
-    }) (record {
-      output = W.contents output.new;
-      errors = E.contents errors.new;
-    }) }
+    ensures ended { Checks None result streams.old.known streams.new.known }
+    ensures unread { streams.new.input ≡ streams.old.input }
 {
-    check_in(rt.alloc(), &FileFolder::new(rt), file, output, errors)
+    check_in(rt.alloc(), &FileFolder::new(rt), file, streams)
 }
 
 /// Prints the nodes and links of the store on a file, and answers the exit status.
-pub fn show<S: Files<File = File> + AllocGlobal, W: Write, E: Write>(
+pub fn show<S: Files<File = File> + AllocGlobal, R: Read, W: Write, E: Write>(
     rt: &S,
     file: &str,
-    output: &mut W,
-    errors: &mut E,
+    streams: &mut Streams<R, W, E>,
 ) -> u8
-    ensures { ShowsStore None result (record {
-      output = W.contents output.old;
-      errors = E.contents errors.old;
-    }) (record {
-      output = W.contents output.new;
-      errors = E.contents errors.new;
-    }) }
+    ensures ended { ShowsStore None result streams.old.known streams.new.known }
+    ensures unread { streams.new.input ≡ streams.old.input }
 {
-    show_in(rt.alloc(), &FileFolder::new(rt), file, output, errors)
+    show_in(rt.alloc(), &FileFolder::new(rt), file, streams)
 }

@@ -10,31 +10,31 @@ use crate::fault::Fault;
 use crate::folder::Folder;
 use crate::lines::print;
 use crate::status::report;
+use crate::streams::Streams;
 use coord_disk::Disk;
 use coord_store::{Store, StoreFault};
 use coord_view::{print_view, view_of};
 use coord_world::World;
 use std::alloc::{AllocError, Global};
-use std::io::Write;
+use std::io::{Read, Write};
 
 /// Prints whether the store on the disk of a name is legal, and how many steps it has, or else the
 /// first predicate that its snapshot violates, and answers the exit status, which is 1 for the
 /// latter. The disk is opened to read it alone.
-pub fn check_in<F: Folder, W: Write, E: Write>(
+pub fn check_in<F: Folder, R: Read, W: Write, E: Write>(
     alloc: Global,
     folder: &F,
     file: &str,
-    output: &mut W,
-    errors: &mut E,
+    streams: &mut Streams<R, W, E>,
 ) -> u8
-    ensures { Checks (reads (F.holds folder.now file.now)) result
-        (record { output = W.contents output.old; errors = E.contents errors.old })
-        (record { output = W.contents output.new; errors = E.contents errors.new }) }
+    ensures ended { Checks (reads (F.holds folder.now file.now)) result
+        streams.old.known streams.new.known }
+    ensures unread { streams.new.input ≡ streams.old.input }
 {
-    match check_at(alloc, folder, file, output) {
+    match check_at(alloc, folder, file, &mut streams.output) {
         Ok(true) => 0,
         Ok(false) => 1,
-        Err(fault) => report(Err(fault), errors),
+        Err(fault) => report(Err(fault), &mut streams.errors),
     }
 }
 
@@ -60,18 +60,20 @@ fn check_at<F: Folder, W: Write>(
 
 /// Prints the nodes and links of the store on the disk of a name, and answers the exit status. The
 /// disk is opened to read it alone.
-pub fn show_in<F: Folder, W: Write, E: Write>(
+pub fn show_in<F: Folder, R: Read, W: Write, E: Write>(
     alloc: Global,
     folder: &F,
     file: &str,
-    output: &mut W,
-    errors: &mut E,
+    streams: &mut Streams<R, W, E>,
 ) -> u8
-    ensures { ShowsStore (reads (F.holds folder.now file.now)) result
-        (record { output = W.contents output.old; errors = E.contents errors.old })
-        (record { output = W.contents output.new; errors = E.contents errors.new }) }
+    ensures ended { ShowsStore (reads (F.holds folder.now file.now)) result
+        streams.old.known streams.new.known }
+    ensures unread { streams.new.input ≡ streams.old.input }
 {
-    report(show_at(alloc, folder, file, output), errors)
+    report(
+        show_at(alloc, folder, file, &mut streams.output),
+        &mut streams.errors,
+    )
 }
 
 fn show_at<F: Folder, W: Write>(

@@ -10,6 +10,9 @@
 //! `MemFolder`, whose disk and texts are in memory, all is known. `run_in` waits for nobody, and
 //! leaves just `serve` to its caller.
 //!
+//! What a run reads, what it prints on and where its faults are told goes about as one value,
+//! `Streams`. A contract sees the three and what is known of them (`specs/Streams.antt`).
+//!
 //! Beneath them are functions over any disk: `create_store`, whose store begins with the orders of
 //! a topology (`specs/Founding.antt`), `check_store` and `show_store` (`specs/Inspection.antt`),
 //! `migrate_store` (`specs/Migrating.antt`), and `serve_store` of coord_server. The main theorems
@@ -34,6 +37,7 @@ mod program;
 mod running;
 mod serving;
 mod status;
+mod streams;
 mod topology;
 mod words;
 
@@ -49,5 +53,6 @@ pub use program::run_program;
 pub use running::{ToServe, drill, run_in};
 pub use serving::{serve, serve_in};
 pub use status::report;
+pub use streams::Streams;
 pub use topology::topology_from;
 pub use words::{Task, read_words};

@@ -11,31 +11,34 @@ use crate::fault::Fault;
 use crate::folder::Folder;
 use crate::lines::print;
 use crate::status::report;
+use crate::streams::Streams;
 use crate::topology::topology_from;
 use coord_config::Topology;
 use coord_disk::Disk;
 use std::alloc::Global;
-use std::io::Write;
+use std::io::{Read, Write};
 
 /// Makes a store on the disk of a name, which is empty, with the nodes and links of a topology
 /// file, prints how many steps it has, and answers the exit status. The topology is read and judged
 /// before the disk is opened.
-pub fn init_in<F: Folder, W: Write, E: Write>(
+pub fn init_in<F: Folder, R: Read, W: Write, E: Write>(
     alloc: Global,
     folder: &mut F,
     file: &str,
     topology: &str,
-    output: &mut W,
-    errors: &mut E,
+    streams: &mut Streams<R, W, E>,
 ) -> u8
-    ensures { CommandEnds (IsOfMaking (F.says folder.old topology.now)
+    ensures ended { CommandEnds (IsOfMaking (F.says folder.old topology.now)
         (reads (F.holds folder.old file.now)) (reads (F.holds folder.new file.now)))
         (IsCreatedLine (F.says folder.old topology.now) (reads (F.holds folder.old file.now))
         (reads (F.holds folder.new file.now)))
-        result (record { output = W.contents output.old; errors = E.contents errors.old })
-        (record { output = W.contents output.new; errors = E.contents errors.new }) }
+        result streams.old.known streams.new.known }
+    ensures unread { streams.new.input ≡ streams.old.input }
 {
-    report(init_at(alloc, folder, file, topology, output), errors)
+    report(
+        init_at(alloc, folder, file, topology, &mut streams.output),
+        &mut streams.errors,
+    )
 }
 
 fn init_at<F: Folder, W: Write>(

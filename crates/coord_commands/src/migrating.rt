@@ -15,10 +15,11 @@ use crate::fault::Fault;
 use crate::folder::Folder;
 use crate::lines::print;
 use crate::status::report;
+use crate::streams::Streams;
 use coord_disk::Disk;
 use coord_store::Store;
 use std::alloc::Global;
-use std::io::Write;
+use std::io::{Read, Write};
 
 /// Raises the store on the disk of a name to version 2, prints how many steps it has, and answers
 /// the exit status. A store of version 2 is left as it is, and the same is printed; one with a node
@@ -27,22 +28,24 @@ use std::io::Write;
 /// At each moment, from the taking of the disk until it is put back, a crash leaves what it could have
 /// left before or what gives the world in one version or the other. `Device` is told where the disk
 /// is not to be had, or its count of failures rose.
-pub fn migrate_in<F: Folder, W: Write, E: Write>(
+pub fn migrate_in<F: Folder, R: Read, W: Write, E: Write>(
     alloc: Global,
     folder: &mut F,
     file: &str,
-    output: &mut W,
-    errors: &mut E,
+    streams: &mut Streams<R, W, E>,
 ) -> u8
-    ensures { CommandEnds (λ fault.
+    ensures ended { CommandEnds (λ fault.
         IsOfMigrating (F.holds folder.old file.now) (F.holds folder.new file.now) fault
         × EndsRaising F.Disk.model (F.holds folder.old file.now) (F.holds folder.new file.now) fault) (λ line.
         IsMigratedLine (F.holds folder.old file.now) (F.holds folder.new file.now) line
         × RaisesNamed F.Disk.model 0 (F.holds folder.old file.now) (F.holds folder.new file.now))
-        result (record { output = W.contents output.old; errors = E.contents errors.old })
-        (record { output = W.contents output.new; errors = E.contents errors.new }) }
+        result streams.old.known streams.new.known }
+    ensures unread { streams.new.input ≡ streams.old.input }
 {
-    report(migrate_at(alloc, folder, file, output), errors)
+    report(
+        migrate_at(alloc, folder, file, &mut streams.output),
+        &mut streams.errors,
+    )
 }
 
 fn migrate_at<F: Folder, W: Write>(

@@ -10,6 +10,7 @@ ghost use Rattle.coord_commands.specs.declared.fault.Fault.TheVariants.{OutOfMem
 use crate::commands::run;
 use crate::fault::Fault;
 use crate::status::report;
+use crate::streams::Streams;
 use std::alloc::Global;
 use std::fs::File;
 use std::io;
@@ -22,36 +23,29 @@ use std::time::Clock;
 
 /// Carries out what the program's words ask for, the first of which is its own name, and answers the
 /// exit status: the drill reads the input, what is asked for is printed on the output, and the line
-/// of a fault on `errors`. Where the words could not be had, that is told, and nothing is done.
+/// of a fault on standard error. Where the words could not be had, that is told, and nothing is done.
 pub fn run_program<
     S: Files<File = File> + Net + Threads + Wait + Clock + Sync + AllocGlobal,
     I: Iterator<Item = String>,
     R: Read,
     W: Write + Send,
     E: Write,
->(rt: &S, words: io::Result<I>, input: &mut R, output: &mut W, errors: &mut E) -> u8
+>(rt: &S, words: io::Result<I>, streams: &mut Streams<R, W, E>) -> u8
     requires { IfOk words (λ words. I.can_next words × IsFinite (I.remaining words)) }
     ensures had { IfOk words (λ words.
-        LacksWords OutOfMemory result (files_around (R.remaining input.old)
-        (W.contents output.old) (E.contents errors.old)) (files_around (R.remaining input.new)
-        (W.contents output.new) (E.contents errors.new))
-        ⊎ ((came : List (String Global)) × Drains I.next_gives words came ×
-        RunsWords (map string_bytes came) result (files_around (R.remaining input.old)
-        (W.contents output.old) (E.contents errors.old)) (files_around (R.remaining input.new)
-        (W.contents output.new) (E.contents errors.new)))) }
+        LacksWords OutOfMemory result (files_around streams.old.known) (files_around streams.new.known)
+        ⊎ ((came : List (String Global)) × Drains I.next_gives words came × RunsWords (map string_bytes came)
+        result (files_around streams.old.known) (files_around streams.new.known))) }
     ensures memory { IfErr words (λ error. error_kind error ≡ ErrorKind.OutOfMemory →
-        LacksWords OutOfMemory result (files_around (R.remaining input.old)
-        (W.contents output.old) (E.contents errors.old)) (files_around (R.remaining input.new)
-        (W.contents output.new) (E.contents errors.new))) }
+        LacksWords OutOfMemory result (files_around streams.old.known)
+        (files_around streams.new.known)) }
     ensures refused { IfErr words (λ error. error_kind error ≢ ErrorKind.OutOfMemory →
-        LacksWords Usage result (files_around (R.remaining input.old)
-        (W.contents output.old) (E.contents errors.old)) (files_around (R.remaining input.new)
-        (W.contents output.new) (E.contents errors.new))) }
+        LacksWords Usage result (files_around streams.old.known) (files_around streams.new.known)) }
 {
     let _taken = take_descriptors(rt);
     match gathered(rt.alloc(), words) {
-        Ok(words) => run(rt, &words, input, output, errors),
-        Err(fault) => report(Err(fault), errors),
+        Ok(words) => run(rt, &words, streams),
+        Err(fault) => report(Err(fault), &mut streams.errors),
     }
 }
 

@@ -10,6 +10,7 @@ use crate::inspection::{check_in, show_in};
 use crate::making::init_in;
 use crate::migrating::migrate_in;
 use crate::status::report;
+use crate::streams::Streams;
 use crate::words::{Task, read_words};
 use coord_drill::coord_drill;
 use std::alloc::Global;
@@ -28,61 +29,41 @@ pub fn run_in<'a, F: Folder, R: Read, W: Write, E: Write>(
     alloc: Global,
     folder: &mut F,
     words: &'a [String],
-    input: &mut R,
-    output: &mut W,
-    errors: &mut E,
+    streams: &mut Streams<R, W, E>,
 ) -> Result<u8, ToServe<'a>>
     ensures done { IfOk result (λ status. RunsWords (map string_bytes words.now) status
         (record {
-          input = R.remaining input.old;
-          streams = record {
-            output = W.contents output.old;
-            errors = E.contents errors.old;
-          };
+          streams = streams.old.known;
           holds = F.holds folder.old;
           says = F.says folder.old;
         })
         (record {
-          input = R.remaining input.new;
-          streams = record {
-            output = W.contents output.new;
-            errors = E.contents errors.new;
-          };
+          streams = streams.new.known;
           holds = F.holds folder.new;
           says = F.says folder.new;
         })) }
     ensures left { IfErr result (λ left. task_of (map string_bytes words.now)
         ≡ Some (serve left.file.now left.address.now)) }
     ensures unopened { IfErr result (λ _. folder.new ≡ folder.old) }
-    ensures unprinted { IfErr result (λ _. (input.new ≡ input.old) × (output.new ≡ output.old) ×
-        (errors.new ≡ errors.old)) }
+    ensures unprinted { IfErr result (λ _. streams.new ≡ streams.old) }
 {
     match read_words(alloc, words) {
-        Ok(Task::Drill) => Ok(drill(alloc, input, output, errors)),
-        Ok(Task::Init { file, topology }) => {
-            Ok(init_in(alloc, folder, file, topology, output, errors))
-        }
-        Ok(Task::Check { file }) => Ok(check_in(alloc, folder, file, output, errors)),
-        Ok(Task::Show { file }) => Ok(show_in(alloc, folder, file, output, errors)),
-        Ok(Task::Migrate { file }) => Ok(migrate_in(alloc, folder, file, output, errors)),
+        Ok(Task::Drill) => Ok(drill(alloc, streams)),
+        Ok(Task::Init { file, topology }) => Ok(init_in(alloc, folder, file, topology, streams)),
+        Ok(Task::Check { file }) => Ok(check_in(alloc, folder, file, streams)),
+        Ok(Task::Show { file }) => Ok(show_in(alloc, folder, file, streams)),
+        Ok(Task::Migrate { file }) => Ok(migrate_in(alloc, folder, file, streams)),
         Ok(Task::Serve { file, address }) => Err(ToServe { file, address }),
-        Err(fault) => Ok(report(Err(fault), errors)),
+        Err(fault) => Ok(report(Err(fault), &mut streams.errors)),
     }
 }
 
 /// Reads requests from an input, prints what becomes of each, and answers the exit status.
-pub fn drill<R: Read, W: Write, E: Write>(
-    alloc: Global,
-    input: &mut R,
-    output: &mut W,
-    errors: &mut E,
-) -> u8
-    ensures { RunsDrill (R.remaining input.old) (R.remaining input.new) result
-        (record { output = W.contents output.old; errors = E.contents errors.old })
-        (record { output = W.contents output.new; errors = E.contents errors.new }) }
+pub fn drill<R: Read, W: Write, E: Write>(alloc: Global, streams: &mut Streams<R, W, E>) -> u8
+    ensures { RunsDrill result streams.old.known streams.new.known }
 {
-    match coord_drill(alloc, input, output) {
+    match coord_drill(alloc, &mut streams.input, &mut streams.output) {
         Ok(()) => 0,
-        Err(fault) => report(Err(Fault::from(fault)), errors),
+        Err(fault) => report(Err(Fault::from(fault)), &mut streams.errors),
     }
 }

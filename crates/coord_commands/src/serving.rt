@@ -12,6 +12,7 @@ ghost use Rattle.coord_store.specs.Recovered.{Recovered};
 use crate::fault::Fault;
 use crate::folder::{FileFolder, Folder};
 use crate::status::report;
+use crate::streams::Streams;
 use coord_disk::Disk;
 use coord_engine::Closed;
 use coord_server::serve_store;
@@ -19,7 +20,7 @@ use coord_store::Store;
 use std::alloc::Global;
 use std::fs::File;
 use std::io;
-use std::io::Write;
+use std::io::{Read, Write};
 use std::net::{Net, OpenListener, SocketAddr, SocketAddrV4, TcpListener};
 use std::rt::Files;
 use std::sync::Wait;
@@ -31,15 +32,17 @@ use std::time::Clock;
 /// `A.B.C.D:P`, is judged before the file is opened.
 pub fn serve<
     S: Files<File = File> + Net + Threads + Wait + Clock + Sync + AllocGlobal,
+    R: Read,
     W: Write + Send,
     E: Write,
->(rt: &S, file: &str, address: &str, output: &mut W, errors: &mut E) -> u8
-    ensures served { ServesAt (IsOfServing None) address.now None None result (E.contents errors.old)
-        (E.contents errors.new) }
+>(rt: &S, file: &str, address: &str, streams: &mut Streams<R, W, E>) -> u8
+    ensures served { ServesAt (IsOfServing None) address.now None None result
+        streams.old.known.errors streams.new.known.errors }
+    ensures unread { streams.new.input ≡ streams.old.input }
     ensures usage { ((a : SocketAddrV4) → ¬ IsSocketV4Text address.now a) → result ≡ 2 }
 {
     let mut folder = FileFolder::new(rt);
-    serve_in(rt, &mut folder, file, address, output, errors)
+    serve_in(rt, &mut folder, file, address, streams)
 }
 
 /// Serves the store on the disk of a name to the connections that come to an address, until one of
@@ -49,24 +52,29 @@ pub fn serve<
 pub fn serve_in<
     S: Net + Threads + Wait + Clock + Sync + AllocGlobal,
     F: Folder,
+    R: Read,
     W: Write + Send,
     E: Write,
->(rt: &S, folder: &mut F, file: &str, address: &str, output: &mut W, errors: &mut E) -> u8
+>(rt: &S, folder: &mut F, file: &str, address: &str, streams: &mut Streams<R, W, E>) -> u8
     ensures served { ServesAt (EndsServing F.Disk.model (F.holds folder.old file.now)
         (F.holds folder.new file.now)) address.now (reads (F.holds folder.old file.now))
-        (reads (F.holds folder.new file.now)) result (E.contents errors.old)
-        (E.contents errors.new) }
+        (reads (F.holds folder.new file.now)) result streams.old.known.errors
+        streams.new.known.errors }
+    ensures unread { streams.new.input ≡ streams.old.input }
     ensures closed { result ≡ 0 → IsServedToEnd F.Disk.model
         (reads (F.holds folder.old file.now)) (reads (F.holds folder.new file.now)) }
     ensures moments { result ≡ 0 → KeepsToTheWay F.Disk.model (F.holds folder.old file.now)
         (F.holds folder.new file.now) }
     ensures usage { ((a : SocketAddrV4) → ¬ IsSocketV4Text address.now a) → (result ≡ 2) ×
-        (folder.new ≡ folder.old) × Keeps (W.contents output.old) (W.contents output.new) }
+        (folder.new ≡ folder.old) × Keeps streams.old.known.output streams.new.known.output }
 {
     let Some(place) = address_of(address) else {
-        return report(Err(Fault::Usage), errors);
+        return report(Err(Fault::Usage), &mut streams.errors);
     };
-    report(serve_at(rt, folder, file, place, output), errors)
+    report(
+        serve_at(rt, folder, file, place, &mut streams.output),
+        &mut streams.errors,
+    )
 }
 
 #[tactic(auto, using(crate::proofs::Opening::served_to_end))]

@@ -3,13 +3,17 @@
 #![tactic(auto)]
 
 pub use coord_commands::{
-    Fault, check, drill, init, migrate, report, run, run_program, serve, show,
+    Fault, Streams, check, drill, init, migrate, report, run, run_program, serve, show,
 };
 pub use coord_drill::coord_drill;
 use std::env;
 use std::process::ExitCode;
 
 fn main(rt: HostRuntime) -> ExitCode {
-    let (mut input, mut output, mut errors) = (rt.stdin(), rt.stdout(), rt.stderr());
-    ExitCode::from(run_program(&rt, env::args(&rt), &mut input, &mut output, &mut errors))
+    let mut streams = Streams {
+        input: rt.stdin(),
+        output: rt.stdout(),
+        errors: rt.stderr(),
+    };
+    ExitCode::from(run_program(&rt, env::args(&rt), &mut streams))
 }

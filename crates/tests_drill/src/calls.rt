@@ -1,6 +1,6 @@
 //! The commands as calls of a library, each on the file that it names.
 
-use crate::program::{Host, Streams};
+use crate::program::{Host, ended, room, streams_of};
 use coord_commands::{check, init, migrate, serve, show};
 use std::fs::File;
 use std::net::Net;
@@ -31,27 +31,27 @@ link 1 2 3\n";
 
 /// Each command on these files, and what it ends with.
 fn is_made<S: Files<File = File> + Abort + AllocGlobal>(rt: &S, store: &str, topology: &str) {
-    let mut it = Streams::new(rt);
-    let status = init(rt, store, topology, &mut it.output, &mut it.errors);
-    it.are(rt, status, (0, "created 3\n", ""));
+    let mut streams = streams_of(rt, b"".as_slice(), room(rt));
+    let status = init(rt, store, topology, &mut streams);
+    ended(rt, status, streams, (0, "created 3\n", ""));
 }
 
 fn is_checked<S: Files<File = File> + Abort + AllocGlobal>(rt: &S, store: &str) {
-    let mut it = Streams::new(rt);
-    let status = check(rt, store, &mut it.output, &mut it.errors);
-    it.are(rt, status, (0, "legal 3\n", ""));
+    let mut streams = streams_of(rt, b"".as_slice(), room(rt));
+    let status = check(rt, store, &mut streams);
+    ended(rt, status, streams, (0, "legal 3\n", ""));
 }
 
 fn is_shown<S: Files<File = File> + Abort + AllocGlobal>(rt: &S, store: &str) {
-    let mut it = Streams::new(rt);
-    let status = show(rt, store, &mut it.output, &mut it.errors);
-    it.are(rt, status, (0, SHOWN_PAIR, ""));
+    let mut streams = streams_of(rt, b"".as_slice(), room(rt));
+    let status = show(rt, store, &mut streams);
+    ended(rt, status, streams, (0, SHOWN_PAIR, ""));
 }
 
 fn is_migrated<S: Files<File = File> + Abort + AllocGlobal>(rt: &S, store: &str) {
-    let mut it = Streams::new(rt);
-    let status = migrate(rt, store, &mut it.output, &mut it.errors);
-    it.are(rt, status, (0, "migrated 3\n", ""));
+    let mut streams = streams_of(rt, b"".as_slice(), room(rt));
+    let status = migrate(rt, store, &mut streams);
+    ended(rt, status, streams, (0, "migrated 3\n", ""));
 }
 
 /// A store is not served at an address that no host has: the call ends behind the opening of the
@@ -60,9 +60,9 @@ fn is_not_served<S: Files<File = File> + Net + Threads + Wait + Clock + Sync + A
     rt: &S,
     store: &str,
 ) {
-    let mut it = Streams::new(rt);
-    let status = serve(rt, store, "192.0.2.1:1", &mut it.output, &mut it.errors);
-    it.are(rt, status, (3, "", "resetd: Socket\n"));
+    let mut streams = streams_of(rt, b"".as_slice(), room(rt));
+    let status = serve(rt, store, "192.0.2.1:1", &mut streams);
+    ended(rt, status, streams, (3, "", "resetd: Socket\n"));
 }
 
 /// The path of a file in a folder.

@@ -1,6 +1,6 @@
 //! Runs of the drill, through the program's words.
 
-use crate::program::{Ending, Host, Streams, same, words_of};
+use crate::program::{Ending, Host, ended, room, same, streams_of, told, words_of};
 use coord_commands::run_program;
 use std::fs::File;
 use std::io::{Read, Write};
@@ -18,10 +18,10 @@ fn ends<S: Files<File = File> + Net + Threads + Wait + Clock + Sync + Abort + Al
     input: &mut R,
     ending: Ending<'_>,
 ) {
-    let mut told = Streams::new(rt);
+    let mut streams = streams_of(rt, input, room(rt));
     let words = words_of(rt, "resetd drill").into_iter();
-    let status = run_program(rt, Ok(words), input, &mut told.output, &mut told.errors);
-    told.are(rt, status, ending);
+    let status = run_program(rt, Ok(words), &mut streams);
+    ended(rt, status, streams, ending);
 }
 
 /// Gives its bytes one by one, and counts the reads.
@@ -138,11 +138,10 @@ impl Write for Full {
 
 #[test]
 fn failed_write(rt: HostRuntime) {
-    let mut input = b"add 1 1\nadd 2 1\n".as_slice();
     let mut output = Full { taken: 0 };
-    let mut told = Streams::new(&rt);
-    let status = coord_commands::drill(rt.alloc(), &mut input, &mut output, &mut told.errors);
-    told.are(&rt, status, (3, "", "resetd: Write\n"));
+    let mut streams = streams_of(&rt, b"add 1 1\nadd 2 1\n".as_slice(), &mut output);
+    let status = coord_commands::drill(rt.alloc(), &mut streams);
+    told(&rt, status, streams, (3, "resetd: Write\n"));
     same(&rt, &output.taken, &7);
 }
 
@@ -184,7 +183,7 @@ fn ends_slowly(
     broken: bool,
     written: &str,
     flushes: u64,
-    ending: Ending<'_>,
+    ending: (u8, &str),
 ) {
     let mut output = Slow {
         taken: Vec::with_capacity(rt.alloc(), 64).expect(rt, "no room"),
@@ -192,10 +191,9 @@ fn ends_slowly(
         flushes: 0,
         broken,
     };
-    let mut input = b"add 1 1\nreset 1\n".as_slice();
-    let mut told = Streams::new(rt);
-    let status = coord_commands::drill(rt.alloc(), &mut input, &mut output, &mut told.errors);
-    told.are(rt, status, ending);
+    let mut streams = streams_of(rt, b"add 1 1\nreset 1\n".as_slice(), &mut output);
+    let status = coord_commands::drill(rt.alloc(), &mut streams);
+    told(rt, status, streams, ending);
     same(
         rt,
         &str::from_utf8(&output.taken).unwrap_or("no text"),
@@ -209,8 +207,8 @@ fn ends_slowly(
 #[test]
 fn slow_writers(rt: HostRuntime) {
     let printed = "done 1\nfinished 2\nsignal 1 1\n";
-    let failed = (3, "", "resetd: Write\n");
-    ends_slowly(&rt, 64, false, printed, 1, (0, "", ""));
+    let failed = (3, "resetd: Write\n");
+    ends_slowly(&rt, 64, false, printed, 1, (0, ""));
     ends_slowly(&rt, 28, false, &printed[..28], 0, failed);
     ends_slowly(&rt, 64, true, printed, 1, failed);
 }

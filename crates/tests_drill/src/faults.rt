@@ -1,6 +1,6 @@
 //! Faults that no run of the program can be made to meet.
 
-use crate::program::{Streams, same};
+use crate::program::{ended, room, same, streams_of};
 use coord_commands::run_program;
 use std::io;
 use std::io::ErrorKind;
@@ -17,9 +17,9 @@ fn words_that_could_not_be_had(rt: HostRuntime) {
     ] {
         let mut input = b"add 1 1\n".as_slice();
         let words: io::Result<IntoIter<String>> = Err(kind.into());
-        let mut told = Streams::new(&rt);
-        let status = run_program(&rt, words, &mut input, &mut told.output, &mut told.errors);
-        told.are(&rt, status, ending);
+        let mut streams = streams_of(&rt, &mut input, room(&rt));
+        let status = run_program(&rt, words, &mut streams);
+        ended(&rt, status, streams, ending);
         same(&rt, &input.len(), &8);
     }
 }

@@ -1,8 +1,8 @@
 //! Runs of the commands on disks in memory.
 
 use crate::calls::{PAIR, SHOWN_PAIR};
-use crate::program::{Host, Streams, same, words_of};
-use coord_commands::{MemFolder, Named, run_in};
+use crate::program::{Host, ended, room, same, streams_of, told, words_of};
+use coord_commands::{MemFolder, Named, Streams, run_in};
 use coord_disk::MemDisk;
 use std::io;
 use std::io::{ErrorKind, Write};
@@ -35,12 +35,10 @@ fn status_of<W: Write>(
     rt: &impl Host,
     folder: &mut MemFolder,
     words: &str,
-    output: &mut W,
-    errors: &mut Vec<u8>,
+    streams: &mut Streams<&[u8], W, Vec<u8>>,
 ) -> u8 {
     let words = words_of(rt, words);
-    let mut input = b"".as_slice();
-    match run_in(rt.alloc(), folder, &words, &mut input, output, errors) {
+    match run_in(rt.alloc(), folder, &words, streams) {
         Ok(status) => status,
         Err(left) => {
             same(rt, &(left.file, left.address), &("store", "127.0.0.1:0"));
@@ -52,9 +50,9 @@ fn status_of<W: Write>(
 /// Runs in a folder in memory end so, one after the other.
 fn end(rt: &impl Host, folder: &mut MemFolder, runs: &[Run]) {
     for (words, status, printed, faults) in runs {
-        let mut told = Streams::new(rt);
-        let found = status_of(rt, folder, words, &mut told.output, &mut told.errors);
-        told.are(rt, found, (*status, *printed, *faults));
+        let mut streams = streams_of(rt, b"".as_slice(), room(rt));
+        let found = status_of(rt, folder, words, &mut streams);
+        ended(rt, found, streams, (*status, *printed, *faults));
     }
 }
 
@@ -150,15 +148,9 @@ impl Write for Closed {
 fn a_line_that_is_not_printed(rt: HostRuntime) {
     let disk = MemDisk::from_bytes(rt.alloc(), EMPTY).expect(&rt, "no disk");
     let mut folder = folder_of(&rt, disk);
-    let mut told = Streams::new(&rt);
-    let status = status_of(
-        &rt,
-        &mut folder,
-        "resetd migrate store",
-        &mut Closed,
-        &mut told.errors,
-    );
-    told.are(&rt, status, (3, "", "resetd: Write\n"));
+    let mut streams = streams_of(&rt, b"".as_slice(), Closed);
+    let status = status_of(&rt, &mut folder, "resetd migrate store", &mut streams);
+    told(&rt, status, streams, (3, "resetd: Write\n"));
     end(&rt, &mut folder, raised_runs());
     let bytes = bytes_in(&folder);
     let second_half = (bytes.first().copied(), bytes.get(17 + 32_768).copied());

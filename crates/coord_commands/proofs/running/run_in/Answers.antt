@@ -6,11 +6,11 @@ use Rattle.coord_commands.proofs.running.run_in.Goals as goal
 
 pub returns-in-Err-clause-done : goal.returns-in-Err-clause-done
 returns-in-Err-clause-done g c =
-    inl
-    (refused_words (map string_bytes c.args.words.now) c.in-Err.fault c.report.result (g.R.Read.remaining c.args.input.now) (g.W.Write.contents c.args.output.now) (g.E.Write.contents c.args.errors.now)
-    (g.E.Write.contents c.report.new.errors) (g.F.Folder.holds c.args.folder.now) (g.F.Folder.says c.args.folder.now) c.in-Err.ensures.err c.report.ensures.status c.report.ensures.told)
+    rw (← c.streams.view_is)
+    (inl (refused_words (map string_bytes c.args.words.now) c.in-Err.fault c.report.result (g.R.Read.remaining c.streams.inside.input) (g.W.Write.contents c.streams.inside.output) (g.E.Write.contents c.streams.inside.errors)
+    (g.E.Write.contents c.report.new.errors) (g.F.Folder.holds c.args.folder.now) (g.F.Folder.says c.args.folder.now) c.in-Err.ensures.err c.report.ensures.status c.report.ensures.told))
 
 pub returns-in-Ok-Migrate-clause-done : goal.returns-in-Ok-Migrate-clause-done
 returns-in-Ok-Migrate-clause-done g c =
     let asked : task_of (map string_bytes c.args.words.now) ≡ Some (migrate c.in-Ok-Migrate.file.now) = search rules in
-    inr (migrate c.in-Ok-Migrate.file.now, asked, ends_weaker _ _ _ _ c.migrate_in.result _ _ (λ fault is. is.0) (λ line is. is.0) c.migrate_in.ensures)
+    inr (migrate c.in-Ok-Migrate.file.now, asked, ends_weaker _ _ _ _ c.migrate_in.result _ _ (λ fault is. is.0) (λ line is. is.0) c.migrate_in.ensures.ended)
