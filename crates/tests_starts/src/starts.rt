@@ -1,0 +1,118 @@
+//! The starts of one store, with a power cut behind each.
+
+use coord_disk::MemDisk;
+use coord_ledger::{Event, Trace};
+use coord_starts::{Outcome, Task, run_starts};
+use coord_types::{Client, Command, Group, NodeId, Step};
+use std::fmt::Debug;
+use std::process::Abort;
+
+// What was found is what was wanted.
+fn same<T: PartialEq + Debug>(rt: &impl Abort, found: &T, wanted: &T) {
+    assert_eq!(rt; found, wanted);
+}
+
+// Client 1's order of this number adds a node.
+fn add(number: u64, node: NodeId) -> Event {
+    let command = Command::Add(node, Group::new(1).unwrap());
+    Event::Submit(Step::Order(Client::new(1).unwrap(), number, command))
+}
+
+// A start that is asked these events.
+fn asking(rt: &(impl Abort + AllocGlobal), events: &[Event]) -> Task {
+    Task::Serve(events.to_vec(rt.alloc()).expect(rt, "no events"))
+}
+
+// Order 1 is settled and collected. Order 2, which adds node 2, is accepted as step 2, and lost.
+fn losing(rt: &(impl Abort + AllocGlobal)) -> Task {
+    let first = add(1, NodeId::new(1).unwrap());
+    let lost = add(2, NodeId::new(2).unwrap());
+    asking(
+        rt,
+        &[
+            first,
+            Event::Begin,
+            Event::Commit,
+            Event::Finish,
+            Event::Collect(0),
+            lost,
+        ],
+    )
+}
+
+// Order 1 comes again. Order 2 now adds node 3, and is committed: nobody hears of it.
+fn unheard(rt: &(impl Abort + AllocGlobal)) -> Task {
+    let first = add(1, NodeId::new(1).unwrap());
+    let second = add(2, NodeId::new(3).unwrap());
+    asking(
+        rt,
+        &[
+            first,
+            Event::Collect(0),
+            second,
+            Event::Begin,
+            Event::Commit,
+        ],
+    )
+}
+
+// That order comes again.
+fn repeating(rt: &(impl Abort + AllocGlobal)) -> Task {
+    asking(rt, &[add(2, NodeId::new(3).unwrap()), Event::Collect(0)])
+}
+
+// What was answered in a start, and how much was released.
+fn told_of(rt: &(impl Abort + AllocGlobal), trace: &Trace) -> String {
+    let (answers, released) = (&trace.answers, trace.released.len());
+    format!(in rt.alloc(); "{answers:?} {released}").expect(rt, "not printed")
+}
+
+// What came of a start.
+fn told(rt: &(impl Abort + AllocGlobal), outcome: &Outcome) -> String {
+    match outcome {
+        Outcome::Served(trace) => told_of(rt, trace),
+        Outcome::Raised => String::from_str(rt.alloc(), "raised").expect(rt, "not printed"),
+        Outcome::Refused(_) => String::from_str(rt.alloc(), "refused").expect(rt, "not printed"),
+    }
+}
+
+// Each start was answered so.
+fn tells(rt: &(impl Abort + AllocGlobal), outcomes: &[Outcome], wanted: &[&str]) {
+    same(rt, &outcomes.len(), &wanted.len());
+    for (at, (outcome, wanted)) in outcomes.iter().zip(wanted).enumerate() {
+        let text = told(rt, outcome);
+        same(rt, &(at, text.as_str()), &(at, *wanted));
+    }
+}
+
+// What came of all starts of a store of version 1.
+fn ran(rt: &(impl Abort + AllocGlobal), tasks: &[Task]) -> Vec<Outcome> {
+    match run_starts(rt.alloc(), MemDisk::new(rt.alloc()), 32_768, 1, tasks) {
+        Ok((outcomes, disk)) => {
+            drop(disk);
+            outcomes
+        }
+        Err((fault, disk)) => {
+            drop(disk);
+            panic!(rt; "the starts ended: {fault:?}")
+        }
+    }
+}
+
+// The number of the order that was lost goes to another order, after the store was raised. The reply to that order,
+// of whose commit nobody heard, is still kept in the last start.
+#[test]
+fn the_starts_of_a_store_are_one_history(rt: HostRuntime) {
+    let tasks = [losing(&rt), Task::Migrate, unheard(&rt), repeating(&rt)];
+    let outcomes = ran(&rt, &tasks);
+    tells(
+        &rt,
+        &outcomes,
+        &[
+            "[Accepted(1), Begun(1), Committed, Finished(1), Collected(Reply { step: 1, kind: Done }), Accepted(2)] 0",
+            "raised",
+            "[Repeated(1), Collected(Reply { step: 1, kind: Done }), Accepted(2), Begun(1), Committed] 0",
+            "[Repeated(2), Collected(Reply { step: 2, kind: Done })] 0",
+        ],
+    );
+}
