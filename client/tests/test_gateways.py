@@ -464,6 +464,7 @@ class Gateways(Case):
             self.look()
             self.assertEqual(len([text for text in self.told if text.startswith("node 2: ")]), times, self.told)
 
+    @in_memory
     def test_a_confirmed_epoch_that_it_never_told(self) -> None:
         self.all_begin()
         self.server.nodes[3] = [1, 5, 5]
