@@ -52,6 +52,7 @@ pub struct FileFolder<'a, S> {
 }
 
 impl<'a, S: Files<File = File>> FileFolder<'a, S> {
+    /// All files that the process may open. No clause speaks of them, since nothing is claimed of files.
     pub fn new(rt: &'a S) -> Self {
         FileFolder { rt }
     }

@@ -127,7 +127,8 @@ impl<D: Disk, L: Origin> Engine<D, L> {
         guarded.submit(step, mine)
     }
 
-    /// Wakes a flusher that waits for steps, where there is something to flush.
+    /// Wakes a flusher that waits for steps, where there is something to flush. No clause can say that a
+    /// thread wakes.
     pub fn wake_flusher<R: Wait>(&self, rt: &R) {
         if !self.guarded.lock(rt).is_idle() {
             self.work.notify_all();
@@ -258,7 +259,8 @@ impl<D: Disk, L: Origin> Engine<D, L> {
         unreachable!()
     }
 
-    /// From now on no step is accepted. What is pending is still settled.
+    /// From now on no step is accepted. What is pending is still settled. No clause can say what
+    /// a call does behind a lock: `Guarded::finish` has that in its contract.
     pub fn finish<R: Wait>(&self, rt: &R) {
         self.guarded.lock(rt).finish();
         self.wake_all();

@@ -71,7 +71,7 @@ impl Ticket {
         }
     }
 
-    /// Gives up the reply.
+    /// Gives up the reply. It leaves nothing of which a clause could speak.
     pub fn forget(self) {
         let Ticket {
             step: _,

@@ -27,7 +27,7 @@ pub fn push_releases(released: &mut Vec<Release>, mut releases: Releases) -> Res
     Ok((released.len() - before) as u64)
 }
 
-/// Gives up the replies that were not collected.
+/// Gives up the replies that were not collected. It leaves nothing of which a clause could speak.
 pub fn forget_all(mut tickets: Vec<Option<Ticket>>) {
     while let Some(place) = tickets.pop() {
         if let Some(ticket) = place {
