@@ -1,6 +1,7 @@
 //! Rings of eight nodes, each with a worker of its own: one reset makes each of them signal once,
 //! also where its first packets come when no more steps may be pending.
 
+ghost use Rattle.std.specs.Prelude.{ℕ};
 ghost use Rattle.std.specs.Thread.{IsSend, IsSync};
 
 use super::full::is_met_full;
@@ -133,6 +134,7 @@ fn run<D: Disk + Send, L: Origin + Send + Sync, R: Threads + Wait + Clock + Sync
     )
 }
 
+/// Starts a flusher over a port that may be asked for any signal.
 pub(super) fn start_flusher<
     's,
     'r: 's,
@@ -143,7 +145,9 @@ pub(super) fn start_flusher<
     L: Origin + Send + Sync,
     P: Port + Send + Drop + 'p,
     R: Wait + Clock + Sync + Abort,
->(scope: &Scope<'s, E>, rt: &'r R, engine: &'e Engine<D, L>, port: P) -> JoinHandle<()> {
+>(scope: &Scope<'s, E>, rt: &'r R, engine: &'e Engine<D, L>, port: P) -> JoinHandle<()>
+    requires any_signal { (step node epoch : ℕ) → P.may_signal step node epoch }
+{
     scope
         .spawn(move || {
             let mut port = port;
