@@ -81,8 +81,8 @@ class Tools(Run):
     def test_the_demo(self) -> None:
         printed = self.expect(tool("demo"), ends_with="nodes: 8, signals: ")
         self.assertIn("ends with status 0\n  resetd check store                      legal ", printed)
-        self.assertRegex(printed, r"\n  mixed: [1-9]\d* messages, ")
-        self.assertEqual(printed.count("mixed: 0 messages\n"), 2)
+        self.assertRegex(printed, r"\n  mixed: [1-9]\d* messages of both .*; skipped: [1-9]\d* items\n")
+        self.assertEqual(printed.count("mixed: 0 messages; skipped: 0 items\n"), 2)
 
     def test_the_example(self) -> None:
         self.expect("examples/run", ends_with="each of the 8 members was signalled once and started anew")
