@@ -157,25 +157,33 @@ Spoil = Callable[[socket.socket, bytes], bool]
 
 
 class Between:
-    """A port in front of the coordinator's, for the member alone. `spoil` says what becomes of the next requests."""
+    """A port in front of the coordinator's, for the member alone. `spoil` says what becomes of the next requests. Each life
+    of the member has a port of its own: what a dead one asked may still wait there, and tells nothing."""
 
     def __init__(self, trial: Trial, rule: Rule) -> None:
         self.trial, self.rule, self.spoil = trial, rule, list[Spoil]()
         self.on_confirm: Callable[[], None] | None = None
-        self.lives, self.lock = 0, threading.RLock()  # how often the member died: what one asked that is dead tells nothing
-        self.listener = socket.create_server(("127.0.0.1", 0))
-        threading.Thread(target=self.serve, daemon=True).start()
+        self.lives, self.lock = 0, threading.RLock()  # how often the member died
+        self.listen()
 
-    def serve(self) -> None:
+    def listen(self) -> None:
+        self.listener = socket.create_server(("127.0.0.1", 0))
+        threading.Thread(target=self.serve, args=[self.listener, self.lives], daemon=True).start()
+
+    def end(self) -> None:
+        """Nothing more is answered at the port. (A call that waits there is woken by a shutdown, and not by a close.)"""
+        self.listener.shutdown(socket.SHUT_RDWR)
+        self.listener.close()
+
+    def serve(self, listener: socket.socket, lives: int) -> None:
         while True:
             try:
-                connection, _ = self.listener.accept()
+                connection, _ = listener.accept()
             except OSError:
                 return
             with connection:
                 try:
                     connection.settimeout(30)
-                    lives = self.lives
                     for line in connection.makefile("rb"):
                         if not self.answer(connection, line, lives):
                             break
@@ -210,6 +218,8 @@ class Between:
         with self.lock:
             self.lives += 1
             self.rule.died()
+            self.end()
+            self.listen()
 
     def direct(self, line: bytes) -> bytes:
         request: Json = json.loads(line)
@@ -499,6 +509,6 @@ def lead(trial: Trial, command: list[str]) -> str:
     finally:
         if tried.process.poll() is None:
             tried.kill()
-        tried.between.listener.close()
+        tried.between.end()
     kills = f"{tried.kills} kills in front of its file calls" if tried.calls.can_see else f"no such kill, since {tried.calls.why}"
     return f"{tried.rule.looks} looks, and each time it did what was due; {kills}"
