@@ -4,12 +4,16 @@ import contextlib
 import json
 import os
 import signal
+import sys
 
 from support import stores
 from support.case import Case
-from support.program import Ended, faulted, ran
+from support.program import ROOT, Ended, faulted, ran
 from support.serving import Connection, Serving
 from support.stores import ring, topology
+
+sys.path.insert(0, f"{ROOT}/tools")
+from served.ports import held_address  # noqa: E402
 
 SERVED_ALREADY = faulted(3, "Device")
 
@@ -69,9 +73,8 @@ class Ends(Case):
     def test_the_address_that_is_named(self) -> None:
         """The address can be had again at once by the next start."""
         store = self.made(topology([(1, 1)]))
-        with Serving(store) as server:
-            address = server.address
-            self.assertNotEqual(address, "127.0.0.1:0")
+        address = held_address()
+        with Serving(store, address=address) as server:
             server.ask({"op": "show"})
             server.kill()
         for number in range(1, 4):

@@ -274,7 +274,11 @@ class BesideTheProgram(Case):
                            ("later", FRESH[:17] + b"\3" + FRESH[18:]), ("batch", APPENDED[:48] + b"\7" + APPENDED[49:])):
             with open(f"{self.folder}/{name}", "wb") as file:
                 file.write(data)
-        free = f"127.0.0.1:{free_port()}"
+        # bound, so that nobody else gets it, and not listened at
+        held = self.enterContext(socket.socket())
+        held.setsockopt(socket.SOL_SOCKET, socket.SO_REUSEADDR, 1)
+        held.bind(("127.0.0.1", 0))
+        free = f"127.0.0.1:{held.getsockname()[1]}"
         for path in ("good", "empty", "cut", "text", "later", "batch", "fifo", "to-fifo", "to-good", "to-nothing", "/dev/null", ".",
                      "none", "none/store", self.server.store):
             place = os.path.join(self.folder, path)
@@ -363,9 +367,3 @@ class BesideTheProgram(Case):
         self.server.reset(1)
         os.truncate(self.server.store, 100)
         self.assertIn("that is not the store on this file", self.run_words("why", self.server.store, self.server.behind)[1])
-
-
-def free_port() -> int:
-    with socket.create_server(("127.0.0.1", 0)) as listener:
-        port: int = listener.getsockname()[1]
-        return port

@@ -130,8 +130,8 @@ class Queue:
         print(f"queue {self.node}: {text}", flush=True)
 
 
-def listen(port: int, member: Member | Alone, queue: Queue) -> None:
-    """Takes items from the member before. A connection begins with the tag of its run."""
+def listener(port: int, member: Member | Alone, queue: Queue) -> socketserver.BaseServer:
+    """What takes items from the member before. A connection begins with the tag of its run."""
     class Handler(socketserver.StreamRequestHandler):
         def handle(self) -> None:
             try:
@@ -145,7 +145,7 @@ def listen(port: int, member: Member | Alone, queue: Queue) -> None:
 
     class Listener(socketserver.ThreadingTCPServer):
         allow_reuse_address = daemon_threads = True
-    Listener(("127.0.0.1", port), Handler).serve_forever()
+    return Listener(("127.0.0.1", port), Handler)
 
 
 def send(port: int, member: Member | Alone, queue: Queue) -> None:
@@ -188,8 +188,8 @@ def main() -> None:
         if without:
             Weaker.without = frozenset(without)
             member._starts.__class__ = Weaker
-    for call, place in ((listen, own), (send, peer)):
-        threading.Thread(target=call, args=(int(place), member, queue), daemon=True).start()
+    threading.Thread(target=listener(int(own), member, queue).serve_forever, daemon=True).start()
+    threading.Thread(target=send, args=(int(peer), member, queue), daemon=True).start()
     signal.signal(signal.SIGTERM, lambda *_: member.stop())
     member.follow(Follower(signals), LOOK_SECONDS)
 

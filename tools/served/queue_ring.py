@@ -6,7 +6,8 @@ import shutil
 import subprocess
 import sys
 
-from .services import ROOT, free_ports, read
+from .ports import held_ports
+from .services import ROOT, read
 
 MEMBER = f"{ROOT}/tools/served/queue_member.py"
 
@@ -17,7 +18,7 @@ class QueueRing:
 
     def __init__(self, folder: str, nodes: int, address: str, signals: str, *without: str) -> None:
         self.folder, self.nodes, self.address, self.signals, self.without = folder, range(1, nodes + 1), address, signals, without
-        self.ports, self.processes = free_ports(nodes), dict[int, subprocess.Popen[bytes]]()
+        self.ports, self.processes = held_ports(nodes), dict[int, subprocess.Popen[bytes]]()
         os.makedirs(folder)
 
     def start(self, *nodes: int) -> None:

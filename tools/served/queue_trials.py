@@ -15,7 +15,8 @@ import time
 from collections.abc import Callable
 from typing import Any
 
-from .services import ROOT, Away, Failed, Trial, Words, free_ports, read
+from .ports import held_ports
+from .services import ROOT, Away, Failed, Trial, Words, read
 
 MEMBER = f"{ROOT}/tools/served/queue_member.py"
 WEAKER = {"history", "party", "reset"}
@@ -26,7 +27,7 @@ class Queue(Trial):
 
     def __init__(self, words: Words, folder: str, nodes: int) -> None:
         super().__init__(words, folder, nodes)
-        self.ports = free_ports(nodes)
+        self.ports = held_ports(nodes)
         self.up: dict[int, subprocess.Popen[bytes]] = {}
         self.choice = random.Random()
 

@@ -4,21 +4,21 @@ import argparse
 import os
 import random
 import shutil
-import socket
 import subprocess
 import sys
 import time
 from collections.abc import Callable, Sequence
 from typing import IO
 
+from .ports import held_address
 from .server import PATIENCE, Server
 
 ROOT = os.path.dirname(os.path.dirname(os.path.dirname(os.path.abspath(__file__))))
 sys.path.insert(0, os.path.join(ROOT, "client"))
 from resetd_client import Away, Member, Orders, OutOfRun, Port, Reply, View, patiently  # noqa: E402
 
-__all__ = ["ROOT", "Away", "Failed", "Member", "Orders", "OutOfRun", "Port", "Trial", "View", "Words", "free_ports", "patiently",
-           "read", "tag_in"]
+__all__ = ["ROOT", "Away", "Failed", "Member", "Orders", "OutOfRun", "Port", "Trial", "View", "Words", "patiently", "read",
+           "tag_in"]
 
 OPERATOR = 16
 
@@ -42,7 +42,7 @@ class Trial:
 
     def __init__(self, words: Words, folder: str, nodes: int, is_ring: bool = True) -> None:
         self.words, self.folder, self.nodes = words, folder, range(1, nodes + 1)
-        self.server = Server(words.program, f"{folder}/store")
+        self.server = Server(words.program, f"{folder}/store", held_address())  # of all its starts
         self.helpers = list[subprocess.Popen[bytes]]()
         links = [(node, node % nodes + 1) for node in self.nodes][:nodes if is_ring and nodes > 2 else nodes - 1]
         done = self.server.found(
@@ -57,7 +57,6 @@ class Trial:
     def start(self) -> None:
         if not self.server.start():
             raise Failed(f"the coordinator did not start: {self.server.ended()}")
-        self.server.wanted = self.server.address  # the next start is at the same address
 
     def kill(self) -> None:
         """Signal 9, and a new start."""
@@ -199,14 +198,6 @@ class Trial:
         self.stop_helpers()
         self.orders.close()
         self.server.end()
-
-
-def free_ports(count: int) -> list[int]:
-    sockets = [socket.create_server(("127.0.0.1", 0)) for _ in range(count)]
-    ports = [each.getsockname()[1] for each in sockets]
-    for each in sockets:
-        each.close()
-    return ports
 
 
 def read(path: str) -> str:

@@ -6,7 +6,8 @@ import signal
 import subprocess
 import time
 
-from .services import Failed, Trial, free_ports, patiently, read, tag_in
+from .ports import held_ports
+from .services import Failed, Trial, patiently, read, tag_in
 
 LIMIT = 400_000  # bytes of the file of signals, where a line is to be torn
 PATIENCE = 300  # seconds within which a server answers and ends, on a busy machine too
@@ -137,7 +138,7 @@ def members(trial: Trial) -> None:
 
 def messages(trial: Trial) -> str:
     """Member 1 only looks by itself, so it learns late: after a reset it goes on for a while in the old run."""
-    places = free_ports(2)
+    places = held_ports(2)
     tag = ["--without-tag"] if "tag" in trial.words.without else []
     for node, signals, look in ((1, "/nonexistent", 1.2), (2, trial.server.signals, 5)):
         trial.run("talk", node, trial.server.address, f"{trial.folder}/{node}", places[node - 1], places[2 - node],

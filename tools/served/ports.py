@@ -1,0 +1,21 @@
+"""Ports of this machine that stay free for whom they are given to."""
+
+import socket
+
+_held = list[socket.socket]()  # until this process ends
+
+
+def held_ports(count: int) -> list[int]:
+    """Ports of 127.0.0.1 that nobody else gets while this process runs, neither for a listener at port 0 nor for a
+    connection. Each is bound here and not listened at: whoever is given it may listen there, again and again, as servers
+    do that set SO_REUSEADDR."""
+    new = [socket.socket() for _ in range(count)]
+    for one in new:
+        one.setsockopt(socket.SOL_SOCKET, socket.SO_REUSEADDR, 1)
+        one.bind(("127.0.0.1", 0))
+    _held.extend(new)
+    return [one.getsockname()[1] for one in new]
+
+
+def held_address() -> str:
+    return f"127.0.0.1:{held_ports(1)[0]}"
