@@ -1,5 +1,6 @@
 """A server whose lives end after 32 steps: nothing of what clients see changes with them."""
 
+import contextlib
 import os
 import threading
 
@@ -11,7 +12,20 @@ from support.stores import ring, topology
 
 LIVES = 50
 MANY = 1_000  # lines, more than a life takes, and fewer bytes than are discarded behind its end
-FLUSHER = 2  # the third thread, in the order of their numbers: each life has its own
+FLUSHER = 2  # the third thread, in the order of their starts: each life has its own
+
+# When a thread was started, in ticks of the system's clock, and its number, which others may have had before.
+Started = tuple[int, int]
+
+
+def threads_of(process: int) -> list[Started]:
+    """The threads of a process, in the order of their starts."""
+    found = list[Started]()
+    for thread in os.listdir(f"/proc/{process}/task"):
+        # one that ends meanwhile is none
+        with contextlib.suppress(FileNotFoundError, ProcessLookupError), open(f"/proc/{process}/task/{thread}/stat", encoding="utf-8") as file:
+            found.append((int(file.read().rsplit(")", 1)[1].split()[19]), int(thread)))
+    return sorted(found)
 
 
 class Lives(Served):
@@ -19,14 +33,14 @@ class Lives(Served):
     program = SHORT
     programs = ("RESETD_SHORT",)
 
-    def flusher(self, server: Serving) -> int | None:
-        """The number of the present life's flusher."""
-        threads = sorted(map(int, os.listdir(f"/proc/{server.process.pid}/task")))
+    def flusher(self, server: Serving) -> Started | None:
+        """The present life's flusher."""
+        threads = threads_of(server.process.pid)
         return threads[FLUSHER] if len(threads) > FLUSHER else None
 
     def test_a_ring_through_fifty_lives(self) -> None:
         """Lives are counted as they are seen; all signals come, once and in order."""
-        lives, epoch = set[int | None](), 0
+        lives, epoch = set[Started | None](), 0
         with Serving(self.made(ring(8)), program=SHORT) as server:
             while len(lives) < LIVES and epoch < 400:
                 epoch += 1
@@ -49,7 +63,7 @@ class Lives(Served):
                     connection.send(*({"op": "reset", "client": 1, "number": number, "node": 1} for number in numbers))
                     self.assertEqual([connection.reply()["step"] for _ in numbers], [1 + number for number in numbers])
                     lives.add(self.flusher(server))
-                    threads.add(len(os.listdir(f"/proc/{server.process.pid}/task")))
+                    threads.add(len(threads_of(server.process.pid)))
             self.assertEqual((len(lives), len(threads)), (150, 1))
             self.assertEqual(server.await_signals(count), [(1, epoch) for epoch in range(1, count + 1)])
             self.expect_closed(server, count)
