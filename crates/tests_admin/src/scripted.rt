@@ -9,7 +9,7 @@ use std::net::{IpAddr, Ipv4Addr, OpenListener, OpenStream, Shutdown, SocketAddr}
 use std::sync::Wait;
 use std::sync::atomic::{AtomicU64, Ordering};
 use std::time::{Clock, Duration};
-use std::{io, thread};
+use std::{io, mem, thread};
 
 const CLOSE: &[u8] = b"{\"op\":\"close\"}\n";
 
@@ -36,7 +36,8 @@ enum Client {
     Floods(u64),
     /// How often there is no room in the table of files before the client closes the desk.
     Waits(u64),
-    /// The same, but that each second time a client has left instead.
+    /// The same, but that of three times a client has left the second time, and the third time a stream
+    /// takes no options.
     Alternates(u64),
     /// How many reads are interrupted before the client closes the desk.
     Interrupts(u64),
@@ -51,7 +52,7 @@ struct Script<T: Clock> {
     clients: [Client; 6],
     come: AtomicU64,
     refused: AtomicU64,
-    /// How many bytes were written as they were to be.
+    /// How many bytes were written as they were to be, and then flushed.
     written: AtomicU64,
     /// How often a stream was to wait longer than it may, or was read without being told how long.
     too_long: AtomicU64,
@@ -69,6 +70,8 @@ struct Scripted<'a, T: Clock> {
     script: &'a Script<T>,
     is_read: bool,
     written: usize,
+    /// How many of them are not flushed.
+    unflushed: u64,
 }
 
 impl<'a, T: Clock> OpenListener for &'a Script<T> {
@@ -81,8 +84,16 @@ impl<'a, T: Clock> OpenListener for &'a Script<T> {
         if let Client::Waits(times) | Client::Alternates(times) = client {
             let refused = script.refused.fetch_add(1, Ordering::SeqCst);
             if refused < times {
-                let has_left = matches!(client, Client::Alternates(_)) && refused % 2 == 1;
-                return Err(io::Error::from_raw_os_error(if has_left { 103 } else { 24 }));
+                let turn = if matches!(client, Client::Alternates(_)) {
+                    refused % 3
+                } else {
+                    0
+                };
+                return match turn {
+                    0 => Err(io::Error::from_raw_os_error(24)),
+                    1 => Err(io::Error::from_raw_os_error(103)),
+                    _ => Ok(script.comes(Client::Unready)),
+                };
             }
         }
         script.come.fetch_add(1, Ordering::SeqCst);
@@ -90,15 +101,7 @@ impl<'a, T: Clock> OpenListener for &'a Script<T> {
             Client::Breaks => Err(io::Error::other("broken")),
             Client::Leaves(kind) => Err(kind.into()),
             Client::Fails(code) => Err(io::Error::from_raw_os_error(code)),
-            _ => Ok((
-                Scripted {
-                    client,
-                    script,
-                    is_read: false,
-                    written: 0,
-                },
-                SocketAddr::new(IpAddr::V4(Ipv4Addr::LOCALHOST), 1),
-            )),
+            _ => Ok(script.comes(client)),
         }
     }
 }
@@ -181,13 +184,15 @@ impl<T: Clock> Write for Scripted<'_, T> {
             thread::sleep(&self.script.clock, Duration::from_millis(30));
         }
         if CLOSED.get(self.written) == Some(byte) {
-            self.script.written.fetch_add(1, Ordering::SeqCst);
+            self.unflushed = self.unflushed.saturating_add(1);
             self.written += 1;
         }
         Ok(1)
     }
 
     fn flush(&mut self) -> io::Result<()> {
+        let flushed = mem::replace(&mut self.unflushed, 0);
+        self.script.written.fetch_add(flushed, Ordering::SeqCst);
         Ok(())
     }
 }
@@ -216,6 +221,20 @@ impl<T: Clock> Script<T> {
             is_bounded: AtomicU64::new(0),
             interrupted: AtomicU64::new(0),
         }
+    }
+
+    /// A client comes.
+    fn comes(&self, client: Client) -> (Scripted<'_, T>, SocketAddr) {
+        (
+            Scripted {
+                client,
+                script: self,
+                is_read: false,
+                written: 0,
+                unflushed: 0,
+            },
+            SocketAddr::new(IpAddr::V4(Ipv4Addr::LOCALHOST), 1),
+        )
     }
 
     /// What became of it, where it was served to such an end.
@@ -347,11 +366,11 @@ fn no_room_for_a_connection(rt: HostRuntime) {
     same(&rt, &ended(&rt, gives_up, patience()), &broken_as(0));
 }
 
-/// That a client has left meanwhile makes room for no other.
+/// That a client has left meanwhile, or came with a stream that takes no options, makes room for no other.
 #[test]
 fn no_room_for_a_connection_while_clients_leave(rt: HostRuntime) {
-    let waits = [Client::Alternates(2 * ACCEPT_TRIES); 6];
-    let gives_up = [Client::Alternates(4 * ACCEPT_TRIES); 6];
+    let waits = [Client::Alternates(3 * ACCEPT_TRIES); 6];
+    let gives_up = [Client::Alternates(6 * ACCEPT_TRIES); 6];
     same(&rt, &ended(&rt, waits, patience()), &closed_as(1));
     same(&rt, &ended(&rt, gives_up, patience()), &broken_as(0));
 }
