@@ -34,15 +34,35 @@ def ends_of(connection: Connection) -> tuple[int, int]:
     return connection.socket.getsockname()[1], connection.socket.getpeername()[1]
 
 
-def backlog(client: int, server: int) -> int | None:
-    """How many bytes the system keeps of what the server has sent to a client that does not read, by their ports; None
-    where the connection is over."""
+def kept(client: int, server: int) -> tuple[int, int] | None:
+    """How many bytes the system keeps of a connection, by its ports: of what the server has sent to a client that does not
+    read, and of what the client has sent and the server has not read. None where the connection is over."""
     with open("/proc/net/tcp", encoding="ascii") as rows:
         for row in rows:
             words = row.split()
             if words[1].endswith(f":{server:04X}") and words[2].endswith(f":{client:04X}") and words[3] == "01":
-                return int(words[4].split(":")[0], 16)
+                sent, unread = words[4].split(":")
+                return int(sent, 16), int(unread, 16)
     return None
+
+
+def backlog(client: int, server: int) -> int | None:
+    """The bytes that a client does not read; None where the connection is over."""
+    sizes = kept(client, server)
+    return sizes[0] if sizes else None
+
+
+def waits(server: Serving, connection: Connection) -> bool:
+    """Whether the server has read all that the client has sent, and each of its threads waits."""
+    sizes = kept(*ends_of(connection))
+    if sizes is None or sizes[1]:
+        return False
+    tasks = f"/proc/{server.process.pid}/task"
+    states = set[str]()
+    for thread in os.listdir(tasks):
+        with open(f"{tasks}/{thread}/stat", encoding="utf-8") as file:
+            states.add(file.read().rsplit(")", 1)[1].split()[0])
+    return states == {"S"}
 
 
 class Patience(Case):
@@ -133,6 +153,7 @@ class Patience(Case):
                 (b'{"op":', [LINE]), (b'"resend"', [LINE - 1]), (b'}\n', [-REPLY, SILENCE]), (b'{"op":"resend"}\n', []),
                 (b"x" * 600, [LINE]), (b"\n", [SILENCE]), (b'{"op":"close"', [LINE]), (b"}\n", [DISCARD])]
             for ahead, (part, times) in enumerate(parts, 1):
+                until("a server that waits", lambda: waits(server, connection))
                 self.clock(ahead)
                 connection.send(part)
                 if part.endswith(b"\n"):
