@@ -3,6 +3,7 @@
 ghost use Rattle.std.specs.Prelude.{◌≡◌};
 
 use coord_ledger::Note;
+use std::alloc::AllocError;
 use std::marker::Model;
 use std::sync::ledger::{Ledger as Count, Share as Part};
 
@@ -34,5 +35,13 @@ impl<L: Count> Share<L> {
         ensures { result.now ≡ self.now }
     {
         &self.notes
+    }
+
+    /// Takes room for so many notes more.
+    pub fn reserve(&mut self, notes: usize) -> Result<(), AllocError>
+        ensures { self.new ≡ self.old }
+    {
+        self.notes.reserve(notes)?;
+        Ok(())
     }
 }

@@ -30,6 +30,11 @@ use std::sync::ledger::Blank;
 use std::thread::Threads;
 use std::time::Clock;
 
+/// For so many notes the desk's share takes room when a life begins. Notes that stay within it never
+/// move. The room is more than 32 MiB, so that the C library takes it from the system by itself and
+/// gives it back when the life ends: smaller blocks stay with the thread that took them.
+const NOTES_ROOM: usize = 600_000;
+
 /// What is left of a life, and of the callers.
 #[derive(Drop)]
 pub struct Life<D: Disk, C> {
@@ -113,9 +118,10 @@ fn begin<D: Disk, L: Origin, O: Telling, R: Wait>(
 ) -> Result<Begun<L>, ServerFault>
     ensures { IfErr result (λ fault. fault ≡ ServerFault.OutOfMemory) }
 {
-    let Some(own) = engine.share(setting.rt) else {
+    let Some(mut own) = engine.share(setting.rt) else {
         return Err(ServerFault::OutOfMemory);
     };
+    own.reserve(NOTES_ROOM)?;
     let room = Vec::with_capacity(setting.alloc, usize::from(WORKERS) + 1)?;
     let (to, packets) = channels(setting.alloc)?;
     setting.port.connect(to);
