@@ -1,14 +1,12 @@
 """The drill over the program's own standard input: the worked runs, and runs that are longer than they."""
 
-import glob
 import os
 import subprocess
-from collections.abc import Iterator
 
 from support.case import Case
 from support.program import PATIENCE, PROGRAM, Ended, ran
+from support.runs import worked_runs
 
-RUNS = os.path.join(os.path.dirname(os.path.abspath(__file__)), "drill")
 # Lines that ask for nothing: an unknown word, too few or too many words, other spaces, what is no number or one out of range.
 BAD_LINES = (
     "fly 1", "Add 1 1", "add", "add 1", "add 1 1 1", "add 1 1 ", " add 1 1", "add  1 1", "add 1 1\r", "add\t1 1",
@@ -26,24 +24,18 @@ def drill_text(text: str) -> Ended:
 
 
 class WorkedRuns(Case):
-    """Each text of the folder drill: what is read, and what is printed for it."""
-
-    def runs(self) -> Iterator[tuple[str, bytes, bytes]]:
-        for path in sorted(glob.glob(f"{RUNS}/*.in")):
-            with open(path, "rb") as given, open(path.removesuffix(".in") + ".out", "rb") as wanted:
-                yield os.path.basename(path), given.read(), wanted.read()
+    """Each run of the folder drill: what is read, and what is printed for it."""
 
     def test_each_is_printed(self) -> None:
-        count = 0
-        for name, given, wanted in self.runs():
+        runs = worked_runs()
+        self.assertGreater(len(runs), 30)
+        for name, given, wanted in runs.values():
             with self.subTest(run=name):
                 self.assertEqual(ran("drill", given=given), Ended(0, wanted.decode(), ""))
-                count += 1
-        self.assertGreater(count, 30)
 
     def test_input_in_pieces(self) -> None:
         """An answer comes before the end of the input: each line is answered as it is read."""
-        for name, given, wanted in self.runs():
+        for name, given, wanted in worked_runs().values():
             with self.subTest(run=name):
                 drill = subprocess.Popen([PROGRAM, "drill"], stdin=subprocess.PIPE, stdout=subprocess.PIPE)
                 assert drill.stdin

@@ -12,6 +12,7 @@ from support.case import Case, until
 from support.program import PROGRAM, SHORT, SHORT_STEPS, Ended, faulted, ran
 from support.piped import Piped
 from support.refusing import WORKERS, Refusing
+from support.runs import worked_runs
 from support.served import FINISHED, STARTED, answered
 from support.serving import Answer, Request, Serving
 from support.stores import ABORT, batch, link, node, topology, world
@@ -99,8 +100,7 @@ class Memory(Case):
 
     def expect_first_part(self, run: str) -> None:
         """A drill prints a first part of what it prints with ample memory, in whole answers; or an answer tells what it lacks."""
-        with open(os.path.join(os.path.dirname(os.path.abspath(__file__)), "drill", f"{run}.in"), "rb") as file:
-            given = file.read()
+        given = worked_runs()[run].given
         for where, ample, ended in self.each_refusal(["drill"], lambda: None, given):
             self.assertEqual(ample.status, 0)
             self.assertIn((ended.status, ended.told), ENDS, where)

@@ -1,7 +1,8 @@
 -- What `serve` writes: a reply to each line of a text, in order, by what a desk may answer.
-use Rattle.std.specs.Prelude.{◌≡◌, ◌⊎◌, ℕ, ◌≤◌, ◌^◌, Bool, true, false, List, [], ◌∷◌, ◌++◌, length, IsSome, IfSome, Some, Result, Ok, Err}
+use Rattle.std.specs.Prelude.{◌≡◌, ◌⊎◌, ℕ, ◌≤◌, Bool, true, false, List, [], ◌∷◌, ◌++◌, length, IsSome, IfSome, Some, Result, Ok, Err}
 use Rattle.std.specs.Str.{IsUtf8}
 use Rattle.coord_lines.specs.Lines.{Line, lines_of}
+use Rattle.coord_lines.specs.declared.limits.TheConstants.{MOST_READS}
 use Rattle.coord_lines.specs.Written.{IsFirstPart}
 use Rattle.coord_admin.specs.declared.request.Request.{Request}
 use Rattle.coord_admin.specs.declared.answer.Answer.{Answer}
@@ -117,6 +118,6 @@ module _ {D : Type 0} (answers : D → Request → Answer → D → Type 0) wher
   Served d seen text (Ok ended.Closed) e = Closes d (lines_of seen) text e
   Served d seen text (Ok ended.Cut) e = Stops d (lines_of seen) text e
   Served d seen text (Err serve.Read) e = Stops d (lines_of seen) text e
-  Served d seen text (Err serve.Turns) e = Stops d (lines_of seen) text e × (2 ^ 20 ≤ length seen)
+  Served d seen text (Err serve.Turns) e = Stops d (lines_of seen) text e × (MOST_READS ≤ length seen)
   Served d seen text (Err serve.Write) e = BreaksOff d (lines_of seen) text e
   Served d seen text (Err serve.OutOfMemory) e = (seen ≡ []) × (text ≡ []) × (e ≡ d)

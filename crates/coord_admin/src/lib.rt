@@ -48,5 +48,5 @@ pub use patience::{
     LINE_SECONDS, Patience, REPLY_SECONDS, SILENCE_SECONDS,
 };
 pub use request::Request;
-pub use session::{Ended, MOST_READS, serve};
+pub use session::{Ended, serve};
 pub use timed::TimedStream;

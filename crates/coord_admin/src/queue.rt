@@ -1,6 +1,6 @@
 //! Orders that were posted and wait for their replies.
 
-ghost use Rattle.std.specs.Prelude.{◌≡◌, ◌+◌, ◌<◌, ◌≤◌, ◌++◌, ◌∷◌, true, [], List, ℕ, map, IfOk, OnErr, OnOk, Result, nat_lt, vec_capacity, vec_len};
+ghost use Rattle.std.specs.Prelude.{◌≡◌, ◌+◌, ◌<◌, ◌≤◌, ◌++◌, ◌∷◌, false, true, [], List, ℕ, map, IfOk, OnErr, OnOk, Result, nat_lt, vec_capacity, vec_len};
 ghost use Rattle.std.specs.VecDeque.{deque_capacity, deque_len};
 ghost use Rattle.coord_lines.specs.Lines.{Line};
 ghost use Rattle.coord_types.specs.declared.limits.TheConstants.{MAX_BATCH_STEPS};
@@ -74,14 +74,16 @@ impl<D: Desk> Queue<D> {
         self.posted.len() < MAX_BATCH_STEPS
     }
 
-    /// Answers all before what comes next is waited for: unless there is room for more orders, and
-    /// the connection has more already.
-    pub fn answer_before_wait<C: Duplex>(
+    /// Answers all, unless more has come already and there is room for its orders.
+    pub fn answer_unless_more<C: Duplex>(
         &mut self,
+        more: bool,
         alloc: Global,
         connection: &mut C,
         desk: &mut D,
     ) -> Result<(), NotWritten>
+        ensures room { OnOk result (deque_len self.new.posted < MAX_BATCH_STEPS) }
+        ensures all { more ≡ false → self.new.posted.items ≡ [] }
         ensures whole { OnOk result ((d : D) (lines : List Line) →
             AwaitReplies D.posts d lines self.old.posted.items desk.old → (told : List Answer)
             × GoesOn D.answers D.posts d lines told self.new.posted.items desk.new
@@ -93,32 +95,7 @@ impl<D: Desk> Queue<D> {
         ensures failed { OnErr result (C.has_failed connection.new) }
         ensures empty { OnErr result (self.new.posted.items ≡ []) }
     {
-        if self.has_room() && connection.has_more() {
-            return Ok(());
-        }
-        self.answer_all(alloc, connection, desk)
-    }
-
-    /// Answers all where they are as many as a flight takes.
-    pub fn make_room<C: Duplex>(
-        &mut self,
-        alloc: Global,
-        connection: &mut C,
-        desk: &mut D,
-    ) -> Result<(), NotWritten>
-        ensures made { OnOk result (deque_len self.new.posted < MAX_BATCH_STEPS) }
-        ensures whole { OnOk result ((d : D) (lines : List Line) →
-            AwaitReplies D.posts d lines self.old.posted.items desk.old → (told : List Answer)
-            × GoesOn D.answers D.posts d lines told self.new.posted.items desk.new
-            × C.exchanged connection.old [] (reply_lines told) connection.new) }
-        ensures part { OnErr result ((d : D) (lines : List Line) →
-            AwaitReplies D.posts d lines self.old.posted.items desk.old → (part : List ℕ)
-            × C.exchanged connection.old [] part connection.new
-            × ((left : List Line) → BreaksOff D.answers d (lines ++ left) part desk.new)) }
-        ensures failed { OnErr result (C.has_failed connection.new) }
-        ensures empty { OnErr result (self.new.posted.items ≡ []) }
-    {
-        if self.has_room() {
+        if more && self.has_room() {
             return Ok(());
         }
         self.answer_all(alloc, connection, desk)

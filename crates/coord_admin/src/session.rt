@@ -22,11 +22,8 @@ use crate::queue::Queue;
 use crate::reading::read_line;
 use crate::request::Request;
 use crate::writing::write_answer;
-use coord_lines::LineBuffer;
+use coord_lines::{LineBuffer, MOST_READS};
 use std::alloc::{AllocError, Global};
-
-/// The most reads of one call of `serve`.
-pub const MOST_READS: u64 = 1_048_576;
 
 /// The most bytes that one read asks for.
 const READ_LEN: usize = 512;
@@ -115,7 +112,7 @@ fn serve_lines<C: Duplex, D: Desk>(
 {
     let mut line = LineBuffer::new();
     for _ in 0..MOST_READS {
-        queue.answer_before_wait(alloc, connection, desk)?;
+        queue.answer_unless_more(connection.has_more(), alloc, connection, desk)?;
         match receive_in_life(most, connection, desk, buffer, has_begun(&line)) {
             Ok(0) => {
                 queue.answer_all(alloc, connection, desk)?;
@@ -223,7 +220,7 @@ fn end_line<C: Duplex, D: Desk>(
     let asked = read_line(alloc, line);
     match order_of(&asked) {
         Some(order) => {
-            queue.make_room(alloc, connection, desk)?;
+            queue.answer_unless_more(true, alloc, connection, desk)?;
             queue.post(desk, order);
             Ok(false)
         }

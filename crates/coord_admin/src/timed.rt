@@ -4,16 +4,11 @@ ghost use Rattle.std.specs.Prelude.{◌≡◌, ◌≤◌, ⊤, length, IfOk};
 
 use crate::duplex::{Duplex, NotRead, NotWritten};
 use crate::patience::{DISCARD_READS, Patience};
+use coord_lines::MOST_CALLS;
 use std::io;
 use std::io::{ErrorKind, Read, Write};
 use std::net::{OpenStream, Shutdown};
 use std::time::{Clock, Duration, Instant};
-
-/// The most calls of `write` for one reply.
-const MOST_WRITES: u64 = 1_048_576;
-
-/// The most calls of `read` for one wait.
-const READ_TRIES: u64 = 1_048_576;
 
 /// A stream whose reads and writes wait no longer than its patience allows. No clause can say which
 /// bytes a socket gives and takes: so whoever reads and writes through it is generic over
@@ -58,7 +53,7 @@ fn read_within<S: Read + OpenStream, T: Clock>(
         return Err(NotRead);
     };
     let mut wait = span;
-    for _ in 0..READ_TRIES {
+    for _ in 0..MOST_CALLS {
         if *told != Some(wait) && stream.set_read_timeout(Some(wait)).is_err() {
             return Err(NotRead);
         }
@@ -179,7 +174,7 @@ impl<'a, S: Read + Write + OpenStream + Drop, T: Clock> Duplex for TimedStream<'
         };
         let mut rest = text;
         let mut wait = Some(self.patience.reply);
-        for _ in 0..MOST_WRITES {
+        for _ in 0..MOST_CALLS {
             if rest.is_empty() {
                 return match self.stream.flush() {
                     Ok(()) => Ok(()),

@@ -5,7 +5,7 @@ use Rattle.clap.specs.Words.{Text, takes}
 use Rattle.coord_disk.specs.Model.Present.{Present}
 use Rattle.coord_drill.specs.Drilled.{IsDrilled, WritesFirstPart}
 use Rattle.coord_drill.specs.InMemory.{DrillsInMemory, FailsInMemory}
-use Rattle.coord_drill.specs.declared.console.TheConstants.{MOST_READS}
+use Rattle.coord_lines.specs.declared.limits.TheConstants.{MOST_READS}
 use Rattle.coord_drill.specs.declared.fault.Fault.{Fault as DrillFault}
 use Rattle.coord_drill.specs.declared.fault.Fault.TheVariants.{TooManyReads}
 use Rattle.coord_commands.specs.Ending.{CommandEnds, CommandFails}

@@ -37,7 +37,7 @@ use Rattle.coord_drill.specs.Told.{told_by}
 use Rattle.coord_drill.specs.Written.{InOut, IsShortPart, Exchanges}
 use Rattle.coord_drill.specs.declared.asked.Asked.{Asked}
 use Rattle.coord_drill.specs.declared.asked.Asked.TheVariants.{Crash, Version2}
-use Rattle.coord_drill.specs.declared.console.TheConstants.{MOST_READS}
+use Rattle.coord_lines.specs.declared.limits.TheConstants.{MOST_READS}
 use Rattle.coord_drill.specs.declared.drill.TheConstants.{HALF_SIZE}
 use Rattle.coord_drill.specs.declared.fault.Fault.{Fault}
 use Rattle.coord_drill.specs.declared.fault.Fault.TheVariants.{Read, TooManyReads}

@@ -4,6 +4,7 @@ ghost use Rattle.std.specs.Prelude.{◌≡◌, ◌<◌, ◌≤◌, ◌+◌, ◌-
 ghost use Rattle.std.specs.Io.KnownBytes.{Appends, Consumes, IsAtEnd};
 ghost use Rattle.coord_ledger.specs.Facade.{disk_held};
 ghost use Rattle.coord_lines.specs.Lines.{lines_on};
+ghost use Rattle.coord_lines.specs.declared.limits.TheConstants.{MOST_READS};
 ghost use Rattle.coord_drill.specs.Course.{DrillFails, Drills, NotMade};
 ghost use Rattle.coord_drill.specs.Drilled.{IsDrilled, WritesFirstPart};
 ghost use Rattle.coord_drill.specs.Faults.{IsOfDisk, IsOfWork};
@@ -21,12 +22,9 @@ use crate::drill::Drill;
 use crate::fault::Fault;
 use crate::writing::{fault_of, write_text};
 use coord_disk::{Choice, CrashDisk, Disk, MemDisk};
-use coord_lines::LineBuffer;
+use coord_lines::{LineBuffer, MOST_READS};
 use std::alloc::Global;
 use std::io::{Read, Write};
-
-/// The most reads of one drill.
-pub const MOST_READS: u64 = 1_048_576;
 
 /// The most bytes that one read asks for.
 const READ_LEN: usize = 512;

@@ -35,6 +35,6 @@ mod request;
 mod words;
 mod writing;
 
-pub use console::{MOST_READS, coord_drill, coord_drill_on};
+pub use console::{coord_drill, coord_drill_on};
 pub use fault::Fault;
 pub use laws::{printed_survives, spelled_is_read, worked_lines};

@@ -8,10 +8,8 @@ ghost use Rattle.coord_drill.specs.Written.{WritesShort};
 
 use crate::answers::write_once;
 use crate::fault::Fault;
+use coord_lines::MOST_CALLS;
 use std::io::{Error, ErrorKind, Write};
-
-/// The most calls of `write` for one text.
-const MOST_WRITES: u64 = 1_048_576;
 
 /// Writes a text whole.
 #[tactic(auto, using(crate::proofs::prints::FirstParts::short_left, crate::proofs::prints::FirstParts::short_kept))]
@@ -22,7 +20,7 @@ pub fn write_text<W: Write>(writer: &mut W, text: &[u8]) -> Result<(), Fault>
     ensures fault { IfErr result IsOfWriting }
 {
     let mut rest = text;
-    for _ in 0..MOST_WRITES {
+    for _ in 0..MOST_CALLS {
         if rest.is_empty() {
             return Ok(());
         }

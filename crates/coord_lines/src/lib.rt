@@ -7,9 +7,11 @@
 #![tactic(auto)]
 
 mod laws;
+mod limits;
 mod line_buffer;
 mod writing;
 
 pub use laws::pieces_have_the_lines_of_the_whole;
+pub use limits::{MOST_CALLS, MOST_READS};
 pub use line_buffer::LineBuffer;
 pub use writing::write_whole;

@@ -4,15 +4,13 @@ ghost use Rattle.std.specs.Prelude.{OnErr, OnOk};
 ghost use Rattle.std.specs.Io.KnownBytes.{Appends};
 ghost use Rattle.coord_lines.specs.Written.{WritesFirstPart};
 
+use crate::limits::MOST_CALLS;
 use std::io;
 use std::io::{ErrorKind, Write};
 
-/// The most calls of `write` for one text.
-const MOST_WRITES: u64 = 1_048_576;
-
 /// Writes a text whole, by one call of `write` where the writer takes it whole; a call that was
 /// interrupted is made again. Where it fails, a first part was written, and no more. The error is
-/// the writer's, or `WriteZero` where it took nothing, or not all in 1,048,576 calls; which of them
+/// the writer's, or `WriteZero` where it took nothing, or not all in `MOST_CALLS` calls; which of them
 /// no clause says.
 pub fn write_whole<W: Write>(writer: &mut W, text: &[u8]) -> io::Result<()>
     ensures ok { OnOk result (Appends (W.contents writer.old) (W.contents writer.new) text.now) }
@@ -20,7 +18,7 @@ pub fn write_whole<W: Write>(writer: &mut W, text: &[u8]) -> io::Result<()>
         (W.contents writer.new) text.now) }
 {
     let mut rest = text;
-    for _ in 0..MOST_WRITES {
+    for _ in 0..MOST_CALLS {
         if rest.is_empty() {
             return Ok(());
         }

@@ -6,11 +6,11 @@ use Rattle.coord_admin.proofs.Pieces.{goes-posted, goes-told, line-broken, line-
 use Rattle.coord_admin.proofs.Stream.{gets-asked, told-one, told-part, told-whole}
 use Rattle.coord_admin.proofs.session.end_line.Goals as goal
 
-pub returns-in_err-make_room-in-Some-clause-failed : goal.returns-in_err-make_room-in-Some-clause-failed
-returns-in_err-make_room-in-Some-clause-failed g c =
+pub returns-in_err-answer_unless_more-in-Some-clause-failed : goal.returns-in_err-answer_unless_more-in-Some-clause-failed
+returns-in_err-answer_unless_more-in-Some-clause-failed g c =
     let failed = err_from_is_err_and c.from_residual.result c.from_residual.ensures.1 in
     rw failed.1 (λ d waiting await.
-    let broken = c.in_err-make_room-in-Some.ensures.part d waiting await in
+    let broken = c.in_err-answer_unless_more-in-Some.ensures.part d waiting await in
     (broken.0, broken.1, λ left. broken.2 (option_copied c.args.line ∷ left)))
 
 pub returns-in_err-answer_all-in-None-clause-failed : goal.returns-in_err-answer_all-in-None-clause-failed
@@ -30,15 +30,15 @@ returns-in_err-write_answer-in-None-clause-failed g c =
     let now = c.in_ok-answer_all-in-None.ensures.whole d waiting await in
     line-broken g.D.Desk.answers g.D.Desk.posts g.C.Duplex.exchanged g.met.C.Duplex.in_turn d _ _ _ _ _ waiting line now.0 now.1 now.2 part)
 
-pub returns-in_ok-make_room-in-Some-clause-open : goal.returns-in_ok-make_room-in-Some-clause-open
-returns-in_ok-make_room-in-Some-clause-open g c =
+pub returns-in_ok-answer_unless_more-in-Some-clause-open : goal.returns-in_ok-answer_unless_more-in-Some-clause-open
+returns-in_ok-answer_unless_more-in-Some-clause-open g c =
     let line = option_copied c.args.line in
     let order = c.in-Some.order in
     let is = c.in-Some.ensures.some in
     let asked : asked_by line ≡ Ok order = sym (c.read_line-asked.ensures.value (λ k. absurd (let e = is.0 in cc))) ∙ is.0 in
     let put = c.post.ensures in
     λ _ d waiting await.
-    let now = c.in_ok-make_room-in-Some.ensures.whole d waiting await in
+    let now = c.in_ok-answer_unless_more-in-Some.ensures.whole d waiting await in
     (now.0, goes-posted g.D.Desk.answers g.D.Desk.posts d _ _ waiting line now.0 _ _ order put.0 now.1 asked is.1 put.1 put.2, now.2)
 
 pub returns-in_ok-write_answer-in-None-clause-open : goal.returns-in_ok-write_answer-in-None-clause-open

@@ -11,16 +11,16 @@ use Rattle.coord_admin.proofs.session.serve_lines.Goals as goal
 pub loop-init : goal.loop-init
 loop-init g c = (c.requires.buffer, ([], search rules, ([], [], goes-none g.D.Desk.answers g.D.Desk.posts _ _ c.requires.queue, g.met.C.Duplex.at_rest _, λ more. rw c.new-line.ensures (sym (lines_on-empty more)))))
 
-pub returns-in_err-answer_before_wait-clause-served : goal.returns-in_err-answer_before_wait-clause-served
-returns-in_err-answer_before_wait-clause-served g c =
+pub returns-in_err-answer_unless_more-clause-served : goal.returns-in_err-answer_unless_more-clause-served
+returns-in_err-answer_unless_more-clause-served g c =
     let inv = c.loop.invariant in
-    let broken = so-far-broken g.D.Desk.answers g.D.Desk.posts g.C.Duplex.exchanged g.met.C.Duplex.in_turn c.args.desk.now _ _ c.args.connection.now _ _ inv.1.0 c.loop.line _ inv.1.2 c.in_err-answer_before_wait.ensures.part in
+    let broken = so-far-broken g.D.Desk.answers g.D.Desk.posts g.C.Duplex.exchanged g.met.C.Duplex.in_turn c.args.desk.now _ _ c.args.connection.now _ _ inv.1.0 c.loop.line _ inv.1.2 c.in_err-answer_unless_more.ensures.part in
     served-in-part g.D.Desk.answers g.D.Desk.posts g.C.Duplex.exchanged c.args.desk.now _ c.args.connection.now _ inv.1.0 _ c.from_residual.ensures.1 broken
 
 pub returns-in_err-answer_all-in-Ok-eq0-clause-served : goal.returns-in_err-answer_all-in-Ok-eq0-clause-served
 returns-in_err-answer_all-in-Ok-eq0-clause-served g c =
     let inv = c.loop.invariant in
-    let ready = so-far-some g.D.Desk.answers g.D.Desk.posts g.C.Duplex.exchanged g.met.C.Duplex.in_turn c.args.desk.now _ _ c.args.connection.now _ _ inv.1.0 c.loop.line _ _ inv.1.2 c.in_ok-answer_before_wait.ensures.whole in
+    let ready = so-far-some g.D.Desk.answers g.D.Desk.posts g.C.Duplex.exchanged g.met.C.Duplex.in_turn c.args.desk.now _ _ c.args.connection.now _ _ inv.1.0 c.loop.line _ _ inv.1.2 c.in_ok-answer_unless_more.ensures.whole in
     let none : c.in-Ok-eq0.field-0 ≡ 0 = search rules in
     let read = so-far-no-more g.D.Desk.answers g.D.Desk.posts g.C.Duplex.exchanged g.met.C.Duplex.in_turn c.args.desk.now _ c.args.connection.now _ _ inv.1.0 _ _ c.loop.line _ ready c.in-Ok-eq0.ensures.bytes none in
     let broken = so-far-broken g.D.Desk.answers g.D.Desk.posts g.C.Duplex.exchanged g.met.C.Duplex.in_turn c.args.desk.now _ _ c.args.connection.now _ _ inv.1.0 c.loop.line _ read c.in_err-answer_all-in-Ok-eq0.ensures.part in
@@ -29,7 +29,7 @@ returns-in_err-answer_all-in-Ok-eq0-clause-served g c =
 pub returns-in_err-finish-in-Ok-eq0-clause-served : goal.returns-in_err-finish-in-Ok-eq0-clause-served
 returns-in_err-finish-in-Ok-eq0-clause-served g c =
     let inv = c.loop.invariant in
-    let ready = so-far-some g.D.Desk.answers g.D.Desk.posts g.C.Duplex.exchanged g.met.C.Duplex.in_turn c.args.desk.now _ _ c.args.connection.now _ _ inv.1.0 c.loop.line _ _ inv.1.2 c.in_ok-answer_before_wait.ensures.whole in
+    let ready = so-far-some g.D.Desk.answers g.D.Desk.posts g.C.Duplex.exchanged g.met.C.Duplex.in_turn c.args.desk.now _ _ c.args.connection.now _ _ inv.1.0 c.loop.line _ _ inv.1.2 c.in_ok-answer_unless_more.ensures.whole in
     let none : c.in-Ok-eq0.field-0 ≡ 0 = search rules in
     let read = so-far-no-more g.D.Desk.answers g.D.Desk.posts g.C.Duplex.exchanged g.met.C.Duplex.in_turn c.args.desk.now _ c.args.connection.now _ _ inv.1.0 _ _ c.loop.line _ ready c.in-Ok-eq0.ensures.bytes none in
     let all = so-far-all g.D.Desk.answers g.D.Desk.posts g.C.Duplex.exchanged g.met.C.Duplex.in_turn c.args.desk.now _ _ c.args.connection.now _ _ inv.1.0 c.loop.line _ read c.in_ok-answer_all-in-Ok-eq0.ensures.whole in
@@ -39,7 +39,7 @@ returns-in_err-finish-in-Ok-eq0-clause-served g c =
 pub returns-in-Ok-eq0-clause-served : goal.returns-in-Ok-eq0-clause-served
 returns-in-Ok-eq0-clause-served g c =
     let inv = c.loop.invariant in
-    let ready = so-far-some g.D.Desk.answers g.D.Desk.posts g.C.Duplex.exchanged g.met.C.Duplex.in_turn c.args.desk.now _ _ c.args.connection.now _ _ inv.1.0 c.loop.line _ _ inv.1.2 c.in_ok-answer_before_wait.ensures.whole in
+    let ready = so-far-some g.D.Desk.answers g.D.Desk.posts g.C.Duplex.exchanged g.met.C.Duplex.in_turn c.args.desk.now _ _ c.args.connection.now _ _ inv.1.0 c.loop.line _ _ inv.1.2 c.in_ok-answer_unless_more.ensures.whole in
     let none : c.in-Ok-eq0.field-0 ≡ 0 = search rules in
     let read = so-far-no-more g.D.Desk.answers g.D.Desk.posts g.C.Duplex.exchanged g.met.C.Duplex.in_turn c.args.desk.now _ c.args.connection.now _ _ inv.1.0 _ _ c.loop.line _ ready c.in-Ok-eq0.ensures.bytes none in
     let all = so-far-all g.D.Desk.answers g.D.Desk.posts g.C.Duplex.exchanged g.met.C.Duplex.in_turn c.args.desk.now _ _ c.args.connection.now _ _ inv.1.0 c.loop.line _ read c.in_ok-answer_all-in-Ok-eq0.ensures.whole in (
@@ -53,7 +53,7 @@ pub returns-in_err-take-in-Ok-clause-served : goal.returns-in_err-take-in-Ok-cla
 returns-in_err-take-in-Ok-clause-served g c =
     let inv = c.loop.invariant in
     let bytes_read = take c.in-Ok.count c.receive_in_life.new.buffer in
-    let ready = so-far-some g.D.Desk.answers g.D.Desk.posts g.C.Duplex.exchanged g.met.C.Duplex.in_turn c.args.desk.now _ _ c.args.connection.now _ _ inv.1.0 c.loop.line _ _ inv.1.2 c.in_ok-answer_before_wait.ensures.whole in
+    let ready = so-far-some g.D.Desk.answers g.D.Desk.posts g.C.Duplex.exchanged g.met.C.Duplex.in_turn c.args.desk.now _ _ c.args.connection.now _ _ inv.1.0 c.loop.line _ _ inv.1.2 c.in_ok-answer_unless_more.ensures.whole in
     let cut = so-far-cut g.D.Desk.answers g.D.Desk.posts g.C.Duplex.exchanged g.met.C.Duplex.in_turn c.args.desk.now _ _ c.args.connection.now _ _ _ inv.1.0 bytes_read c.loop.line _ ready c.in-Ok.ensures.bytes c.in_err-take-in-Ok.ensures.failed in
     served-in-part g.D.Desk.answers g.D.Desk.posts g.C.Duplex.exchanged c.args.desk.now _ c.args.connection.now _ (inv.1.0 ++ bytes_read) _ c.from_residual-in_err-take-in-Ok.ensures.1 cut
 
@@ -61,14 +61,14 @@ pub returns-then-branch-clause-served : goal.returns-then-branch-clause-served
 returns-then-branch-clause-served g c =
     let inv = c.loop.invariant in
     let bytes_read = take c.in-Ok.count c.receive_in_life.new.buffer in
-    let ready = so-far-some g.D.Desk.answers g.D.Desk.posts g.C.Duplex.exchanged g.met.C.Duplex.in_turn c.args.desk.now _ _ c.args.connection.now _ _ inv.1.0 c.loop.line _ _ inv.1.2 c.in_ok-answer_before_wait.ensures.whole in
+    let ready = so-far-some g.D.Desk.answers g.D.Desk.posts g.C.Duplex.exchanged g.met.C.Duplex.in_turn c.args.desk.now _ _ c.args.connection.now _ _ inv.1.0 c.loop.line _ _ inv.1.2 c.in_ok-answer_unless_more.ensures.whole in
     let closed = so-far-closed g.D.Desk.answers g.D.Desk.posts g.C.Duplex.exchanged g.met.C.Duplex.in_turn c.args.desk.now _ _ c.args.connection.now _ _ _ inv.1.0 bytes_read c.loop.line _ ready c.in-Ok.ensures.bytes (c.in_ok-take-in-Ok.ensures.closed (search rules)) in
     (inv.1.0 ++ bytes_read, closed.0, closed.1, closed.2)
 
 pub returns-in_err-answer_all-in-Err-Failed-clause-served : goal.returns-in_err-answer_all-in-Err-Failed-clause-served
 returns-in_err-answer_all-in-Err-Failed-clause-served g c =
     let inv = c.loop.invariant in
-    let ready = so-far-some g.D.Desk.answers g.D.Desk.posts g.C.Duplex.exchanged g.met.C.Duplex.in_turn c.args.desk.now _ _ c.args.connection.now _ _ inv.1.0 c.loop.line _ _ inv.1.2 c.in_ok-answer_before_wait.ensures.whole in
+    let ready = so-far-some g.D.Desk.answers g.D.Desk.posts g.C.Duplex.exchanged g.met.C.Duplex.in_turn c.args.desk.now _ _ c.args.connection.now _ _ inv.1.0 c.loop.line _ _ inv.1.2 c.in_ok-answer_unless_more.ensures.whole in
     let read = so-far-still g.D.Desk.answers g.D.Desk.posts g.C.Duplex.exchanged g.met.C.Duplex.in_turn c.args.desk.now _ c.args.connection.now _ _ inv.1.0 c.loop.line _ ready c.in-Err-Failed.ensures.failed in
     let broken = so-far-broken g.D.Desk.answers g.D.Desk.posts g.C.Duplex.exchanged g.met.C.Duplex.in_turn c.args.desk.now _ _ c.args.connection.now _ _ inv.1.0 c.loop.line _ read c.in_err-answer_all-in-Err-Failed.ensures.part in
     served-in-part g.D.Desk.answers g.D.Desk.posts g.C.Duplex.exchanged c.args.desk.now _ c.args.connection.now _ inv.1.0 _ c.from_residual-in_err-answer_all-in-Err-Failed.ensures.1 broken
@@ -76,7 +76,7 @@ returns-in_err-answer_all-in-Err-Failed-clause-served g c =
 pub returns-in-Err-Failed-clause-served : goal.returns-in-Err-Failed-clause-served
 returns-in-Err-Failed-clause-served g c =
     let inv = c.loop.invariant in
-    let ready = so-far-some g.D.Desk.answers g.D.Desk.posts g.C.Duplex.exchanged g.met.C.Duplex.in_turn c.args.desk.now _ _ c.args.connection.now _ _ inv.1.0 c.loop.line _ _ inv.1.2 c.in_ok-answer_before_wait.ensures.whole in
+    let ready = so-far-some g.D.Desk.answers g.D.Desk.posts g.C.Duplex.exchanged g.met.C.Duplex.in_turn c.args.desk.now _ _ c.args.connection.now _ _ inv.1.0 c.loop.line _ _ inv.1.2 c.in_ok-answer_unless_more.ensures.whole in
     let read = so-far-still g.D.Desk.answers g.D.Desk.posts g.C.Duplex.exchanged g.met.C.Duplex.in_turn c.args.desk.now _ c.args.connection.now _ _ inv.1.0 c.loop.line _ ready c.in-Err-Failed.ensures.failed in
     let all = so-far-all g.D.Desk.answers g.D.Desk.posts g.C.Duplex.exchanged g.met.C.Duplex.in_turn c.args.desk.now _ _ c.args.connection.now _ _ inv.1.0 c.loop.line _ read c.in_ok-answer_all-in-Err-Failed.ensures.whole in
     (inv.1.0, reply_lines all.1, all.3, stops-at g.D.Desk.answers c.args.desk.now _ inv.1.0 c.loop.line all.0 all.1 all.2 all.4)
@@ -84,7 +84,7 @@ returns-in-Err-Failed-clause-served g c =
 pub returns-in_err-answer_all-in-Err-Over-clause-served : goal.returns-in_err-answer_all-in-Err-Over-clause-served
 returns-in_err-answer_all-in-Err-Over-clause-served g c =
     let inv = c.loop.invariant in
-    let ready = so-far-some g.D.Desk.answers g.D.Desk.posts g.C.Duplex.exchanged g.met.C.Duplex.in_turn c.args.desk.now _ _ c.args.connection.now _ _ inv.1.0 c.loop.line _ _ inv.1.2 c.in_ok-answer_before_wait.ensures.whole in
+    let ready = so-far-some g.D.Desk.answers g.D.Desk.posts g.C.Duplex.exchanged g.met.C.Duplex.in_turn c.args.desk.now _ _ c.args.connection.now _ _ inv.1.0 c.loop.line _ _ inv.1.2 c.in_ok-answer_unless_more.ensures.whole in
     let read = so-far-still g.D.Desk.answers g.D.Desk.posts g.C.Duplex.exchanged g.met.C.Duplex.in_turn c.args.desk.now _ c.args.connection.now _ _ inv.1.0 c.loop.line _ ready c.in-Err-Over.ensures.failed in
     let broken = so-far-broken g.D.Desk.answers g.D.Desk.posts g.C.Duplex.exchanged g.met.C.Duplex.in_turn c.args.desk.now _ _ c.args.connection.now _ _ inv.1.0 c.loop.line _ read c.in_err-answer_all-in-Err-Over.ensures.part in
     served-in-part g.D.Desk.answers g.D.Desk.posts g.C.Duplex.exchanged c.args.desk.now _ c.args.connection.now _ inv.1.0 _ c.from_residual-in_err-answer_all-in-Err-Over.ensures.1 broken
@@ -92,7 +92,7 @@ returns-in_err-answer_all-in-Err-Over-clause-served g c =
 pub returns-in-Err-Over-clause-served : goal.returns-in-Err-Over-clause-served
 returns-in-Err-Over-clause-served g c =
     let inv = c.loop.invariant in
-    let ready = so-far-some g.D.Desk.answers g.D.Desk.posts g.C.Duplex.exchanged g.met.C.Duplex.in_turn c.args.desk.now _ _ c.args.connection.now _ _ inv.1.0 c.loop.line _ _ inv.1.2 c.in_ok-answer_before_wait.ensures.whole in
+    let ready = so-far-some g.D.Desk.answers g.D.Desk.posts g.C.Duplex.exchanged g.met.C.Duplex.in_turn c.args.desk.now _ _ c.args.connection.now _ _ inv.1.0 c.loop.line _ _ inv.1.2 c.in_ok-answer_unless_more.ensures.whole in
     let read = so-far-still g.D.Desk.answers g.D.Desk.posts g.C.Duplex.exchanged g.met.C.Duplex.in_turn c.args.desk.now _ c.args.connection.now _ _ inv.1.0 c.loop.line _ ready c.in-Err-Over.ensures.failed in
     let all = so-far-all g.D.Desk.answers g.D.Desk.posts g.C.Duplex.exchanged g.met.C.Duplex.in_turn c.args.desk.now _ _ c.args.connection.now _ _ inv.1.0 c.loop.line _ read c.in_ok-answer_all-in-Err-Over.ensures.whole in
     (inv.1.0, reply_lines all.1, all.3, stops-at g.D.Desk.answers c.args.desk.now _ inv.1.0 c.loop.line all.0 all.1 all.2 all.4)
@@ -102,7 +102,7 @@ loop-preserved g c =
     let inv = c.loop.invariant in
     let bytes_read = take c.in-Ok.count c.receive_in_life.new.buffer in
     let some : 1 ≤ c.in-Ok.count = search rules in
-    let ready = so-far-some g.D.Desk.answers g.D.Desk.posts g.C.Duplex.exchanged g.met.C.Duplex.in_turn c.args.desk.now _ _ c.args.connection.now _ _ inv.1.0 c.loop.line _ _ inv.1.2 c.in_ok-answer_before_wait.ensures.whole in (
+    let ready = so-far-some g.D.Desk.answers g.D.Desk.posts g.C.Duplex.exchanged g.met.C.Duplex.in_turn c.args.desk.now _ _ c.args.connection.now _ _ inv.1.0 c.loop.line _ _ inv.1.2 c.in_ok-answer_unless_more.ensures.whole in (
       search rules,
       (
         inv.1.0 ++ bytes_read,

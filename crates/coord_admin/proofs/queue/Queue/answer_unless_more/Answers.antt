@@ -1,6 +1,6 @@
 use Rattle.std.proofs.lemmas.Result.{on_ok_weaker}
 use Rattle.coord_admin.proofs.Pieces.{goes-answered}
-use Rattle.coord_admin.proofs.queue.Queue.make_room.Goals as goal
+use Rattle.coord_admin.proofs.queue.Queue.answer_unless_more.Goals as goal
 
 pub returns-clause-whole : goal.returns-clause-whole
 returns-clause-whole g c =
