@@ -1,11 +1,13 @@
 -- What is printed first, and behind it.
 use Rattle.std.proofs.Common.{◌≡◌, ◌⊎◌, ℕ, Bool, true, false, List, [], ◌∷◌, ◌++◌, Option, None, Some, inl, inr, refl, sym, ap, ◌∙◌, subst, append-nil, append_assoc}
+use Rattle.std.proofs.lemmas.Bool.{false≢true}
 use Rattle.std.proofs.lemmas.Grind.{flat_map-append}
 use Rattle.std.specs.List.{AllByRecursion}
 use Rattle.std.specs.Io.KnownBytes.{Appends}
+use Rattle.std.specs.declared.net.socket_addr.SocketAddr.{SocketAddr}
 use Rattle.coord_server.specs.Ending.{IsOfStart}
 use Rattle.coord_server.specs.Lines.{after_line, is_next}
-use Rattle.coord_server.specs.Printed.{Follow, HasTold, IsOfPrinting, IsPrinted, PrinterState, Prints, PrintsEach, TellsAddress, signal_lines, listening_line, signal_line, with_lost}
+use Rattle.coord_server.specs.Printed.{BreaksIn, Follow, HasTold, IsOfPrinting, IsPrinted, IsTornSignal, PrinterState, Prints, PrintsEach, TellsAddress, signal_lines, listening_line, signal_line, with_lost}
 use Rattle.coord_server.specs.Signals.{StepSignal}
 use Rattle.coord_server.specs.declared.fault.ServerFault.{ServerFault}
 use Rattle.coord_server.specs.declared.last_line.LastLine.{LastLine}
@@ -30,6 +32,11 @@ module _ {W : Type 0} (contents : W → Option (List ℕ)) where
   pub prints_next : (p m q : PrinterState W) (came : List StepSignal) (s : StepSignal) → PrintsEach contents p came m → Prints contents m s q → PrintsEach contents p (came ++ s ∷ []) q
   prints_next p m q came s is one = prints_last p m q came s is one
 
+  -- an output that works now has worked before
+  pub still_works : (m q : PrinterState W) (was_broken : Bool) → m.is_broken ≡ was_broken → (m.is_broken ≡ true → q ≡ m) → q.is_broken ≡ false → m.is_broken ≡ false
+  still_works m q true was same works = ap (λ (x : PrinterState W). x.is_broken) (sym (same was)) ∙ works
+  still_works m q false was same works = was
+
   appends_none : (b : Option (List ℕ)) → Appends b b []
   appends_none None = tt
   appends_none (Some xs) = sym (append-nil xs)
@@ -52,49 +59,88 @@ module _ {W : Type 0} (contents : W → Option (List ℕ)) where
 
     -- nothing was told yet
     pub told_none : (p : PrinterState W) → HasTold contents may p p
-    told_none p = record { signals = []; bytes = appends_none (contents p.output); may_be_told = tt; follow = refl }
+    told_none p = record { signals = []; torn = []; bytes = appends_none (contents p.output); may_be_told = tt; follow = refl; whole = inl refl }
+
+    -- while the output works, each line was written whole
+    whole_lines : (p m : PrinterState W) (told : HasTold contents may p m) → m.is_broken ≡ false → Appends (contents p.output) (contents m.output) (signal_lines told.signals)
+    whole_lines p m told works =
+        let left : told.torn ≡ [] = none_torn told.torn works told.whole in
+        subst (Appends (contents p.output) (contents m.output)) (ap (λ l. signal_lines told.signals ++ l) left ∙ append-nil (signal_lines told.signals)) told.bytes
+      where
+        none_torn : (torn : List ℕ) → m.is_broken ≡ false → (torn ≡ []) ⊎ IsTornSignal may m torn → torn ≡ []
+        none_torn torn works (inl none) = none
+        none_torn torn works (inr broken) = absurd (false≢true (sym works ∙ broken.broken))
 
     -- one more signal that may be told
-    pub told_next : (p m q : PrinterState W) (s : StepSignal) → HasTold contents may p m → may s.step s.node s.epoch → Prints contents m s q → HasTold contents may p q
-    told_next p m q s told one (inl is) = record {
+    pub told_next : (p m q : PrinterState W) (s : StepSignal) → HasTold contents may p m → m.is_broken ≡ false → may s.step s.node s.epoch → Prints contents m s q → HasTold contents may p q
+    told_next p m q s told works one (inl is) = record {
       signals = told.signals ++ s ∷ [];
+      torn = [];
       bytes =
           let lines : signal_lines (told.signals ++ s ∷ []) ≡ signal_lines told.signals ++ signal_line s.node s.epoch = flat_map-append (λ (x : StepSignal). signal_line x.node x.epoch) told.signals (s ∷ []) ∙ ap (λ l. signal_lines told.signals ++ l) (append-nil (signal_line s.node s.epoch)) in
-          subst (Appends (contents p.output) (contents q.output)) (sym lines) (appends_both (contents p.output) (contents m.output) (contents q.output) (signal_lines told.signals) (signal_line s.node s.epoch) told.bytes is.1);
+          subst (Appends (contents p.output) (contents q.output)) (sym (append-nil (signal_lines (told.signals ++ s ∷ [])) ∙ lines)) (appends_both (contents p.output) (contents m.output) (contents q.output) (signal_lines told.signals) (signal_line s.node s.epoch) (whole_lines p m told works) is.1);
       may_be_told = each_may told.signals s told.may_be_told one;
       follow = subst (Follow p.last (told.signals ++ s ∷ [])) (sym is.4) (follow_last p.last m.last told.signals s told.follow is.0);
+      whole = inl refl;
     }
-    told_next p m q s told one (inr is) = record {
+    told_next p m q s told works one (inr is) = record {
       signals = told.signals;
-      bytes = subst (λ (x : PrinterState W). Appends (contents p.output) (contents x.output) (signal_lines told.signals)) (sym is) told.bytes;
+      torn = [];
+      bytes = subst (λ (x : PrinterState W). Appends (contents p.output) (contents x.output) (signal_lines told.signals ++ [])) (sym is) (subst (Appends (contents p.output) (contents m.output)) (sym (append-nil (signal_lines told.signals))) (whole_lines p m told works));
       may_be_told = told.may_be_told;
       follow = subst (λ (x : PrinterState W). Follow p.last told.signals x.last) (sym is) told.follow;
+      whole = inl refl;
     }
+
+    -- the output failed in the line of a signal that may be told
+    told_torn : (p m q : PrinterState W) (s : StepSignal) → HasTold contents may p m → m.is_broken ≡ false → may s.step s.node s.epoch → is_next m.last s.step s.node ≡ true → BreaksIn contents m (signal_line s.node s.epoch) q → HasTold contents may p q
+    told_torn p m q s told works one next breaks = record {
+      signals = told.signals;
+      torn = breaks.0.0;
+      bytes = appends_both (contents p.output) (contents m.output) (contents q.output) (signal_lines told.signals) breaks.0.0 (whole_lines p m told works) breaks.0.1;
+      may_be_told = told.may_be_told;
+      follow = subst (Follow p.last told.signals) (sym breaks.3) told.follow;
+      whole = inr (record { broken = breaks.1; signal = s; may_be_told = one; next = subst (λ l. is_next l s.step s.node ≡ true) (sym breaks.3) next; part = breaks.0.2 });
+    }
+
+    -- the output had failed before, or failed in this line
+    pub told_last : (p m q : PrinterState W) (s : StepSignal) (is_broken : Bool) → m.is_broken ≡ is_broken → HasTold contents may p m → may s.step s.node s.epoch → q.is_broken ≡ true → (m.is_broken ≡ true → q ≡ m) → (m.is_broken ≡ false → q.is_broken ≡ true → (is_next m.last s.step s.node ≡ true) × BreaksIn contents m (signal_line s.node s.epoch) q) → HasTold contents may p q
+    told_last p m q s true was told one fails same torn = subst (HasTold contents may p) (sym (same was)) told
+    told_last p m q s false was told one fails same torn = told_torn p m q s told was one (torn was fails).0 (torn was fails).1
 
     -- nothing was printed
     pub printed_none : (p q : PrinterState W) → q ≡ p → IsPrinted contents may p q
-    printed_none p q same = inr (record {
+    printed_none p q same = record {
       first = [];
       signals = [];
-      opened = inl (refl, refl);
+      torn = [];
       bytes = subst (λ (x : PrinterState W). Appends (contents p.output) (contents x.output) []) (sym same) (appends_none (contents p.output));
+      opened = inl (refl, refl, inl refl);
       may_be_told = tt;
       follow = ap (λ (x : PrinterState W). x.last) same;
-    })
+    }
 
     -- the first line was not printed
-    pub printed_failed : (p q : PrinterState W) → (q.is_broken ≡ true) ⊎ (q ≡ p) → IsPrinted contents may p q
-    printed_failed p q (inl broken) = inl broken
-    printed_failed p q (inr same) = printed_none p q same
+    pub printed_failed : (p q : PrinterState W) (address : SocketAddr) → (q ≡ p) ⊎ BreaksIn contents p (listening_line address) q → IsPrinted contents may p q
+    printed_failed p q address (inl same) = printed_none p q same
+    printed_failed p q address (inr breaks) = record {
+      first = [];
+      signals = [];
+      torn = breaks.0.0;
+      bytes = breaks.0.1;
+      opened = inl (refl, refl, inr (record { broken = breaks.1; address = address; part = breaks.0.2 }));
+      may_be_told = tt;
+      follow = breaks.3;
+    }
 
     -- the first line, and then signals
-    pub printed_all : (p m q : PrinterState W) → TellsAddress contents p m → (q.is_broken ≡ true) ⊎ HasTold contents may m q → IsPrinted contents may p q
-    printed_all p m q opened (inl broken) = inl broken
-    printed_all p m q opened (inr told) = inr (record {
+    pub printed_all : (p m q : PrinterState W) → TellsAddress contents p m → HasTold contents may m q → IsPrinted contents may p q
+    printed_all p m q opened told = record {
       first = listening_line opened.0;
       signals = told.signals;
-      opened = inr (opened.0, refl);
-      bytes = appends_both (contents p.output) (contents m.output) (contents q.output) (listening_line opened.0) (signal_lines told.signals) opened.1 told.bytes;
+      torn = told.torn;
+      bytes = appends_both (contents p.output) (contents m.output) (contents q.output) (listening_line opened.0) (signal_lines told.signals ++ told.torn) opened.1 told.bytes;
+      opened = inr (opened.0, refl, told.whole);
       may_be_told = told.may_be_told;
       follow = subst (λ l. Follow l told.signals q.last) opened.3 told.follow;
-    })
+    }

@@ -4,6 +4,7 @@ use Rattle.std.specs.Prelude.{◌≡◌, ◌⊎◌, ℕ, Bool, false, true, List
 use Rattle.std.specs.Io.KnownBytes.{Appends}
 use Rattle.std.specs.Net.Text.{socket_text}
 use Rattle.std.specs.declared.net.socket_addr.SocketAddr.{SocketAddr}
+use Rattle.coord_lines.specs.Written.{IsFirstPart, WritesFirstPart}
 use Rattle.coord_engine.specs.Working.{one_more}
 use Rattle.coord_server.specs.declared.fault.ServerFault.{ServerFault}
 use Rattle.coord_server.specs.declared.fault.ServerFault.TheVariants as fault
@@ -51,11 +52,29 @@ is_amiss p settled = p.is_broken || not (nat_le p.last.step settled)
 abbrev pub IsOfPrinting : ServerFault → Type 0
 IsOfPrinting told = (told ≡ fault.OutOfMemory) ⊎ (told ≡ fault.Write)
 
+-- what was written of the line of an address in which the output failed: a first part of it
+pub record IsTornAddress {W : Type 0} (q : PrinterState W) (torn : List ℕ) : Type 0 where
+  pub broken : q.is_broken ≡ true
+  pub address : SocketAddr
+  pub part : IsFirstPart torn (listening_line address)
+
+-- what was written of the line of a signal in which the output failed: a first part of it. The signal may be told, and comes behind the last one
+pub record IsTornSignal {W : Type 0} (may : ℕ → ℕ → ℕ → Type 0) (q : PrinterState W) (torn : List ℕ) : Type 0 where
+  pub broken : q.is_broken ≡ true
+  pub signal : StepSignal
+  pub may_be_told : may signal.step signal.node signal.epoch
+  pub next : is_next q.last signal.step signal.node ≡ true
+  pub part : IsFirstPart torn (signal_line signal.node signal.epoch)
+
 -- `contents` are the bytes of an output, where they are known
 module _ {W : Type 0} (contents : W → Option (List ℕ)) where
   -- the line of an address was printed
   abbrev pub TellsAddress : PrinterState W → PrinterState W → Type 0
   TellsAddress p q = (address : SocketAddr) × Appends (contents p.output) (contents q.output) (listening_line address) × (q.is_broken ≡ false) × (q.last ≡ p.last)
+
+  -- a first part of this line was written, perhaps all of it, and then the output failed: no line is printed any more
+  abbrev pub BreaksIn : PrinterState W → List ℕ → PrinterState W → Type 0
+  BreaksIn p line q = WritesFirstPart (contents p.output) (contents q.output) line × (q.is_broken ≡ true) × (q.lost ≡ p.lost) × (q.last ≡ p.last)
 
   -- the line of a signal that comes behind the last one was printed; or nothing of it, and it was counted as lost
   abbrev pub Prints : PrinterState W → StepSignal → PrinterState W → Type 0
@@ -70,22 +89,23 @@ module _ {W : Type 0} (contents : W → Option (List ℕ)) where
 
   -- `may`: of which signals may be told, by step, node and epoch
   module _ (may : ℕ → ℕ → ℕ → Type 0) where
-    -- the lines of such signals were printed, each behind the one before it
+    -- The lines of such signals were printed, each behind the one before it; where the output failed in a line, a first part of that one behind them.
     pub record HasTold (p q : PrinterState W) : Type 0 where
       pub signals : List StepSignal
-      pub bytes : Appends (contents p.output) (contents q.output) (signal_lines signals)
+      pub torn : List ℕ
+      pub bytes : Appends (contents p.output) (contents q.output) (signal_lines signals ++ torn)
       pub may_be_told : AllByRecursion (λ s. may s.step s.node s.epoch) signals
       pub follow : Follow p.last signals q.last
+      pub whole : (torn ≡ []) ⊎ IsTornSignal may q torn
 
-    -- nothing was printed; or the line of an address, and behind it the lines of such signals
-    pub record HasPrinted (p q : PrinterState W) : Type 0 where
+    -- The line of an address was printed, and behind it what tells of such signals; or nothing, or a first part of that line.
+    pub record IsPrinted (p q : PrinterState W) : Type 0 where
       pub first : List ℕ
       pub signals : List StepSignal
-      pub opened : ((first ≡ []) × (signals ≡ [])) ⊎ ((address : SocketAddr) × (first ≡ listening_line address))
-      pub bytes : Appends (contents p.output) (contents q.output) (first ++ signal_lines signals)
+      pub torn : List ℕ
+      pub bytes : Appends (contents p.output) (contents q.output) (first ++ (signal_lines signals ++ torn))
+      pub opened :
+          ((first ≡ []) × (signals ≡ []) × ((torn ≡ []) ⊎ IsTornAddress q torn))
+          ⊎ ((address : SocketAddr) × (first ≡ listening_line address) × ((torn ≡ []) ⊎ IsTornSignal may q torn))
       pub may_be_told : AllByRecursion (λ s. may s.step s.node s.epoch) signals
       pub follow : Follow p.last signals q.last
-
-    -- so it is, unless a line could not be written
-    abbrev pub IsPrinted : PrinterState W → PrinterState W → Type 0
-    IsPrinted p q = (q.is_broken ≡ true) ⊎ HasPrinted p q

@@ -4,10 +4,12 @@ ghost use Rattle.std.specs.Prelude.{◌≡◌, ◌≢◌, Err, IfErr, IsErr, OnE
 ghost use Rattle.std.specs.Io.KnownBytes.{Appends};
 ghost use Rattle.std.specs.IoError.{error_kind};
 ghost use Rattle.coord_server.specs.Lines.{after_line, is_next};
-ghost use Rattle.coord_server.specs.Printed.{IsOfPrinting, listening_line, new_printer, signal_line, with_lost};
+ghost use Rattle.coord_lines.specs.Written.{WritesFirstPart};
+ghost use Rattle.coord_server.specs.Printed.{BreaksIn, IsOfPrinting, listening_line, new_printer, signal_line, with_lost};
 
 use crate::ServerFault;
 use crate::last_line::LastLine;
+use coord_lines::write_whole;
 use coord_types::NodeId;
 use std::alloc::Global;
 use std::io;
@@ -16,7 +18,7 @@ use std::marker::Model;
 use std::net::SocketAddr;
 
 /// An output that gets whole lines, each written at once and flushed. After one that could not be
-/// written no more are: what follows is lost. Signals are printed in the order of their steps, each once. Contracts see `PrinterState` (`specs/Printed.antt`).
+/// written, of which it may have a first part, no more are: what follows is lost. Signals are printed in the order of their steps, each once. Contracts see `PrinterState` (`specs/Printed.antt`).
 #[derive(Drop)]
 pub struct Printer<W: Write> {
     alloc: Global,
@@ -85,6 +87,9 @@ impl<W: Write> Printer<W> {
         ensures broken { self.old.is_broken ≡ true → (result ≡ false) × (self.new ≡ self.old) }
         ensures failed { result ≡ false → self.new.is_broken ≡ false →
             self.new ≡ with_lost self.old }
+        ensures torn { self.old.is_broken ≡ false → self.new.is_broken ≡ true →
+            (is_next self.old.last step node ≡ true) ×
+            BreaksIn W.contents self.old (signal_line node epoch) self.new }
     {
         if self.is_broken {
             return false;
@@ -98,11 +103,13 @@ impl<W: Write> Printer<W> {
             self.lose();
             return false;
         };
-        if self.print(&line).is_err() {
-            return false;
+        match self.print(&line) {
+            Ok(()) => {
+                self.last = self.last.then(step, node);
+                true
+            }
+            Err(_) => false,
         }
-        self.last = self.last.then(step, node);
-        true
     }
 
     /// One more signal is lost.
@@ -121,6 +128,8 @@ impl<W: Write> Printer<W> {
         ensures whole { OnOk result ((self.new.is_broken ≡ false) × (self.new.last ≡ self.old.last)) }
         ensures broken { self.old.is_broken ≡ true → IsErr result × (self.new ≡ self.old) }
         ensures failed { OnErr result (self.new.is_broken ≡ false → self.new ≡ self.old) }
+        ensures torn { self.old.is_broken ≡ false → self.new.is_broken ≡ true →
+            BreaksIn W.contents self.old (listening_line address) self.new }
         ensures fault { IfErr result IsOfPrinting }
         ensures write { result ≡ Err ServerFault.Write → self.new.is_broken ≡ true }
     {
@@ -137,6 +146,8 @@ impl<W: Write> Printer<W> {
         ensures whole { OnOk result (self.new.is_broken ≡ false) }
         ensures broken { self.old.is_broken ≡ true → (result ≡ Err ServerFault.Write) × (self.new ≡ self.old) }
         ensures failed { OnErr result (self.new.is_broken ≡ true) }
+        ensures torn { self.old.is_broken ≡ false → OnErr result
+            (BreaksIn W.contents self.old line.now self.new) }
         ensures lost { (self.new.lost ≡ self.old.lost) × (self.new.last ≡ self.old.last) }
         ensures fault { IfErr result IsOfPrinting }
     {
@@ -149,14 +160,21 @@ impl<W: Write> Printer<W> {
     }
 }
 
-/// Writes a line and flushes it.
+/// Writes a line and flushes it. Where either fails, a first part of the line was written, and no more.
 fn write_line<W: Write>(output: &mut W, line: &str) -> Result<(), ServerFault>
     ensures written { OnOk result (Appends (W.contents output.old) (W.contents output.new)
         line.now) }
+    ensures torn { OnErr result (WritesFirstPart (W.contents output.old) (W.contents output.new)
+        line.now) }
     ensures fault { IfErr result IsOfPrinting }
 {
-    output.write_all(line.as_bytes()).map_err(fault_of)?;
-    output.flush().map_err(fault_of)
+    if let Err(error) = write_whole(output, line.as_bytes()) {
+        return Err(fault_of(error));
+    }
+    match output.flush() {
+        Ok(()) => Ok(()),
+        Err(error) => Err(fault_of(error)),
+    }
 }
 
 /// Of an output that has failed: want of memory if it says so, else that it could not be written.

@@ -3,7 +3,7 @@
 ghost use Rattle.std.specs.Prelude.{◌≡◌, ◌⊎◌, List, Err, IfErr, IfOk, OnOk, true};
 ghost use Rattle.std.specs.Iterator.{Drains, IsFinite};
 ghost use Rattle.coord_server.specs.Ending.{IsOfStart};
-ghost use Rattle.coord_server.specs.Printed.{HasTold, IsPrinted, PrintsEach, TellsAddress, new_printer};
+ghost use Rattle.coord_server.specs.Printed.{BreaksIn, HasTold, IsPrinted, PrintsEach, TellsAddress, listening_line, new_printer};
 ghost use Rattle.coord_server.specs.Signals.{StepSignal};
 
 use crate::{LocalPort, Printer, ServerFault, Signal, Telling};
@@ -29,7 +29,7 @@ pub fn print_signals<W: Write, O: Telling, I: Iterator<Item = Signal<O>>>(
     ensures each { (result.is_broken ≡ true) ⊎
         ((came : List StepSignal) × Drains I.next_gives signals came ×
         PrintsEach W.contents printer came result) }
-    ensures told { (result.is_broken ≡ true) ⊎ HasTold W.contents O.may printer result }
+    ensures told { HasTold W.contents O.may printer result }
 {
     let mut printer = printer;
     for signal in signals {
@@ -92,7 +92,8 @@ fn print_listening<W: Write>(
     printer: &mut Printer<W>,
 ) -> Result<(), ServerFault>
     ensures printed { OnOk result (TellsAddress W.contents printer.old printer.new) }
-    ensures failed { IfErr result (λ _. (printer.new.is_broken ≡ true) ⊎ (printer.new ≡ printer.old)) }
+    ensures failed { IfErr result (λ _. (printer.new ≡ printer.old) ⊎
+        BreaksIn W.contents printer.old (listening_line address) printer.new) }
     ensures start { IfErr result IsOfStart }
     ensures write { result ≡ Err ServerFault.Write → printer.new.is_broken ≡ true }
 {
@@ -108,7 +109,7 @@ pub struct Printing<W: Write + Drop, O: Telling> {
     signals: Receiver<Signal<O>>,
 }
 
-#[tactic(auto, using(crate::proofs::Starts::printed_none, crate::proofs::Starts::printed_failed, crate::proofs::Starts::printed_all))]
+#[tactic(auto, using(crate::proofs::Starts::printed_none))]
 impl<W: Write + Drop, O: Telling> Printing<W, O> {
     /// Prints the address that comes, and then the signals that come, and gives back what printed. No
     /// clause can say what comes over a channel but what the type of a signal says.
