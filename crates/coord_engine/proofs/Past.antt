@@ -1,5 +1,5 @@
 -- What a crash may have left since an engine was made.
-use Rattle.std.proofs.Common.{◌≡◌, ◌≤◌, inl, inr, ⊎_elim, ℕ, ◌+◌, true, List, [], ◌∷◌, ◌++◌, Option, Some, None, Result, Ok, Err, length, take, drop, refl, sym, ap, subst, ◌∙◌, arith, IfSome, OnErr, OnOk, length-append, le_refl, IfOk, IsSomeAnd, is_some, ◌||◌, false, Bool}
+use Rattle.std.proofs.Common.{◌≡◌, ◌≤◌, inl, inr, ⊎_elim, ℕ, ◌+◌, true, List, [], ◌∷◌, ◌++◌, Option, Some, None, Result, Ok, Err, length, take, drop, refl, sym, ap, subst, ◌∙◌, arith, IfSome, OnErr, OnOk, length-append, le_refl, IfOk, IsSomeAnd, is_some, ◌||◌, false, true≢false, Bool}
 use Rattle.std.proofs.Math.Seq.{take-add, take-append_seam, take-length}
 use Rattle.std.proofs.lemmas.List.{length-take-le, take-append-drop, take-append-le, take-take}
 use Rattle.coord_disk.specs.Model.DiskModel.{DiskModel, IsModel}
@@ -72,10 +72,6 @@ after_some_is_on_the_way base steps bytes trail after =
     let whole = take-append-drop after.number steps in
     record { steps = take after.number steps; others = drop after.number steps; trail = subst (IsTrail base) (sym whole) trail; leads = ap (fold base) whole; recovered = after.recovered }
 
--- what stays of the steps that may be on a disk where one more is accepted
-pub stays_accepted : (log : Log) (s : Step) → log.settled ≤ length log.trail → settled_steps (record log { trail = log.trail ++ s ∷ [] }) ≡ settled_steps log
-stays_accepted log s within = take-append-le log.settled log.trail (s ∷ []) within
-
 -- ---- logs
 
 -- what the disk of a ledger gives is the world after the first of the steps that may be on it
@@ -130,28 +126,28 @@ module _ {D : Type 0} (m : DiskModel D) where
 
   -- a flight that left behind these settled steps, with its own
   module _ (first : Past) (base : World) (settled steps : List Step) where
-    abbrev before : World
-    before = fold base settled
+    abbrev left_from : World
+    left_from = fold base settled
 
     onward : (bytes : List ℕ) → IsAfterSome base settled bytes → IsAfterSome base (settled ++ steps) bytes
     onward bytes after = of_more base settled steps bytes after
 
-    here : (bytes : List ℕ) → Recovered bytes before → IsAfterSome base settled bytes
+    here : (bytes : List ℕ) → Recovered bytes left_from → IsAfterSome base settled bytes
     here bytes gives = after_all base settled bytes gives
 
-    either : (bytes : List ℕ) → GivesEither before (fold before steps) bytes → IsAfterSome base (settled ++ steps) bytes
+    either : (bytes : List ℕ) → GivesEither left_from (fold left_from steps) bytes → IsAfterSome base (settled ++ steps) bytes
     either bytes (inl gives) = onward bytes (here bytes gives)
     either bytes (inr gives) = after_all base (settled ++ steps) bytes (subst (Recovered bytes) (sym (fold-append settled steps base)) gives)
 
     -- it has written its steps
-    flown : (left now : D) → m.keeps_model now ≡ m.keeps_model left → (m.keeps_model left ≡ true → LeavesOnly m left now (GivesEither before (fold before steps))) → StaysAlong m first base settled left → StaysAlong m first base (settled ++ steps) now
+    flown : (left now : D) → m.keeps_model now ≡ m.keeps_model left → (m.keeps_model left ≡ true → LeavesOnly m left now (GivesEither left_from (fold left_from steps))) → StaysAlong m first base settled left → StaysAlong m first base (settled ++ steps) now
     flown left now same run stays = record {
       same_model = same ∙ stays.same_model;
       moments = λ keeps. and_on m first left now _ _ _ (stays.moments keeps) (run (stays.same_model ∙ keeps)) onward either;
     }
 
     -- it has written nothing of them
-    unflown : (left now : D) → m.keeps_model now ≡ m.keeps_model left → (m.keeps_model left ≡ true → LeavesOnly m left now (IsOnlyWorld before)) → StaysAlong m first base settled left → StaysAlong m first base settled now
+    unflown : (left now : D) → m.keeps_model now ≡ m.keeps_model left → (m.keeps_model left ≡ true → LeavesOnly m left now (IsOnlyWorld left_from)) → StaysAlong m first base settled left → StaysAlong m first base settled now
     unflown left now same run stays = record {
       same_model = same ∙ stays.same_model;
       moments = λ keeps. and_on m first left now _ _ _ (stays.moments keeps) (run (stays.same_model ∙ keeps)) (λ bytes after. after) here;
@@ -211,9 +207,9 @@ module _ {D : Type 0} (m : DiskModel D) where
   at_home None out home = tt
   at_home (Some b) out home = home
 
-  not_stopped : (doubt : Option ℕ) (rest : Bool) → is_some doubt || rest ≡ false → doubt ≡ None
-  not_stopped None rest none = refl
-  not_stopped (Some b) rest none = absurd cc
+  not_stopped : (doubt : Option ℕ) (is_out is_idle : Bool) → is_some doubt || is_out || is_idle ≡ false → doubt ≡ None
+  not_stopped None is_out is_idle none = refl
+  not_stopped (Some b) is_out is_idle none = absurd (true≢false none)
 
   -- what is so of a ledger whose next flight has left
   pub record HasLeftFrom (l later : LedgerState D) (f : FlightState D) : Type 0 where
@@ -228,10 +224,10 @@ module _ {D : Type 0} (m : DiskModel D) where
   has_left {E} l later f r is nothing begun = by (keeps_store l) refl
     where
       by : (kept : Bool) → keeps_store l ≡ kept → HasLeftFrom l later f
-      by true at = let none : Ok (Some f) ≡ Ok {E = E} None = sym is ∙ (nothing at).0 in absurd cc
+      by true at = let none = sym is ∙ (nothing at).0 in absurd cc
       by false at =
           let so = subst (λ x. IfOk x (λ begun. IsSomeAnd begun (λ flight. (flight ≡ next_flight l.log flight.disk) × (l.disk ≡ Some flight.disk) × (later ≡ with_store_out l (length flight.steps))))) is (begun at) in
-          let going : l.log.doubt ≡ None = not_stopped l.log.doubt _ at in
+          let going : l.log.doubt ≡ None = not_stopped l.log.doubt _ _ at in
           record {
             going = going;
             is_next = so.0;
@@ -247,7 +243,7 @@ module _ {D : Type 0} (m : DiskModel D) where
       let here : StaysAlong m first base (settled_steps l.log) f.disk = subst (λ o. StaysAlong m first base (last_steps l.log o) f.disk) is.going at in
       subst (FliesFrom m first base (settled_steps l.log)) (sym is.is_next) (record {
         number = omega (arith, ap (λ (w : World). w.count) same, length-take-le l.log.settled l.log.trail within);
-        world = ap (λ w. fold w (settled_steps l.log)) same;
+        world = ap (λ (w : World). fold w (settled_steps l.log)) same;
         along = here;
       })
 
