@@ -2,9 +2,11 @@ pub mod Counting
 pub mod Flights
 pub mod Growing
 pub mod Handed
+pub mod Histories
 pub mod Moments
 pub mod Naming
 pub mod Notes
+pub mod OnTheWay
 pub mod PacketNotes
 pub mod Past
 mod Puts

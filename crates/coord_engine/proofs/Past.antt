@@ -1,21 +1,23 @@
 -- What a crash may have left since an engine was made.
-use Rattle.std.proofs.Common.{◌≡◌, inl, inr, ⊎_elim, ℕ, ◌+◌, true, List, [], ◌∷◌, ◌++◌, Option, Some, None, Result, Ok, Err, length, take, drop, refl, sym, ap, subst, ◌∙◌, append-nil, append_assoc, arith, IfSome, OnErr, OnOk}
-use Rattle.std.proofs.Math.Seq.{take-add}
+use Rattle.std.proofs.Common.{◌≡◌, ◌≤◌, inl, inr, ⊎_elim, ℕ, ◌+◌, true, List, [], ◌∷◌, ◌++◌, Option, Some, None, Result, Ok, Err, length, take, drop, refl, sym, ap, subst, ◌∙◌, arith, IfSome, OnErr, OnOk, length-append, le_refl, IfOk, IsSomeAnd, is_some, ◌||◌, false, true≢false, Bool}
+use Rattle.std.proofs.Math.Seq.{take-add, take-append_seam, take-length}
+use Rattle.std.proofs.lemmas.List.{length-take-le, take-append-drop, take-append-le, take-take}
 use Rattle.coord_disk.specs.Model.DiskModel.{DiskModel, IsModel}
 use Rattle.coord_disk.specs.Model.Moments.{LeavesOnly}
 use Rattle.coord_disk.specs.Model.Present.{IsImage}
-use Rattle.coord_types.specs.declared.limits.TheConstants.{MAX_BATCH_STEPS}
 use Rattle.coord_types.specs.declared.steps.Step.{Step}
-use Rattle.coord_world.proofs.Facade.{EachFresh, fold-append, trail_each_fresh, trail_is_cut, trail_of}
+use Rattle.coord_world.proofs.Facade.{fold-append}
 use Rattle.coord_world.specs.laws.Trails.{IsTrail}
-use Rattle.coord_world.specs.Facade.{World, fold, next}
+use Rattle.coord_world.specs.Facade.{World, fold}
 use Rattle.coord_store.specs.Facade.{GivesEither, IsOnlyWorld, Recovered}
 use Rattle.coord_store.specs.declared.faults.CommitFault.{CommitFault}
 use Rattle.coord_store.specs.declared.faults.CommitFault.TheVariants.{Again, Device, Full, OutOfMemory, Stopped}
 use Rattle.coord_ledger.specs.declared.mark.Mark.{Mark}
 use Rattle.coord_ledger.specs.declared.mark.Mark.TheVariants.{New, Good, Torn}
-use Rattle.coord_ledger.specs.Facade.{FlightState, GivesSettled, IsConsistentLog, IsOut, LedgerGives, LedgerState, Log, log_back, pending, settled_world, taken_back, world_after}
-use Rattle.coord_engine.specs.Facade.{AtSomeMoment, Basis, CommitsFlight, FliesOnTheWay, HasLeft, IsOnTheWay, IsPastOf, Leaves, LeavesFlown, Past, StaysOnTheWay, flown_world, last_world, past_in}
+use Rattle.coord_ledger.specs.Facade.{FlightState, GivesSettled, IsOut, LedgerGives, LedgerState, Log, keeps_store, log_back, next_flight, pending, settled_steps, taken_back, with_store_out, world_after}
+use Rattle.coord_engine.proofs.Histories.{all_of, first_of_first}
+use Rattle.coord_engine.specs.Facade.{CommitsFlight, FliesFrom, HasLeft, IsAfterSome, IsOnTheWay, IsPastOf, LeavesFlown, Past, StartsWith, StaysAlong, flown_steps, last_steps, past_in}
+use Rattle.coord_engine.specs.Past.{AfterSomeIsOnTheWay}
 
 -- ---- moments
 
@@ -49,166 +51,141 @@ module _ {D : Type 0} (m : DiskModel D) where
   pub weaker_left : (first : Past) (now : D) (P Q : List ℕ → Type 0) → HasLeft m first now P → ((c : List ℕ) → P c → Q c) → HasLeft m first now Q
   weaker_left first now P Q left implies = grind arith
 
--- ---- on the way
+-- ---- after the first of some steps
 
--- two trails, the second from where the first leads
-both_fresh : (a b : List Step) (w : World) → EachFresh w a → EachFresh (fold w a) b → EachFresh w (a ++ b)
-both_fresh [] b w each more = more
-both_fresh (s ∷ ss) b w each more = (each.0, both_fresh ss b (next w s) each.1 more)
+pub after_all : (base : World) (steps : List Step) (bytes : List ℕ) → Recovered bytes (fold base steps) → IsAfterSome base steps bytes
+after_all base steps bytes gives = record { number = length steps; within = le_refl (length steps); recovered = subst (λ l. Recovered bytes (fold base l)) (sym (take-length steps)) gives }
 
-pub joined : (base : World) (a b : List Step) → IsTrail base a → IsTrail (fold base a) b → IsTrail base (a ++ b)
-joined base a b first then = trail_of (a ++ b) base first.sound (both_fresh a b base (trail_each_fresh base a first) (trail_each_fresh (fold base a) b then))
+-- after some of these, and so of these and more
+pub of_more : (base : World) (steps more : List Step) (bytes : List ℕ) → IsAfterSome base steps bytes → IsAfterSome base (steps ++ more) bytes
+of_more base steps more bytes after = record {
+  number = after.number;
+  within = omega (arith, after.within, length-append steps more);
+  recovered = subst (λ l. Recovered bytes (fold base l)) (sym (take-append-le after.number steps more after.within)) after.recovered;
+}
 
--- the end of the way
-pub at_end : (base : World) (bytes : List ℕ) (steps : List Step) → IsTrail base steps → Recovered bytes (fold base steps) → IsOnTheWay base (fold base steps) bytes
-at_end base bytes steps trail gives = record { steps = steps; others = []; trail = subst (IsTrail base) (sym (append-nil steps)) trail; leads = ap (fold base) (append-nil steps); recovered = gives }
+of_whole : (base : World) (n : ℕ) (steps : List Step) (bytes : List ℕ) → IsAfterSome base (take n steps) bytes → IsAfterSome base steps bytes
+of_whole base n steps bytes after = subst (λ l. IsAfterSome base l bytes) (take-append-drop n steps) (of_more base (take n steps) (drop n steps) bytes after)
 
--- a way that goes on
-pub farther : (base w : World) (bytes : List ℕ) (more : List Step) → IsTrail w more → IsOnTheWay base w bytes → IsOnTheWay base (fold w more) bytes
-farther base w bytes more trail way =
-    let there : IsTrail (fold base (way.steps ++ way.others)) more = subst (λ v. IsTrail v more) (sym way.leads) trail in
-    let whole : (way.steps ++ way.others) ++ more ≡ way.steps ++ (way.others ++ more) = append_assoc way.steps way.others more in
-    record {
-      steps = way.steps;
-      others = way.others ++ more;
-      trail = subst (IsTrail base) whole (joined base (way.steps ++ way.others) more way.trail there);
-      leads = ap (fold base) (sym whole) ∙ fold-append (way.steps ++ way.others) more base ∙ ap (λ v. fold v more) way.leads;
-      recovered = way.recovered;
-    }
-
--- a way behind a trail
-pub from_before : (base w end : World) (bytes : List ℕ) (path : List Step) → IsTrail base path → fold base path ≡ w → IsOnTheWay w end bytes → IsOnTheWay base end bytes
-from_before base w end bytes path to led way =
-    let more : IsTrail (fold base path) (way.steps ++ way.others) = subst (λ v. IsTrail v (way.steps ++ way.others)) (sym led) way.trail in
-    let whole : (path ++ way.steps) ++ way.others ≡ path ++ (way.steps ++ way.others) = append_assoc path way.steps way.others in
-    record {
-      steps = path ++ way.steps;
-      others = way.others;
-      trail = subst (IsTrail base) (sym whole) (joined base path (way.steps ++ way.others) to more);
-      leads = ap (fold base) whole ∙ fold-append path (way.steps ++ way.others) base ∙ ap (λ v. fold v (way.steps ++ way.others)) led ∙ way.leads;
-      recovered = subst (Recovered bytes) (sym (fold-append path way.steps base ∙ ap (λ v. fold v way.steps) led)) way.recovered;
-    }
+pub after_some_is_on_the_way : AfterSomeIsOnTheWay
+after_some_is_on_the_way base steps bytes trail after =
+    let whole = take-append-drop after.number steps in
+    record { steps = take after.number steps; others = drop after.number steps; trail = subst (IsTrail base) (sym whole) trail; leads = ap (fold base) whole; recovered = after.recovered }
 
 -- ---- logs
 
--- the world after the first steps of a log, and some more
-pub more_steps : (log : Log) (n k : ℕ) → fold (world_after log n) (take k (drop n log.trail)) ≡ world_after log (n + k)
-more_steps log n k = sym (fold-append (take n log.trail) (take k (drop n log.trail)) log.base) ∙ ap (fold log.base) (sym (take-add n k log.trail))
+-- what the disk of a ledger gives is the world after the first of the steps that may be on it
+settled_along : (log : Log) (doubt : Option ℕ) (bytes : List ℕ) → GivesSettled log doubt bytes → IsAfterSome log.base (last_steps log doubt) bytes
+settled_along log None bytes gives = after_all log.base (settled_steps log) bytes gives
+settled_along log (Some b) bytes (inl gives) =
+    subst (λ l. IsAfterSome log.base l bytes) (sym (take-add log.settled b log.trail)) (of_more log.base (settled_steps log) (take b (drop log.settled log.trail)) bytes (after_all log.base (settled_steps log) bytes gives))
+settled_along log (Some b) bytes (inr gives) = after_all log.base (take (log.settled + b) log.trail) bytes gives
 
-pub first_trail : (log : Log) (n : ℕ) → IsTrail log.base log.trail → IsTrail log.base (take n log.trail)
-first_trail log n is = (trail_is_cut log.base log.trail n is).first
+last_to_all : (log : Log) (doubt : Option ℕ) (bytes : List ℕ) → IsAfterSome log.base (last_steps log doubt) bytes → IsAfterSome log.base log.trail bytes
+last_to_all log None bytes after = of_whole log.base log.settled log.trail bytes after
+last_to_all log (Some b) bytes after = of_whole log.base (log.settled + b) log.trail bytes after
 
-pub more_trail : (log : Log) (n k : ℕ) → IsTrail log.base log.trail → IsTrail (world_after log n) (take k (drop n log.trail))
-more_trail log n k is = (trail_is_cut (world_after log n) (drop n log.trail) k (trail_is_cut log.base log.trail n is).others).first
+-- the steps that may be on the disk of a ledger whose flight is back
+last_back : (log : Log) (settled steps : List Step) (mark : Mark) → log.doubt ≡ None → settled ≡ settled_steps log → steps ≡ take (length steps) (pending log) → last_steps (log_back log (length steps) mark) (log_back log (length steps) mark).doubt ≡ flown_steps mark settled steps
+last_back log settled steps New going same next = rw going (sym same)
+last_back log settled steps Good going same next = rw going (rw same (take-add log.settled (length steps) log.trail ∙ ap (λ l. settled_steps log ++ l) (sym next)))
+last_back log settled steps Torn going same next = rw same (take-add log.settled (length steps) log.trail ∙ ap (λ l. settled_steps log ++ l) (sym next))
 
-after_on_way : (log : Log) (n : ℕ) (bytes : List ℕ) → IsTrail log.base log.trail → Recovered bytes (world_after log n) → IsOnTheWay log.base (world_after log n) bytes
-after_on_way log n bytes is gives = at_end log.base bytes (take n log.trail) (first_trail log n is) gives
+-- the settled steps only grow
+settled_grow : (log : Log) (n : ℕ) (mark : Mark) → StartsWith (settled_steps (log_back log n mark)) (settled_steps log)
+settled_grow log n New = all_of (settled_steps log)
+settled_grow log n Good = (take n (drop log.settled log.trail), take-add log.settled n log.trail)
+settled_grow log n Torn = all_of (settled_steps log)
 
--- what is on the way to a world of a log is on the way to a later one
-later_on_way : (log : Log) (n k : ℕ) (bytes : List ℕ) → IsTrail log.base log.trail → IsOnTheWay log.base (world_after log n) bytes → IsOnTheWay log.base (world_after log (n + k)) bytes
-later_on_way log n k bytes is way = subst (λ w. IsOnTheWay log.base w bytes) (more_steps log n k) (farther log.base (world_after log n) bytes (take k (drop n log.trail)) (more_trail log n k is) way)
-
-front_on_way : (log : Log) (n : ℕ) (bytes : List ℕ) → IsTrail log.base log.trail → IsOnTheWay log.base (world_after log n) bytes → IsOnTheWay log.base (fold log.base log.trail) bytes
-front_on_way log n bytes is way =
-    let cut = trail_is_cut log.base log.trail n is in
-    subst (λ w. IsOnTheWay log.base w bytes) cut.whole (farther log.base (world_after log n) bytes (drop n log.trail) cut.others way)
-
--- what the disk of a ledger gives is on the way to the last world that may be on it
-settled_on_way : (log : Log) (doubt : Option ℕ) (bytes : List ℕ) → IsTrail log.base log.trail → GivesSettled log doubt bytes → IsOnTheWay log.base (last_world log doubt) bytes
-settled_on_way log None bytes is gives = after_on_way log log.settled bytes is gives
-settled_on_way log (Some b) bytes is (inl gives) = later_on_way log log.settled b bytes is (after_on_way log log.settled bytes is gives)
-settled_on_way log (Some b) bytes is (inr gives) = after_on_way log (log.settled + b) bytes is gives
-
-last_to_front : (log : Log) (doubt : Option ℕ) (bytes : List ℕ) → IsTrail log.base log.trail → IsOnTheWay log.base (last_world log doubt) bytes → IsOnTheWay log.base (fold log.base log.trail) bytes
-last_to_front log None bytes is way = front_on_way log log.settled bytes is way
-last_to_front log (Some b) bytes is way = front_on_way log (log.settled + b) bytes is way
-
--- a flight that is back has led to it
-last_back : (log : Log) (w : World) (steps : List Step) (mark : Mark) → log.doubt ≡ None → w ≡ settled_world log → steps ≡ take (length steps) (pending log) → last_world (log_back log (length steps) mark) (log_back log (length steps) mark).doubt ≡ flown_world mark w steps
-last_back log w steps New going same next = rw going (sym same)
-last_back log w steps Good going same next = rw going (rw same (sym (more_steps log log.settled (length steps)) ∙ ap (fold (settled_world log)) (sym next)))
-last_back log w steps Torn going same next = rw same (sym (more_steps log log.settled (length steps)) ∙ ap (fold (settled_world log)) (sym next))
+-- a beginning is known by its length
+by_length : (steps first : List Step) → StartsWith steps first → take (length first) steps ≡ first
+by_length steps first starts = ap (take (length first)) starts.1 ∙ take-append_seam first starts.0
 
 -- ---- disks
 
 module _ {D : Type 0} (m : DiskModel D) where
   -- an engine that is just made
-  made : IsModel m → (first : Past) (log : Log) (doubt : Option ℕ) (disk : D) → IsPastOf m first disk → IsTrail log.base log.trail → (m.keeps_model disk ≡ true → (image : List ℕ) → IsImage (m.present disk) image → GivesSettled log doubt image) → StaysOnTheWay m first log.base (last_world log doubt) disk
-  made laws first log doubt disk past is gives = record {
+  made : IsModel m → (first : Past) (log : Log) (doubt : Option ℕ) (disk : D) → IsPastOf m first disk → (m.keeps_model disk ≡ true → (image : List ℕ) → IsImage (m.present disk) image → GivesSettled log doubt image) → StaysAlong m first log.base (last_steps log doubt) disk
+  made laws first log doubt disk past gives = record {
     same_model = sym past.model;
-    moments = λ keeps. at_first m laws first disk (IsOnTheWay log.base (last_world log doubt)) past (sym past.model ∙ keeps) (λ c image. settled_on_way log doubt c is (gives (sym past.model ∙ keeps) c image));
+    moments = λ keeps. at_first m laws first disk (IsAfterSome log.base (last_steps log doubt)) past (sym past.model ∙ keeps) (λ c image. settled_along log doubt c (gives (sym past.model ∙ keeps) c image));
   }
 
-  made_in : IsModel m → (first : Past) (l : LedgerState D) (disk : Option D) → IfSome disk (IsPastOf m first) → IsTrail l.log.base l.log.trail → IfSome disk (λ d. m.keeps_model d ≡ true → LedgerGives m.present l d) → IfSome disk (StaysOnTheWay m first l.log.base (last_world l.log l.log.doubt))
-  made_in laws first l None past is gives = tt
-  made_in laws first l (Some d) past is gives = made laws first l.log l.log.doubt d past is gives
+  made_in : IsModel m → (first : Past) (l : LedgerState D) (disk : Option D) → IfSome disk (IsPastOf m first) → IfSome disk (λ d. m.keeps_model d ≡ true → LedgerGives m.present l d) → IfSome disk (StaysAlong m first l.log.base (last_steps l.log l.log.doubt))
+  made_in laws first l None past gives = tt
+  made_in laws first l (Some d) past gives = made laws first l.log l.log.doubt d past gives
 
-  pub made_over : IsModel m → (first : Past) (base : World) (l : LedgerState D) → IfSome l.disk (IsPastOf m first) → l.log.base ≡ base → IsConsistentLog l.log → IfSome l.disk (λ d. m.keeps_model d ≡ true → LedgerGives m.present l d) → IfSome l.disk (StaysOnTheWay m first base (last_world l.log l.log.doubt))
-  made_over laws first base l past at is gives = subst (λ w. IfSome l.disk (StaysOnTheWay m first w (last_world l.log l.log.doubt))) at (made_in laws first l l.disk past is.trail gives)
+  pub made_over : IsModel m → (first : Past) (base : World) (l : LedgerState D) → IfSome l.disk (IsPastOf m first) → l.log.base ≡ base → IfSome l.disk (λ d. m.keeps_model d ≡ true → LedgerGives m.present l d) → IfSome l.disk (StaysAlong m first base (last_steps l.log l.log.doubt))
+  made_over laws first base l past at gives = subst (λ w. IfSome l.disk (StaysAlong m first w (last_steps l.log l.log.doubt))) at (made_in laws first l l.disk past gives)
 
-  -- where it leads to a later world
-  pub led_on : (first : Past) (base w v : World) (disk : D) → ((bytes : List ℕ) → IsOnTheWay base w bytes → IsOnTheWay base v bytes) → StaysOnTheWay m first base w disk → StaysOnTheWay m first base v disk
-  led_on first base w v disk on stays = record { same_model = stays.same_model; moments = λ keeps. weaker_left m first disk _ _ (stays.moments keeps) on }
+  -- what stays along some steps stays along more
+  along_more : (first : Past) (base : World) (steps more : List Step) (disk : D) → ((bytes : List ℕ) → IsAfterSome base steps bytes → IsAfterSome base more bytes) → StaysAlong m first base steps disk → StaysAlong m first base more disk
+  along_more first base steps more disk on stays = record { same_model = stays.same_model; moments = λ keeps. weaker_left m first disk _ _ (stays.moments keeps) on }
 
-  -- an engine that is taken apart
-  pub to_front : (first : Past) (base : World) (log : Log) (doubt : Option ℕ) (disk : D) → log.base ≡ base → IsConsistentLog log → StaysOnTheWay m first base (last_world log doubt) disk → StaysOnTheWay m first base (fold log.base log.trail) disk
-  to_front first base log doubt disk same is stays = led_on first base _ _ disk (λ bytes way. subst (λ v. IsOnTheWay v (fold log.base log.trail) bytes) same (last_to_front log doubt bytes is.trail (subst (λ v. IsOnTheWay v (last_world log doubt) bytes) (sym same) way))) stays
+  -- ---- flights
 
-  -- a flight that left from a world on the way, and its steps
-  module _ (first : Past) (base w : World) (path steps : List Step) (to : IsTrail base path) (led : fold base path ≡ w) (more : IsTrail w steps) where
-    here : (bytes : List ℕ) → Recovered bytes w → IsOnTheWay base w bytes
-    here bytes gives = subst (λ v. IsOnTheWay base v bytes) led (at_end base bytes path to (subst (Recovered bytes) (sym led) gives))
+  -- a flight that left behind these settled steps, with its own
+  module _ (first : Past) (base : World) (settled steps : List Step) where
+    abbrev left_from : World
+    left_from = fold base settled
 
-    onward : (bytes : List ℕ) → IsOnTheWay base w bytes → IsOnTheWay base (fold w steps) bytes
-    onward bytes way = farther base w bytes steps more way
+    onward : (bytes : List ℕ) → IsAfterSome base settled bytes → IsAfterSome base (settled ++ steps) bytes
+    onward bytes after = of_more base settled steps bytes after
 
-    there : (bytes : List ℕ) → Recovered bytes (fold w steps) → IsOnTheWay base (fold w steps) bytes
-    there bytes gives =
-        let led_there : fold base (path ++ steps) ≡ fold w steps = fold-append path steps base ∙ ap (λ v. fold v steps) led in
-        subst (λ v. IsOnTheWay base v bytes) led_there (at_end base bytes (path ++ steps) (joined base path steps to (subst (λ v. IsTrail v steps) (sym led) more)) (subst (Recovered bytes) (sym led_there) gives))
+    here : (bytes : List ℕ) → Recovered bytes left_from → IsAfterSome base settled bytes
+    here bytes gives = after_all base settled bytes gives
 
-    either : (bytes : List ℕ) → GivesEither w (fold w steps) bytes → IsOnTheWay base (fold w steps) bytes
+    either : (bytes : List ℕ) → GivesEither left_from (fold left_from steps) bytes → IsAfterSome base (settled ++ steps) bytes
     either bytes (inl gives) = onward bytes (here bytes gives)
-    either bytes (inr gives) = there bytes gives
+    either bytes (inr gives) = after_all base (settled ++ steps) bytes (subst (Recovered bytes) (sym (fold-append settled steps base)) gives)
 
-    -- a flight has written its steps
-    flown : (left now : D) → m.keeps_model now ≡ m.keeps_model left → (m.keeps_model left ≡ true → LeavesOnly m left now (GivesEither w (fold w steps))) → StaysOnTheWay m first base w left → StaysOnTheWay m first base (fold w steps) now
+    -- it has written its steps
+    flown : (left now : D) → m.keeps_model now ≡ m.keeps_model left → (m.keeps_model left ≡ true → LeavesOnly m left now (GivesEither left_from (fold left_from steps))) → StaysAlong m first base settled left → StaysAlong m first base (settled ++ steps) now
     flown left now same run stays = record {
       same_model = same ∙ stays.same_model;
       moments = λ keeps. and_on m first left now _ _ _ (stays.moments keeps) (run (stays.same_model ∙ keeps)) onward either;
     }
 
-    -- a flight has written nothing of its steps
-    unflown : (left now : D) → m.keeps_model now ≡ m.keeps_model left → (m.keeps_model left ≡ true → LeavesOnly m left now (IsOnlyWorld w)) → StaysOnTheWay m first base w left → StaysOnTheWay m first base w now
+    -- it has written nothing of them
+    unflown : (left now : D) → m.keeps_model now ≡ m.keeps_model left → (m.keeps_model left ≡ true → LeavesOnly m left now (IsOnlyWorld left_from)) → StaysAlong m first base settled left → StaysAlong m first base settled now
     unflown left now same run stays = record {
       same_model = same ∙ stays.same_model;
-      moments = λ keeps. and_on m first left now _ _ _ (stays.moments keeps) (run (stays.same_model ∙ keeps)) (λ bytes way. way) here;
+      moments = λ keeps. and_on m first left now _ _ _ (stays.moments keeps) (run (stays.same_model ∙ keeps)) (λ bytes after. after) here;
     }
 
-  flies_on : (first : Past) (base w : World) (path : List Step) (left now : FlightState D) → IsTrail base path → fold base path ≡ w → IsTrail w left.steps → left.world ≡ w → StaysOnTheWay m first base w left.disk
-      → (answer : Result (Unit {0}) CommitFault) → CommitsFlight m.failures left answer now → LeavesFlown m left now answer → FliesOnTheWay m first base now
-  flies_on first base w path left now to led more from stays (Ok done) tried run =
-      rw tried.mark_is (rw (tried.same_world ∙ from) (rw tried.same_steps (flown first base w path left.steps to led more left.disk now.disk run.same_model (subst (λ v. m.keeps_model left.disk ≡ true → LeavesOnly m left.disk now.disk (GivesEither v (fold v left.steps))) from run.moments) stays)))
-  flies_on first base w path left now to led more from stays (Err Device) tried run =
-      rw tried.mark_is (rw (tried.same_world ∙ from) (rw tried.same_steps (flown first base w path left.steps to led more left.disk now.disk run.same_model (subst (λ v. m.keeps_model left.disk ≡ true → LeavesOnly m left.disk now.disk (GivesEither v (fold v left.steps))) from run.moments) stays)))
-  flies_on first base w path left now to led more from stays (Err OutOfMemory) tried run =
-      rw tried.mark_is (rw (tried.same_world ∙ from) (unflown first base w path left.steps to led more left.disk now.disk run.same_model (subst (λ v. m.keeps_model left.disk ≡ true → LeavesOnly m left.disk now.disk (IsOnlyWorld v)) from (λ keeps. run.unwritten keeps refl)) stays))
-  flies_on first base w path left now to led more from stays (Err Full) tried run = absurd tried
-  flies_on first base w path left now to led more from stays (Err Stopped) tried run = absurd tried
-  flies_on first base w path left now to led more from stays (Err Again) tried run = absurd tried
+  flies_along : (first : Past) (base : World) (settled : List Step) (left now : FlightState D) → left.world ≡ fold base settled → StaysAlong m first base settled left.disk
+      → (answer : Result (Unit {0}) CommitFault) → CommitsFlight m.failures left answer now → LeavesFlown m left now answer → StaysAlong m first base (flown_steps now.mark settled now.steps) now.disk
+  flies_along first base settled left now from stays (Ok done) tried run =
+      rw tried.mark_is (rw tried.same_steps (flown first base settled left.steps left.disk now.disk run.same_model (subst (λ v. m.keeps_model left.disk ≡ true → LeavesOnly m left.disk now.disk (GivesEither v (fold v left.steps))) from run.moments) stays))
+  flies_along first base settled left now from stays (Err Device) tried run =
+      rw tried.mark_is (rw tried.same_steps (flown first base settled left.steps left.disk now.disk run.same_model (subst (λ v. m.keeps_model left.disk ≡ true → LeavesOnly m left.disk now.disk (GivesEither v (fold v left.steps))) from run.moments) stays))
+  flies_along first base settled left now from stays (Err OutOfMemory) tried run =
+      rw tried.mark_is (unflown first base settled left.steps left.disk now.disk run.same_model (subst (λ v. m.keeps_model left.disk ≡ true → LeavesOnly m left.disk now.disk (IsOnlyWorld v)) from (λ keeps. run.unwritten keeps refl)) stays)
+  flies_along first base settled left now from stays (Err Full) tried run = absurd tried
+  flies_along first base settled left now from stays (Err Stopped) tried run = absurd tried
+  flies_along first base settled left now from stays (Err Again) tried run = absurd tried
 
-  -- a flight that left, and was committed
-  pub committed : (b : Basis D) (first : Past) (left now : FlightState D) → AtSomeMoment b (Leaves left) → FliesOnTheWay m first b.base left
-      → (answer : Result (Unit {0}) CommitFault) → (left.mark ≡ New → CommitsFlight m.failures left answer now) → (left.mark ≡ New → LeavesFlown m left now answer) → FliesOnTheWay m first b.base now
-  committed b first left now leaves stays answer tried run =
-      let log = leaves.state.ledger.log in
-      let is = leaves.held.log.trail in
-      let same = leaves.held.grown.same_base in
-      let new : left.mark ≡ New = ap (λ (f : FlightState D). f.mark) leaves.so.1 in
-      let from : left.world ≡ settled_world log = ap (λ (f : FlightState D). f.world) leaves.so.1 in
-      let steps : left.steps ≡ take MAX_BATCH_STEPS (pending log) = ap (λ (f : FlightState D). f.steps) leaves.so.1 in
-      let stayed : StaysOnTheWay m first b.base (settled_world log) left.disk = subst (λ v. StaysOnTheWay m first b.base v left.disk) (ap (λ k. flown_world k left.world left.steps) new ∙ from) stays in
-      flies_on first b.base (settled_world log) (take log.settled log.trail) left now (subst (λ v. IsTrail v (take log.settled log.trail)) same (first_trail log log.settled is)) (ap (λ v. fold v (take log.settled log.trail)) (sym same)) (subst (IsTrail (settled_world log)) (sym steps) (more_trail log log.settled MAX_BATCH_STEPS is)) from stayed answer (tried new) (run new)
+  same_flight : (answer : Result (Unit {0}) CommitFault) (left now : FlightState D) → CommitsFlight m.failures left answer now → (now.steps ≡ left.steps) × (now.world ≡ left.world)
+  same_flight (Ok done) left now tried = (tried.same_steps, tried.same_world)
+  same_flight (Err Device) left now tried = (tried.same_steps, tried.same_world)
+  same_flight (Err OutOfMemory) left now tried = (tried.same_steps, tried.same_world)
+  same_flight (Err Full) left now tried = absurd tried
+  same_flight (Err Stopped) left now tried = absurd tried
+  same_flight (Err Again) left now tried = absurd tried
+
+  -- a flight was committed, if it was new; any other is as it was
+  pub committed : (first : Past) (base : World) (settled : List Step) (left now : FlightState D) (answer : Result (Unit {0}) CommitFault) → FliesFrom m first base settled left → now.first ≡ left.first
+      → (left.mark ≡ New → CommitsFlight m.failures left answer now) → (left.mark ≡ New → LeavesFlown m left now answer) → (left.mark ≡ Good → now ≡ left) → (left.mark ≡ Torn → now ≡ left) → FliesFrom m first base settled now
+  committed first base settled left now answer flies number tried run again stopped = by left.mark refl
+    where
+      by : (mark : Mark) → left.mark ≡ mark → FliesFrom m first base settled now
+      by New is = record {
+        number = number ∙ flies.number;
+        world = (same_flight answer left now (tried is)).1 ∙ flies.world;
+        along = flies_along first base settled left now flies.world (subst (λ k. StaysAlong m first base (flown_steps k settled left.steps) left.disk) is flies.along) answer (tried is) (run is);
+      }
+      by Good is = subst (FliesFrom m first base settled) (sym (again is)) flies
+      by Torn is = subst (FliesFrom m first base settled) (sym (stopped is)) flies
 
   -- ---- the value under the lock
 
@@ -230,29 +207,76 @@ module _ {D : Type 0} (m : DiskModel D) where
   at_home None out home = tt
   at_home (Some b) out home = home
 
-  -- a flight brings the disk back
-  comes_back : (first : Past) (base : World) (l : LedgerState D) (f : FlightState D) → l.log.doubt ≡ None → IsOut l f → FliesOnTheWay m first base f
-      → IfSome (taken_back l (length f.steps) f.mark f.disk).disk (StaysOnTheWay m first base (last_world (taken_back l (length f.steps) f.mark f.disk).log (taken_back l (length f.steps) f.mark f.disk).log.doubt))
-  comes_back first base l f going own stays = subst (λ v. StaysOnTheWay m first base v f.disk) (sym (last_back l.log f.world f.steps f.mark going own.world own.steps)) stays
+  not_stopped : (doubt : Option ℕ) (is_out is_idle : Bool) → is_some doubt || is_out || is_idle ≡ false → doubt ≡ None
+  not_stopped None is_out is_idle none = refl
+  not_stopped (Some b) is_out is_idle none = absurd (true≢false none)
+
+  -- what is so of a ledger whose next flight has left
+  pub record HasLeftFrom (l later : LedgerState D) (f : FlightState D) : Type 0 where
+    pub going : l.log.doubt ≡ None
+    pub is_next : f ≡ next_flight l.log f.disk
+    pub disk : l.disk ≡ Some f.disk
+    pub home : IfSome later.log.doubt (λ _. later.out ≡ None)
+    pub gone : later.disk ≡ None
+
+  pub has_left : {E : Type 0} (l later : LedgerState D) (f : FlightState D) (r : Result (Option (FlightState D)) E) → r ≡ Ok (Some f) → (keeps_store l ≡ true → (r ≡ Ok None) × (later ≡ l))
+      → (keeps_store l ≡ false → IfOk r (λ begun. IsSomeAnd begun (λ flight. (flight ≡ next_flight l.log flight.disk) × (l.disk ≡ Some flight.disk) × (later ≡ with_store_out l (length flight.steps))))) → HasLeftFrom l later f
+  has_left {E} l later f r is nothing begun = by (keeps_store l) refl
+    where
+      by : (kept : Bool) → keeps_store l ≡ kept → HasLeftFrom l later f
+      by true at = let none = sym is ∙ (nothing at).0 in absurd cc
+      by false at =
+          let so = subst (λ x. IfOk x (λ begun. IsSomeAnd begun (λ flight. (flight ≡ next_flight l.log flight.disk) × (l.disk ≡ Some flight.disk) × (later ≡ with_store_out l (length flight.steps))))) is (begun at) in
+          let going : l.log.doubt ≡ None = not_stopped l.log.doubt _ _ at in
+          record {
+            going = going;
+            is_next = so.0;
+            disk = so.1;
+            home = subst (λ (x : LedgerState D). IfSome x.log.doubt (λ _. x.out ≡ None)) (sym so.2) (subst (λ o. IfSome o (λ _. Some (length f.steps) ≡ None)) (sym going) tt);
+            gone = ap (λ (x : LedgerState D). x.disk) so.2;
+          }
+
+  -- a flight leaves behind the settled steps
+  pub leaves_from : (first : Past) (base : World) (l later : LedgerState D) (f : FlightState D) → HasLeftFrom l later f → l.log.base ≡ base → l.log.settled ≤ length l.log.trail → IfSome l.disk (StaysAlong m first base (last_steps l.log l.log.doubt)) → FliesFrom m first base (settled_steps l.log) f
+  leaves_from first base l later f is same within stays =
+      let at : StaysAlong m first base (last_steps l.log l.log.doubt) f.disk = subst (λ o. IfSome o (StaysAlong m first base (last_steps l.log l.log.doubt))) is.disk stays in
+      let here : StaysAlong m first base (settled_steps l.log) f.disk = subst (λ o. StaysAlong m first base (last_steps l.log o) f.disk) is.going at in
+      subst (FliesFrom m first base (settled_steps l.log)) (sym is.is_next) (record {
+        number = omega (arith, ap (λ (w : World). w.count) same, length-take-le l.log.settled l.log.trail within);
+        world = ap (λ (w : World). fold w (settled_steps l.log)) same;
+        along = here;
+      })
+
+  -- a flight that comes back left behind the steps that are settled still
+  pub is_behind : (first : Past) (base : World) (l : LedgerState D) (f : FlightState D) (written read : List Step) → l.log.base ≡ base → IsOut l f → FliesFrom m first base read f → StartsWith (settled_steps l.log) written → StartsWith written read → read ≡ settled_steps l.log
+  is_behind first base l f written read same own flies grown begins =
+      let starts : StartsWith (settled_steps l.log) read = first_of_first read written (settled_steps l.log) begins grown in
+      let count : length read ≡ l.log.settled = omega (arith, flies.number, own.first, ap (λ (w : World). w.count) same) in
+      sym (by_length (settled_steps l.log) read starts) ∙ ap (λ n. take n (settled_steps l.log)) count ∙ take-take l.log.settled l.log.settled l.log.trail (le_refl l.log.settled)
 
   -- what is so of a ledger behind the coming of a flight
-  pub record HasEnded (first : Past) (base : World) (l later : LedgerState D) : Type 0 where
+  pub record HasEnded (first : Past) (base : World) (l later : LedgerState D) (written : List Step) : Type 0 where
     pub trail : later.log.trail ≡ l.log.trail
     pub base_is : later.log.base ≡ l.log.base
     pub home : IfSome later.log.doubt (λ _. later.out ≡ None)
-    pub way : IfSome later.disk (StaysOnTheWay m first base (last_world later.log later.log.doubt))
+    pub along : IfSome later.disk (StaysAlong m first base (last_steps later.log later.log.doubt))
+    pub grown : StartsWith (settled_steps later.log) written
 
-  pub ended : {T E : Type 0} (first : Past) (base : World) (l later : LedgerState D) (f : FlightState D) (r : Result T E) → IfSome l.log.doubt (λ _. l.out ≡ None) → IfSome l.disk (StaysOnTheWay m first base (last_world l.log l.log.doubt)) → FliesOnTheWay m first base f
-      → OnOk r (IsOut l f) → OnOk r (later ≡ taken_back l (length f.steps) f.mark f.disk) → OnErr r (later ≡ l) → HasEnded first base l later
-  ended first base l later f (Ok x) home at flies own taken same = subst (HasEnded first base l) (sym taken) (record {
-    trail = back_trail l.log (length f.steps) f.mark;
-    base_is = back_base l.log (length f.steps) f.mark;
-    home = at_home (log_back l.log (length f.steps) f.mark).doubt None refl;
-    way = comes_back first base l f (going_of l.log.doubt l.out (length f.steps) home own.size) own flies;
-  })
-  ended first base l later f (Err e) home at flies own taken same = subst (HasEnded first base l) (sym same) (record { trail = refl; base_is = refl; home = home; way = at })
+  pub ended : (first : Past) (base : World) (l later : LedgerState D) (f : FlightState D) (written read : List Step) → l.log.base ≡ base → IfSome l.log.doubt (λ _. l.out ≡ None) → FliesFrom m first base read f → StartsWith (settled_steps l.log) written → StartsWith written read
+      → IsOut l f → later ≡ taken_back l (length f.steps) f.mark f.disk → HasEnded first base l later written
+  ended first base l later f written read same home flies grown begins own taken =
+      let n = length f.steps in
+      let behind = is_behind first base l f written read same own flies grown begins in
+      subst (λ x. HasEnded first base l x written) (sym taken) (record {
+        trail = back_trail l.log n f.mark;
+        base_is = back_base l.log n f.mark;
+        home = at_home (log_back l.log n f.mark).doubt None refl;
+        along = subst (λ steps. StaysAlong m first base steps f.disk) (sym (last_back l.log read f.steps f.mark (going_of l.log.doubt l.out n home own.size) behind own.steps)) flies.along;
+        grown = first_of_first written (settled_steps l.log) (settled_steps (log_back l.log n f.mark)) grown (settled_grow l.log n f.mark);
+      })
 
   -- what is left of an engine
-  pub closed_on_way : (first : Past) (base left : World) (trail : List Step) (l : LedgerState D) (disk : D) → l.disk ≡ Some disk → left ≡ l.log.base → trail ≡ l.log.trail → l.log.base ≡ base → IsConsistentLog l.log → IfSome l.disk (StaysOnTheWay m first base (last_world l.log l.log.doubt)) → StaysOnTheWay m first base (fold left trail) disk
-  closed_on_way first base left trail l disk at from steps same is stays =
-      rw from (rw steps (to_front first base l.log l.log.doubt disk same is (subst (λ o. IfSome o (StaysOnTheWay m first base (last_world l.log l.log.doubt))) at stays)))
+  pub closed_along : (first : Past) (base : World) (trail : List Step) (l : LedgerState D) (disk : D) → l.disk ≡ Some disk → trail ≡ l.log.trail → l.log.base ≡ base → IfSome l.disk (StaysAlong m first base (last_steps l.log l.log.doubt)) → StaysAlong m first base trail disk
+  closed_along first base trail l disk at steps same stays =
+      let here : StaysAlong m first base (last_steps l.log l.log.doubt) disk = subst (λ o. IfSome o (StaysAlong m first base (last_steps l.log l.log.doubt))) at stays in
+      rw steps (along_more first base (last_steps l.log l.log.doubt) l.log.trail disk (λ bytes after. subst (λ w. IsAfterSome w l.log.trail bytes) same (last_to_all l.log l.log.doubt bytes (subst (λ w. IsAfterSome w (last_steps l.log l.log.doubt) bytes) (sym same) after))) here)

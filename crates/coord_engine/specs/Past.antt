@@ -1,5 +1,5 @@
--- What an engine's disk was when the engine was made, and what a crash may have left since: worlds on the way from its base to the one after all accepted steps.
-use Rattle.std.specs.Prelude.{◌≡◌, ◌⊎◌, ℕ, ◌+◌, ◌≤◌, Bool, false, true, List, ◌++◌, Option, Some, None, Result, IsErrOf}
+-- What an engine's disk was when the engine was made, and what a crash may have left since: worlds after the first of the steps that were accepted.
+use Rattle.std.specs.Prelude.{◌≡◌, ◌⊎◌, ℕ, ◌+◌, ◌≤◌, Bool, false, true, List, ◌++◌, Option, Some, None, Result, length, take, IsErrOf}
 use Rattle.coord_disk.specs.Model.DiskModel.{DiskModel}
 use Rattle.coord_disk.specs.Model.Moments.{LeavesOnly}
 use Rattle.coord_types.specs.declared.steps.Step.{Step}
@@ -10,7 +10,7 @@ use Rattle.coord_world.specs.laws.Trails.{IsTrail}
 use Rattle.coord_world.specs.Facade.{World, fold}
 use Rattle.coord_ledger.specs.declared.mark.Mark.{Mark}
 use Rattle.coord_ledger.specs.declared.mark.Mark.TheVariants.{New, Good, Torn}
-use Rattle.coord_ledger.specs.Facade.{FlightState, Log, settled_world, world_after}
+use Rattle.coord_ledger.specs.Facade.{FlightState, Log, settled_steps}
 
 -- A disk at a moment, as later ones are compared with it: whether it kept the model, the moment, and what a crash might have left since each earlier one. It names no type of disks, so it can be a ghost of an engine's name.
 pub record Past : Type 1 where
@@ -52,25 +52,37 @@ pub record HasLeft {D : Type 0} (m : DiskModel D) (first : Past) (now : D) (P : 
   pub each : (image : List ℕ) → m.left_since now first.clock image → P image
   pub before : (t : ℕ) (image : List ℕ) → t ≤ first.clock → m.left_since now t image → first.left_since t image ⊎ P image
 
--- The disk keeps the model as it did at first, and if so, a crash at any moment since left only worlds on the way between these.
-pub record StaysOnTheWay {D : Type 0} (m : DiskModel D) (first : Past) (base end : World) (now : D) : Type 0 where
+-- These bytes give the world after the first steps of a list, some number of them.
+pub record IsAfterSome (base : World) (steps : List Step) (bytes : List ℕ) : Type 0 where
+  pub number : ℕ
+  pub within : number ≤ length steps
+  pub recovered : Recovered bytes (fold base (take number steps))
+
+-- the world after the first steps of a trail is on the way of the trail
+abbrev pub AfterSomeIsOnTheWay : Type 0
+AfterSomeIsOnTheWay = (base : World) (steps : List Step) (bytes : List ℕ) → IsTrail base steps → IsAfterSome base steps bytes → IsOnTheWay base (fold base steps) bytes
+
+-- The disk keeps the model as it did at first, and if so, a crash at any moment since left only worlds after the first of these steps.
+pub record StaysAlong {D : Type 0} (m : DiskModel D) (first : Past) (base : World) (steps : List Step) (now : D) : Type 0 where
   pub same_model : m.keeps_model now ≡ first.keeps_model
-  pub moments : first.keeps_model ≡ true → HasLeft m first now (IsOnTheWay base end)
+  pub moments : first.keeps_model ≡ true → HasLeft m first now (IsAfterSome base steps)
 
--- the last world that may be on the disk of a ledger: the settled one; once it has stopped, the one after the steps in doubt
-abbrev pub last_world : Log → Option ℕ → World
-last_world log None = settled_world log
-last_world log (Some b) = world_after log (log.settled + b)
+-- the steps of a ledger that may be on its disk: the settled ones; once it has stopped, those in doubt too
+abbrev pub last_steps : Log → Option ℕ → List Step
+last_steps log None = settled_steps log
+last_steps log (Some b) = take (log.settled + b) log.trail
 
--- the last world that may be on the disk of a flight: the one before its steps while it is new, then the one after them
-abbrev pub flown_world : Mark → World → List Step → World
-flown_world New w steps = w
-flown_world Good w steps = fold w steps
-flown_world Torn w steps = fold w steps
+-- the steps that may be on the disk of a flight: those that were settled when it left while it is new, then its own too
+abbrev pub flown_steps : Mark → List Step → List Step → List Step
+flown_steps New settled steps = settled
+flown_steps Good settled steps = settled ++ steps
+flown_steps Torn settled steps = settled ++ steps
 
--- the disk of a flight has stayed on the way
-abbrev pub FliesOnTheWay : {D : Type 0} → DiskModel D → Past → World → FlightState D → Type 0
-FliesOnTheWay m first base f = StaysOnTheWay m first base (flown_world f.mark f.world f.steps) f.disk
+-- A flight left behind these settled steps, and its disk has left only worlds after the first of the steps that may be on it.
+pub record FliesFrom {D : Type 0} (m : DiskModel D) (first : Past) (base : World) (settled : List Step) (f : FlightState D) : Type 0 where
+  pub number : f.first ≡ base.count + length settled + 1
+  pub world : f.world ≡ fold base settled
+  pub along : StaysAlong m first base (flown_steps f.mark settled f.steps) f.disk
 
 -- A new flight was committed with this answer: its disk keeps the model as before, and a crash at any moment of the call left the world from before its steps or the one after them; where there was no memory, the one from before.
 pub record LeavesFlown {D : Type 0} (m : DiskModel D) (left now : FlightState D) (answer : Result (Unit {0}) CommitFault) : Type 0 where

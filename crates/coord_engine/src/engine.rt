@@ -2,20 +2,20 @@
 
 ghost use Rattle.std.specs.Prelude.{◌≡◌, ◌<◌, [], length, Err, None, Ok, Some, IfErr, IfNone, IfOk, IfSome, MatchResult};
 ghost use Rattle.std.specs.Sync.Mutex.{mutex_guard_value};
-ghost use Rattle.coord_ledger.specs.declared.mark.Mark.TheVariants.{New};
 ghost use Rattle.coord_ledger.specs.ledger.Calls.{releases_in};
-ghost use Rattle.coord_world.specs.protocol.Next.{fold};
 ghost use Rattle.coord_engine.specs.Calls.{IsToldTicket};
 ghost use Rattle.coord_engine.specs.Closing.{IsSince, RefusesClosing};
-ghost use Rattle.coord_engine.specs.Flights.{AnswersBegin, AnswersFlush, ComesBack, CommitsFlight};
-ghost use Rattle.coord_engine.specs.Past.{FliesOnTheWay, IsPastOf, LeavesFlown, StaysOnTheWay};
+ghost use Rattle.coord_engine.specs.Flights.{AnswersBegin, AnswersFlush, ComesBack};
+ghost use Rattle.coord_engine.specs.Past.{IsPastOf, StaysAlong};
 ghost use Rattle.coord_engine.specs.State.{based_on, most_shares};
 ghost use Rattle.coord_engine.specs.Threads.{AnswersShow, AnswersTicket, AtSomeMoment, Closes, SendsAgain, Submits};
 
 use crate::flushing::rest;
-use crate::{CloseFault, Closed, Collected, Guarded, Origin, Share};
+use crate::{
+    CloseFault, Closed, Collected, EngineHistory, Guarded, NewHistory, Origin, OwnFlight, Share,
+};
 use coord_disk::Disk;
-use coord_ledger::{Flight, Ledger, Releases, Seen, Ticket};
+use coord_ledger::{Ledger, Releases, Seen, Ticket};
 use coord_store::CommitFault;
 use coord_types::{Refusal, Reply, Step};
 use coord_view::View;
@@ -23,15 +23,6 @@ use std::alloc::{AllocError, Global};
 use std::sync::ledger::Blank;
 use std::sync::{Condvar, Mutex, MutexGuard, Wait};
 use std::time::Clock;
-
-/// Commits a flight. A crash at any moment of the call leaves the world from before its steps, or the
-/// one after them.
-fn commit<D: Disk>(flight: &mut Flight<D>) -> Result<(), CommitFault>
-    ensures commits { flight.old.mark ≡ New → CommitsFlight D.model.failures flight.old result flight.new }
-    ensures moments { flight.old.mark ≡ New → LeavesFlown D.model flight.old flight.new result }
-{
-    flight.commit()
-}
 
 /// What a flush answers whose flight was committed with this answer, and then gave these releases as
 /// it came back: a flight that was not settled releases nothing.
@@ -55,6 +46,8 @@ fn answer_of(
 #[derive(Drop)]
 pub struct Engine<D: Disk, L: Origin> {
     pub(crate) guarded: Mutex<Guarded<D, L>>,
+    /// What flights read, and the value under the lock writes.
+    history: EngineHistory<L>,
     /// On which callers wait for their replies.
     pub(crate) changed: Condvar,
     /// On which flushers wait for steps.
@@ -62,20 +55,23 @@ pub struct Engine<D: Disk, L: Origin> {
 }
 
 impl<D: Disk, L: Origin> Engine<D, L> {
-    /// Makes an engine over a ledger whose store is at home. `L` names that ledger: its base, the
-    /// steps that it has accepted, and its disk as it is. The blank has 65,536 parts. No clause can say what lies
+    /// Makes an engine over a ledger whose store is at home. `L` names the history and that ledger: its
+    /// base, the steps that it has accepted, and its disk as it is. The blank has 65,536 parts. No clause can say what lies
     /// behind a lock; so the contract is that of `Guarded::new`, and `close` says what it gives
     /// back in terms of `L`.
-    pub fn new(alloc: Global, blank: Blank, ledger: Ledger<D>) -> Self
+    pub fn new(alloc: Global, blank: Blank, history: NewHistory, ledger: Ledger<D>) -> Self
         requires name { blank.name ≡ L.name }
         requires parts { (blank.parts ≡ L.parts) × (L.parts ≡ 65536) }
+        requires history { history ≡ L.history }
         requires home { ledger.out ≡ None }
         requires base { ledger.log.base ≡ L.base }
         requires before { ledger.log.trail ≡ L.before }
         requires disk { IfSome ledger.disk (IsPastOf D.model L.disk) }
     {
+        let (history, writer) = history.named();
         Engine {
-            guarded: Mutex::new(Guarded::new(alloc, blank, ledger)),
+            guarded: Mutex::new(Guarded::new(alloc, blank, writer, ledger)),
+            history,
             changed: Condvar::new(),
             work: Condvar::new(),
         }
@@ -213,7 +209,7 @@ impl<D: Disk, L: Origin> Engine<D, L> {
             Ok(None) => return Ok(None),
             Err(_) => return Err(CommitFault::OutOfMemory),
         };
-        let committed = commit(&mut flight);
+        let committed = flight.commit();
         let releases = self.end(rt, flight);
         self.wake_all();
         answer_of(committed, releases)
@@ -226,26 +222,24 @@ impl<D: Disk, L: Origin> Engine<D, L> {
     }
 
     /// Sends the next flight out.
-    pub(crate) fn begin<R: Wait>(&self, rt: &R) -> Result<Option<Flight<D>>, AllocError>
-        ensures answer { AnswersBegin (based_on D.model L.base L.before) result }
-        ensures way { IfOk result (λ begun. IfSome begun (FliesOnTheWay D.model L.disk L.base)) }
+    pub(crate) fn begin<R: Wait>(&self, rt: &R) -> Result<Option<OwnFlight<D, L>>, AllocError>
+        ensures { AnswersBegin (based_on D.model L.base L.before) result }
     {
         let mut guarded = self.guarded.lock(rt);
         guarded.count_leaving();
         guarded.keeps();
-        guarded.begin()
+        guarded.begin(&self.history)
     }
 
     /// Takes a flight back. Where it is refused, for memory, it is tried again behind a rest.
-    pub(crate) fn end<R: Wait + Clock>(&self, rt: &R, flight: Flight<D>) -> Releases
-        requires way { FliesOnTheWay D.model L.disk L.base flight }
+    pub(crate) fn end<R: Wait + Clock>(&self, rt: &R, flight: OwnFlight<D, L>) -> Releases
         ensures released { result ≡ releases_in flight flight.mark }
         ensures back { AtSomeMoment (based_on D.model L.base L.before) (ComesBack flight) }
     {
         let mut out = flight;
         for _ in rt.forever() {
             let mut guarded = self.guarded.lock(rt);
-            match guarded.end(out) {
+            match guarded.end(&self.history, out) {
                 Ok(releases) => {
                     guarded.keeps();
                     guarded.await_callers();
@@ -269,8 +263,7 @@ impl<D: Disk, L: Origin> Engine<D, L> {
     /// Takes the engine apart, where no flight is out, all shares are there, and their notes are
     /// what was accepted since the engine was made. What is left has the base of the ledger that
     /// the engine was made over, and a trail that begins with that ledger's. A crash at any moment
-    /// since then left only worlds on the way from that base to the one after the trail. It takes no
-    /// memory.
+    /// since then left only worlds after the first steps of that trail. It takes no memory.
     pub fn close(
         self,
         shares: Vec<Share<L>>,
@@ -278,8 +271,8 @@ impl<D: Disk, L: Origin> Engine<D, L> {
         requires { L.parts ≡ 65536 }
         ensures since { IfOk result (λ closed.
             IsSince L.base L.before shares.items closed.base closed.trail.items) }
-        ensures way { IfOk result (λ closed. StaysOnTheWay D.model L.disk L.base
-            (fold closed.base closed.trail.items) closed.store.disk) }
+        ensures along { IfOk result (λ closed.
+            StaysAlong D.model L.disk L.base closed.trail.items closed.store.disk) }
         ensures closed { IfOk result (λ closed. AtSomeMoment (based_on D.model L.base L.before)
             (Closes closed.store closed.base closed.trail.items closed.settled shares.items)) }
         ensures refused { IfErr result (λ refused.
@@ -289,6 +282,7 @@ impl<D: Disk, L: Origin> Engine<D, L> {
     {
         let Engine {
             guarded,
+            history,
             changed,
             work,
         } = self;
@@ -300,6 +294,7 @@ impl<D: Disk, L: Origin> Engine<D, L> {
                 fault,
                 Engine {
                     guarded: Mutex::new(guarded),
+                    history,
                     changed,
                     work,
                 },

@@ -14,7 +14,7 @@ mod flushing;
 mod pacing;
 mod submitting;
 
-use crate::{Origin, Share};
+use crate::{Origin, Share, Writer};
 use coord_disk::Disk;
 use coord_ledger::Ledger;
 pub use pacing::PutDown;
@@ -29,14 +29,16 @@ const MOST_SHARES: u32 = 65_535;
 ///
 /// Its type keeps, beside what the ledger's type keeps, that the trail is that of the ledger that
 /// `L` names, grown by as many steps as all shares have noted, that no flight is out once the ledger
-/// has stopped, and that a crash at any moment since the engine was made left only worlds on the way
-/// of its steps (`specs/Past.antt`).
+/// has stopped, and that a crash at any moment since the engine was made left only worlds after the
+/// first of its steps (`specs/Past.antt`).
 #[derive(Drop)]
 pub struct Guarded<D: Disk, L: Origin> {
     alloc: Global,
     ledger: Ledger<D>,
     /// Counts the steps that were accepted for shares.
     book: Book<L>,
+    /// Has written the steps that were settled when the last flight left.
+    writer: Writer<L>,
     /// The parts of the count that were not given out.
     rest: Part<L>,
     given: u32,
@@ -48,8 +50,10 @@ pub struct Guarded<D: Disk, L: Origin> {
 
 impl<D: Disk, L: Origin> Model for Guarded<D, L> {
     ghost use Rattle.std.specs.Prelude.{◌≡◌, ◌+◌, ◌≤◌, length, take, IfSome, None};
-    ghost use Rattle.coord_engine.specs.Past.{StaysOnTheWay, last_world};
+    ghost use Rattle.coord_engine.specs.History.{StartsWith};
+    ghost use Rattle.coord_engine.specs.Past.{StaysAlong, last_steps};
     ghost use Rattle.coord_engine.specs.State.{GuardedState, most_shares};
+    ghost use Rattle.coord_ledger.specs.machine.Log.{settled_steps};
 
     ghost Value = { GuardedState D };
 
@@ -69,14 +73,17 @@ impl<D: Disk, L: Origin> Model for Guarded<D, L> {
         × (g.ledger.log.base ≡ L.base) × (g.start ≡ length L.before) ×
         (take g.start g.ledger.log.trail ≡ L.before)
         × IfSome g.ledger.log.doubt (λ _. g.ledger.out ≡ None)
-        × IfSome g.ledger.disk (StaysOnTheWay D.model L.disk L.base (last_world g.ledger.log g.ledger.log.doubt)) };
+        × IfSome g.ledger.disk (StaysAlong D.model L.disk L.base (last_steps g.ledger.log g.ledger.log.doubt))
+        × StartsWith (settled_steps g.ledger.log) g.writer };
 }
 
 impl<D: Disk, L: Origin> Guarded<D, L> {
-    /// Over a ledger whose store is at home, and which `L` names. The blank has 65,536 parts.
-    pub fn new(alloc: Global, blank: Blank, ledger: Ledger<D>) -> Self
+    /// Over a ledger whose store is at home, and which `L` names. The blank has 65,536 parts, and
+    /// nothing is written in the history.
+    pub fn new(alloc: Global, blank: Blank, writer: Writer<L>, ledger: Ledger<D>) -> Self
         requires name { blank.name ≡ L.name }
         requires parts { (blank.parts ≡ L.parts) × (L.parts ≡ 65536) }
+        requires history { writer ≡ [] }
         requires home { ledger.out ≡ None }
         requires base { ledger.log.base ≡ L.base }
         requires before { ledger.log.trail ≡ L.before }
@@ -91,6 +98,7 @@ impl<D: Disk, L: Origin> Guarded<D, L> {
             alloc,
             ledger,
             book,
+            writer,
             rest,
             given: 0,
             start,

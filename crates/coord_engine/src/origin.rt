@@ -3,17 +3,22 @@
 ghost use Rattle.std.specs.Prelude.{List, []};
 ghost use Rattle.coord_types.specs.declared.steps.Step.{Step};
 ghost use Rattle.coord_world.specs.protocol.NumberedWorld.{World, no_world};
+ghost use Rattle.atomic_table.specs.Seated.{TableId};
+ghost use Rattle.coord_engine.specs.History.{no_history};
 ghost use Rattle.coord_engine.specs.Past.{Past, no_past};
 
 use std::marker::Brand;
 use std::sync::ledger::Ledger as Count;
 
-/// Names an engine: the count of its shares, and the ledger that it was made over. It is asked for
+/// Names an engine: the count of its shares, its history, and the ledger that it was made over. It is asked for
 /// by `Engine::new` and told by `Engine::close`, since no clause can say what lies behind a lock.
 ///
 /// An engine is made in code that is generic over this name and called with `Brand`, which picks
-/// the base, the steps and the disk's past of the ledger at hand.
+/// the history, and the base, the steps and the disk's past of the ledger at hand.
 pub trait Origin: Count {
+    /// Which history it writes.
+    ghost history: { TableId };
+
     /// The world before the ledger's first step.
     ghost base: { World };
 
@@ -25,6 +30,8 @@ pub trait Origin: Count {
 }
 
 impl Origin for Brand {
+    ghost history = { no_history };
+
     ghost base = { no_world 1 };
 
     ghost before = { [] };

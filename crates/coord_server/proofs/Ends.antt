@@ -65,7 +65,7 @@ module _ {D : Type 0} (b : Basis D) {V : Type 0} (talked : V → List Talk → V
   served_so : (port : Local) (v w : V) (desk : DeskState Local) (served : Option ServerFault) → ServesLife b talked failed most port v w desk (Ended served) → Serves b talked failed most port v w desk served
   served_so port v w desk served h1 = grind arith
 
-  served_at_last : (port : Local) (v w : V) (desk : DeskState Local) (left : LifeEnd) (served : Option ServerFault) → ServesLife b talked failed most port v w desk left → IsLastLife left served → Serves b talked failed most port v w desk served
+  pub served_at_last : (port : Local) (v w : V) (desk : DeskState Local) (left : LifeEnd) (served : Option ServerFault) → ServesLife b talked failed most port v w desk left → IsLastLife left served → Serves b talked failed most port v w desk served
   served_at_last port v w desk Resting served s over = subst (Serves b talked failed most port v w desk) (sym over) s
   served_at_last port v w desk (Ended why) served s over = subst (Serves b talked failed most port v w desk) (sym over) (served_so port v w desk why s)
 
@@ -75,7 +75,7 @@ module _ {D : Type 0} (m : DiskModel D) {V : Type 0} (talked : V → List Talk �
   abbrev b : World → Basis D
   b world = based_on m world []
 
-  rests : (world : World) (v : V) (life : Life D V) → life.left ≡ Resting → IsLife (b world) talked failed most v life → most ≤ length life.closed.trail.items → has_stopped life.closed.store ≡ false → life.closed.settled ≡ life.closed.base.count + length life.closed.trail.items
+  pub rests : (world : World) (v : V) (life : Life D V) → life.left ≡ Resting → IsLife (b world) talked failed most v life → most ≤ length life.closed.trail.items → has_stopped life.closed.store ≡ false → life.closed.settled ≡ life.closed.base.count + length life.closed.trail.items
       → Rests m talked most world v life.callers life.closed.store.world
   rests world v life is so kept going all =
       let rested = subst (ServesLife (b world) talked failed most so.port v life.callers so.desk) is so.served in

@@ -1,65 +1,131 @@
 -- Moments of one life after the other.
-use Rattle.std.proofs.Common.{◌≡◌, inl, inr, ⊎_elim, true, List, [], ◌++◌, ◌+◌, length, Option, Some, IfSome, sym, ap, subst, ◌∙◌}
+use Rattle.std.proofs.Common.{◌≡◌, inl, inr, ⊎_elim, true, false, ℕ, suc, List, [], ◌∷◌, ◌++◌, ◌+◌, ◌≤◌, length, take, Option, Some, IfSome, Result, Ok, Err, IfOk, refl, sym, ap, subst, ◌∙◌, append-nil, length-append, arith}
+use Rattle.std.proofs.Math.Seq.{take-append-add}
+use Rattle.std.proofs.lemmas.Grind.{flat_map-append}
 use Rattle.coord_disk.proofs.MomentLemmas.{and_then, weaker}
 use Rattle.coord_disk.specs.Model.DiskModel.{DiskModel}
 use Rattle.coord_disk.specs.Model.Moments.{LeavesOnly}
 use Rattle.coord_types.specs.declared.steps.Step.{Step}
-use Rattle.coord_store.specs.Kept.{Kept}
+use Rattle.coord_store.specs.Facade.{Recovered}
+use Rattle.coord_store.specs.Kept.{Kept, has_stopped}
 use Rattle.coord_world.specs.laws.Trails.{IsTrail}
 use Rattle.coord_world.specs.Facade.{World, fold}
 use Rattle.coord_world.proofs.Facade.{fold-append}
 use Rattle.coord_ledger.specs.declared.ticket.Note.{Note}
-use Rattle.coord_engine.proofs.Past.{farther, from_before, joined, left_only}
-use Rattle.coord_engine.specs.Facade.{IsOnTheWay, IsPastOf, Past, StaysOnTheWay}
+use Rattle.coord_admin.specs.Connections.{Talk}
+use Rattle.coord_engine.proofs.OnTheWay.{joined}
+use Rattle.coord_engine.proofs.Past.{after_some_is_on_the_way, left_only, of_more}
+use Rattle.coord_engine.specs.Facade.{IsAfterSome, IsOnTheWay, IsPastOf, Past, StaysAlong}
 use Rattle.coord_engine.specs.State.{based_on}
 use Rattle.coord_engine.specs.declared.closed.Closed.{Closed}
-use Rattle.coord_server.proofs.OneHistory.{leaves_all, tells}
-use Rattle.coord_server.specs.Ending.{IsOneHistory}
-use Rattle.coord_server.specs.Moments.{AtEachMoment, ComesFrom, HasComeTo}
+use Rattle.coord_server.proofs.Ends.{rests, served_at_last}
+use Rattle.coord_server.proofs.OneHistory.{leaves_all, lives_are_one, tells}
+use Rattle.coord_server.specs.Ending.{IsLife, IsOneHistory}
+use Rattle.coord_server.specs.Lives.{AreOneHistory, IsLastLife, LifeSteps, all_steps, steps_in, steps_of}
+use Rattle.coord_server.specs.Moments.{AtEachMoment, ComesFrom, EndsAlong, HasComeTo, HaveRested, KeepsAlong, LivesKeepAlong}
+use Rattle.coord_server.specs.declared.life.Life.{Life}
+use Rattle.coord_server.specs.declared.life_end.LifeEnd.TheVariants.{Resting}
+use Rattle.coord_server.specs.declared.server_end.ServerEnd.{ServerEnd}
+
+-- after some steps behind others
+behind : (base : World) (steps more : List Step) (bytes : List ℕ) → IsAfterSome (fold base steps) more bytes → IsAfterSome base (steps ++ more) bytes
+behind base steps more bytes after = record {
+  number = length steps + after.number;
+  within = omega (arith, after.within, length-append steps more);
+  recovered = subst (Recovered bytes) (sym (ap (fold base) (take-append-add steps more after.number) ∙ fold-append steps (take after.number more) base)) after.recovered;
+}
+
+-- the steps of some lives and of one more
+and_steps : (lives : List LifeSteps) (l : LifeSteps) → all_steps (lives ++ l ∷ []) ≡ all_steps lives ++ l.trail
+and_steps lives l = flat_map-append (λ (x : LifeSteps). x.trail) lives (l ∷ []) ∙ ap (λ (s : List Step). all_steps lives ++ s) (append-nil l.trail)
 
 module _ {D : Type 0} (m : DiskModel D) where
   -- of an engine that was made over the ledger of a store
-  pub of_life : (first : Past) (base : World) (disk : Option D) (store : Kept D) (left : Closed D) → IfSome disk (IsPastOf m first) → disk ≡ Some store.disk → base ≡ store.world → StaysOnTheWay m first base (fold left.base left.trail.items) left.store.disk → AtEachMoment m store left
+  pub of_life : (first : Past) (base : World) (disk : Option D) (store : Kept D) (left : Closed D) → IfSome disk (IsPastOf m first) → disk ≡ Some store.disk → base ≡ store.world → StaysAlong m first base left.trail.items left.store.disk → KeepsAlong m store left.trail.items left.store
   of_life first base disk store left past at from stays =
       let was : IsPastOf m first store.disk = subst (λ o. IfSome o (IsPastOf m first)) at past in
-      let here : StaysOnTheWay m first store.world (fold left.base left.trail.items) left.store.disk = subst (λ w. StaysOnTheWay m first w (fold left.base left.trail.items) left.store.disk) from stays in
-      record { same_model = here.same_model ∙ was.model; moments = λ keeps. left_only m first store.disk left.store.disk (IsOnTheWay store.world (fold left.base left.trail.items)) was (here.moments (was.model ∙ keeps)) }
+      let here : StaysAlong m first store.world left.trail.items left.store.disk = subst (λ w. StaysAlong m first w left.trail.items left.store.disk) from stays in
+      record { same_model = here.same_model ∙ was.model; moments = λ keeps. left_only m first store.disk left.store.disk (IsAfterSome store.world left.trail.items) was (here.moments (was.model ∙ keeps)) }
 
-  joined_moments : (first now : Kept D) (end : World) (new : D) (more : List Step) → HasComeTo m first now → IsTrail now.world more → fold now.world more ≡ end → LeavesOnly m now.disk new (IsOnTheWay now.world end) → m.keeps_model first.disk ≡ true → LeavesOnly m first.disk new (IsOnTheWay first.world end)
-  joined_moments first now end new more come trail leads run keeps =
-      weaker m first.disk new _ _ (and_then m first.disk now.disk new _ _ (come.moments keeps) run)
+  joined_moments : (first now : Kept D) (new : D) (steps more : List Step) → HasComeTo m first steps now → LeavesOnly m now.disk new (IsAfterSome now.world more) → m.keeps_model first.disk ≡ true → LeavesOnly m first.disk new (IsAfterSome first.world (steps ++ more))
+  joined_moments first now new steps more come run keeps =
+      weaker m first.disk new _ _ (and_then m first.disk now.disk new _ _ (come.along.moments keeps) run)
       (λ bytes either. ⊎_elim
-      (λ early. subst (λ w. IsOnTheWay first.world w bytes) leads (farther first.world now.world bytes more trail early))
-      (λ late. from_before first.world now.world end bytes come.steps come.trail come.leads late)
+      (λ early. of_more first.world steps more bytes early)
+      (λ late. behind first.world steps more bytes (subst (λ w. IsAfterSome w more bytes) (sym come.leads) late))
       either)
 
   -- behind the lives so far, one more
-  pub after_life : (first now : Kept D) (left : Closed D) (desk : List Note) → ComesFrom m first now → IsOneHistory (based_on m now.world []) desk left → AtEachMoment m now left → AtEachMoment m first left
-  after_life first now left desk (inl same) history moments = subst (λ k. AtEachMoment m k left) same moments
-  after_life first now left desk (inr come) history moments =
-      let t = tells (based_on m now.world []) desk left history in
-      record {
-        same_model = moments.same_model ∙ come.same_model;
-        moments = λ keeps. joined_moments first now (fold left.base left.trail.items) left.store.disk left.trail.items come t.steps (ap (λ w. fold w left.trail.items) (sym t.from)) (moments.moments (come.same_model ∙ keeps)) keeps;
-      }
+  pub after_life : (first now : Kept D) (steps : List Step) (left : Closed D) → ComesFrom m first steps now → KeepsAlong m now left.trail.items left.store → KeepsAlong m first (steps ++ left.trail.items) left.store
+  after_life first now steps left (inl same) along = subst (λ l. KeepsAlong m first (l ++ left.trail.items) left.store) (sym same.0) (subst (λ k. KeepsAlong m k left.trail.items left.store) same.1 along)
+  after_life first now steps left (inr come) along = record {
+    same_model = along.same_model ∙ come.along.same_model;
+    moments = λ keeps. joined_moments first now left.store.disk steps left.trail.items come (along.moments (come.along.same_model ∙ keeps)) keeps;
+  }
 
   -- a life that rests: the next one begins where it ended
-  pub next_from : (first now next : Kept D) (left : Closed D) (desk : List Note) → ComesFrom m first now → IsOneHistory (based_on m now.world []) desk left → AtEachMoment m now left
-      → next ≡ left.store → left.settled ≡ left.base.count + length left.trail.items → ComesFrom m first next
-  next_from first now next left desk come history moments same all =
+  pub next_from : (first now : Kept D) (steps : List Step) (left : Closed D) (desk : List Note) → ComesFrom m first steps now → IsOneHistory (based_on m now.world []) desk left → KeepsAlong m now left.trail.items left.store
+      → left.settled ≡ left.base.count + length left.trail.items → ComesFrom m first (steps ++ left.trail.items) left.store
+  next_from first now steps left desk come history along all =
       let t = tells (based_on m now.world []) desk left history in
       let world : left.store.world ≡ fold now.world left.trail.items = leaves_all now.world left t all in
-      let front : fold left.base left.trail.items ≡ left.store.world = ap (λ w. fold w left.trail.items) t.from ∙ sym world in
-      let whole = after_life first now left desk come history moments in
       let path = path_of come left.trail.items t.steps in
-      subst (ComesFrom m first) (sym same) (inr (record {
-        steps = path.0;
-        trail = path.1;
-        leads = path.2 ∙ sym world;
-        same_model = whole.same_model;
-        moments = subst (λ w. m.keeps_model first.disk ≡ true → LeavesOnly m first.disk left.store.disk (IsOnTheWay first.world w)) front whole.moments;
-      }))
+      inr (record { trail = path.0; leads = path.1 ∙ sym world; along = after_life first now steps left come along })
     where
-      path_of : ComesFrom m first now → (more : List Step) → IsTrail now.world more → (steps : List Step) × IsTrail first.world steps × (fold first.world steps ≡ fold now.world more)
-      path_of (inl is) more trail = (more, subst (λ k. IsTrail k.world more) is trail, ap (λ k. fold k.world more) (sym is))
-      path_of (inr come) more trail = (come.steps ++ more, joined first.world come.steps more come.trail (subst (λ w. IsTrail w more) (sym come.leads) trail), fold-append come.steps more first.world ∙ ap (λ w. fold w more) come.leads)
+      path_of : ComesFrom m first steps now → (more : List Step) → IsTrail now.world more → IsTrail first.world (steps ++ more) × (fold first.world (steps ++ more) ≡ fold now.world more)
+      path_of (inl is) more trail = (
+        subst (λ l. IsTrail first.world (l ++ more)) (sym is.0) (subst (λ (k : Kept D). IsTrail k.world more) is.1 trail),
+        ap (λ l. fold first.world (l ++ more)) is.0 ∙ ap (λ (k : Kept D). fold k.world more) (sym is.1),
+      )
+      path_of (inr come) more trail = (joined first.world steps more come.trail (subst (λ w. IsTrail w more) (sym come.leads) trail), fold-append steps more first.world ∙ ap (λ w. fold w more) come.leads)
+
+module _ {D : Type 0} (m : DiskModel D) {V : Type 0} (talked : V → List Talk → V → Type 0) (failed : V → V → Type 0) (most : ℕ) where
+  -- one more life has rested, and the next one begins with this
+  pub rested_on : (first now next : Kept D) (v u others : V) (life : Life D V) → HaveRested m talked most first v now u → IsLife (based_on m now.world []) talked failed most u life → KeepsAlong m now life.closed.trail.items life.closed.store
+      → most ≤ length life.closed.trail.items → life.left ≡ Resting → next ≡ life.closed.store → others ≡ life.callers → has_stopped life.closed.store ≡ false → life.closed.settled ≡ life.closed.base.count + length life.closed.trail.items → HaveRested m talked most first v next others
+  rested_on first now next v u others life rested so along kept is same same_w going all =
+      let lives = steps_of m talked most rested.0 first.world v now.world u rested.1 in
+      let come : ComesFrom m first (all_steps lives ++ life.closed.trail.items) life.closed.store = next_from m first now (all_steps lives) life.closed so.desk.notes rested.2 so.history along all in
+      let more = subst (λ l. ComesFrom m first l life.closed.store) (sym (and_steps lives (steps_in life.closed))) come in
+      let whole : HaveRested m talked most first v life.closed.store life.callers = (suc rested.0, (now.world, u, rested.1, rests m talked failed most now.world u life is so kept going all), more) in
+      subst (λ k. HaveRested m talked most first v k others) (sym same) (subst (λ w. HaveRested m talked most first v life.closed.store w) (sym same_w) whole)
+
+  -- the last life has ended
+  pub ends_along : (first now : Kept D) (v u : V) (life : Life D V) → HaveRested m talked most first v now u → IsLife (based_on m now.world []) talked failed most u life → KeepsAlong m now life.closed.trail.items life.closed.store → EndsAlong m talked failed most first v life
+  ends_along first now v u life rested so along =
+      let lives = steps_of m talked most rested.0 first.world v now.world u rested.1 in
+      let whole = after_life m first now (all_steps lives) life.closed rested.2 along in
+      ((rested.0, now.world, u, rested.1, so), subst (λ l. KeepsAlong m first l life.closed.store) (sym (and_steps lives (steps_in life.closed))) whole)
+
+  -- and so has the server
+  pub lives_along : {W : Type 0} (first : Kept D) (v : V) (life : Life D V) (ended : ServerEnd D V W) → EndsAlong m talked failed most first v life → IsLastLife life.left ended.served → ended.closed ≡ life.closed → ended.callers ≡ life.callers → LivesKeepAlong m talked failed most first v ended
+  lives_along first v life ended ((n, world, u, lives, so), along) over same same_w = (
+    (
+      n,
+      world,
+      u,
+      lives,
+      (
+        so.port,
+        so.desk,
+        rw same_w (served_at_last (based_on m world []) talked failed most so.port u life.callers so.desk life.left ended.served so.served over),
+        subst (IsOneHistory (based_on m world []) so.desk.notes) (sym same) so.history,
+      ),
+    ),
+    subst (λ (c : Closed D). KeepsAlong m first (all_steps (steps_of m talked most n first.world v world u lives ++ steps_in c ∷ [])) c.store) (sym same) along,
+  )
+
+  -- the server's disk is on the way of all accepted steps
+  pub on_the_way : {W : Type 0} (first : Kept D) (v : V) (ended : ServerEnd D V W) → LivesKeepAlong m talked failed most first v ended → AtEachMoment m first ended.closed
+  on_the_way {W} first v ended lives =
+      let lived = lives.0 in
+      let earlier = steps_of m talked most lived.0 first.world v lived.1 lived.2 lived.3 in
+      let one : AreOneHistory first.world (earlier ++ steps_in ended.closed ∷ []) ended.closed.store ended.closed.settled = lives_are_one m talked failed most W first.world v ended lived in
+      let last : ended.closed.base ≡ fold first.world (all_steps earlier) = one.follow earlier [] (steps_in ended.closed) refl in
+      let leads : fold first.world (all_steps (earlier ++ steps_in ended.closed ∷ [])) ≡ fold ended.closed.base ended.closed.trail.items =
+      ap (fold first.world) (and_steps earlier (steps_in ended.closed)) ∙ fold-append (all_steps earlier) ended.closed.trail.items first.world ∙ ap (λ w. fold w ended.closed.trail.items) (sym last)
+      in
+      record {
+        same_model = lives.1.same_model;
+        moments = λ keeps. weaker m first.disk ended.closed.store.disk _ _ (lives.1.moments keeps) (λ bytes after. subst (λ w. IsOnTheWay first.world w bytes) leads (after_some_is_on_the_way first.world (all_steps (earlier ++ steps_in ended.closed ∷ [])) bytes one.trail after));
+      }

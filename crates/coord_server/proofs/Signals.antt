@@ -19,7 +19,7 @@ use Rattle.coord_world.specs.protocol.Outputs.{again, again_by, all_again, front
 use Rattle.coord_world.specs.Facade.{StepOutcome, World, fold, outs}
 use Rattle.coord_ledger.specs.declared.release.Release.{Release}
 use Rattle.coord_ledger.specs.machine.After.{release_of, releases_of, resent}
-use Rattle.coord_engine.proofs.Past.{joined}
+use Rattle.coord_engine.proofs.OnTheWay.{joined}
 use Rattle.coord_engine.specs.Facade.{MayAskAll, based_on}
 use Rattle.coord_server.proofs.OneHistory.{outs-append}
 use Rattle.coord_server.specs.Moments.{ComesFrom}
@@ -71,9 +71,9 @@ may_tell m began world leads released moment =
     of (inr to) base trail d n same on = flies began base to.0 trail d n (joined began to.0 trail to.1 (subst (λ w. IsTrail w trail) (same ∙ sym to.2) on)) (to.2 ∙ sym same)
 
 -- lives lead so
-pub leads_to : {D : Type 0} (m : DiskModel D) (first now : Kept D) → ComesFrom m first now → Leads first.world now.world
-leads_to m first now (inl same) = inl (ap (λ k. k.world) same)
-leads_to m first now (inr come) = inr (come.steps, come.trail, come.leads)
+pub leads_to : {D : Type 0} (m : DiskModel D) (first : Kept D) (steps : List Step) (now : Kept D) → ComesFrom m first steps now → Leads first.world now.world
+leads_to {D} m first steps now (inl same) = inl (ap (λ (k : Kept D). k.world) same.1)
+leads_to m first steps now (inr come) = inr (steps, come.trail, come.leads)
 
 -- ---- what is sent again
 

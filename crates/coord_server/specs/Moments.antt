@@ -1,27 +1,56 @@
 -- What a crash may have left at each moment of the life of a store that is served.
-use Rattle.std.specs.Prelude.{◌≡◌, ◌⊎◌, true, List}
+use Rattle.std.specs.Prelude.{◌≡◌, ◌⊎◌, ⊤, ℕ, true, List, [], ◌∷◌, ◌++◌}
 use Rattle.coord_disk.specs.Model.DiskModel.{DiskModel}
 use Rattle.coord_disk.specs.Model.Moments.{LeavesOnly}
 use Rattle.coord_types.specs.declared.steps.Step.{Step}
 use Rattle.coord_store.specs.Kept.{Kept}
 use Rattle.coord_world.specs.laws.Trails.{IsTrail}
 use Rattle.coord_world.specs.Facade.{fold}
-use Rattle.coord_engine.specs.Facade.{IsOnTheWay}
+use Rattle.coord_admin.specs.Connections.{Talk}
+use Rattle.coord_admin.specs.Times.{IsUsual}
+use Rattle.coord_admin.specs.declared.patience.Patience.{Patience}
+use Rattle.coord_engine.specs.Facade.{IsAfterSome, IsOnTheWay}
 use Rattle.coord_engine.specs.declared.closed.Closed.{Closed}
+use Rattle.coord_server.specs.Lives.{EndsLives, HasLived, Lives, all_steps, life_steps, steps_in, steps_of}
+use Rattle.coord_server.specs.declared.life.Life.{Life}
+use Rattle.coord_server.specs.declared.server_end.ServerEnd.{ServerEnd}
 
--- At every moment from this store on to what is left of its server, whatever the disk may hold is a legal world on the way from the store's world to the one after all accepted steps: after the first steps of a trail that leads there. That this trail is the accepted steps themselves is not said. The disk keeps the model as it did.
+-- At every moment from this store on to what is left of its server, whatever the disk may hold is a legal world on the way from the store's world to the one after all accepted steps: after the first steps of a trail that leads there. `LivesKeepAlong` says which trail. The disk keeps the model as it did.
 pub record AtEachMoment {D : Type 0} (m : DiskModel D) (store : Kept D) (left : Closed D) : Type 0 where
   pub same_model : m.keeps_model left.store.disk ≡ m.keeps_model store.disk
   pub moments : m.keeps_model store.disk ≡ true → LeavesOnly m store.disk left.store.disk (IsOnTheWay store.world (fold left.base left.trail.items))
 
--- steps lead from the one store to the other, and a crash meanwhile left only worlds on their way
-pub record HasComeTo {D : Type 0} (m : DiskModel D) (first now : Kept D) : Type 0 where
-  pub steps : List Step
+-- At every moment from the one store to the other, whatever the disk may hold is the world after the first of these steps, some number of them. The disk keeps the model as it did.
+pub record KeepsAlong {D : Type 0} (m : DiskModel D) (first : Kept D) (steps : List Step) (now : Kept D) : Type 0 where
+  pub same_model : m.keeps_model now.disk ≡ m.keeps_model first.disk
+  pub moments : m.keeps_model first.disk ≡ true → LeavesOnly m first.disk now.disk (IsAfterSome first.world steps)
+
+-- these steps lead from the one store to the other, and a crash meanwhile left only worlds after the first of them
+pub record HasComeTo {D : Type 0} (m : DiskModel D) (first : Kept D) (steps : List Step) (now : Kept D) : Type 0 where
   pub trail : IsTrail first.world steps
   pub leads : fold first.world steps ≡ now.world
-  pub same_model : m.keeps_model now.disk ≡ m.keeps_model first.disk
-  pub moments : m.keeps_model first.disk ≡ true → LeavesOnly m first.disk now.disk (IsOnTheWay first.world now.world)
+  pub along : KeepsAlong m first steps now
 
--- the store is still the first one, or lives have come from there to it
-abbrev pub ComesFrom : {D : Type 0} → DiskModel D → Kept D → Kept D → Type 0
-ComesFrom m first now = (now ≡ first) ⊎ HasComeTo m first now
+-- the store is still the first one, or these steps of lives have come from there to it
+abbrev pub ComesFrom : {D : Type 0} → DiskModel D → Kept D → List Step → Kept D → Type 0
+ComesFrom m first steps now = ((steps ≡ []) × (now ≡ first)) ⊎ HasComeTo m first steps now
+
+-- `talked v talks w`: those who call were v, had these talks, and then are w. A life ends after `most` steps
+module _ {D : Type 0} (m : DiskModel D) {V : Type 0} (talked : V → List Talk → V → Type 0) (most : ℕ) where
+  -- a number of lives have rested, and come by their steps from the first store to this one
+  abbrev pub HaveRested : Kept D → V → Kept D → V → Type 0
+  HaveRested first v now w = (n : ℕ) × (lives : Lives m talked most n first.world v now.world w) × ComesFrom m first (all_steps (steps_of m talked most n first.world v now.world w lives)) now
+
+-- `failed v w`: those who call were v, and have failed
+module _ {D : Type 0} (m : DiskModel D) {V : Type 0} (talked : V → List Talk → V → Type 0) (failed : V → V → Type 0) (most : ℕ) where
+  -- some lives that rest, and then this one: at every moment from the first store to what they left, whatever the disk may hold is the world after the first of all the steps that they accepted
+  abbrev pub EndsAlong : Kept D → V → Life D V → Type 0
+  EndsAlong first v last = (ends : EndsLives m talked failed most first.world v last) × KeepsAlong m first (all_steps (steps_of m talked most ends.0 first.world v ends.1 ends.2 ends.3 ++ steps_in last.closed ∷ [])) last.closed.store
+
+  -- the same of the lives of a server that has ended
+  abbrev pub LivesKeepAlong : {W : Type 0} → Kept D → V → ServerEnd D V W → Type 0
+  LivesKeepAlong {W} first v ended = (lived : HasLived m talked failed most first.world v ended) × KeepsAlong m first (all_steps (steps_of m talked most lived.0 first.world v lived.1 lived.2 lived.3 ++ steps_in ended.closed ∷ [])) ended.closed.store
+
+-- the same where clients are waited for as usual, and a life has the steps of a server's
+abbrev pub ServedAlong : {D W : Type 0} → DiskModel D → Kept D → ServerEnd D Patience W → Type 0
+ServedAlong {D} {W} m first ended = (callers : Patience) × IsUsual callers × LivesKeepAlong m (λ _ _ _. ⊤) (λ _ _. ⊤) life_steps first callers ended

@@ -1,15 +1,14 @@
 //! One life of a server: an engine with its threads, from a store to what is left of it.
 
 ghost use Rattle.std.specs.Prelude.{◌≡◌, [], false, length, IfErr, IfOk, IfSome, None};
-ghost use Rattle.coord_engine.specs.Past.{IsPastOf, StaysOnTheWay};
+ghost use Rattle.coord_engine.specs.Past.{IsPastOf, StaysAlong};
 ghost use Rattle.coord_engine.specs.State.{based_on};
 ghost use Rattle.coord_store.specs.Kept.{has_stopped};
 ghost use Rattle.coord_engine.specs.Closing.{IsSince};
 ghost use Rattle.coord_engine.specs.Threads.{AtSomeMoment, Closes};
 ghost use Rattle.coord_server.specs.Ending.{IsLife, IsNotClosed, LeavesNothing};
-ghost use Rattle.coord_server.specs.Moments.{AtEachMoment};
+ghost use Rattle.coord_server.specs.Moments.{KeepsAlong};
 ghost use Rattle.coord_server.specs.Signals.{MayTell};
-ghost use Rattle.coord_world.specs.protocol.Next.{fold};
 
 use crate::life_end::LifeEnd;
 use crate::printing::Opening;
@@ -18,7 +17,7 @@ use crate::threads::{Begun, JoinedThreads, run};
 use crate::{ServerFault, Telling, WORKERS};
 use coord_admin::Callers;
 use coord_disk::Disk;
-use coord_engine::{Closed, Engine, Origin};
+use coord_engine::{Closed, Engine, NewHistory, Origin};
 use coord_ledger::Ledger;
 use coord_store::Store;
 use coord_types::Packet;
@@ -62,16 +61,22 @@ pub fn serve_life<
     requires tell { MayTell (based_on D.model store.world []) O.may }
     ensures life { IfOk result
         (IsLife (based_on D.model store.world []) C.talked C.failed setting.now.life_steps callers) }
-    ensures moments { IfOk result (λ life. AtEachMoment D.model store life.closed) }
+    ensures along { IfOk result (λ life.
+        KeepsAlong D.model store life.closed.trail.items life.closed.store) }
     ensures nothing { IfErr result (LeavesNothing D.model) }
 {
     let Ok(ledger) = Ledger::adopt(setting.alloc, store) else {
         return Err(ServerFault::OutOfMemory);
     };
-    serve_ledger::<D, Brand, C, O, R>(setting, Blank::new(65536), ledger, callers, opening)
+    let Ok(history) = NewHistory::new(setting.alloc) else {
+        return Err(ServerFault::OutOfMemory);
+    };
+    let blank = Blank::new(65536);
+    serve_ledger::<D, Brand, C, O, R>(setting, blank, history, ledger, callers, opening)
 }
 
-/// Runs the threads of a life over an engine, and takes the engine apart. `L` names the ledger.
+/// Runs the threads of a life over an engine, and takes the engine apart. `L` names the history and the
+/// ledger.
 fn serve_ledger<
     D: Disk + Send,
     L: Origin + Send + Sync,
@@ -81,12 +86,14 @@ fn serve_ledger<
 >(
     setting: &Setting<'_, R, O>,
     blank: Blank,
+    history: NewHistory,
     ledger: Ledger<D>,
     callers: C,
     opening: Option<Opening>,
 ) -> Result<Life<D, C>, ServerFault>
     requires name { blank.name ≡ L.name }
     requires parts { (blank.parts ≡ L.parts) × (L.parts ≡ 65536) }
+    requires history { history ≡ L.history }
     requires home { ledger.out ≡ None }
     requires base { ledger.log.base ≡ L.base }
     requires before { (ledger.log.trail ≡ L.before) × (L.before ≡ []) }
@@ -94,11 +101,11 @@ fn serve_ledger<
     requires tell { MayTell (based_on D.model L.base L.before) O.may }
     ensures life { IfOk result
         (IsLife (based_on D.model L.base L.before) C.talked C.failed setting.now.life_steps callers) }
-    ensures way { IfOk result (λ life. StaysOnTheWay D.model L.disk L.base
-        (fold life.closed.base life.closed.trail.items) life.closed.store.disk) }
+    ensures along { IfOk result (λ life.
+        StaysAlong D.model L.disk L.base life.closed.trail.items life.closed.store.disk) }
     ensures nothing { IfErr result (LeavesNothing D.model) }
 {
-    let engine: Engine<D, L> = Engine::new(setting.alloc, blank, ledger);
+    let engine: Engine<D, L> = Engine::new(setting.alloc, blank, history, ledger);
     let begun = begin(setting, &engine)?;
     match run(setting, &engine, begun, callers, opening) {
         Ok(completed) => closed_life(engine, completed),
@@ -140,8 +147,8 @@ fn closed_life<D: Disk, L: Origin, C: Drop>(
         AtSomeMoment (based_on D.model L.base L.before)
         (Closes life.closed.store life.closed.base life.closed.trail.items life.closed.settled
         completed.shares.items) × (life.callers ≡ completed.callers) × (life.left ≡ completed.left)) }
-    ensures way { IfOk result (λ life. StaysOnTheWay D.model L.disk L.base
-        (fold life.closed.base life.closed.trail.items) life.closed.store.disk) }
+    ensures along { IfOk result (λ life.
+        StaysAlong D.model L.disk L.base life.closed.trail.items life.closed.store.disk) }
     ensures nothing { IfErr result
         (IsNotClosed (based_on D.model L.base L.before) completed.shares.items) }
 {

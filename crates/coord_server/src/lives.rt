@@ -5,8 +5,8 @@ ghost use Rattle.std.specs.Thread.{IsSend, IsSync};
 ghost use Rattle.coord_store.specs.Kept.{has_stopped};
 ghost use Rattle.coord_server.specs.Ending.{LeavesNothing};
 ghost use Rattle.coord_server.specs.declared.life_end.LifeEnd.TheVariants as LifeEndAs;
-ghost use Rattle.coord_server.specs.Lives.{EndsLives, EndsOneHistory, HasLived, IsLastLife};
-ghost use Rattle.coord_server.specs.Moments.{AtEachMoment};
+ghost use Rattle.coord_server.specs.Lives.{EndsOneHistory, HasLived, IsLastLife};
+ghost use Rattle.coord_server.specs.Moments.{AtEachMoment, EndsAlong, LivesKeepAlong};
 ghost use Rattle.coord_server.specs.Printed.{IsPrinted, new_printer};
 ghost use Rattle.coord_server.specs.Signals.{CanSignal, Leads, MayTell};
 ghost use Rattle.coord_engine.specs.State.{based_on};
@@ -60,6 +60,7 @@ pub fn serve_lives<
     requires { has_stopped store ≡ false }
     ensures lives { IfOk result (HasLived D.model C.talked C.failed most store.world callers) }
     ensures whole { IfOk result (λ ended. EndsOneHistory store.world ended.closed) }
+    ensures along { IfOk result (LivesKeepAlong D.model C.talked C.failed most store callers) }
     ensures moments { IfOk result (λ ended. AtEachMoment D.model store ended.closed) }
     ensures printed { IfOk result (λ ended. IsPrinted W.contents (CanSignal store.world)
         (new_printer output store.world.count) ended.printer) }
@@ -86,8 +87,7 @@ fn serve_told<
     requires going { has_stopped store ≡ false }
     requires tell { (world : World) → Leads store.world world →
         MayTell (based_on D.model world []) O.may }
-    ensures lived { IfOk result (HasLived D.model C.talked C.failed most store.world callers) }
-    ensures moments { IfOk result (λ ended. AtEachMoment D.model store ended.closed) }
+    ensures lived { IfOk result (LivesKeepAlong D.model C.talked C.failed most store callers) }
     ensures printed { IfOk result (λ ended. IsPrinted W.contents O.may
         (new_printer output store.world.count) ended.printer) }
     ensures nothing { IfErr result (LeavesNothing D.model) }
@@ -125,8 +125,7 @@ fn serve_and_print<
     requires tell { (world : World) → Leads store.world world →
         MayTell (based_on D.model world []) O.may }
     ensures lived { IfOk result
-        (HasLived D.model C.talked C.failed setting.now.life_steps store.world callers) }
-    ensures moments { IfOk result (λ ended. AtEachMoment D.model store ended.closed) }
+        (LivesKeepAlong D.model C.talked C.failed setting.now.life_steps store callers) }
     ensures printed { IfOk result (λ ended. IsPrinted W.contents O.may printing.printer ended.printer) }
     ensures nothing { IfErr result (LeavesNothing D.model) }
 {
@@ -138,8 +137,7 @@ fn serve_and_print<
                 (has_stopped store ≡ false) × ((world : World) → Leads store.world world →
                 MayTell (based_on D.model world []) O.may) }
             ensures lived { IfOk result
-                (HasLived D.model C.talked C.failed setting.entry.now.life_steps store.world callers) }
-            ensures moments { IfOk result (λ ended. AtEachMoment D.model store ended.closed) }
+                (LivesKeepAlong D.model C.talked C.failed setting.entry.now.life_steps store callers) }
             ensures printed { IfOk result (λ ended. IsPrinted W.contents O.may printing.printer ended.printer) }
             ensures nothing { IfErr result (LeavesNothing D.model) }
         {
@@ -190,8 +188,7 @@ fn print_and_live<
     ensures printed { IfOk result (λ ended. IfSome printing (λ handle.
         IsPrinted W.contents O.may handle.promise.first.value ended.printer)) }
     ensures lived { IfOk result
-        (HasLived D.model C.talked C.failed setting.now.life_steps store.world callers) }
-    ensures moments { IfOk result (λ ended. AtEachMoment D.model store ended.closed) }
+        (LivesKeepAlong D.model C.talked C.failed setting.now.life_steps store callers) }
     ensures nothing { IfErr result (LeavesNothing D.model) }
 {
     let Some(printing) = printing else {
@@ -221,8 +218,7 @@ fn live<
     requires tell { (world : World) → Leads store.world world →
         MayTell (based_on D.model world []) O.may }
     ensures lived { IfOk result
-        (EndsLives D.model C.talked C.failed setting.now.life_steps store.world callers) }
-    ensures moments { IfOk result (λ life. AtEachMoment D.model store life.closed) }
+        (EndsAlong D.model C.talked C.failed setting.now.life_steps store callers) }
     ensures nothing { IfErr result (LeavesNothing D.model) }
 {
     let mut store = store;

@@ -5,7 +5,7 @@ ghost use Rattle.coord_admin.specs.Times.{IsUsual};
 ghost use Rattle.coord_store.specs.Kept.{ImagesGive, has_stopped};
 ghost use Rattle.coord_server.specs.Ending.{LeavesNothing};
 ghost use Rattle.coord_server.specs.Lives.{EndsOneHistory, HasLived, HasServed, life_steps};
-ghost use Rattle.coord_server.specs.Moments.{AtEachMoment};
+ghost use Rattle.coord_server.specs.Moments.{AtEachMoment, LivesKeepAlong, ServedAlong};
 ghost use Rattle.coord_server.specs.Printed.{IsPrinted, new_printer};
 ghost use Rattle.coord_server.specs.Signals.{CanSignal};
 
@@ -46,6 +46,7 @@ pub fn serve_store<
     requires { has_stopped store ≡ false }
     ensures lives { IfOk result (HasServed D.model store.world) }
     ensures whole { IfOk result (λ ended. EndsOneHistory store.world ended.closed) }
+    ensures along { IfOk result (ServedAlong D.model store) }
     ensures moments { IfOk result (λ ended. AtEachMoment D.model store ended.closed) }
     ensures printed { IfOk result (λ ended. IsPrinted W.contents (CanSignal store.world)
         (new_printer output store.world.count) ended.printer) }
@@ -81,6 +82,7 @@ fn serve_accepted<
     requires patience { IsUsual callers }
     ensures lives { IfOk result (HasServed D.model store.world) }
     ensures whole { IfOk result (λ ended. EndsOneHistory store.world ended.closed) }
+    ensures along { IfOk result (ServedAlong D.model store) }
     ensures moments { IfOk result (λ ended. AtEachMoment D.model store ended.closed) }
     ensures printed { IfOk result (λ ended. IsPrinted W.contents (CanSignal store.world)
         (new_printer output store.world.count) ended.printer) }
@@ -109,6 +111,8 @@ pub fn serve_callers<
     ensures lives { IfOk result
         (HasLived D.model C.talked C.failed life_steps store.world callers) }
     ensures whole { IfOk result (λ ended. EndsOneHistory store.world ended.closed) }
+    ensures along { IfOk result
+        (LivesKeepAlong D.model C.talked C.failed life_steps store callers) }
     ensures moments { IfOk result (λ ended. AtEachMoment D.model store ended.closed) }
     ensures printed { IfOk result (λ ended. IsPrinted W.contents (CanSignal store.world)
         (new_printer output store.world.count) ended.printer) }

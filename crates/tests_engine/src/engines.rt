@@ -15,7 +15,7 @@ use crate::threads::patience::waits_once;
 use crate::threads::ports::Manner;
 use crate::threads::rings::{is_legal, resets_ring};
 use coord_disk::Disk;
-use coord_engine::{CloseFault, Closed, Engine, Origin, Share};
+use coord_engine::{CloseFault, Closed, Engine, NewHistory, Origin, Share};
 use coord_ledger::{Ledger, Note};
 use coord_store::Store;
 use coord_types::Step;
@@ -132,17 +132,19 @@ fn done_over<D: Disk + Send, L: Origin + Send + Sync, R: Threads + Wait + Clock 
     rt: &R,
     alloc: Global,
     blank: Blank,
+    history: NewHistory,
     ledger: Ledger<D>,
     doing: Doing<'_>,
 )
     requires name { blank.name ≡ L.name }
     requires parts { (blank.parts ≡ L.parts) × (L.parts ≡ 65536) }
+    requires history { history ≡ L.history }
     requires base { ledger.log.base ≡ L.base }
     requires before { ledger.log.trail ≡ L.before }
     requires disk { IfSome ledger.disk (IsPastOf D.model L.disk) }
 {
     assert!(rt; !ledger.is_out());
-    let engine: Engine<D, L> = Engine::new(alloc, blank, ledger);
+    let engine: Engine<D, L> = Engine::new(alloc, blank, history, ledger);
     let shares = done(rt, alloc, &engine, doing);
     let notes = notes_of(rt, alloc, &shares);
     let closed = closed(rt, engine, shares);
@@ -161,5 +163,6 @@ pub(crate) fn does<D: Disk + Send, R: Threads + Wait + Clock + Sync + Abort>(
     doing: Doing<'_>,
 ) {
     let ledger = made_with(rt, alloc, disk, steps);
-    done_over::<D, Brand, R>(rt, alloc, Blank::new(65536), ledger, doing);
+    let history = NewHistory::new(alloc).expect(rt, "no memory");
+    done_over::<D, Brand, R>(rt, alloc, Blank::new(65536), history, ledger, doing);
 }

@@ -3,10 +3,9 @@
 ghost use Rattle.std.specs.Prelude.{◌≡◌, ◌↔◌, ◌+◌, ◌≤◌, drop, length, is_some, sum_by, IfErr, IfOk, IsTrue, Some};
 ghost use Rattle.coord_engine.specs.Closing.{IsSince, MayClose, RefusesClosing};
 ghost use Rattle.coord_engine.specs.Named.{AreNoted};
-ghost use Rattle.coord_engine.specs.Past.{StaysOnTheWay};
+ghost use Rattle.coord_engine.specs.Past.{StaysAlong};
 ghost use Rattle.coord_ledger.specs.machine.Log.{settled_count, settled_world};
 ghost use Rattle.coord_store.specs.Kept.{has_stopped};
-ghost use Rattle.coord_world.specs.protocol.Next.{fold};
 
 use super::Guarded;
 use super::comparing::{all_ascending, all_noted};
@@ -72,8 +71,8 @@ impl<D: Disk, L: Origin> Guarded<D, L> {
         ensures log { IfOk result (λ closed. (closed.base ≡ self.ledger.log.base) ×
             (closed.trail.items ≡ self.ledger.log.trail) ×
             (closed.settled ≡ settled_count self.ledger.log)) }
-        ensures way { IfOk result (λ closed. StaysOnTheWay D.model L.disk L.base
-            (fold closed.base closed.trail.items) closed.store.disk) }
+        ensures along { IfOk result (λ closed.
+            StaysAlong D.model L.disk L.base closed.trail.items closed.store.disk) }
         ensures refused { IfErr result (λ refused. RefusesClosing self shares.items refused.0) }
         ensures back { IfErr result (λ refused. (refused.1 ≡ self) ×
             (refused.2.items ≡ shares.items)) }
@@ -91,6 +90,7 @@ impl<D: Disk, L: Origin> Guarded<D, L> {
             alloc: _,
             ledger,
             book,
+            writer: _,
             rest,
             given: _,
             start: _,

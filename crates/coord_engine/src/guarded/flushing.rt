@@ -1,18 +1,43 @@
 //! Flights go out, and come back.
 
-ghost use Rattle.std.specs.Prelude.{◌≡◌, ◌-◌, false, true, None, Ok, length, IfErr, IfOk, IfSome, IsSomeAnd, OnErr, OnOk, Some};
-ghost use Rattle.coord_engine.specs.Past.{FliesOnTheWay};
+ghost use Rattle.std.specs.Prelude.{◌≡◌, ◌-◌, false, true, None, Ok, length, take, IfErr, IfOk, IfSome, IsSomeAnd, OnErr, OnOk, Some, ◌≤◌};
+ghost use Rattle.coord_engine.specs.History.{StartsWith};
+ghost use Rattle.coord_engine.specs.Past.{FliesFrom};
 ghost use Rattle.coord_engine.specs.State.{with_ledger};
 ghost use Rattle.coord_ledger.specs.ledger.Calls.{RefusesFlight, keeps_store, next_flight, releases_in, taken_back, with_store_out};
 ghost use Rattle.coord_ledger.specs.ledger.Flights.{IsOut};
-ghost use Rattle.coord_ledger.specs.machine.Log.{pending};
+ghost use Rattle.coord_ledger.specs.machine.Log.{pending, settled_steps};
 
 use super::Guarded;
-use crate::Origin;
+use crate::{EngineHistory, Origin, OwnFlight, Reader, Writer};
 use coord_disk::Disk;
-use coord_ledger::{Flight, Releases};
-use coord_types::Refusal;
+use coord_ledger::{Ledger, Releases};
+use coord_types::{Refusal, Step};
 use std::alloc::AllocError;
+
+/// The first of these steps, so many.
+fn first_steps(steps: &[Step], count: usize) -> &[Step]
+    requires { count ≤ length steps.now }
+    ensures { result.now ≡ take count steps.now }
+{
+    &steps[..count]
+}
+
+/// Writes the settled steps of a ledger in the history, behind those that are written, and reads them.
+fn read_settled<D: Disk, L: Origin>(
+    writer: &mut Writer<L>,
+    history: &EngineHistory<L>,
+    ledger: &Ledger<D>,
+) -> Reader<L>
+    requires { StartsWith (settled_steps ledger.now.log) writer.old }
+    ensures written { writer.new ≡ settled_steps ledger.now.log }
+    ensures read { result ≡ settled_steps ledger.now.log }
+{
+    ledger.lemma_log_is_consistent();
+    let trail = ledger.trail();
+    writer.write_on(history, first_steps(trail, trail.len() - ledger.pending()));
+    writer.reader(history)
+}
 
 impl<D: Disk, L: Origin> Guarded<D, L> {
     /// How many steps are accepted and not settled.
@@ -22,8 +47,11 @@ impl<D: Disk, L: Origin> Guarded<D, L> {
         self.ledger.pending()
     }
 
-    /// Sends the next flight out, as the ledger does.
-    pub fn begin(&mut self) -> Result<Option<Flight<D>>, AllocError>
+    /// Sends the next flight out, as the ledger does. It has read the settled steps.
+    pub fn begin(
+        &mut self,
+        history: &EngineHistory<L>,
+    ) -> Result<Option<OwnFlight<D, L>>, AllocError>
         ensures nothing { keeps_store self.old.ledger ≡ true → (result ≡ Ok None) ×
             (self.new ≡ self.old) }
         ensures begun { keeps_store self.old.ledger ≡ false →
@@ -32,15 +60,26 @@ impl<D: Disk, L: Origin> Guarded<D, L> {
             (self.old.ledger.disk ≡ Some flight.disk) ×
             (self.new ≡ with_ledger self.old (with_store_out self.old.ledger (length flight.steps))))) }
         ensures err { OnErr result (self.new ≡ self.old) }
-        ensures way { IfOk result (λ begun. IfSome begun (FliesOnTheWay D.model L.disk L.base)) }
+        ensures leaves { IfOk result (λ begun. IfSome begun
+            (FliesFrom D.model L.disk L.base (settled_steps self.old.ledger.log))) }
     {
-        self.ledger.begin_flush()
+        self.ledger.lemma_log_is_consistent();
+        match self.ledger.begin_flush() {
+            Ok(Some(flight)) => {
+                let reader = read_settled(&mut self.writer, history, &self.ledger);
+                Ok(Some(OwnFlight { flight, reader }))
+            }
+            Ok(None) => Ok(None),
+            Err(fault) => Err(fault),
+        }
     }
 
-    /// Takes the flight that is out back, as the ledger does. A crash at any moment until now must
-    /// have left only worlds on the way to the last one that may be on its disk.
-    pub fn end(&mut self, flight: Flight<D>) -> Result<Releases, (Refusal, Flight<D>)>
-        requires way { FliesOnTheWay D.model L.disk L.base flight }
+    /// Takes the flight that is out back, as the ledger does.
+    pub fn end(
+        &mut self,
+        history: &EngineHistory<L>,
+        flight: OwnFlight<D, L>,
+    ) -> Result<Releases, (Refusal, OwnFlight<D, L>)>
         ensures own { OnOk result (IsOut self.old.ledger flight) }
         ensures taken { OnOk result (self.new ≡
             with_ledger self.old (taken_back self.old.ledger
@@ -50,6 +89,13 @@ impl<D: Disk, L: Origin> Guarded<D, L> {
         ensures back { IfErr result (λ refused. refused.1 ≡ flight) }
         ensures unchanged { OnErr result (self.new ≡ self.old) }
     {
-        self.ledger.end_flush(flight)
+        let OwnFlight { flight, reader } = flight;
+        match self.ledger.end_flush(flight) {
+            Ok(releases) => {
+                self.writer.take_back(history, reader);
+                Ok(releases)
+            }
+            Err((refusal, flight)) => Err((refusal, OwnFlight { flight, reader })),
+        }
     }
 }

@@ -8,14 +8,14 @@ use Rattle.coord_engine.specs.State.{based_on}
 use Rattle.coord_server.specs.Signals.{MayTell}
 use Rattle.coord_server.proofs.life.serve_life.Goals as goal
 
-pub returns-clause-moments : goal.returns-clause-moments
-returns-clause-moments g c =
+pub returns-clause-along : goal.returns-clause-along
+returns-clause-along g c =
     let m = g.D.Disk.model in
     let l = c.in-Ok.ledger in
     let is = c.in-Ok.ensures.adopted in
     IfOk-weaker c.serve_ledger.result _ _
     (λ life stays. of_life m (past_in m l.disk) l.log.base l.disk c.args.store life.closed (of_itself m l.disk) (ap (λ (x : LedgerState g.row.D.Denot). x.disk) is) (ap (λ (x : LedgerState g.row.D.Denot). x.log.base) is) stays)
-    c.serve_ledger.ensures.way
+    c.serve_ledger.ensures.along
 
 pub serve_ledger-requires-clause-tell : goal.serve_ledger-requires-clause-tell
 serve_ledger-requires-clause-tell g c =

@@ -6,4 +6,4 @@ abbrev pub ghosts-asks_engine-L-Ledger : goal.ghosts-asks_engine-L-Ledger
 ghosts-asks_engine-L-Ledger g a = record { name = a.blank.name; parts = a.blank.parts }
 
 abbrev pub ghosts-asks_engine-L-Origin : goal.ghosts-asks_engine-L-Origin
-ghosts-asks_engine-L-Origin g a = record { base = a.ledger.log.base; before = a.ledger.log.trail; disk = past_in in_memory a.ledger.disk }
+ghosts-asks_engine-L-Origin g a = record { history = a.history; base = a.ledger.log.base; before = a.ledger.log.trail; disk = past_in in_memory a.ledger.disk }

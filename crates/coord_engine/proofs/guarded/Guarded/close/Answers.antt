@@ -3,7 +3,7 @@ use Rattle.std.proofs.lemmas.Bool.{false≢true}
 use Rattle.std.proofs.lemmas.List.{length-drop}
 use Rattle.coord_engine.specs.Facade.{AreNoted, GuardedState, IsNamed}
 use Rattle.coord_engine.proofs.Naming.{named, named_noted}
-use Rattle.coord_engine.proofs.Past.{closed_on_way}
+use Rattle.coord_engine.proofs.Past.{closed_along}
 use Rattle.coord_engine.proofs.Since.{since}
 use Rattle.coord_engine.proofs.guarded.Guarded.close.Goals as goal
 
@@ -40,8 +40,8 @@ returns-clause-since g c =
     let inv = c.self.invariant in
     since g.L.Origin.base g.L.Origin.before shares c.self.inside.ledger.log c.self.inside.start c.in-Ok.base c.in-Ok.trail.items inv.4 inv.5 inv.6 is c.in-Ok.ensures.base c.in-Ok.ensures.trail
 
-pub returns-clause-way : goal.returns-clause-way
-returns-clause-way g c =
+pub returns-clause-along : goal.returns-clause-along
+returns-clause-along g c =
     let inv = c.self.invariant in
     let is = c.in-Ok.ensures in
-    closed_on_way g.D.Disk.model g.L.Origin.disk g.L.Origin.base c.in-Ok.base c.in-Ok.trail.items c.self.inside.ledger c.in-Ok.store.disk is.home is.base is.trail inv.4 c.lemma_log_is_consistent.ensures.log inv.8
+    closed_along g.D.Disk.model g.L.Origin.disk g.L.Origin.base c.in-Ok.trail.items c.self.inside.ledger c.in-Ok.store.disk is.home is.trail inv.4 inv.8

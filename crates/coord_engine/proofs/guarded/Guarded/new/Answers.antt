@@ -1,5 +1,8 @@
-use Rattle.std.proofs.Common.{◌≡◌, length, take, ap, arith, ◌∙◌}
+use Rattle.std.proofs.Common.{◌≡◌, length, take, sym, ap, subst, arith, ◌∙◌}
 use Rattle.std.proofs.Math.Seq.{take-length}
+use Rattle.coord_ledger.specs.Facade.{settled_steps}
+use Rattle.coord_engine.specs.Facade.{StartsWith}
+use Rattle.coord_engine.proofs.Histories.{none_of}
 use Rattle.coord_engine.proofs.Past.{at_home, made_over}
 use Rattle.coord_engine.proofs.guarded.Guarded.new.Goals as goal
 
@@ -17,5 +20,6 @@ invariant_of-result g c =
       ap length (trail ∙ c.requires.before),
       ap (λ k. take k l.log.trail) n ∙ take-length l.log.trail ∙ c.requires.before,
       at_home g.D.Disk.model l.log.doubt l.out c.requires.home,
-      made_over g.D.Disk.model g.met.D.Disk.laws g.L.Origin.disk g.L.Origin.base l c.requires.disk c.requires.base c.lemma_log_is_consistent.ensures.log c.lemma_images_give_settled.ensures,
+      made_over g.D.Disk.model g.met.D.Disk.laws g.L.Origin.disk g.L.Origin.base l c.requires.disk c.requires.base c.lemma_images_give_settled.ensures,
+      subst (StartsWith (settled_steps l.log)) (sym c.requires.history) (none_of (settled_steps l.log)),
     )

@@ -1,0 +1,90 @@
+-- Each step of a pass keeps the one history.
+use Rattle.std.proofs.Common.{◌≡◌, ◌≢◌, ◌⊎◌, inl, inr, ⊎_elim, ℕ, zero, suc, List, [], ◌∷◌, ◌++◌, length, set, refl, sym, ap, subst, ◌∙◌, append-nil, append_assoc, arith}
+use mathlib.Core.Option.{some, some-injective, some-ne-none}
+use lib.ListN.{get_elem?}
+use Rattle.atomic_table.proofs.Lists.{at_set, set_again}
+use Rattle.atomic_table.specs.Table.{Allows, Joins, Me, Splits}
+use Rattle.atomic_table.specs.Table.Act.{keeps}
+use Rattle.coord_types.specs.declared.steps.Step.{Step}
+use Rattle.coord_engine.specs.History.{Fits, KnowOneHistory, StartsWith, knows}
+use Rattle.coord_engine.specs.declared.history.Known.{Known}
+
+-- ---- beginnings of lists
+
+pub all_of : (xs : List Step) → StartsWith xs xs
+all_of xs = ([], sym (append-nil xs))
+
+pub none_of : (xs : List Step) → StartsWith xs []
+none_of xs = (xs, refl)
+
+pub first_of_first : (a b c : List Step) → StartsWith b a → StartsWith c b → StartsWith c a
+first_of_first a b c in_b in_c = (in_b.0 ++ in_c.0, in_c.1 ∙ ap (λ l. l ++ in_c.0) in_b.1 ∙ append_assoc a in_b.0 in_c.0)
+
+-- ---- views
+
+at_end : (views : List Known) (v w : Known) (j : ℕ) → get_elem? (views ++ v ∷ []) j ≡ some w → (get_elem? views j ≡ some w) ⊎ ((v ≡ w) × (j ≡ length views))
+at_end [] v w zero e = inr (some-injective v w e, refl)
+at_end [] v w (suc j) e = absurd (some-ne-none w (sym e))
+at_end (x ∷ xs) v w zero e = inl e
+at_end (x ∷ xs) v w (suc j) e = ⊎_elim (λ old. inl old) (λ new. inr (new.0, ap suc new.1)) (at_end xs v w j e)
+
+some_there : (views : List Known) (j : ℕ) (v : Known) → get_elem? views j ≡ some v → length views ≢ 0
+some_there [] j v e = absurd (some-ne-none v (sym e))
+some_there (x ∷ xs) j v e = λ none. omega arith
+
+-- where each other pass fits, and so does this one's new view
+set_fits : (history : List Step) (views : List Known) (pass : ℕ) (w : Known) → ((j : ℕ) (u : Known) → j ≢ pass → get_elem? views j ≡ some u → Fits history j u) → Fits history pass w
+    → (j : ℕ) (u : Known) → get_elem? (set views pass w) j ≡ some u → Fits history j u
+set_fits history views pass w others mine j u e =
+    ⊎_elim
+    (λ (same : (j ≡ pass) × (w ≡ u)). subst (λ v. Fits history j v) same.1 (subst (λ k. Fits history k w) (sym same.0) mine))
+    (λ (other : (j ≢ pass) × (get_elem? views j ≡ some u)). others j u other.0 other.1)
+    (at_set views pass j w u e)
+
+-- ---- steps
+
+pub writes : (slots pass : ℕ) (me : Me (Unit {0}) Known) (steps : List Step) → pass ≡ 0 → StartsWith steps me.0.read → Allows (λ table. KnowOneHistory table.views) slots pass me 0 (λ n. n) (λ found after. after ≡ (knows steps me.0.told, me.1))
+writes slots pass me steps first on table one homes at small =
+    let mine = one.1 pass me.0 at in
+    let more : StartsWith steps one.0 = subst (StartsWith steps) (mine.whole first) on in
+    let w = knows steps me.0.told in (
+      w,
+      keeps,
+      tt,
+      (
+        steps,
+        set_fits steps table.views pass w
+            (λ j u other e.
+            let fits = one.1 j u e in
+            record { read = first_of_first u.read one.0 steps fits.read more; told = first_of_first u.told one.0 steps fits.told more; whole = λ is_first. absurd (other (is_first ∙ sym first)) })
+            (record { read = all_of steps; told = first_of_first me.0.told one.0 steps mine.told more; whole = λ _. refl }),
+      ),
+      refl,
+    )
+
+pub compares : (slots pass : ℕ) (me : Me (Unit {0}) Known) → pass ≡ 0 → Allows (λ table. KnowOneHistory table.views) slots pass me 0 (λ n. n) (λ found after. (after ≡ me) × StartsWith me.0.read me.0.told)
+compares slots pass me first table one homes at small =
+    let mine = one.1 pass me.0 at in
+    (me.0, keeps, tt, subst KnowOneHistory (sym (set_again table.views pass me.0 at)) one, (refl, subst (λ read. StartsWith read me.0.told) (sym (mine.whole first)) mine.told))
+
+pub splits : (pass : ℕ) (v : Known) → Splits {S = Unit {0}} (λ table. KnowOneHistory table.views) pass v v (knows v.read [])
+splits pass v table one at =
+    rw (set_again table.views pass v at) (
+      one.0,
+      λ j u e. ⊎_elim
+          (λ old. one.1 j u old)
+          (λ (new : (knows v.read [] ≡ u) × (j ≡ length table.views)). subst (Fits one.0 j) new.0 (record { read = (one.1 pass v at).read; told = none_of one.0; whole = λ is_first. absurd (some_there table.views pass v at (sym new.1 ∙ is_first)) }))
+          (at_end table.views (knows v.read []) u j e),
+    )
+
+pub joins : (pass : ℕ) (v : Known) (other : ℕ) (w : Known) → pass ≡ 0 → Joins {S = Unit {0}} (λ table. KnowOneHistory table.views) pass v other w (knows v.read w.read) (knows [] [])
+joins pass v other w first table one at apart there =
+    let mine = one.1 pass v at in
+    let told = knows v.read w.read in
+    let theirs : Fits one.0 other w = ⊎_elim (λ (same : (other ≡ pass) × (told ≡ w)). absurd (apart same.0)) (λ (is : (other ≢ pass) × (get_elem? table.views other ≡ some w)). one.1 other w is.1) (at_set table.views pass other told w there) in
+    let both : Fits one.0 pass told = record { read = mine.read; told = theirs.read; whole = mine.whole } in (
+      one.0,
+      set_fits one.0 (set table.views pass told) other (knows [] [])
+          (λ j u _ e. set_fits one.0 table.views pass told (λ i x _ is. one.1 i x is) both j u e)
+          (record { read = none_of one.0; told = none_of one.0; whole = λ is_first. absurd (apart (is_first ∙ sym first)) }),
+    )

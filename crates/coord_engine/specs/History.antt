@@ -1,0 +1,37 @@
+-- A history that is written on, and beginnings of it that were read.
+use Rattle.std.specs.Prelude.{◌≡◌, ℕ, List, [], ◌++◌}
+use mathlib.Core.Option.{some}
+use lib.ListN.{get_elem?}
+use Rattle.atomic_table.specs.Seated.{TableId}
+use Rattle.atomic_table.specs.Table.{Me, Step as TableStep}
+use Rattle.coord_types.specs.declared.steps.Step.{Step}
+use Rattle.coord_engine.specs.declared.history.Known.{Known}
+
+-- the steps begin with these
+abbrev pub StartsWith : List Step → List Step → Type 0
+StartsWith steps first = (others : List Step) × (steps ≡ first ++ others)
+
+abbrev pub knows : List Step → List Step → Known
+knows read told = record { read = read; told = told }
+
+-- what a pass knows are beginnings of the history, and the first pass has read all of it
+pub record Fits (history : List Step) (pass : ℕ) (v : Known) : Type 0 where
+  pub read : StartsWith history v.read
+  pub told : StartsWith history v.told
+  pub whole : pass ≡ 0 → v.read ≡ history
+
+-- all passes know one history
+abbrev pub KnowOneHistory : List Known → Type 0
+KnowOneHistory views = (history : List Step) × ((pass : ℕ) (v : Known) → get_elem? views pass ≡ some v → Fits history pass v)
+
+-- the first pass has read these steps now
+abbrev pub IsWrittenOn : List Step → TableStep (Unit {0}) → Me (Unit {0}) Known → ℕ → Me (Unit {0}) Known → Type 0
+IsWrittenOn steps s before found after = after ≡ (knows steps before.0.told, before.1)
+
+-- what a pass has read begins with what it was told of
+abbrev pub IsCompared : TableStep (Unit {0}) → Me (Unit {0}) Known → ℕ → Me (Unit {0}) Known → Type 0
+IsCompared s before found after = (after ≡ before) × StartsWith before.0.read before.0.told
+
+-- which history it is, where none is
+abbrev pub no_history : TableId
+no_history = record { words = 0; slots = 0; views_name = 0; atom = 0; block = 0; offset = 0; slot_names = [] }

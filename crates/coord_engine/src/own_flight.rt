@@ -1,0 +1,54 @@
+//! A flight of an engine.
+
+ghost use Rattle.std.specs.Prelude.{◌≡◌};
+ghost use Rattle.coord_ledger.specs.declared.mark.Mark.TheVariants.{Good, New, Torn};
+ghost use Rattle.coord_engine.specs.Flights.{CommitsFlight};
+ghost use Rattle.coord_engine.specs.Past.{LeavesFlown};
+
+use crate::{Origin, Reader};
+use coord_disk::Disk;
+use coord_ledger::Flight;
+use coord_store::CommitFault;
+use std::marker::Model;
+
+/// A flight of the engine that `L` names, with what it has read of the engine's history: the steps
+/// that were settled when it left. Contracts see the flight. Its type keeps that it left behind these
+/// steps, and that a crash at any moment since the engine was made left only worlds after the first
+/// of them and of its own.
+pub struct OwnFlight<D: Disk, L: Origin> {
+    pub(crate) flight: Flight<D>,
+    pub(crate) reader: Reader<L>,
+}
+
+impl<D: Disk, L: Origin> Model for OwnFlight<D, L> {
+    ghost use Rattle.coord_ledger.specs.ledger.State.{FlightState};
+    ghost use Rattle.coord_engine.specs.Past.{FliesFrom};
+
+    ghost Value = { FlightState D };
+
+    ghost view = { λ f. f.flight };
+
+    ghost invariant = { λ f. FliesFrom D.model L.disk L.base f.reader f.flight };
+}
+
+/// Commits a flight. A crash at any moment of the call leaves the world from before its steps, or the
+/// one after them. Nothing is done to a flight that is not new.
+fn commit<D: Disk>(flight: &mut Flight<D>) -> Result<(), CommitFault>
+    ensures commits { flight.old.mark ≡ New → CommitsFlight D.model.failures flight.old result flight.new }
+    ensures moments { flight.old.mark ≡ New → LeavesFlown D.model flight.old flight.new result }
+    ensures first { flight.new.first ≡ flight.old.first }
+    ensures good { flight.old.mark ≡ Good → flight.new ≡ flight.old }
+    ensures torn { flight.old.mark ≡ Torn → flight.new ≡ flight.old }
+{
+    flight.commit()
+}
+
+impl<D: Disk, L: Origin> OwnFlight<D, L> {
+    /// Commits its steps.
+    pub(crate) fn commit(&mut self) -> Result<(), CommitFault>
+        ensures commits { self.old.mark ≡ New → CommitsFlight D.model.failures self.old result self.new }
+        ensures moments { self.old.mark ≡ New → LeavesFlown D.model self.old self.new result }
+    {
+        commit(&mut self.flight)
+    }
+}
