@@ -9,7 +9,7 @@ JOBS ?= $(shell nproc)
 help:
 	@echo 'make demo      eight services and a coordinator that is killed in the middle of a reset and started again '
 	@echo 'make drill     one reset of two nodes, each line that the drill reads beside what it prints'
-	@echo 'make trial     builds the program without any proof at bin/resetd-trial, in some 80 seconds; demo, example, services and soak take it where there is no bin/resetd'
+	@echo 'make trial     builds the program without any proof at bin/resetd-trial, in some 80 seconds; demo, drill, example, services and soak take it where there is no bin/resetd'
 	@echo 'make example   the example services of examples/ around a coordinator, in a few seconds'
 	@echo 'make services  tries what services rest on: restores, members that come again, a work queue, torn and lost lines, 64 members, messages'
 	@echo 'make build     proves every crate, and leaves the program at bin/resetd; nothing is proved again while that is newer than every source'
