@@ -232,8 +232,10 @@ class Patience(Case):
                 self.clock(begun)
                 with server.connect() as connection:
                     self.expect_served(connection, lines=2)
+                    until("a server that waits", lambda: waits(server, connection))
                     self.clock(begun + CONNECTION - 10 * LATE)
                     self.expect_served(connection, lines=3)
+                    until("a server that waits", lambda: waits(server, connection))
                     self.clock(begun + CONNECTION)
                     self.assertLessEqual(self.served_to_the_end(connection), 1)
 
@@ -244,10 +246,12 @@ class Patience(Case):
         with self.serving(env=environment) as server, server.connect() as connection:
             connection.send(HALVES[0])
             for ahead in (0, CONNECTION - 10 * LATE):
+                until("a server that waits", lambda: waits(server, connection))
                 self.clock(ahead)
                 for _ in range(3):
                     connection.send(HALVES[1] + HALVES[0])
                     self.assertEqual(connection.line(), RESENT)
+            until("a server that waits", lambda: waits(server, connection))
             self.clock(CONNECTION)
             self.assertLessEqual(self.served_to_the_end(connection, HALVES[1] + HALVES[0]), 1)
 
