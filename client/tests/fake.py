@@ -58,7 +58,7 @@ class Fake(Wire):
     def pairs(self) -> list[tuple[int, int]]:
         return sorted(self.links)
 
-    def settled(self) -> None:
+    def await_settled(self) -> None:
         """Waits until no reset is at any node: here they are over at once."""
 
     def copy(self) -> Any:

@@ -91,7 +91,7 @@ class Real(Wire):
         answer: dict[str, Any] = json.loads(self.direct(json.dumps(request).encode() + b"\n"))
         return answer
 
-    def settled(self) -> dict[str, Any]:
+    def await_settled(self) -> dict[str, Any]:
         """What is shown once no reset is at any node, nothing is on its way and all is on the disk."""
         until = time.monotonic() + SECONDS
         while time.monotonic() < until:
@@ -103,14 +103,14 @@ class Real(Wire):
         raise RuntimeError("a reset does not end")
 
     def row(self, node: int) -> list[int]:
-        return next([row[1], row[4], row[5]] for row in self.settled()["nodes"] if row[0] == node)
+        return next([row[1], row[4], row[5]] for row in self.await_settled()["nodes"] if row[0] == node)
 
     @property
     def nodes(self) -> dict[int, list[int]]:
-        return {row[0]: [row[1], row[4], row[5]] for row in self.settled()["nodes"]}
+        return {row[0]: [row[1], row[4], row[5]] for row in self.await_settled()["nodes"]}
 
     def pairs(self) -> list[tuple[int, int]]:
-        return [(row[0], row[1]) for row in self.settled()["links"]]
+        return [(row[0], row[1]) for row in self.await_settled()["links"]]
 
     def last(self, client: int) -> int:
         """The number of a client's last order, by refusals."""
@@ -127,7 +127,7 @@ class Real(Wire):
 
     def copy(self) -> Any:
         """A copy of the store, which is not served meanwhile."""
-        self.settled()
+        self.await_settled()
         self.ask(op="close")
         if self.process:
             self.process.wait(SECONDS)

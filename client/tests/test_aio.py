@@ -42,10 +42,10 @@ class Coroutines(Case):
         self.within(both())
 
     def within(self, work: Coroutine[Any, Any, None]) -> None:
-        async def bounded() -> None:
+        async def within_bounds() -> None:
             async with asyncio.timeout(SECONDS):
                 await work
-        asyncio.run(bounded())
+        asyncio.run(within_bounds())
 
     def test_three_coroutines_come_in_one_after_the_other(self) -> None:
         async def three(member: aio.Member) -> None:
@@ -101,7 +101,7 @@ class Coroutines(Case):
         self.through(strange)
 
     def test_one_that_is_cancelled_lets_the_next_one_in(self) -> None:
-        async def cancelled(member: aio.Member) -> None:
+        async def cancel(member: aio.Member) -> None:
             is_in = asyncio.Event()
 
             async def stays() -> None:
@@ -116,7 +116,7 @@ class Coroutines(Case):
             await asyncio.wait([waiting, staying])
             await self.waits(member, SECONDS)
 
-        self.through(cancelled)
+        self.through(cancel)
 
     def test_a_begin_keeps_them_out(self) -> None:
         """A reset comes while a coroutine is in: the member begins anew only behind it."""
@@ -162,12 +162,12 @@ class Coroutines(Case):
         self.assertLessEqual(threading.active_count(), before)
 
     def test_what_needs_a_person_ends_follow(self) -> None:
-        async def refused(_: aio.Member) -> None:
+        async def wait(_: aio.Member) -> None:
             await asyncio.sleep(3_600)
 
         self.server.faults = ['{"fault":"NotAllowed"}']
         with self.assertRaises(Faulted):
-            self.through(refused)
+            self.through(wait)
 
 
 class Loops(Case):

@@ -104,7 +104,7 @@ class Words(Case):
 
     def test_steps_say_who_asked_for_a_reset_and_when_it_settled(self) -> None:
         self.run_words("reset", "1")
-        self.server.settled()
+        self.server.await_settled()
         status, out, _ = self.run_words("steps", self.store)
         rows = out.splitlines()
         self.assertEqual((status, rows[0]), (0, f"version 2, half 0: 0 steps in the snapshot, of which each client's last order is "

@@ -66,7 +66,7 @@ class Alike(unittest.TestCase):
         if told[1].get("kind") == "resent":
             told[1]["count"] = 0
         if "nodes" in told[1]:
-            self.real.settled()
+            self.real.await_settled()
         self.assertEqual(without_steps(told[0]), without_steps(told[1]), text)
         return told[0]
 
@@ -86,7 +86,7 @@ class Alike(unittest.TestCase):
             if "kind" in answer:
                 numbers[order["client"]] = order["number"]
             if order["op"] == "reset":
-                self.real.settled()
+                self.real.await_settled()
             if choice.random() < 0.02:
                 self.compare(line({"op": "show"}))
         self.assertLessEqual({"done", "started", "finished", "OutOfTurn", "NumberReused", "UnknownNode", "NodeExists", "HasLinks",

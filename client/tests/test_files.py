@@ -53,15 +53,15 @@ class Kept(unittest.TestCase):
         calls: list[tuple[str, str, int]] = []
         fsync, replace = os.fsync, os.replace
 
-        def synced(descriptor: int) -> None:
+        def note_sync(descriptor: int) -> None:
             calls.append(("sync", os.readlink(f"/proc/self/fd/{descriptor}"), os.fstat(descriptor).st_size))
             fsync(descriptor)
 
-        def replaced(old: str, new: str) -> None:
+        def note_replace(old: str, new: str) -> None:
             calls.append(("replace", new, os.stat(old).st_size))
             replace(old, new)
 
-        with mock.patch("os.fsync", synced), mock.patch("os.replace", replaced):
+        with mock.patch("os.fsync", note_sync), mock.patch("os.replace", note_replace):
             keep(self.path, "text")
         self.assertEqual(calls[:2], [("sync", f"{self.path}.new", 4), ("replace", self.path, 4)])
         self.assertEqual([call[:2] for call in calls[2:]], [("sync", os.path.dirname(self.path))])

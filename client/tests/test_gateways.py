@@ -54,11 +54,11 @@ class Seats(unittest.TestCase):
         there: list[bool] = []
         replace = os.replace
 
-        def replaced(old: str, new: str) -> None:
+        def note_replace(old: str, new: str) -> None:
             there.append(os.path.exists(f"{self.folder}/run"))
             replace(old, new)
 
-        with mock.patch("os.replace", replaced):
+        with mock.patch("os.replace", note_replace):
             self.seat.tell("2 2\n")
         self.assertEqual(there, [False])
 
@@ -228,7 +228,7 @@ class Gateways(Case):
         """Looks as often as a reset, which takes a while, asks for."""
         for _ in range(5):
             self.gateway.look()
-            self.server.settled()
+            self.server.await_settled()
 
     def all_begin(self) -> list[int | None]:
         self.look()
@@ -285,18 +285,18 @@ class Gateways(Case):
         counts: list[int] = []
         sync = os.fsync
 
-        def synced(descriptor: int) -> None:
+        def note_sync(descriptor: int) -> None:
             name = os.readlink(f"/proc/self/fd/{descriptor}")
             counts[-1] += name.startswith(f"{self.folder}/members") and not name.startswith(f"{self.folder}/members/book")
             sync(descriptor)
 
         self.all_begin()
         self.server.reset(1)
-        with mock.patch("os.fsync", synced):
+        with mock.patch("os.fsync", note_sync):
             for _ in range(3):
                 counts.append(0)
                 self.gateway.look()
-                self.server.settled()
+                self.server.await_settled()
                 with mock.patch("os.fsync", sync):
                     for node in (1, 2, 3):
                         self.begin(node)
@@ -306,17 +306,17 @@ class Gateways(Case):
         """What is begun is kept before it is confirmed."""
         tell, confirm = self.gateway._tell_members, self.gateway._confirm
 
-        def told(*words: Any) -> None:
+        def tell_and_begin(*words: Any) -> None:
             tell(*words)
             for node in (1, 2, 3):
                 self.begin(node)
 
-        def confirmed(epochs: dict[int, int]) -> None:
+        def compare_and_confirm(epochs: dict[int, int]) -> None:
             kept = json.loads(read(f"{self.folder}/members/starts.json") or "{}")
             self.assertEqual({node: kept[str(node)]["begun"] for node in epochs}, epochs)
             confirm(epochs)
 
-        with mock.patch.object(self.gateway, "_tell_members", told), mock.patch.object(self.gateway, "_confirm", confirmed):
+        with mock.patch.object(self.gateway, "_tell_members", tell_and_begin), mock.patch.object(self.gateway, "_confirm", compare_and_confirm):
             self.look()
         self.assertEqual(self.rows(), [(1, 1)] * 3)
 
@@ -500,7 +500,7 @@ class Gateways(Case):
         wakes = UntilEnded()
         thread = threading.Thread(target=self.gateway.follow, args=(wakes, 0.2), daemon=True)
         thread.start()
-        patiently(self._confirmed, 300)
+        patiently(self._expect_confirmed, 300)
         wakes.ended.set()
         thread.join(20)
         self.assertFalse(thread.is_alive())
@@ -511,8 +511,8 @@ class Gateways(Case):
         wakes = UntilEnded()
         thread = threading.Thread(target=self.gateway.follow, args=(wakes, 600.0), daemon=True)
         thread.start()
-        patiently(self._confirmed, 300)
-        patiently(self._talking, 300)
+        patiently(self._expect_confirmed, 300)
+        patiently(self._expect_talk, 300)
         looks = self.looks()
         time.sleep(0.5)
         self.assertLess(self.looks() - looks, 10)
@@ -527,11 +527,11 @@ class Gateways(Case):
         self.gateway.look()
         self.assertLess(self.gateway._waits, 9)
 
-    def _talking(self) -> None:
+    def _expect_talk(self) -> None:
         if None in self.tags():
             raise Away("not yet")
 
-    def _confirmed(self) -> None:
+    def _expect_confirmed(self) -> None:
         for node in (1, 2, 3):
             self.begin(node)
         if [row[1] for row in self.rows()] != [1, 1, 1]:

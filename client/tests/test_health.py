@@ -277,7 +277,7 @@ class OtherStore(Case):
                 shutil.copy(self.server.store, copy)
                 self.assertEqual(self.look(), (0, "resetd OK: well\n"))
                 self.server.reset(1)
-                self.server.settled()
+                self.server.await_settled()
                 self.assertEqual(self.look(), (0, "resetd OK: well\n"))
                 self.assertIn("resetd_store_differs 0\n", self.run_words("metrics", "--store", self.server.store)[1])
                 self.assertNotIn("resetd_store_differs", self.run_words("metrics")[1])
@@ -324,7 +324,7 @@ class FullDisk(Case):
     is_real = True
     MOST = 400_000
 
-    def limited(self) -> None:
+    def limit_files(self) -> None:
         signal.signal(signal.SIGXFSZ, signal.SIG_IGN)
         resource.setrlimit(resource.RLIMIT_FSIZE, (self.MOST, self.MOST))
 
@@ -337,7 +337,7 @@ class FullDisk(Case):
             file.write("#" * (self.MOST - 40) + "\n")
         with open(path, "ab") as signals, subprocess.Popen(
                 [PROGRAM, "serve", self.server.store, "127.0.0.1:0"], stdout=signals, stderr=subprocess.DEVNULL,
-                preexec_fn=self.limited, restore_signals=False) as process:
+                preexec_fn=self.limit_files, restore_signals=False) as process:
             self.addCleanup(process.kill)
             while not (found := re.search(r"listening (\S+)\n", self.read(path))):
                 time.sleep(0.01)

@@ -33,7 +33,7 @@ class MemberCase(Case):
         """Looks as often as a reset, which takes a while, asks for."""
         for _ in range(10):
             member.look()
-            self.server.settled()
+            self.server.await_settled()
 
     def confirm_other(self) -> None:
         self.server.by_somebody("confirm", node=2, epoch=self.server.row(2)[1])
@@ -264,11 +264,11 @@ class Kept(MemberCase):
         member = Member(self.port, orders, 1, None, self.begun.append, told=self.told.append)
         confirm = member._confirm
 
-        def confirmed(epochs: Mapping[int, int]) -> None:
+        def note_and_confirm(epochs: Mapping[int, int]) -> None:
             kept.append(read(f"{orders.folder}/start-1.json"))
             confirm(epochs)
 
-        with mock.patch.object(member, "_confirm", confirmed):
+        with mock.patch.object(member, "_confirm", note_and_confirm):
             self.look(member)
         self.assertEqual(json.loads(kept[0] or "{}"), {"1": {"begun": 1, "party": None}})
 

@@ -26,7 +26,7 @@ class Numbers(Case):
         orders = self.orders()
         self.assertEqual(orders.order("reset", node=1), Reply("started", 6))
         orders.close()
-        self.server.settled()
+        self.server.await_settled()
         self.assertEqual(self.orders().order("reset", node=1).kind, "started")
         self.assertEqual(self.server.last(1), 2)
 
@@ -59,7 +59,7 @@ class Numbers(Case):
     def test_a_fault_leaves_the_number_free(self) -> None:
         orders = self.orders()
         orders.order("reset", node=1)
-        self.server.settled()
+        self.server.await_settled()
         wrong: tuple[dict[str, int], ...] = ({"node": 65}, {"node": 1, "group": 1}, {})
         for members in wrong:
             with mock.patch("resetd_client.orders.check_order"), self.assertRaises(Faulted) as caught:
@@ -127,7 +127,7 @@ class Numbers(Case):
             orders, before = self.orders(client, f"of {client}"), self.server.last(client)
             orders.order("reset", node=1)
             self.assertEqual(self.server.last(client), before + 1)
-            self.server.settled()
+            self.server.await_settled()
 
     def test_a_lost_count_is_loud_or_found(self) -> None:
         orders = self.orders()
@@ -166,7 +166,7 @@ class Numbers(Case):
         """The next process has not to look for the count."""
         first = self.orders()
         first.order("reset", node=1)
-        self.server.settled()
+        self.server.await_settled()
         found = self.orders(name="found")
         self.assertEqual(found.recover(), 1)
         found.close()
@@ -214,7 +214,7 @@ class Numbers(Case):
 
     def test_a_lost_folder_does_not_repeat_an_old_order(self) -> None:
         self.orders().order("reset", node=1)
-        self.server.settled()  # a reset that still runs would be joined
+        self.server.await_settled()  # a reset that still runs would be joined
         self.orders(name="other").order("reset", node=1)
         self.assertEqual(self.server.row(1)[1], 2)
 
@@ -304,11 +304,11 @@ class Together(Case):
             for place in range(4):
                 nodes = [next(fresh) for _ in range(3)]
                 orders = [*self.adds(*nodes), {"op": "reset", "node": 1}]
-                self.server.settled()
+                self.server.await_settled()
                 before = (self.server.row(1)[1], self.server.last(1))
                 self.server.faults = [*[""] * place, fault, *[""] * (3 - place), fault]
                 outcomes = self.patient(orders)
-                self.server.settled()
+                self.server.await_settled()
                 self.assertEqual([type(outcome) for outcome in outcomes], [Reply] * 4)
                 self.assertEqual((self.server.row(1)[1], self.server.last(1)), (before[0] + 1, before[1] + 4))
                 self.server.faults = []
@@ -317,7 +317,7 @@ class Together(Case):
 
     def test_a_lost_reply_says_so(self) -> None:
         self.book.order("reset", node=1)
-        self.server.settled()
+        self.server.await_settled()
         muted = [json.dumps({"op": "add", "client": 1, "number": number, "node": number + 1, "group": 1}) for number in (2, 3)]
         self.server.faults = ["mute"]
         orders = self.adds(3, 4)

@@ -55,7 +55,7 @@ class Report(Case):
     def test_what_is_in_it(self) -> None:
         assert isinstance(self.server, Real) and self.server.process
         self.server.reset(1)
-        self.server.settled()
+        self.server.await_settled()
         self.run_words("health", address=self.server.behind)
         found = self.report("--unit", "other")
         self.assertEqual(set(found), {"README.txt", "why.txt", "show.json", "store", "steps.txt", "steps-before.txt",

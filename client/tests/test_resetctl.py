@@ -22,7 +22,7 @@ class Controls(Case):
     def test_orders(self) -> None:
         status, out, _ = self.run_words("reset", "1")
         self.assertEqual((status, out.split()[0]), (0, "started"))
-        self.server.settled()
+        self.server.await_settled()
         for words, said in ((("confirm", "1", "1"), "done"), (("drop", "2", "1"), "done"), (("remove", "2"), "done"),
                             (("resend",), "resent"), (("--quiet", "reset", "1"), "")):
             status, out, _ = self.run_words(*words)
@@ -42,7 +42,7 @@ class Controls(Case):
             self.run_words("add", str(node), str(node - 2))
         self.run_words("join", "2", "3")
         self.run_words("reset", "1")
-        self.server.settled()
+        self.server.await_settled()
         self.run_words("confirm", "1", "1")
         for words, said in (("add 1 1", "7 NodeExists: node 1 is there, in group 1"),
                             ("reset 9", "6 UnknownNode: there is no node 9; there are 1, 2, 3, 4"),
@@ -57,14 +57,14 @@ class Controls(Case):
 
     def test_a_mistyped_number_locks_nothing(self) -> None:
         self.assertEqual(self.run_words("reset", "1")[0], 0)
-        self.server.settled()
+        self.server.await_settled()
         for words in ("reset 65", "reset 0", "reset -1", f"reset {'1' * 600}", f"reset {'1' * 5_000}", "add 1 17", "join 1 x",
                       f"confirm 1 {1 << 64}", "drop 1 65"):
             self.expect_wrong(*words.split())
         self.assertEqual(self.run_words("reset", "2")[0], 0)
-        self.server.settled()  # a reset that still runs would be joined
+        self.server.await_settled()  # a reset that still runs would be joined
         self.assertEqual(self.run_words("reset", "2")[2], "")
-        self.server.settled()
+        self.server.await_settled()
         self.assertEqual(self.server.row(1)[1], 3)
 
     def test_an_old_lock_of_a_mistyped_number_opens(self) -> None:
@@ -112,7 +112,7 @@ class Controls(Case):
         for turn, person in enumerate(("alice", "bob", "alice", "alice", "bob", "bob", "alice")):
             status, out, told = self.run_words("--state", f"{self.folder}/{person}", "reset", "1")
             self.assertEqual((status, out.split()[0]), (0, "started"), told)
-            self.server.settled()
+            self.server.await_settled()
             self.assertEqual(self.server.row(1)[1], turn + 1)
 
     def test_two_people_who_order_the_same_and_something_else(self) -> None:
@@ -130,7 +130,7 @@ class Controls(Case):
         status, _, told = self.run_words("add", "6", "1")
         self.assertEqual(status, 0)
         self.assertIn("it is given up", told)
-        self.server.settled()
+        self.server.await_settled()
         self.assertEqual(self.server.row(1)[1], 1)
 
     def test_the_count_of_another_person_is_found_by_hand_too(self) -> None:
@@ -141,10 +141,10 @@ class Controls(Case):
 
     def test_an_order_that_had_no_answer_is_made_once(self) -> None:
         self.run_words("reset", "1")
-        self.server.settled()
+        self.server.await_settled()
         self.server.faults = ["", "mute"]
         self.assertEqual(self.run_words("reset", "2")[0], 3)
-        self.server.settled()
+        self.server.await_settled()
         status, _, told = self.run_words("confirm", "1", "1")
         self.assertEqual((status, self.server.row(1)), (0, [1, 2, 1]))
         self.assertIn("sent again, since there was no answer: reset 2", told)

@@ -152,7 +152,7 @@ class Bench(Case):
 
     def test_where_services_are_it_wants_to_be_told(self) -> None:
         self.server.reset(1)
-        self.server.settled()
+        self.server.await_settled()
         self.run_words("confirm", "2", "1")
         last = self.server.last(16)
         status, out, told = self.run_words("bench", "--waves", "1", "--orders", "2")

@@ -30,7 +30,7 @@ class Restored(Case):
         orders = self.orders()
         for _ in range(5):
             orders.order("reset", node=1)
-            self.server.settled()
+            self.server.await_settled()
         self.server.restore(copy)
         renew(self.port, orders, 300)
         self.assertEqual(self.epochs(), [1] * 6)

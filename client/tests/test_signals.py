@@ -55,14 +55,14 @@ class Followed(unittest.TestCase):
     def test_each_change_is_a_wake(self) -> None:
         follower = Follower(self.path)
 
-        def replaced() -> None:
+        def replace() -> None:
             self.write("w", "signal 1 2\n", ".new")
             os.replace(f"{self.path}.new", self.path)
 
         self.assertEqual(follower.wait(0), Wake.QUIET)
         changes: tuple[Callable[[], None], ...] = (
             lambda: self.write("w", "signal 1 1\n"), lambda: self.write("a", "sig"), lambda: self.write("a", "nal"),
-            lambda: self.write("w", "signal 1 1\n"), replaced, lambda: self.write("w", ""), lambda: os.remove(self.path),
+            lambda: self.write("w", "signal 1 1\n"), replace, lambda: self.write("w", ""), lambda: os.remove(self.path),
             lambda: self.write("w", ""))
         for change in changes:
             change()

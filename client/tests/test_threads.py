@@ -93,14 +93,14 @@ class Threads(Case):
             self.in_threads(lambda: self.book.order("reset", node=1))
             self.assertEqual(self.book.unanswered, [])
             self.assertIn(self.book.order("add", node=node, group=1).kind, ("done", CARRIED_OUT.kind))
-            self.server.settled()
+            self.server.await_settled()
         self.assertEqual(self.server.last(1), 4)
         self.assertEqual(self.told, [])
 
     def test_several_of_which_the_first_alone_was_answered(self) -> None:
         wanted = [{"op": "add", "node": node, "group": 1} for node in (3, 4, 5)]
         self.book.order("reset", node=1)  # so that they go out together
-        self.server.settled()
+        self.server.await_settled()
         self.server.faults = ["", "mute", "lose"]
         self.assertRaises(Away, self.book.order_all, wanted)
         self.in_threads(lambda: self.book.order("reset", node=2))

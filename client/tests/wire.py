@@ -35,13 +35,13 @@ class Wire:
         answer: dict[str, Any] = json.loads(self.respond(json.dumps(request).encode() + b"\n"))
         if "kind" not in answer:
             raise RuntimeError(f"{request} was answered {answer}")
-        self.settled()
+        self.await_settled()
 
     def last(self, client: int) -> int:
         """The number of a client's last order."""
         raise NotImplementedError
 
-    def settled(self) -> Any:
+    def await_settled(self) -> Any:
         """Waits until no reset is at any node."""
         raise NotImplementedError
 

@@ -64,9 +64,9 @@ class Server:
 
     def start(self) -> None:
         """Starts it; another process may have the port for a moment."""
-        self.address = until("a server that listens", self._started)
+        self.address = until("a server that listens", self._try_start)
 
-    def _started(self) -> str:
+    def _try_start(self) -> str:
         with open(self.signals, "ab") as file:
             begin = file.tell()
             self.process = subprocess.Popen([*self._before, PROGRAM, "serve", self.store, self.address], stdin=subprocess.DEVNULL,
@@ -103,7 +103,7 @@ class Server:
         answer: dict[str, Any] = json.loads(until("an answer of the port", answered))
         return answer
 
-    def settled(self) -> dict[str, Any]:
+    def await_settled(self) -> dict[str, Any]:
         """What is shown once no reset is at any node."""
         def quiet() -> dict[str, Any]:
             view = self.ask(op="show")
@@ -131,10 +131,10 @@ class Front:
             assert self.process
             if self.process.poll() is not None:
                 raise AssertionError(f"the front ended: {self.said()}")
-            return "listening unix:" in self.said(begin) and self.wanted(begin)
+            return "listening unix:" in self.said(begin) and self.listens(begin)
         until("a front that listens", began)
 
-    def wanted(self, begin: int) -> bool:
+    def listens(self, begin: int) -> bool:
         """Whether it listens at each address that it was given."""
         return all(self.said(begin).count(word) for flag, word in (("--tls", "listening tls:"), ("--tcp", "listening tcp:"), ("--page", "the page is at"))
                    if flag in self._words)

@@ -87,7 +87,7 @@ class Kills(Case):
 
     def each_was_carried_out_once(self, orderers: list[Orderer], seed: int) -> None:
         """The store has made as many steps as were answered, beside those of its topology."""
-        view = self.server.settled()
+        view = self.server.await_settled()
         made = view["accepted"] - 8
         self.assertEqual(made, sum(len(orderer.steps) for orderer in orderers), f"SEED={seed}")
 

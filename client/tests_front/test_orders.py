@@ -23,7 +23,7 @@ class Many(Case):
 
     def reset(self) -> None:
         self.assertEqual(self.front.ask(op="reset", node=1)["kind"], "started")
-        self.server.settled()
+        self.server.await_settled()
 
     def test_64_clients_at_once(self) -> None:
         """Each has its own answers in the order of its lines, and their confirms go together."""
@@ -55,12 +55,12 @@ class Unnumbered(Case):
     nodes = 3
 
     def epochs(self) -> list[int]:
-        return [row[4] for row in self.server.settled()["nodes"]]
+        return [row[4] for row in self.server.await_settled()["nodes"]]
 
     def test_a_number_is_kept_over_a_kill_of_the_front(self) -> None:
         for epoch in range(1, 4):
             self.assertEqual(self.front.ask(op="reset", node=1)["kind"], "started")
-            self.server.settled()
+            self.server.await_settled()
             self.front.kill()
             if epoch == 2:
                 os.unlink(f"{self.folder}/front/client-{OWN}")
@@ -70,7 +70,7 @@ class Unnumbered(Case):
     def test_a_refused_order_leaves_its_number_to_the_next(self) -> None:
         """Orders of others behind it, in the same flight, are carried out all the same."""
         self.front.ask(op="reset", node=1)
-        self.server.settled()
+        self.server.await_settled()
         client, other = self.client(), self.client()
         client.send(*({"op": "confirm", "node": 1, "epoch": epoch} for epoch in (7, 1, 8, 9)), {"op": "reset", "node": 64})
         other.send({"op": "confirm", "node": 2, "epoch": 1})
@@ -79,10 +79,10 @@ class Unnumbered(Case):
 
     def test_a_count_that_somebody_else_changed_is_found(self) -> None:
         self.front.ask(op="reset", node=1)
-        self.server.settled()
+        self.server.await_settled()
         for number in range(2, 5):
             self.assertEqual(self.server.ask(op="reset", client=OWN, number=number, node=1)["kind"] != "", True)
-            self.server.settled()
+            self.server.await_settled()
         self.assertIn(self.front.ask(op="reset", node=2)["kind"], ("started", "joined"))
         self.assertEqual(self.epochs(), [5, 5, 5])
 
@@ -93,7 +93,7 @@ class Unnumbered(Case):
     def test_equal_confirms_are_one_order(self) -> None:
         """While the server stands still they wait behind a look, and then go together."""
         self.front.ask(op="reset", node=1)
-        self.server.settled()
+        self.server.await_settled()
         self.hold()
         looking, clients = self.client(), [self.client() for _ in range(20)]
         looking.send({"op": "show"})
@@ -179,7 +179,7 @@ class Away(Case):
         host, port = self.front.listening("tcp:")
         with Orders(Port(f"{host}:{port}"), 3, f"{self.folder}/orders") as orders:
             self.assertEqual(orders.order("reset", node=1).kind, "started")
-            self.server.settled()
+            self.server.await_settled()
             self.assertEqual([outcome.kind for outcome in orders.order_all(  # type: ignore[union-attr]
                 [{"op": "confirm", "node": node, "epoch": 1} for node in (1, 2)])], ["done", "done"])
 

@@ -183,7 +183,7 @@ def openssl(folder: str, *words: str) -> None:
     subprocess.run(["openssl", *words], cwd=folder, check=True, capture_output=True, timeout=DEADLINE)
 
 
-def signed(folder: str, name: str, *more: str, authority: str = "authority", days: str = "30") -> None:
+def sign(folder: str, name: str, *more: str, authority: str = "authority", days: str = "30") -> None:
     """Makes a certificate of this name, signed by an authority; of the past where the days are negative."""
     openssl(folder, "req", "-newkey", "ec", "-pkeyopt", "ec_paramgen_curve:prime256v1", "-nodes", "-subj", f"/CN={name}",
             "-keyout", f"{name}.key", "-out", f"{name}.csr", *more)
@@ -198,11 +198,11 @@ def certificates() -> tempfile.TemporaryDirectory[str]:
     for name in ("authority", "foreign"):
         openssl(folder.name, "req", "-x509", "-newkey", "ec", "-pkeyopt", "ec_paramgen_curve:prime256v1", "-nodes", "-days", "30",
                 "-subj", f"/CN={name}", "-keyout", f"{name}.key", "-out", f"{name}.pem")
-    signed(folder.name, "front", "-addext", "subjectAltName=DNS:localhost")
-    signed(folder.name, "service2", "-addext", "subjectAltName=DNS:service2")
-    signed(folder.name, "root")
-    signed(folder.name, "stranger", authority="foreign")
-    signed(folder.name, "old", days="-1")
+    sign(folder.name, "front", "-addext", "subjectAltName=DNS:localhost")
+    sign(folder.name, "service2", "-addext", "subjectAltName=DNS:service2")
+    sign(folder.name, "root")
+    sign(folder.name, "stranger", authority="foreign")
+    sign(folder.name, "old", days="-1")
     return folder
 
 
@@ -233,7 +233,7 @@ class Certificates(Ruled):
         self.addCleanup(client.close)
         return client
 
-    def refused(self, name: str | None, why: str, **how: Any) -> None:
+    def expect_refused(self, name: str | None, why: str, **how: Any) -> None:
         """The peer is not let in, and the audit says why."""
         before = len(self.handshakes())
         with self.assertRaises(OSError):
@@ -283,10 +283,10 @@ class Certificates(Ruled):
         self.assertEqual(faults, [])
 
     def test_who_is_not_let_in(self) -> None:
-        self.refused("stranger", "unable to get local issuer certificate")
-        self.refused("old", "expired")
-        self.refused(None, "certificate")
-        self.refused("service2", "unsupported protocol", version=ssl.TLSVersion.TLSv1_2)
+        self.expect_refused("stranger", "unable to get local issuer certificate")
+        self.expect_refused("old", "expired")
+        self.expect_refused(None, "certificate")
+        self.expect_refused("service2", "unsupported protocol", version=ssl.TLSVersion.TLSv1_2)
         with socket.create_connection(self.front.listening("tls:"), DEADLINE) as plain:
             plain.sendall(b'{"op":"show"}\n' * 10)
             until("a fifth line", lambda: len(self.handshakes()) == 5)

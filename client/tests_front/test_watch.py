@@ -108,7 +108,7 @@ class Watching(Case):
         client.close()
         self.front.await_audited("its end", lambda line: line["event"] == "ends")
         self.front.ask(op="reset", node=1)
-        self.assertEqual([row[4] for row in self.server.settled()["nodes"]], [1] * 8)
+        self.assertEqual([row[4] for row in self.server.await_settled()["nodes"]], [1] * 8)
 
     def test_other_lines_over_the_same_connection(self) -> None:
         client, _ = self.watcher()

@@ -98,13 +98,13 @@ def another_store(desk: Desk) -> None:
 def a_file_of_signals_that_is_full(desk: Desk) -> None:
     store, most = desk.store(), 400_000
 
-    def limited() -> None:
+    def limit_files() -> None:
         signal.signal(signal.SIGXFSZ, signal.SIG_IGN)
         resource.setrlimit(resource.RLIMIT_FSIZE, (most, most))
 
     with open(f"{store}.signals", "w", encoding="ascii") as file:
         file.write("#" * (most - 40) + "\n")
-    with Serving(store, preexec_fn=limited, restore_signals=False) as server:
+    with Serving(store, preexec_fn=limit_files, restore_signals=False) as server:
         words = ("--signals", server.output, "--unconfirmed", "1000000")
         see(desk.health(server, *words).text, "resetd OK: well")
         for number in (1, 2):

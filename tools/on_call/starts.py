@@ -58,10 +58,10 @@ def a_limit(desk: Desk) -> None:
     store = desk.store()
     most = os.path.getsize(store) + 2_000
 
-    def limited() -> None:
+    def limit_files() -> None:
         resource.setrlimit(resource.RLIMIT_FSIZE, (most, most))
 
-    with Serving(store, preexec_fn=limited) as server:
+    with Serving(store, preexec_fn=limit_files) as server:
         see(desk.why(store), f"process {server.process.pid} may let a file grow to {most:,} bytes alone")
         number = 0
         while server.process.poll() is None:
