@@ -19,8 +19,7 @@
 //!
 //! [`run_events_keeping_disk`] runs a list of events in one thread, with crashes in between: the main
 //! theorem is its contract, and `specs/promises/Broken.antt` has what it says of a run that ends
-//! early. [`run_events`] is the same without the disk. `specs/ledger/Follows.antt` says where a run
-//! is between two events.
+//! early. `specs/ledger/Follows.antt` says where a run is between two events.
 //!
 //! [`laws`] proves of the machine what the main theorem stands on.
 #![tactic(auto)]
@@ -42,7 +41,7 @@ mod trace;
 
 pub use coord_view::{LinkView, NodeView, View};
 pub use driver::Driver;
-pub use event_driver::{run_events, run_events_keeping_disk};
+pub use event_driver::run_events_keeping_disk;
 pub use events::{Answer, Event};
 pub use flight::Flight;
 pub use handed::Handed;

@@ -5,7 +5,7 @@ use crate::runs::{
     Host, OPENING, add, choosing, linking, made, opened, push, ran, reset, same, tells,
 };
 use coord_disk::{BlipDisk, CrashDisk, Disk, FailingDisk, FuseDisk, MemDisk, Rule};
-use coord_ledger::{Driver, Event, RunFault, RunFaultKind, Trace, run_events};
+use coord_ledger::{Driver, Event, RunFault, RunFaultKind, Trace, run_events_keeping_disk};
 use coord_store::StoreFault;
 use coord_types::Step;
 
@@ -167,9 +167,9 @@ fn a_run_breaks_off_at_a_crash_that_is_not_opened(rt: HostRuntime) {
         Event::Show,
     ];
     let ledger = opened(&rt, FuseDisk::new(made(&rt), OPENING));
-    match run_events(rt.alloc(), ledger, &events) {
+    match run_events_keeping_disk(rt.alloc(), ledger, &events) {
         Ok(_ran) => panic!(rt; "it came to its end"),
-        Err(RunFault { at, trace, kind }) => {
+        Err((RunFault { at, trace, kind }, _disk)) => {
             let (number, answered) = (kind.number(), trace.answers.len());
             same(&rt, &(at, answered, number), &(2, 2, 2));
             same(&rt, &kind, &RunFaultKind::Store(StoreFault::Device));
