@@ -4,10 +4,10 @@ ghost use Rattle.std.specs.Prelude.{◌≡◌, ◌+◌, ℕ, IfErr, IfOk, MatchR
 ghost use Rattle.std.specs.Option.{option_map};
 ghost use Rattle.coord_ledger.specs.Facade.{Completed, EndedEarly, HasCauseToEnd, HasFailed, Promised, failed_in_run, failed_until, started};
 
+mod broken;
 mod crashes;
 mod ending;
 mod events;
-mod flights;
 mod released;
 mod run;
 

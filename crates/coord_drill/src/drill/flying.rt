@@ -120,7 +120,7 @@ fn print_flown<D: CrashDisk>(
 
 /// Sends the next steps out, commits them, and takes the flight back. Where it finds no memory, it
 /// gives the disk back.
-fn send_out<D: CrashDisk>(driver: Driver<D>) -> Result<Landing<D>, (Fault, D)>
+fn send_out<D: CrashDisk>(mut driver: Driver<D>) -> Result<Landing<D>, (Fault, D)>
     requires home { driver.flight ≡ None }
     ensures flown { IfOk result (λ r. FlownTo driver.ledger.log r.flown r.driver.ledger.log) }
     ensures moments { IfOk result (λ r. GoesBy D.model D.crashes driver
@@ -132,7 +132,7 @@ fn send_out<D: CrashDisk>(driver: Driver<D>) -> Result<Landing<D>, (Fault, D)>
 {
     driver.lemma_begins();
     driver.lemma_survives();
-    let (begun, driver) = driver.begin();
+    let begun = driver.begin();
     driver.lemma_survives();
     match begun {
         Answer::Begun(_) => land(driver),
@@ -145,7 +145,7 @@ fn send_out<D: CrashDisk>(driver: Driver<D>) -> Result<Landing<D>, (Fault, D)>
 }
 
 /// Commits the flight that is out, and takes it back.
-fn land<D: CrashDisk>(driver: Driver<D>) -> Result<Landing<D>, (Fault, D)>
+fn land<D: CrashDisk>(mut driver: Driver<D>) -> Result<Landing<D>, (Fault, D)>
     ensures lands { IfOk result (λ r. Lands driver.ledger.log r.flown r.driver.ledger.log) }
     ensures moments { IfOk result (λ r. Leads D.model D.crashes driver landing_events
         (landed_answers r.flown (settled_count r.driver.ledger.log)) r.driver) }
@@ -153,7 +153,6 @@ fn land<D: CrashDisk>(driver: Driver<D>) -> Result<Landing<D>, (Fault, D)>
         LeadsPart D.model D.crashes driver (λ _. landing_events) refused.1) }
     ensures fault { IfErr result (λ refused. IsOfMemory refused.0) }
 {
-    let mut driver = driver;
     driver.lemma_survives();
     let answer = driver.commit();
     driver.lemma_survives();
@@ -178,7 +177,7 @@ fn land<D: CrashDisk>(driver: Driver<D>) -> Result<Landing<D>, (Fault, D)>
 }
 
 /// Takes back the flight that is out. Without memory for its releases the drill is lost.
-fn take_back<D: CrashDisk>(driver: Driver<D>) -> Result<(Releases, Driver<D>), (Fault, D)>
+fn take_back<D: CrashDisk>(mut driver: Driver<D>) -> Result<(Releases, Driver<D>), (Fault, D)>
     ensures base { IfOk result (λ r. r.1.ledger.log.base ≡ driver.ledger.log.base) }
     ensures released { IfOk result (λ r. r.0 ≡ settling_releases driver.ledger.log
         (r.1.ledger.log.settled - driver.ledger.log.settled)) }
@@ -188,7 +187,7 @@ fn take_back<D: CrashDisk>(driver: Driver<D>) -> Result<(Releases, Driver<D>), (
     ensures fault { IfErr result (λ refused. IsOfMemory refused.0) }
 {
     driver.lemma_survives();
-    let (landed, driver) = driver.finish();
+    let landed = driver.finish();
     match landed {
         Ok(Some(releases)) => {
             driver.lemma_survives();

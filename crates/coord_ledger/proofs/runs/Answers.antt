@@ -1,5 +1,5 @@
 -- What a driver makes of each event follows the event machine.
-use Rattle.std.proofs.Common.{◌≡◌, ℕ, ◌≤◌, Bool, true, false, length, Ok, Err, refl, ap, ◌∙◌, subst, Result, MatchResult, OnErr, IfOk, is_err, is_some}
+use Rattle.std.proofs.Common.{◌≡◌, ℕ, ◌≤◌, Bool, true, false, length, Ok, Err, refl, ap, ◌∙◌, subst, Result, MatchResult, OnErr, is_some}
 use Rattle.std.proofs.lemmas.List.{length-map}
 use Rattle.coord_ledger.specs.Facade.{Answer, Follows, FollowsTo, IsConsistent, Machine, Refusal, Refused, Run, Show, Shown, accepted_count, release_of, resent, settled_count, settled_world}
 use Rattle.coord_types.specs.declared.refusals.Refusal.TheVariants.{OutOfMemory, Stopped}
@@ -46,11 +46,3 @@ resent_count w = length-map (again w) (release_of 0)
 pub on_err : {A E X : Type 0} (r : Result A E) → X → OnErr r X
 on_err (Ok a) x = tt
 on_err (Err e) x = x
-
-pub err_gives : {A E X : Type 0} (r : Result A E) → is_err r ≡ true → OnErr r X → X
-err_gives (Ok a) failed x = let no : ⊥ = cc in absurd no
-err_gives (Err e) failed x = x
-
-pub ok_gives : {A E X : Type 0} (r : Result A E) → is_err r ≡ false → IfOk r (λ _. X) → X
-ok_gives (Ok a) fine x = x
-ok_gives (Err e) fine x = let no : ⊥ = cc in absurd no

@@ -1,32 +1,33 @@
 //! Flights go out, are committed, and come back.
 
-ghost use Rattle.std.specs.Prelude.{◌≡◌, ◌+◌, ◌-◌, List, ℕ, Ok, Some};
+ghost use Rattle.std.specs.Prelude.{◌≡◌, ◌+◌, ◌-◌, List, ℕ, None, Ok, Some};
 ghost use Rattle.coord_ledger.specs.Facade.{Begin, Commit, DiskEffect, Finish, HasFailed, IsConsistent, Machine, Release as Row, Represents, Simulates, disk_held, failed_at, finish_answer, found_by_crash, model_held, settling_releases, touches_disk};
 
 use super::Driver;
-use crate::{Answer, Releases};
+use crate::{Answer, Flight, Releases};
 use coord_disk::{CrashDisk, Disk};
 use coord_types::Refusal;
 
 impl<D: CrashDisk> Driver<D> {
     /// A flight goes out. While one is out, none does. Answers `Begun`, `Nothing`, or `Refused` for
     /// want of memory.
-    pub fn begin(self) -> (Answer, Self)
-        ensures simulates { Simulates self Begin result.0 result.1 }
-        ensures log { result.1.ledger.log ≡ self.ledger.log }
-        ensures disk { disk_held result.1 ≡ disk_held self }
+    pub fn begin(&mut self) -> Answer
+        ensures simulates { Simulates self.old Begin result self.new }
+        ensures log { self.new.ledger.log ≡ self.old.ledger.log }
+        ensures disk { disk_held self.new ≡ disk_held self.old }
     {
-        let Driver { mut ledger, flight } = self;
-        if let Some(flight) = flight {
-            let flight = Some(flight);
-            return (Answer::Nothing, Driver { ledger, flight });
+        if self.flight.is_some() {
+            return Answer::Nothing;
         }
-        let (answer, flight) = match ledger.begin_flush() {
-            Ok(Some(flight)) => (Answer::Begun(flight.steps.len() as u64), Some(flight)),
-            Ok(None) => (Answer::Nothing, None),
-            Err(_) => (Answer::Refused(Refusal::OutOfMemory), None),
-        };
-        (answer, Driver { ledger, flight })
+        match self.ledger.begin_flush() {
+            Ok(Some(flight)) => {
+                let count = flight.steps.len() as u64;
+                put(&mut self.flight, flight);
+                Answer::Begun(count)
+            }
+            Ok(None) => Answer::Nothing,
+            Err(_) => Answer::Refused(Refusal::OutOfMemory),
+        }
     }
 
     /// The flight that is out is committed. Answers `Committed`, `Failed`, or `NoFlight`.
@@ -53,24 +54,34 @@ impl<D: CrashDisk> Driver<D> {
 
     /// The flight that is out comes back: what it releases, or None where no flight is out. For want
     /// of memory it stays out.
-    pub fn finish(self) -> (Result<Option<Releases>, Refusal>, Self)
-        ensures simulates { Simulates self Finish (finish_answer result.0 result.1) result.1 }
-        ensures base { result.1.ledger.log.base ≡ self.ledger.log.base }
-        ensures released { (releases : List Row) → result.0 ≡ Ok (Some releases) →
-            releases ≡ settling_releases self.ledger.log
-            (result.1.ledger.log.settled - self.ledger.log.settled) }
-        ensures disk { disk_held result.1 ≡ disk_held self }
+    pub fn finish(&mut self) -> Result<Option<Releases>, Refusal>
+        ensures simulates { Simulates self.old Finish (finish_answer result self.new) self.new }
+        ensures base { self.new.ledger.log.base ≡ self.old.ledger.log.base }
+        ensures released { (releases : List Row) → result ≡ Ok (Some releases) →
+            releases ≡ settling_releases self.old.ledger.log
+            (self.new.ledger.log.settled - self.old.ledger.log.settled) }
+        ensures disk { disk_held self.new ≡ disk_held self.old }
     {
-        let Driver { mut ledger, flight } = self;
-        let Some(flight) = flight else {
-            return (Ok(None), Driver::over(ledger));
+        let Some(flight) = self.flight.take() else {
+            return Ok(None);
         };
-        match ledger.end_flush(flight) {
-            Ok(releases) => (Ok(Some(releases)), Driver::over(ledger)),
+        match self.ledger.end_flush(flight) {
+            Ok(releases) => Ok(Some(releases)),
             Err((refusal, flight)) => {
-                let flight = Some(flight);
-                (Err(refusal), Driver { ledger, flight })
+                put(&mut self.flight, flight);
+                Err(refusal)
             }
         }
+    }
+}
+
+/// Puts a flight where none is.
+fn put<D: CrashDisk>(place: &mut Option<Flight<D>>, flight: Flight<D>)
+    requires { place.old ≡ None }
+    ensures { place.new ≡ Some flight }
+{
+    match place.replace(flight) {
+        None => {}
+        Some(_) => unreachable!(),
     }
 }

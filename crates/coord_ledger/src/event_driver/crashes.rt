@@ -3,7 +3,7 @@
 ghost use Rattle.std.specs.Prelude.{◌≡◌, ◌+◌, true, ℕ, IfErr, IfOk, MatchResult};
 ghost use Rattle.coord_ledger.specs.Facade.{Crash, DiskEffect, Follows, FollowsTo, HasFailed, IsConsistent, IsCutShort, IsEventFault, IsLost, IsPromised, Machine, disk_held, failed_in_run, model_held};
 
-use super::flights::Broken;
+use super::broken::Broken;
 use super::released::forget_all;
 use super::run::Run;
 use crate::{Answer, Seen};

@@ -4,7 +4,7 @@ ghost use Rattle.std.specs.Prelude.{◌≡◌, List, None, IfErr, IfOk, IsSomeAn
 ghost use Rattle.coord_ledger.specs.declared.trace.RunFaultKind.TheVariants.{OutOfMemory};
 ghost use Rattle.coord_ledger.specs.Facade.{Answer as Reaction, Completed, Event as What, Follows, Good, LedgerState, RunSoFar, disk_held, run, started};
 
-use super::flights::Broken;
+use super::broken::Broken;
 use super::released::forget_all;
 use super::run::Run;
 use crate::{Ledger, Release, RunFaultKind};

@@ -4,7 +4,7 @@ ghost use Rattle.std.specs.Prelude.{◌≡◌, ◌+◌, ℕ, IfErr, IfOk, MatchR
 ghost use Rattle.coord_ledger.specs.declared.trace.RunFaultKind.TheVariants.{OutOfMemory};
 ghost use Rattle.coord_ledger.specs.Facade.{DiskEffect, EventInRange, Follows, FollowsTo, HasFailed, IsConsistent, IsCutShort, IsEventFault, IsLost, IsPromised, Machine, disk_held, failed_at, failed_in_run, found_by_crash, model_held, touches_disk};
 
-use super::flights::Broken;
+use super::broken::Broken;
 use super::released::forget_all;
 use super::run::Run;
 use crate::{Answer, Event, RunFaultKind};
@@ -63,9 +63,9 @@ impl<D: CrashDisk> Run<D> {
                 step.lemma_in_range();
                 held.submit(step)
             }
-            Event::Begin => return Ok(held.begin()),
+            Event::Begin => Ok(held.begin()),
             Event::Commit => Ok(held.commit()),
-            Event::Finish => return held.finish(),
+            Event::Finish => held.finish(),
             Event::Collect(index) => Ok(held.collect(index)),
             Event::Resend => held.resend(),
             Event::Show => Ok(held.show()),

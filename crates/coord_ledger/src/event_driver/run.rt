@@ -1,7 +1,7 @@
 //! What a run of events holds between two events.
 
 ghost use Rattle.std.specs.Prelude.{◌≡◌, ◌+◌, ℕ, IfOk, OnErr, Some};
-ghost use Rattle.coord_ledger.specs.Facade.{Collect, Commit, DiskEffect, Follows, FollowsTo, HasFailed, IsConsistent, IsLeftOut, Machine, Resend, Show, Submit, disk_held, failed_at, found_by_crash, model_held, touches_disk};
+ghost use Rattle.coord_ledger.specs.Facade.{Begin, Collect, Commit, DiskEffect, Finish, Follows, FollowsTo, HasFailed, IsConsistent, IsLeftOut, Machine, Resend, Show, Submit, disk_held, failed_at, found_by_crash, model_held, touches_disk};
 
 use super::released::push_releases;
 use crate::{Answer, Driver, Handed, Release, Seen, Ticket};
@@ -37,6 +37,33 @@ impl<D: CrashDisk> Run<D> {
                 let number = ticket.step();
                 self.tickets.push_reserved(Some(ticket));
                 Ok(Answer::Repeated(number))
+            }
+            Err(refusal) => Ok(Answer::Refused(refusal)),
+        }
+    }
+
+    /// A flight goes out. While one is out, none does.
+    pub fn begin(&mut self) -> Answer
+        ensures answered { (s : Machine) → IsConsistent s → Follows self.old s →
+            FollowsTo s Begin result self.new }
+        ensures disk { disk_held self.new.driver ≡ disk_held self.old.driver }
+    {
+        self.driver.begin()
+    }
+
+    /// The flight that is out comes back, and what it releases is kept.
+    pub fn finish(&mut self) -> Result<Answer, AllocError>
+        ensures answered { (s : Machine) → IsConsistent s → Follows self.old s →
+            IfOk result (λ answer. FollowsTo s Finish answer self.new) }
+        ensures cut { (s : Machine) → IsConsistent s → Follows self.old s →
+            OnErr result (IsLeftOut s Finish self.new.released.items) }
+        ensures disk { disk_held self.new.driver ≡ disk_held self.old.driver }
+    {
+        match self.driver.finish() {
+            Ok(None) => Ok(Answer::NoFlight),
+            Ok(Some(releases)) => {
+                push_releases(&mut self.released, releases)?;
+                Ok(Answer::Finished(self.driver.ledger().settled_count()))
             }
             Err(refusal) => Ok(Answer::Refused(refusal)),
         }

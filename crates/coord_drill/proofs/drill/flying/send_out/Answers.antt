@@ -12,7 +12,7 @@ pub returns-clause-flown : goal.returns-clause-flown
 returns-clause-flown g c =
     let same = c.begin-begun.ensures.log in
     elim c.match-begun.branch [
-      | in-Begun w ↦ rw w.result-is (IfOk-weaker w.land.result _ _ (λ r back. flown_to c.args.driver.ledger.log c.begin-begun.result.1.ledger.log r.driver.ledger.log r.flown same back) w.land.ensures.lands)
+      | in-Begun w ↦ rw w.result-is (IfOk-weaker w.land.result _ _ (λ r back. flown_to c.args.driver.ledger.log c.begin-begun.new.self.ledger.log r.driver.ledger.log r.flown same back) w.land.ensures.lands)
       | in-Nothing w ↦ rw w.result-is same
       | in_default w ↦ rw w.result-is tt
     ]
@@ -20,9 +20,9 @@ returns-clause-flown g c =
 pub returns-clause-moments : goal.returns-clause-moments
 returns-clause-moments g c =
     let v = c.args.driver in
-    let out = c.begin-begun.result.1 in
-    let goes : Leads g.D.Disk.model g.D.CrashDisk.crashes v (Begin ∷ []) (c.begin-begun.result.0 ∷ []) out =
-    leads_aside g.D.Disk.model g.D.CrashDisk.crashes v out Begin c.begin-begun.result.0 tt c.lemma_survives.ensures c.lemma_survives-2.ensures g.met.D.Disk.laws refl (λ s. refl) refl c.begin-begun.ensures.disk c.begin-begun.ensures.simulates in
+    let out = c.begin-begun.new.self in
+    let goes : Leads g.D.Disk.model g.D.CrashDisk.crashes v (Begin ∷ []) (c.begin-begun.result ∷ []) out =
+    leads_aside g.D.Disk.model g.D.CrashDisk.crashes v out Begin c.begin-begun.result tt c.lemma_survives.ensures c.lemma_survives-2.ensures g.met.D.Disk.laws refl (λ s. refl) refl c.begin-begun.ensures.disk c.begin-begun.ensures.simulates in
     elim c.match-begun.branch [
       | in-Begun w ↦
           let so_far = c.lemma_begins.ensures.so_far in
@@ -40,9 +40,9 @@ returns-clause-moments g c =
 pub returns-clause-cut : goal.returns-clause-cut
 returns-clause-cut g c =
     let v = c.args.driver in
-    let out = c.begin-begun.result.1 in
-    let goes : Leads g.D.Disk.model g.D.CrashDisk.crashes v (Begin ∷ []) (c.begin-begun.result.0 ∷ []) out =
-    leads_aside g.D.Disk.model g.D.CrashDisk.crashes v out Begin c.begin-begun.result.0 tt c.lemma_survives.ensures c.lemma_survives-2.ensures g.met.D.Disk.laws refl (λ s. refl) refl c.begin-begun.ensures.disk c.begin-begun.ensures.simulates in
+    let out = c.begin-begun.new.self in
+    let goes : Leads g.D.Disk.model g.D.CrashDisk.crashes v (Begin ∷ []) (c.begin-begun.result ∷ []) out =
+    leads_aside g.D.Disk.model g.D.CrashDisk.crashes v out Begin c.begin-begun.result tt c.lemma_survives.ensures c.lemma_survives-2.ensures g.met.D.Disk.laws refl (λ s. refl) refl c.begin-begun.ensures.disk c.begin-begun.ensures.simulates in
     elim c.match-begun.branch [
       | in-Begun w ↦
           let begun = subst (λ a. Leads g.D.Disk.model g.D.CrashDisk.crashes v (Begin ∷ []) (a ∷ []) out) w.in-Begun.is goes in

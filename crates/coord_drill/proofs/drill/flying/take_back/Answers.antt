@@ -10,6 +10,6 @@ returns-in-Ok-Some-clause-released g c = c.finish-landed.ensures.released c.in-O
 
 pub returns-in-Ok-Some-clause-moments : goal.returns-in-Ok-Some-clause-moments
 returns-in-Ok-Some-clause-moments g c =
-    let new = c.finish-landed.result.1 in
+    let new = c.finish-landed.new.self in
     leads_aside g.D.Disk.model g.D.CrashDisk.crashes c.args.driver new Finish (Finished (settled_count new.ledger.log)) tt c.lemma_survives.ensures c.lemma_survives-in-Ok-Some.ensures g.met.D.Disk.laws refl (λ s. refl) refl c.finish-landed.ensures.disk
     (subst (λ r. Simulates c.args.driver Finish (finish_answer r new) new) (c.in-Ok-Some.is ∙ ap Ok c.in-Ok-Some.field-0-is) c.finish-landed.ensures.simulates)

@@ -1,46 +1,48 @@
-use Rattle.std.proofs.Common.{◌≡◌, length, Option, None, Ok, sym, ap, ◌∙◌, subst, rules}
-use Rattle.coord_ledger.specs.Facade.{Answer, Begin, FlightState, HoldsFlight, LedgerState, Simulates, at_home}
+use Rattle.std.proofs.Common.{◌≡◌, length, false, Option, Some, None, Ok, is_some, refl, sym, ap, ◌∙◌, subst, rules}
+use Rattle.coord_ledger.specs.Facade.{FlightState, HoldsFlight, at_home}
 use Rattle.coord_ledger.proofs.runs.Calls.{begun_err, begun_none, begun_some, departs_own}
 use Rattle.coord_ledger.proofs.Simulates.{simulates_next, simulates_not_begun, simulates_nothing}
 use Rattle.coord_ledger.proofs.driver.Driver.begin.Goals as goal
-use Rattle.coord_ledger.proofs.driver.Driver.begin.Goals.{in-Ok-Some, in-Ok-None, in-Err}
 
-pub invariant_of-result-2 : goal.invariant_of-result-2
-invariant_of-result-2 g c =
-    let home : c.self.inside.ledger.out ≡ None = subst (HoldsFlight c.self.inside.ledger) c.in_default.is c.self.invariant in
-    elim c.match-begin_flush.branch [
-      | in-Ok-Some w ↦
-          let departs = begun_some c.self.inside.ledger c.begin_flush.new.self c.begin_flush.result c.begin_flush.ensures.nothing c.begin_flush.ensures.begun w.in-Ok-Some.flight (w.in-Ok-Some.is ∙ ap Ok w.in-Ok-Some.field-0-is) in
-          rw w.answer-is (departs_own c.self.inside.ledger c.begin_flush.new.self w.in-Ok-Some.flight departs)
-      | in-Ok-None w ↦
-          let stays = begun_none c.self.inside.ledger c.begin_flush.new.self c.begin_flush.result c.begin_flush.ensures.nothing c.begin_flush.ensures.begun (w.in-Ok-None.is ∙ ap Ok w.in-Ok-None.field-0-is) in
-          rw w.answer-is (ap (λ (l : LedgerState g.row.D.Denot). l.out) stays.1 ∙ home)
-      | in-Err w ↦
-          rw w.answer-is (ap (λ (l : LedgerState g.row.D.Denot). l.out) w.in-Err.ensures.err ∙ home)
-    ]
+-- no flight is out
+none_is : {A : Type 0} (o : Option A) → is_some o ≡ false → o ≡ None
+none_is None e = refl
+none_is (Some x) e = let no : ⊥ = cc in absurd no
+
+-- the flight that is out is the ledger's own
+pub invariant_of-self : goal.invariant_of-self
+invariant_of-self g c =
+    let l = c.self.inside.ledger in
+    let departs = begun_some l c.begin_flush.new.self c.begin_flush.result c.begin_flush.ensures.nothing c.begin_flush.ensures.begun c.in-Ok-Some.flight (c.in-Ok-Some.is ∙ ap Ok c.in-Ok-Some.field-0-is) in
+    rw c.put.ensures (departs_own l c.begin_flush.new.self c.in-Ok-Some.flight departs)
 
 -- the call is an event of the driver's machine
 
-pub returns-clause-simulates : goal.returns-clause-simulates
-returns-clause-simulates g c =
-    let home : c.self.inside.ledger.out ≡ None = subst (HoldsFlight c.self.inside.ledger) c.in_default.is c.self.invariant in
-    let old = at_home c.self.inside.ledger in
-    let same : at_home c.self.inside.ledger ≡ c.args.self = (λ i. record { ledger = c.self.inside.ledger; flight = sym c.in_default.is i }) ∙ c.self.view_is in
-    let To : Answer × Option (FlightState g.row.D.Denot) → Type 0 = λ p. Simulates c.args.self Begin p.0 (record { ledger = c.begin_flush.new.self; flight = p.1 }) in
-    elim c.match-begin_flush.branch [
-      | in-Ok-Some w ↦
-          let departs = begun_some c.self.inside.ledger c.begin_flush.new.self c.begin_flush.result c.begin_flush.ensures.nothing c.begin_flush.ensures.begun w.in-Ok-Some.flight (w.in-Ok-Some.is ∙ ap Ok w.in-Ok-Some.field-0-is) in
-          let many : w.len.result ≡ length w.flight.inside.steps.items = search rules in
-          let size : w.len.result ≡ length w.in-Ok-Some.flight.steps = many ∙ ap (λ (f : FlightState g.row.D.Denot). length f.steps) w.flight.view_is in
-          subst To (sym w.answer-is)
-          (rw size (rw (sym same)
-          (simulates_next old home w.in-Ok-Some.flight c.begin_flush.new.self departs)))
-      | in-Ok-None w ↦
-          let stays = begun_none c.self.inside.ledger c.begin_flush.new.self c.begin_flush.result c.begin_flush.ensures.nothing c.begin_flush.ensures.begun (w.in-Ok-None.is ∙ ap Ok w.in-Ok-None.field-0-is) in
-          subst To (sym w.answer-is)
-          (rw stays.1 (rw (sym same) (simulates_nothing old home stays.0)))
-      | in-Err w ↦
-          let goes = begun_err c.self.inside.ledger c.begin_flush.new.self c.begin_flush.result c.begin_flush.ensures.nothing c.begin_flush.ensures.begun _ w.in-Err.is in
-          subst To (sym w.answer-is)
-          (rw w.in-Err.ensures.err (rw (sym same) (simulates_not_begun old home goes)))
-    ]
+pub returns-in-Ok-Some-clause-simulates : goal.returns-in-Ok-Some-clause-simulates
+returns-in-Ok-Some-clause-simulates g c =
+    let l = c.self.inside.ledger in
+    let none = none_is c.self.inside.flight (sym c.is_some.ensures ∙ c.if-is_some.false) in
+    let home : l.out ≡ None = subst (HoldsFlight l) none c.self.invariant in
+    let same : at_home l ≡ c.args.self.now = (λ i. record { ledger = l; flight = sym none i }) ∙ c.self.view_is in
+    let departs = begun_some l c.begin_flush.new.self c.begin_flush.result c.begin_flush.ensures.nothing c.begin_flush.ensures.begun c.in-Ok-Some.flight (c.in-Ok-Some.is ∙ ap Ok c.in-Ok-Some.field-0-is) in
+    let many : c.len-count.result ≡ length c.flight.inside.steps.items = search rules in
+    let size : c.len-count.result ≡ length c.in-Ok-Some.flight.steps = many ∙ ap (λ (f : FlightState g.row.D.Denot). length f.steps) c.flight.view_is in
+    rw c.put.ensures (rw size (rw (sym same) (simulates_next (at_home l) home c.in-Ok-Some.flight c.begin_flush.new.self departs)))
+
+pub returns-in-Ok-None-clause-simulates : goal.returns-in-Ok-None-clause-simulates
+returns-in-Ok-None-clause-simulates g c =
+    let l = c.self.inside.ledger in
+    let none = none_is c.self.inside.flight (sym c.is_some.ensures ∙ c.if-is_some.false) in
+    let home : l.out ≡ None = subst (HoldsFlight l) none c.self.invariant in
+    let same : at_home l ≡ c.args.self.now = (λ i. record { ledger = l; flight = sym none i }) ∙ c.self.view_is in
+    let stays = begun_none l c.begin_flush.new.self c.begin_flush.result c.begin_flush.ensures.nothing c.begin_flush.ensures.begun (c.in-Ok-None.is ∙ ap Ok c.in-Ok-None.field-0-is) in
+    rw stays.1 (rw none (rw (sym same) (simulates_nothing (at_home l) home stays.0)))
+
+pub returns-in-Err-clause-simulates : goal.returns-in-Err-clause-simulates
+returns-in-Err-clause-simulates g c =
+    let l = c.self.inside.ledger in
+    let none = none_is c.self.inside.flight (sym c.is_some.ensures ∙ c.if-is_some.false) in
+    let home : l.out ≡ None = subst (HoldsFlight l) none c.self.invariant in
+    let same : at_home l ≡ c.args.self.now = (λ i. record { ledger = l; flight = sym none i }) ∙ c.self.view_is in
+    let goes = begun_err l c.begin_flush.new.self c.begin_flush.result c.begin_flush.ensures.nothing c.begin_flush.ensures.begun _ c.in-Err.is in
+    rw c.in-Err.ensures.err (rw none (rw (sym same) (simulates_not_begun (at_home l) home goes)))
