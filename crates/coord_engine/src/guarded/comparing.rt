@@ -5,7 +5,7 @@ ghost use Rattle.coord_engine.specs.Named.{IsAscending, all_notes, notes_of};
 
 use crate::Share;
 use coord_ledger::Note;
-use coord_types::Step;
+use coord_types::{Kind, Step};
 use std::sync::ledger::Ledger as Count;
 
 /// Whether each note is older than the next.
@@ -63,18 +63,20 @@ fn some_has<L: Count>(shares: &[Share<L>], note: &Note) -> bool
     false
 }
 
-/// Whether each of these steps, which come behind some others, was noted in some share.
-pub fn all_noted<L: Count>(shares: &[Share<L>], others: u64, steps: &[Step]) -> bool
+/// Whether each of these steps, which come behind some others, was noted in some share with the kind
+/// of its reply.
+pub fn all_noted<L: Count>(shares: &[Share<L>], others: u64, steps: &[Step], kinds: &[Kind]) -> bool
     requires ascending { All IsAscending shares.now }
     requires few { others + length steps.now < 2 ^ 64 }
-    ensures { IsTrue result ↔ All (Contains (all_notes shares.now)) (notes_of others steps.now) }
+    requires all { length kinds.now ≡ length steps.now }
+    ensures { IsTrue result ↔ All (Contains (all_notes shares.now))
+        (notes_of others steps.now kinds.now) }
 {
-    let mut number = others;
-    for step in steps {
-        number += 1;
+    for place in 0..steps.len() {
         let note = Note {
-            step: number,
-            what: *step,
+            step: others + place as u64 + 1,
+            what: steps[place],
+            kind: kinds[place],
         };
         if !some_has(shares, &note) {
             return false;
