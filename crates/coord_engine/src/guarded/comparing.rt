@@ -4,7 +4,7 @@ ghost use Rattle.std.specs.Prelude.{◌≡◌, ◌↔◌, ◌+◌, ◌^◌, ◌<
 ghost use Rattle.coord_engine.specs.Named.{IsAscending, all_notes, notes_of};
 
 use crate::Share;
-use coord_ledger::Note;
+use coord_ledger::{Note, is_same_step};
 use coord_types::{Kind, Step};
 use std::sync::ledger::Ledger as Count;
 
@@ -36,7 +36,7 @@ pub fn all_ascending<L: Count>(shares: &[Share<L>]) -> bool
 fn is_same(a: &Note, b: &Note) -> bool
     ensures { IsTrue result ↔ (a.now ≡ b.now) }
 {
-    a == b
+    a.step == b.step && a.kind == b.kind && is_same_step(&a.what, &b.what)
 }
 
 /// Whether the note is one of these, which ascend.
@@ -73,10 +73,12 @@ pub fn all_noted<L: Count>(shares: &[Share<L>], others: u64, steps: &[Step], kin
         (notes_of others steps.now kinds.now) }
 {
     for place in 0..steps.len() {
+        let step = steps[place];
+        let kind = kinds[place];
         let note = Note {
             step: others + place as u64 + 1,
-            what: steps[place],
-            kind: kinds[place],
+            what: step,
+            kind,
         };
         if !some_has(shares, &note) {
             return false;

@@ -1,5 +1,4 @@
 use Rattle.std.proofs.Common.{◌+◌, ℕ, ◌<◌, get_or, length, refl, sym, subst, arith, Contains}
-use Rattle.std.proofs.lemmas.Bool.{false≢true}
 use Rattle.coord_ledger.specs.declared.ticket.Note.{Note}
 use Rattle.coord_engine.specs.Named.{all_notes, notes_of}
 use Rattle.coord_engine.proofs.Counting.{one_more}
