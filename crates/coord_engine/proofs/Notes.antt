@@ -6,20 +6,30 @@ use Rattle.std.proofs.lemmas.Cmp.{ranked}
 use Rattle.std.proofs.lemmas.Bool.Decides.{nat_tests}
 use Rattle.std.proofs.lemmas.List.Elements.{Contains-append_cases, Contains-append_left, Contains-append_right}
 use Rattle.std.proofs.lemmas.List.Sorted.{IsNonDecreasingBy-from_all_adjacent}
+use Rattle.coord_types.specs.declared.steps.Kind.{Kind}
 use Rattle.coord_types.specs.declared.steps.Step.{Step}
 use Rattle.coord_ledger.specs.declared.ticket.Note.{Note}
 use Rattle.coord_engine.specs.Named.{IsAscending, all_notes, notes_of}
 
+-- notes with the same fields are the same
+pub same_note : (a b : Note) → a.step ≡ b.step → a.what ≡ b.what → a.kind ≡ b.kind → a ≡ b
+same_note a b step what kind = λ i. record { step = step i; what = what i; kind = kind i }
+
 -- ---- the notes of some steps
 
-pub note_at : (n k : ℕ) (steps : List Step) (d : Note) (x : Step) → k < length steps → get_or (notes_of n steps) k d ≡ record { step = n + k + 1; what = get_or steps k x }
-note_at n k [] d x lt = absurd (omega (arith, lt))
-note_at n zero (s ∷ steps) d x lt = let e : n + 1 ≡ n + 0 + 1 = omega arith in (λ i. record { step = e i; what = s })
-note_at n (suc k) (s ∷ steps) d x lt = let e : n + 1 + k + 1 ≡ n + suc k + 1 = omega arith in note_at (n + 1) k steps d x (omega (arith, lt)) ∙ (λ i. record { step = e i; what = get_or steps k x })
+pub note_at : (n k : ℕ) (steps : List Step) (kinds : List Kind) (d : Note) (x : Step) (y : Kind) → length kinds ≡ length steps → k < length steps
+    → get_or (notes_of n steps kinds) k d ≡ record { step = n + k + 1; what = get_or steps k x; kind = get_or kinds k y }
+note_at n k [] kinds d x y same lt = absurd (omega (arith, lt))
+note_at n k (s ∷ steps) [] d x y same lt = absurd (omega (arith, same))
+note_at n zero (s ∷ steps) (t ∷ kinds) d x y same lt = let e : n + 1 ≡ n + 0 + 1 = omega arith in (λ i. record { step = e i; what = s; kind = t })
+note_at n (suc k) (s ∷ steps) (t ∷ kinds) d x y same lt =
+    let e : n + 1 + k + 1 ≡ n + suc k + 1 = omega arith in
+    note_at (n + 1) k steps kinds d x y (omega (arith, same)) (omega (arith, lt)) ∙ (λ i. record { step = e i; what = get_or steps k x; kind = get_or kinds k y })
 
--- the note that the next step gets
-pub note_here : (n i number : ℕ) (steps : List Step) (item : Step) (d : Note) → number ≡ n + i → i < length steps → item ≡ get_or steps i item → get_or (notes_of n steps) i d ≡ record { step = number + 1; what = item }
-note_here n i number steps item d is lt here = let e : n + i + 1 ≡ number + 1 = omega arith in note_at n i steps d item lt ∙ (λ j. record { step = e j; what = sym here j })
+-- the note of the step at a place
+pub note_here : (n i : ℕ) (steps : List Step) (kinds : List Kind) (item : Step) (sort : Kind) (d : Note) → length kinds ≡ length steps → i < length steps → item ≡ get_or steps i item → sort ≡ get_or kinds i sort
+    → get_or (notes_of n steps kinds) i d ≡ record { step = n + i + 1; what = item; kind = sort }
+note_here n i steps kinds item sort d same lt here there = note_at n i steps kinds d item sort same lt ∙ (λ j. record { step = n + i + 1; what = sym here j; kind = sym there j })
 
 -- ---- the notes of a share
 

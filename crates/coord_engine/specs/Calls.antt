@@ -13,9 +13,9 @@ use Rattle.coord_engine.specs.State.{GuardedState}
 use Rattle.coord_engine.specs.declared.collected.Collected.{Collected}
 use Rattle.coord_engine.specs.declared.collected.Collected.TheVariants.{Settled, Refused, Waiting}
 
--- the note of a claim's step
+-- the note of a claim
 abbrev pub note_of : Claim → Note
-note_of claim = record { step = claim.step; what = claim.what }
+note_of claim = record { step = claim.step; what = claim.what; kind = claim.kind }
 
 -- what is said to a step, memory aside: none is accepted once the engine is finishing
 abbrev pub engine_verdict : {D : Type 0} → GuardedState D → Step → Result Verdict Refusal

@@ -3,6 +3,7 @@ use Rattle.std.specs.Prelude.{◌≡◌, ◌≢◌, ℕ, ◌+◌, true, false, L
 use Rattle.coord_types.specs.declared.steps.Step.{Step}
 use Rattle.coord_world.specs.protocol.NumberedWorld.{World}
 use Rattle.coord_ledger.specs.declared.ticket.Note.{Note}
+use Rattle.coord_ledger.specs.machine.Log.{kinds_of}
 use Rattle.coord_engine.specs.Named.{IsNamed}
 use Rattle.coord_engine.specs.State.{GuardedState}
 use Rattle.coord_engine.specs.declared.closed.CloseFault.{CloseFault}
@@ -18,15 +19,16 @@ fault_name FlightOut = codes "FlightOut"
 fault_name SharesMissing = codes "SharesMissing"
 fault_name NotNamed = codes "NotNamed"
 
--- What is left is of a ledger that had this base and had accepted these steps, and that has accepted since just what the shares noted: each step once, and each share's own in order.
+-- What is left is of a ledger that had this base and had accepted these steps, and that has accepted since just what the shares noted: each step once with the kind of its reply, and each share's own in order.
 pub record IsSince (base : World) (before : List Step) (shares : List (List Note)) (left : World) (trail : List Step) : Type 0 where
   pub same_base : left ≡ base
   pub begins : take (length before) trail ≡ before
-  pub named : IsNamed shares (base.count + length before) (drop (length before) trail)
+  pub named : IsNamed shares (base.count + length before) (drop (length before) trail) (drop (length before) (kinds_of base trail))
 
--- the steps that were accepted since the engine was made are what the shares noted
+-- the steps that were accepted since the engine was made, with the kinds of their replies, are what the shares noted
 abbrev pub IsNamedBy : {D : Type 0} → GuardedState D → List (List Note) → Type 0
-IsNamedBy g shares = IsNamed shares (g.ledger.log.base.count + g.start) (drop g.start g.ledger.log.trail)
+IsNamedBy g shares =
+    IsNamed shares (g.ledger.log.base.count + g.start) (drop g.start g.ledger.log.trail) (drop g.start (kinds_of g.ledger.log.base g.ledger.log.trail))
 
 -- no flight is out, each share that was given out is there, and they noted what was accepted
 pub record MayClose {D : Type 0} (g : GuardedState D) (shares : List (List Note)) : Type 0 where

@@ -1,36 +1,45 @@
 -- Notes against steps, worked out.
-use Rattle.std.specs.Prelude.{[], ◌∷◌}
+use Rattle.std.specs.Prelude.{List, [], ◌∷◌}
 use Rattle.coord_types.specs.declared.steps.Command.TheVariants.{Reset}
+use Rattle.coord_types.specs.declared.steps.Kind.{Kind}
+use Rattle.coord_types.specs.declared.steps.Kind.TheVariants.{Joined, Started}
 use Rattle.coord_types.specs.declared.steps.Step.{Step}
 use Rattle.coord_types.specs.declared.steps.Step.TheVariants.{Order}
 use Rattle.coord_ledger.specs.declared.ticket.Note.{Note}
 use Rattle.coord_engine.specs.Named.{IsAmong, IsNamed}
 
--- two steps that come behind two others, and their notes
+-- two steps that come behind two others, the kinds of their replies, and their notes
 abbrev pub first : Step
 first = Order 1 3 (Reset 1)
 
 abbrev pub second : Step
 second = Order 2 1 (Reset 2)
 
+abbrev pub both_kinds : List Kind
+both_kinds = Started ∷ Joined ∷ []
+
 abbrev pub third_note : Note
-third_note = record { step = 3; what = first }
+third_note = record { step = 3; what = first; kind = Started }
 
 abbrev pub fourth_note : Note
-fourth_note = record { step = 4; what = second }
+fourth_note = record { step = 4; what = second; kind = Joined }
 
 -- two shares noted one each
 abbrev pub NamedByTwo : Type 0
-NamedByTwo = IsNamed ((fourth_note ∷ []) ∷ (third_note ∷ []) ∷ []) 2 (first ∷ second ∷ [])
+NamedByTwo = IsNamed ((fourth_note ∷ []) ∷ (third_note ∷ []) ∷ []) 2 (first ∷ second ∷ []) both_kinds
 
 -- a share that noted both in the other order
 abbrev pub NotInOrder : Type 0
-NotInOrder = ¬ IsNamed ((fourth_note ∷ third_note ∷ []) ∷ []) 2 (first ∷ second ∷ [])
+NotInOrder = ¬ IsNamed ((fourth_note ∷ third_note ∷ []) ∷ []) 2 (first ∷ second ∷ []) both_kinds
 
 -- one that was not noted
 abbrev pub NotOneShort : Type 0
-NotOneShort = ¬ IsNamed ((third_note ∷ []) ∷ []) 2 (first ∷ second ∷ [])
+NotOneShort = ¬ IsNamed ((third_note ∷ []) ∷ []) 2 (first ∷ second ∷ []) both_kinds
+
+-- one that was noted with another kind of reply
+abbrev pub NotOfAnotherKind : Type 0
+NotOfAnotherKind = ¬ IsNamed ((record third_note { kind = Joined } ∷ []) ∷ []) 2 (first ∷ []) (Started ∷ [])
 
 -- behind a base of two steps, the fourth note's step stands second, and a note with another number isn't among them
 abbrev pub NamesInPlace : Type 0
-NamesInPlace = IsAmong 2 (first ∷ second ∷ []) fourth_note × ¬ IsAmong 2 (first ∷ second ∷ []) (record { step = 2; what = second })
+NamesInPlace = IsAmong 2 (first ∷ second ∷ []) fourth_note × ¬ IsAmong 2 (first ∷ second ∷ []) (record { step = 2; what = second; kind = Joined })

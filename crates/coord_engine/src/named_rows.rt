@@ -1,6 +1,6 @@
 //! Notes against steps, worked out: functions that do nothing, whose contracts say what is named.
 
-ghost use Rattle.coord_engine.specs.WorkedNames.{NamedByTwo, NamesInPlace, NotInOrder, NotOneShort};
+ghost use Rattle.coord_engine.specs.WorkedNames.{NamedByTwo, NamesInPlace, NotInOrder, NotOfAnotherKind, NotOneShort};
 
 /// Two shares noted a step each.
 pub fn named_by_two()
@@ -15,6 +15,11 @@ pub fn not_in_order()
 /// Where one of two steps was not noted, the steps are not named.
 pub fn not_one_short()
     ensures { NotOneShort }
+{}
+
+/// Where a step was noted with another kind of reply, it is not named.
+pub fn not_of_another_kind()
+    ensures { NotOfAnotherKind }
 {}
 
 /// A note's number says at which place its step stands.

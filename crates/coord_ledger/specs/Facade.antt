@@ -17,7 +17,7 @@ pub use Rattle.coord_ledger.specs.declared.mark.Mark.TheVariants.{Good, New, Tor
 pub use Rattle.coord_ledger.specs.declared.release.Release.{Release}
 pub use Rattle.coord_ledger.specs.declared.ticket.Note.{Note}
 pub use Rattle.coord_ledger.specs.declared.trace.RunFaultKind.{RunFaultKind}
-pub use Rattle.coord_ledger.specs.machine.Log.{Log, accepted_count, cut_to, front_world, has_stopped, log_over, rebased, pending, settled_count, settled_steps, settled_world, with_doubt, with_settled, with_step, world_after}
+pub use Rattle.coord_ledger.specs.machine.Log.{Log, accepted_count, cut_to, front_world, has_stopped, kinds_of, log_over, rebased, pending, settled_count, settled_steps, settled_world, with_doubt, with_settled, with_step, world_after}
 pub use Rattle.coord_ledger.specs.machine.Submits.{is_full, unless_full, verdict}
 pub use Rattle.coord_ledger.specs.machine.Machine.{FlightOut, Machine, adopted, machine_over}
 pub use Rattle.coord_ledger.specs.machine.Answers.{IsOneOf, answers, kept, kept_by, kept_with, next_size, cannot_flush, ticket, to_begin, to_collect, to_commit, to_finish, to_show, to_submit, with_flight}

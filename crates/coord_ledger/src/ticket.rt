@@ -5,11 +5,12 @@ ghost use Rattle.std.specs.Prelude.{◌≡◌};
 use coord_types::{Kind, Reply, Step};
 use std::marker::Model;
 
-/// A step, and its number.
+/// A step, its number, and the kind of its reply.
 #[derive(Clone, Copy, PartialEq, Eq)]
 pub struct Note {
     pub step: u64,
     pub what: Step,
+    pub kind: Kind,
 }
 
 /// Stands for the reply to a step until the step is settled. It has to be spent, by `forget` or by
@@ -60,14 +61,16 @@ impl Ticket {
         self.step
     }
 
-    /// The ticket's step, with the number.
+    /// The ticket's step, with the number and the kind of the reply.
     pub fn note(&self) -> Note
         ensures step { result.step ≡ self.now.step }
         ensures what { result.what ≡ self.now.what }
+        ensures kind { result.kind ≡ self.now.kind }
     {
         Note {
             step: self.step,
             what: self.what,
+            kind: self.kind,
         }
     }
 

@@ -4,6 +4,7 @@ use Rattle.std.proofs.lemmas.List.Elements.{All-push}
 use Rattle.std.proofs.lemmas.Bool.Decides.{nat_tests}
 use Rattle.coord_engine.specs.Facade.{AtSomeMoment, Basis, Closes, IsNamed, IsOfPacket, IsSince, based_on}
 use Rattle.coord_engine.specs.declared.closed.Closed.{Closed}
+use Rattle.coord_types.specs.declared.steps.Kind.{Kind}
 use Rattle.coord_types.specs.declared.steps.Step.{Step}
 use Rattle.coord_ledger.specs.declared.ticket.Note.{Note}
 use Rattle.coord_store.specs.Kept.{Kept, has_stopped}
@@ -25,8 +26,8 @@ pub adds_worker : (first all later : List (List Note)) (notes : List Note) → A
 adds_worker first all later notes added pushed packets = (added.0 ++ notes ∷ [], pushed ∙ ap (λ l. l ++ notes ∷ []) added.1 ∙ append_assoc first added.0 (notes ∷ []), All-push (All IsOfPacket) added.0 notes added.2 packets)
 
 -- where nothing came before
-named_of : (shares : List (List Note)) (count : ℕ) (before trail : List Step) → before ≡ [] → IsNamed shares (count + length before) (drop (length before) trail) → IsNamed shares count trail
-named_of shares count before trail none named = grind arith
+named_of : (shares : List (List Note)) (count : ℕ) (before trail : List Step) (kinds : List Kind) → before ≡ [] → IsNamed shares (count + length before) (drop (length before) trail) (drop (length before) kinds) → IsNamed shares count trail kinds
+named_of shares count before trail kinds none named = grind arith
 
 one_history : {D : Type 0} (b : Basis D) (own : List Note) (shares : List (List Note)) (left : Closed D) → b.before ≡ [] → AddsWorkers (own ∷ []) shares
     → IsSince b.base b.before shares left.base left.trail.items → AtSomeMoment b (Closes {D = D} left.store left.base left.trail.items left.settled shares) → IsOneHistory b own left

@@ -1,17 +1,32 @@
 -- What a reply, and what is left of a disk, tell of the steps of a life.
-use Rattle.std.proofs.Common.{◌≡◌, ◌⊎◌, ℕ, ◌+◌, ◌-◌, ◌≤◌, true, List, [], ◌∷◌, ◌++◌, Option, Some, None, Result, Ok, length, take, is_some, refl, sym, ap, ◌∙◌, subst, inl, inr, arith, IfSome}
+use Rattle.std.proofs.lemmas.List.Elements.{Contains-append_left}
+use Rattle.std.proofs.lemmas.List.Sorted.{Contains-permutation}
+use Rattle.std.proofs.Common.{◌≡◌, ◌⊎◌, ℕ, zero, suc, ◌+◌, ◌-◌, ◌<◌, ◌≤◌, Contains, get_or, slice_get, true, List, [], ◌∷◌, ◌++◌, Option, Some, None, Result, Ok, length, take, is_some, refl, sym, ap, ◌∙◌, subst, inl, inr, arith, IfSome}
 use Rattle.coord_types.specs.declared.refusals.Refusal.{Refusal}
 use Rattle.coord_types.specs.declared.steps.Reply.{Reply}
 use Rattle.coord_types.specs.declared.steps.Step.{Step}
 use Rattle.coord_store.specs.Kept.{has_stopped}
 use Rattle.coord_store.specs.Recovered.{Recovered}
-use Rattle.coord_world.specs.Facade.{World, fold}
+use Rattle.coord_world.specs.Facade.{StepOutcome, World, fold, next, outputs, outs, reply}
 use Rattle.coord_world.specs.declared.verdicts.Verdict.{Verdict}
 use Rattle.coord_ledger.specs.declared.ticket.Note.{Note}
-use Rattle.coord_ledger.specs.Facade.{Claim, IsCollectable, LedgerGives, Log, GivesSettled as LogGives, reply_of, settled_world}
+use Rattle.coord_ledger.specs.Facade.{Claim, IsCollectable, LedgerGives, Log, GivesSettled as LogGives, kinds_of, reply_of, settled_world}
 use Rattle.coord_engine.specs.declared.closed.Closed.{Closed}
-use Rattle.coord_engine.specs.Facade.{AnswersStep, AtSomeMoment, Basis, LedgerAndNotes, engine_verdict, note_of}
-use Rattle.coord_server.specs.Told.{LifeGives, LivesLeaveSteps, NamesItsStep, NotesEndALife, RepliesNameSteps}
+use Rattle.coord_engine.specs.Facade.{AnswersStep, AtSomeMoment, Basis, LedgerAndNotes, all_notes, engine_verdict, note_of, notes_of}
+use Rattle.coord_server.specs.Ending.{IsOneHistory}
+use Rattle.coord_server.specs.Told.{IsReplied, LifeGives, LivesLeaveSteps, NamesItsStep, NotesAreReplies, NotesEndALife, RepliesNameSteps}
+
+-- the note's step stands at this place behind a world, with that reply
+record IsRepliedIn (w : World) (steps : List Step) (note : Note) (place : ℕ) : Type 0 where
+  number : note.step ≡ w.count + place + 1
+  there : slice_get steps place ≡ Some note.what
+  outcome : StepOutcome
+  given : slice_get (outs w steps) place ≡ Some outcome
+  reply : outcome.reply ≡ record { step = note.step; kind = note.kind }
+
+-- the first note behind a world has the number of its reply
+numbered : (n : ℕ) (w : World) (s : Step) → n ≡ w.count → ◌≡◌ {A = Note} (record { step = w.count + 1; what = s; kind = (reply w s).kind }) (record { step = n + 1; what = s; kind = (reply w s).kind })
+numbered n w s count = ap (λ c. record { step = c + 1; what = s; kind = (reply w s).kind }) (sym count)
 
 -- ---- replies
 
@@ -35,6 +50,31 @@ pub replies_name_steps : (D : Type 0) → RepliesNameSteps D
 replies_name_steps D b s reply before after (claim, accepted, collected) =
     let note = noted s (engine_verdict accepted.state s) (record { ledger = accepted.state.ledger; notes = before }) (record { ledger = accepted.so.0; notes = after }) claim accepted.so.1 in
     names b s reply before after claim (claim_of s reply claim collected.so.0 note.0) note.1 (record { state = collected.state; held = collected.held; so = collected.so.1 })
+
+-- ---- notes
+
+-- the note at a place: the step there, its number and the kind of its reply
+note_of_place : (n : ℕ) (w : World) (steps : List Step) (note : Note) (k : ℕ) (d : Note) → n ≡ w.count → k < length (notes_of n steps (kinds_of w steps)) → get_or (notes_of n steps (kinds_of w steps)) k d ≡ note → IsRepliedIn w steps note k
+note_of_place n w [] note k d count lt is = absurd (omega (arith, lt))
+note_of_place n w (s ∷ steps) note zero d count lt is = record {
+  number = sym (ap (λ (x : Note). x.step) is) ∙ (omega (arith, count));
+  there = ap (λ (x : Note). Some x.what) is;
+  outcome = record { reply = reply w s; outputs = outputs w s };
+  given = refl;
+  reply = ap (λ (x : Note). record { step = x.step; kind = x.kind }) (numbered n w s count ∙ is);
+}
+note_of_place n w (s ∷ steps) note (suc k) d count lt is =
+    let there = note_of_place (n + 1) (next w s) steps note k d (ap (λ c. c + 1) count) (omega (arith, lt)) is in
+    record { number = omega (arith, there.number); there = there.there; outcome = there.outcome; given = there.given; reply = there.reply }
+
+pub notes_are_replies : (D : Type 0) → NotesAreReplies D
+notes_are_replies D b desk left history note noted =
+    let all = all_notes (desk ∷ history.workers) in
+    let notes = notes_of left.base.count left.trail.items (kinds_of left.base left.trail.items) in
+    let here : Contains all note = Contains-append_left desk (all_notes history.workers) note noted in
+    let there : Contains notes note = Contains-permutation all notes note history.named.each_once here in
+    let is = note_of_place left.base.count left.base left.trail.items note there.0 note refl there.1 there.2 in
+    record { place = there.0; number = is.number; there = is.there; outcome = is.outcome; given = is.given; reply = is.reply }
 
 -- ---- disks
 

@@ -2,6 +2,7 @@
 use Rattle.std.specs.Borrow.{Bor}
 use Rattle.std.specs.Prelude.{◌≡◌, ◌⊎◌, ℕ, List, [], ◌∷◌, ◌++◌, All, Bool, true, false, Option, Some, None, length}
 use Rattle.coord_ledger.specs.declared.ticket.Note.{Note}
+use Rattle.coord_ledger.specs.machine.Log.{kinds_of}
 use Rattle.coord_disk.specs.Model.DiskModel.{DiskModel}
 use Rattle.coord_world.specs.Facade.{World}
 use Rattle.coord_engine.specs.Facade.{AtSomeMoment, Basis, Closes, IsNamed, IsOfPacket, RefusesClosing, based_on}
@@ -23,12 +24,12 @@ new_desk port = record { notes = []; seen = 0; port = port }
 abbrev pub Local : Type 0
 Local = Bor (Unit {0})
 
--- One history: what the desk and the workers noted are the steps that were accepted since the store was opened, each once and each one's own in order. What workers noted are steps of packets. The store has the world after those that are settled.
+-- One history: what the desk and the workers noted are the steps that were accepted since the store was opened, each once with the kind of its reply, and each one's own in order. What workers noted are steps of packets. The store has the world after those that are settled.
 pub record IsOneHistory {D : Type 0} (b : Basis D) (desk : List Note) (left : Closed D) : Type 0 where
   pub workers : List (List Note)
   pub of_packets : All (All IsOfPacket) workers
   pub same_base : left.base ≡ b.base
-  pub named : IsNamed (desk ∷ workers) left.base.count left.trail.items
+  pub named : IsNamed (desk ∷ workers) left.base.count left.trail.items (kinds_of left.base left.trail.items)
   pub closed : AtSomeMoment b (Closes {D = D} left.store left.base left.trail.items left.settled (desk ∷ workers))
 
 -- behind these shares those of workers were put, whose notes are all of packets

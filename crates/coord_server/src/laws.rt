@@ -3,7 +3,7 @@
 
 ghost use Rattle.std.specs.Prelude.{ℕ};
 ghost use Rattle.coord_server.specs.Lives.{ClosedLivesAreOne, LivesAreOne};
-ghost use Rattle.coord_server.specs.Told.{LivesLeaveSteps, NotesEndALife, RepliesNameSteps};
+ghost use Rattle.coord_server.specs.Told.{LivesLeaveSteps, NotesAreReplies, NotesEndALife, RepliesNameSteps};
 
 use coord_admin::Callers;
 use coord_disk::Disk;
@@ -20,12 +20,18 @@ pub fn closed_lives_are_one<D: Disk>()
     ensures { ClosedLivesAreOne D.model }
 {}
 
-/// An order that is told a reply was noted just then, with the number that it is told, or it repeats
-/// one. The log of that life had the step at that number, settled, and answered it with the kind that
+/// An order that is told a reply was noted just then, with the number and the kind that it is told, or
+/// it repeats one. The log of that life had the step at that number, settled, and answered it with the kind that
 /// it is told, or the base kept that reply for it. What a desk has noted stands in the trail of its
 /// life, each note at its number.
 pub fn replies_name_steps<D: Disk>()
     ensures { RepliesNameSteps D }
+{}
+
+/// Each reply that a desk noted in a life is the reply of its step in the history that is left: the
+/// trail has the step at the number of the reply, and gives out a reply of that kind there.
+pub fn notes_are_replies<D: Disk>()
+    ensures { NotesAreReplies D }
 {}
 
 /// Whatever a crash may leave of a life's disk gives the world after the settled steps; after a

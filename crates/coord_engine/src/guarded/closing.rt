@@ -4,14 +4,14 @@ ghost use Rattle.std.specs.Prelude.{◌≡◌, ◌↔◌, ◌+◌, ◌≤◌, dr
 ghost use Rattle.coord_engine.specs.Closing.{IsSince, MayClose, RefusesClosing};
 ghost use Rattle.coord_engine.specs.Named.{AreNoted};
 ghost use Rattle.coord_engine.specs.Past.{StaysAlong};
-ghost use Rattle.coord_ledger.specs.machine.Log.{settled_count, settled_world};
+ghost use Rattle.coord_ledger.specs.machine.Log.{kinds_of, settled_count, settled_world};
 ghost use Rattle.coord_store.specs.Kept.{has_stopped};
 
 use super::Guarded;
 use super::comparing::{all_ascending, all_noted};
 use crate::{CloseFault, Closed, Origin, Share};
 use coord_disk::Disk;
-use coord_types::Step;
+use coord_types::{Kind, Step};
 use std::sync::ledger::{Book, Ledger as Count, Share as Part};
 
 /// Takes all parts of the count together. Once they are together, the shares have as many notes as
@@ -31,6 +31,14 @@ fn gather<L: Count>(book: Book<L>, rest: Part<L>, shares: Vec<Share<L>>)
     book.audit(&mut all);
 }
 
+/// The kinds from this place on.
+fn kinds_from(kinds: &[Kind], start: usize) -> &[Kind]
+    requires { start ≤ length kinds.now }
+    ensures { result.now ≡ drop start kinds.now }
+{
+    &kinds[start..]
+}
+
 /// The steps from this place on.
 pub fn steps_from(trail: &[Step], start: usize) -> &[Step]
     requires { start ≤ length trail.now }
@@ -40,23 +48,25 @@ pub fn steps_from(trail: &[Step], start: usize) -> &[Step]
 }
 
 impl<D: Disk, L: Origin> Guarded<D, L> {
-    /// Whether the shares noted all that was accepted since the start, each share in order. That
-    /// they noted nothing else follows from the count.
+    /// Whether the shares noted all that was accepted since the start, with the kinds of the replies,
+    /// each share in order. That they noted nothing else follows from the count.
     fn are_noted(&self, shares: &[Share<L>]) -> bool
         ensures { IsTrue result ↔ AreNoted shares.now
             (self.now.ledger.log.base.count + self.now.start)
-            (drop self.now.start self.now.ledger.log.trail) }
+            (drop self.now.start self.now.ledger.log.trail)
+            (drop self.now.start (kinds_of self.now.ledger.log.base self.now.ledger.log.trail)) }
     {
         if !all_ascending(shares) {
             return false;
         }
         let steps = steps_from(self.ledger.trail(), self.start);
+        let kinds = kinds_from(self.ledger.kinds(), self.start);
         let others = self.ledger.accepted_count() - steps.len() as u64;
-        all_noted(shares, others, steps)
+        all_noted(shares, others, steps, kinds)
     }
 
     /// Takes the ledger apart, where no flight is out, all shares are there and what they noted is
-    /// what was accepted since the start. It takes no memory.
+    /// what was accepted since the start, with the kinds of the replies. It takes no memory.
     pub fn close(
         self,
         shares: Vec<Share<L>>,

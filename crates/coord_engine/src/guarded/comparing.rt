@@ -1,11 +1,11 @@
 //! The notes of shares against the steps that were accepted. It takes no memory.
 
-ghost use Rattle.std.specs.Prelude.{◌≡◌, ◌↔◌, ◌+◌, ◌^◌, ◌<◌, length, All, Contains, IsTrue};
+ghost use Rattle.std.specs.Prelude.{◌≡◌, ◌↔◌, ◌+◌, ◌^◌, ◌<◌, get_or, length, All, Contains, IsTrue};
 ghost use Rattle.coord_engine.specs.Named.{IsAscending, all_notes, notes_of};
 
 use crate::Share;
-use coord_ledger::Note;
-use coord_types::Step;
+use coord_ledger::{Note, is_same_step};
+use coord_types::{Kind, Step};
 use std::sync::ledger::Ledger as Count;
 
 /// Whether each note is older than the next.
@@ -33,10 +33,11 @@ pub fn all_ascending<L: Count>(shares: &[Share<L>]) -> bool
 }
 
 /// Whether these are the same note.
+#[tactic(auto, using(crate::proofs::Notes::same_note))]
 fn is_same(a: &Note, b: &Note) -> bool
     ensures { IsTrue result ↔ (a.now ≡ b.now) }
 {
-    a == b
+    a.step == b.step && a.kind == b.kind && is_same_step(&a.what, &b.what)
 }
 
 /// Whether the note is one of these, which ascend.
@@ -63,18 +64,30 @@ fn some_has<L: Count>(shares: &[Share<L>], note: &Note) -> bool
     false
 }
 
-/// Whether each of these steps, which come behind some others, was noted in some share.
-pub fn all_noted<L: Count>(shares: &[Share<L>], others: u64, steps: &[Step]) -> bool
+/// The kind at this place.
+fn kind_at(kinds: &[Kind], place: usize) -> Kind
+    requires { place < length kinds.now }
+    ensures { result ≡ get_or kinds.now place result }
+{
+    kinds[place]
+}
+
+/// Whether each of these steps, which come behind some others, was noted in some share with the kind
+/// of its reply.
+pub fn all_noted<L: Count>(shares: &[Share<L>], others: u64, steps: &[Step], kinds: &[Kind]) -> bool
     requires ascending { All IsAscending shares.now }
     requires few { others + length steps.now < 2 ^ 64 }
-    ensures { IsTrue result ↔ All (Contains (all_notes shares.now)) (notes_of others steps.now) }
+    requires all { length kinds.now ≡ length steps.now }
+    ensures { IsTrue result ↔ All (Contains (all_notes shares.now))
+        (notes_of others steps.now kinds.now) }
 {
-    let mut number = others;
-    for step in steps {
-        number += 1;
+    for place in 0..steps.len() {
+        let step = steps[place];
+        let kind = kind_at(kinds, place);
         let note = Note {
-            step: number,
-            what: *step,
+            step: others + place as u64 + 1,
+            what: step,
+            kind,
         };
         if !some_has(shares, &note) {
             return false;

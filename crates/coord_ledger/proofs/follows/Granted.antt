@@ -5,9 +5,9 @@ use Rattle.std.proofs.Math.Seq.{take-append_seam}
 use Rattle.std.proofs.lemmas.List.{take-append-le}
 use Rattle.std.proofs.lemmas.Option.{slice_get_within}
 use Rattle.coord_store.proofs.Freshness.{take-push}
-use Rattle.coord_ledger.specs.Facade.{Output, Step, Claim, Fresh, HoldsTicket, HoldsTickets, IsGranted, Kind, Log, Mark, Repeat, Reply, Session, accepted_count, log_back, reply_of, spent, ticket, verdict, with_step, IsCollectable, IsConsistentLog, IsInTrail, IsKeptBy, world_after}
+use Rattle.coord_ledger.specs.Facade.{Output, Step, Claim, Fresh, HoldsTicket, HoldsTickets, IsGranted, Kind, Log, Mark, Repeat, Reply, Session, accepted_count, kinds_of, log_back, reply_of, spent, ticket, verdict, with_step, IsCollectable, IsConsistentLog, IsInTrail, IsKeptBy, world_after}
 use Rattle.coord_world.specs.Facade.{World, fold, next, outputs, outs, StepOutcome, reply}
-use Rattle.coord_ledger.specs.code.Holding.{listed, outputs_of, released_from, kinds_of}
+use Rattle.coord_ledger.specs.code.Holding.{listed, outputs_of, released_from}
 use Rattle.coord_ledger.specs.machine.After.{release_of, releases_of}
 use Rattle.coord_types.specs.declared.steps.Step.TheVariants.{Order}
 use Rattle.coord_world.proofs.Facade.{kept_reply_law}

@@ -9,11 +9,11 @@ use Rattle.coord_node.specs.Steps.{kind}
 use Rattle.coord_store.proofs.Freshness.{fold-push}
 use Rattle.coord_store.specs.Facade.{AllFresh, Kept}
 use Rattle.coord_types.specs.declared.limits.TheConstants.{MAX_BATCH_STEPS}
-use Rattle.coord_ledger.specs.Facade.{FitsOut, FlightState, Fresh, Good, IsConsistentLog, Kind, Log, New, Output, Step, Torn, accepted_count, front_world, pending, settled_count, settled_world, verdict, with_doubt, with_settled, with_step}
+use Rattle.coord_ledger.specs.Facade.{FitsOut, FlightState, Fresh, Good, IsConsistentLog, Kind, Log, New, Output, Step, Torn, accepted_count, front_world, kinds_of, pending, settled_count, settled_world, verdict, with_doubt, with_settled, with_step}
 use Rattle.coord_types.specs.declared.steps.Step.TheVariants.{Order, Take, Clear}
 use Rattle.coord_world.proofs.Facade.{fresh_number, itself, trail_keeps_worlds, verdict_fresh, verdict_kind}
 use Rattle.coord_world.specs.Facade.{IsFresh, Legal, StepInRange, World, fold, next, outputs, state}
-use Rattle.coord_ledger.specs.code.Holding.{IsAway, IsCarried, IsFlight, IsHome, IsLedger, doubted, kinds_of, outputs_of}
+use Rattle.coord_ledger.specs.code.Holding.{IsAway, IsCarried, IsFlight, IsHome, IsLedger, doubted, outputs_of}
 use Rattle.coord_ledger.proofs.follows.Granted.{outputs_of-drop, outputs_of-push}
 use Rattle.coord_ledger.proofs.machine.ConsistentSteps.{accepted_stays}
 use Rattle.coord_ledger.proofs.machine.Verdicts.{verdict_accepts}

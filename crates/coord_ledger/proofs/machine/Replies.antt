@@ -1,9 +1,8 @@
 -- Replies: those to steps, those that a world keeps, and their kinds.
 use Rattle.std.proofs.Common.{◌≡◌, ℕ, zero, suc, List, [], ◌∷◌, ◌++◌, length, take, Some, slice_get, refl, ap, ◌+◌, ◌≤◌, map, sym, ◌∙◌, arith, inl, inr}
 use Rattle.coord_node.specs.Steps.{kind}
-use Rattle.coord_ledger.specs.Facade.{Step, IsOneOf, IsReplyOf, Reply, Session}
+use Rattle.coord_ledger.specs.Facade.{Step, IsOneOf, IsReplyOf, Reply, Session, kinds_of}
 use Rattle.coord_world.specs.Facade.{World, fold, next, state, StepOutcome, outs, reply}
-use Rattle.coord_ledger.specs.code.Holding.{kinds_of}
 use Rattle.coord_types.specs.Table.{get}
 use Rattle.coord_world.proofs.Facade.{kept_reply_law}
 

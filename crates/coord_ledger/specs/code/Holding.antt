@@ -15,11 +15,7 @@ use Rattle.coord_ledger.specs.declared.release.Release.{Release}
 use Rattle.coord_ledger.specs.ledger.State.{FlightState}
 use Rattle.coord_ledger.specs.machine.After.{release_of}
 use Rattle.coord_ledger.specs.machine.Consistent.{FitsOut, IsConsistentLog}
-use Rattle.coord_ledger.specs.machine.Log.{Log, front_world, pending, settled_world, world_after}
-
--- the kinds of the replies to these steps
-abbrev pub kinds_of : World → List Step → List Kind
-kinds_of w steps = map (λ r. r.reply.kind) (outs w steps)
+use Rattle.coord_ledger.specs.machine.Log.{Log, front_world, kinds_of, pending, settled_world, world_after}
 
 -- what these steps give out, each by itself
 abbrev pub outputs_of : World → List Step → List (List Output)

@@ -1,13 +1,18 @@
 -- What was accepted since a base, how much of that is settled, and what is in doubt.
-use Rattle.std.specs.Prelude.{ℕ, ◌+◌, ◌-◌, Bool, List, [], ◌∷◌, ◌++◌, length, take, drop, Option, Some, None, is_some}
+use Rattle.std.specs.Prelude.{ℕ, ◌+◌, ◌-◌, Bool, List, [], ◌∷◌, ◌++◌, length, map, take, drop, Option, Some, None, is_some}
+use Rattle.coord_types.specs.declared.steps.Kind.{Kind}
 use Rattle.coord_types.specs.declared.steps.Step.{Step}
-use Rattle.coord_world.specs.Facade.{World, fold}
+use Rattle.coord_world.specs.Facade.{World, fold, outs}
 
 pub record Log : Type 0 where
   pub base : World
   pub trail : List Step  -- the accepted steps since the base
   pub settled : ℕ  -- how many of them are settled
   pub doubt : Option ℕ  -- it has stopped, and so many steps behind the settled ones are on the disk, or none of them
+
+-- the kinds of the replies to these steps
+abbrev pub kinds_of : World → List Step → List Kind
+kinds_of w steps = map (λ r. r.reply.kind) (outs w steps)
 
 -- the world after the first n steps
 abbrev pub world_after : Log → ℕ → World

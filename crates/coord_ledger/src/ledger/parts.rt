@@ -2,12 +2,12 @@
 
 ghost use Rattle.std.specs.Prelude.{◌≡◌, ◌+◌, ◌≤◌, is_none, is_some, length, None, Some, IfErr, IfOk, IfSome};
 ghost use Rattle.coord_store.specs.Kept.{has_stopped};
-ghost use Rattle.coord_ledger.specs.Facade.{FitsOut, IsConsistentLog, pending, settled_count, settled_world};
+ghost use Rattle.coord_ledger.specs.Facade.{FitsOut, IsConsistentLog, kinds_of, pending, settled_count, settled_world};
 
 use super::Ledger;
 use coord_disk::Disk;
 use coord_store::Store;
-use coord_types::Step;
+use coord_types::{Kind, Step};
 use coord_world::World;
 
 impl<D: Disk> Ledger<D> {
@@ -16,6 +16,15 @@ impl<D: Disk> Ledger<D> {
         ensures { result.now ≡ self.now.log.trail }
     {
         &self.trail
+    }
+
+    /// The kinds of the replies to the steps of the trail.
+    #[tactic(auto, using(crate::proofs::follows::Kept::kinds_within))]
+    pub fn kinds(&self) -> &[Kind]
+        ensures kinds { result.now ≡ kinds_of self.now.log.base self.now.log.trail }
+        ensures all { length result.now ≡ length self.now.log.trail }
+    {
+        &self.kinds
     }
 
     /// How many steps are accepted and not settled.
