@@ -148,7 +148,7 @@ fn serve_open<
 {
     let ended = serve_store(rt, alloc, store, listener, Lent { output })?;
     let (served, printer) = ended.into_closed();
-    let Lent { output: _ } = printer.into_output();
+    let Lent { output: _back } = printer.into_output();
     Ok(served)
 }
 

@@ -14,7 +14,7 @@ returns-clause-served g c =
       ended = silent ended;
       lived = is.lives;
       moments = is.moments;
-      printed = printed_back _ c.args.store.world _ ended.printer c.args.output.ghost_name back.ghost_name (g.W.Write.contents c.args.output.now) (g.W.Write.contents back.now) _ refl (ap _ (sym given)) (λ same. search (rules, same)) is.printed;
+      printed = printed_back _ c.args.store.world _ ended.printer c.args.output.ghost_name back.ghost_name (g.W.Write.contents c.args.output.now) (g.W.Write.contents back.now) _ refl (ap _ (sym given)) (λ same. search rules) is.printed;
       tells = tells_of ended c.into_closed-served.result.0 told.closed told.fault told.whole;
     }
 
