@@ -1,5 +1,5 @@
 -- Words that are refused.
-use Rattle.std.proofs.Common.{◌≡◌, ◌⊎◌, inl, inr, ℕ, List, Option, None, Result, Ok, Err, IfErr, IfOk, true}
+use Rattle.std.proofs.Common.{◌≡◌, ◌⊎◌, inl, inr, refl, ℕ, List, Option, None, Result, Ok, Err, IfErr, IfOk, true}
 use Rattle.std.proofs.KnownBytes.{Keeps-refl}
 use Rattle.clap.specs.Words.{Text, takes}
 use Rattle.coord_disk.specs.Model.Present.{Present}
@@ -22,6 +22,7 @@ refused_words words fault status input output old new holds says why is told =
     record {
       fails = record { fault = fault; possible = of_words words fault why; number = is; told = told; cut = inl (Keeps-refl output) };
       unread = Keeps-refl input;
+      untouched = λ name. refl;
     }
 
 -- words that could not be had

@@ -7,8 +7,10 @@ use Rattle.coord_store.specs.Facade.{GivesEither, IsOpenFault, Recovered, Refuse
 use Rattle.coord_store.specs.Refused.{failed_in as failed_in_store}
 use Rattle.coord_store.specs.declared.faults.StoreFault.TheVariants.{Device, NotQuiet}
 use Rattle.coord_world.specs.protocol.NumberedWorld.{World}
+use Rattle.coord_commands.specs.Ending.{CommandEnds}
 use Rattle.coord_commands.specs.Folders.{known_of}
 use Rattle.coord_commands.specs.Printed.{migrated_line}
+use Rattle.coord_commands.specs.Streams.{Streams}
 use Rattle.coord_commands.specs.declared.fault.Fault.{Fault}
 use Rattle.coord_commands.specs.declared.fault.Fault.TheVariants.{Write, OutOfMemory, Store}
 
@@ -84,6 +86,11 @@ failures_in_migration (Err fault) = failed_in_migration fault
 abbrev pub EndsRaising : {D : Type 0} → DiskModel D → Option Present → Option Present → Fault → Type 0
 EndsRaising model before after fault =
     ((fault ≡ Store Device) × (after ≡ before)) ⊎ RaisesNamed model (failed_in_migration fault) before after
+
+-- how `migrate` ends, and what a crash may have left of the disk of the name at each moment of it
+abbrev pub EndsMigrating : {D : Type 0} → DiskModel D → Option Present → Option Present → ℕ → Streams → Streams → Type 0
+EndsMigrating model before after =
+    CommandEnds (λ fault. IsOfMigrating before after fault × EndsRaising model before after fault) (λ line. IsMigratedLine before after line × RaisesNamed model 0 before after)
 
 -- why an opened store of a world is not raised
 abbrev pub RefusesRaising : World → Fault → Type 0

@@ -2,6 +2,7 @@
 use Rattle.std.specs.Prelude.{◌≡◌, ◌⊎◌, ℕ, ◌≤◌, true, List, length, Option, Some, None, IfSome}
 use Rattle.std.specs.Io.KnownBytes.{Appends, Consumes, IsAtEnd, Keeps}
 use Rattle.clap.specs.Words.{Text, takes}
+use Rattle.coord_disk.specs.Model.DiskModel.{DiskModel}
 use Rattle.coord_disk.specs.Model.Present.{Present}
 use Rattle.coord_drill.specs.Drilled.{IsDrilled, WritesFirstPart}
 use Rattle.coord_drill.specs.InMemory.{DrillsInMemory, FailsInMemory}
@@ -13,7 +14,7 @@ use Rattle.coord_commands.specs.Faults.{fault_line, fault_of_drill, fault_status
 use Rattle.coord_commands.specs.Folders.{reads}
 use Rattle.coord_commands.specs.Inspection.{Checks, ShowsStore}
 use Rattle.coord_commands.specs.Making.{IsCreatedLine, IsOfMaking}
-use Rattle.coord_commands.specs.Migrating.{IsMigratedLine, IsOfMigrating}
+use Rattle.coord_commands.specs.Migrating.{EndsMigrating, IsMigratedLine, IsOfMigrating}
 use Rattle.coord_commands.specs.Serving.{IsOfServing, ServesAt}
 use Rattle.coord_commands.specs.Streams.{Streams}
 use Rattle.coord_commands.specs.Words.{AskedCommand, check, drill, init, migrate, resetd, serve, show, task_of}
@@ -70,15 +71,20 @@ IsOfWords words OutOfMemory = Unit {0}
 IsOfWords words Usage = takes resetd words ≡ true → task_of words ≡ None
 IsOfWords words fault = ⊥
 
--- where words are refused, nothing but the fault's line is printed, and nothing is read
+-- where words are refused, nothing but the fault's line is printed, nothing is read, and each disk stays
 pub record RefusesWords (words : List Text) (status : ℕ) (old new : Around) : Type 0 where
   pub fails : CommandFails (IsOfWords words) (λ _. ⊥) status old.streams new.streams
   pub unread : Keeps old.streams.input new.streams.input
+  pub untouched : (name : List ℕ) → new.holds name ≡ old.holds name
 
 -- the words could not be had: nothing but this fault's line is printed, and nothing is read
 pub record LacksWords (fault : Fault) (status : ℕ) (old new : Around) : Type 0 where
   pub fails : CommandFails (λ told. told ≡ fault) (λ _. ⊥) status old.streams new.streams
   pub unread : Keeps old.streams.input new.streams.input
+
+-- the words are refused, or the disk of this name is raised as they ask: a crash may have left nothing else of it at any moment
+abbrev pub RunsMigrate : {D : Type 0} → DiskModel D → List Text → List ℕ → ℕ → Around → Around → Type 0
+RunsMigrate model words file status old new = RefusesWords words status old new ⊎ EndsMigrating model (old.holds file) (new.holds file) status old.streams new.streams
 
 -- the words are refused, or what they ask for is done
 abbrev pub RunsWords : List Text → ℕ → Around → Around → Type 0

@@ -1,9 +1,9 @@
 //! Raising the store on the disk of a name to version 2.
 
 ghost use Rattle.std.specs.Prelude.{◌≡◌, ◌≢◌, ◌+◌, ◌≤◌, true, None, Some, IfErr, IfOk, IsErrOf, MatchResult, OnOk, string_bytes};
-ghost use Rattle.coord_commands.specs.Ending.{CommandEnds, OutputCutShort, PrintsOne};
+ghost use Rattle.coord_commands.specs.Ending.{OutputCutShort, PrintsOne};
 ghost use Rattle.coord_commands.specs.Folders.{known_of};
-ghost use Rattle.coord_commands.specs.Migrating.{EndsRaising, IsMigratedLine, IsOfMigrating, IsOfRaising, Raises, RaisesNamed, RefusesRaising, failures_in_migration};
+ghost use Rattle.coord_commands.specs.Migrating.{EndsMigrating, EndsRaising, IsMigratedLine, IsOfMigrating, IsOfRaising, Raises, RaisesNamed, RefusesRaising, failures_in_migration};
 ghost use Rattle.coord_commands.specs.Printed.{migrated_line};
 ghost use Rattle.coord_commands.specs.declared.fault.Fault.TheVariants.{Store as Failed};
 ghost use Rattle.coord_disk.specs.Model.Moments.{LeavesOnly};
@@ -34,12 +34,8 @@ pub fn migrate_in<F: Folder, R: Read, W: Write, E: Write>(
     file: &str,
     streams: &mut Streams<R, W, E>,
 ) -> u8
-    ensures ended { CommandEnds (λ fault.
-        IsOfMigrating (F.holds folder.old file.now) (F.holds folder.new file.now) fault
-        × EndsRaising F.Disk.model (F.holds folder.old file.now) (F.holds folder.new file.now) fault) (λ line.
-        IsMigratedLine (F.holds folder.old file.now) (F.holds folder.new file.now) line
-        × RaisesNamed F.Disk.model 0 (F.holds folder.old file.now) (F.holds folder.new file.now))
-        result streams.old.known streams.new.known }
+    ensures ended { EndsMigrating F.Disk.model (F.holds folder.old file.now)
+        (F.holds folder.new file.now) result streams.old.known streams.new.known }
     ensures unread { streams.new.input ≡ streams.old.input }
 {
     report(

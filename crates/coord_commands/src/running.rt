@@ -1,8 +1,8 @@
 //! What words ask for, in a folder.
 
-ghost use Rattle.std.specs.Prelude.{◌≡◌, map, IfErr, IfOk, Some, string_bytes};
-ghost use Rattle.coord_commands.specs.Running.{RunsDrill, RunsWords};
-ghost use Rattle.coord_commands.specs.Words.{serve, task_of};
+ghost use Rattle.std.specs.Prelude.{◌≡◌, ℕ, List, map, IfErr, IfOk, Some, string_bytes};
+ghost use Rattle.coord_commands.specs.Running.{RunsDrill, RunsMigrate, RunsWords};
+ghost use Rattle.coord_commands.specs.Words.{migrate, serve, task_of};
 
 use crate::fault::Fault;
 use crate::folder::Folder;
@@ -24,7 +24,8 @@ pub struct ToServe<'a> {
 }
 
 /// Carries out what the program's words ask for in a folder, and answers the exit status; with
-/// nothing done what is to be served, where they ask for `serve`. It waits for nobody.
+/// nothing done what is to be served, where they ask for `serve`. It waits for nobody. Of `migrate` it
+/// says too what a crash may leave at each moment.
 pub fn run_in<'a, F: Folder, R: Read, W: Write, E: Write>(
     alloc: Global,
     folder: &mut F,
@@ -32,6 +33,18 @@ pub fn run_in<'a, F: Folder, R: Read, W: Write, E: Write>(
     streams: &mut Streams<R, W, E>,
 ) -> Result<u8, ToServe<'a>>
     ensures done { IfOk result (λ status. RunsWords (map string_bytes words.now) status
+        (record {
+          streams = streams.old.known;
+          holds = F.holds folder.old;
+          says = F.says folder.old;
+        })
+        (record {
+          streams = streams.new.known;
+          holds = F.holds folder.new;
+          says = F.says folder.new;
+        })) }
+    ensures moments { (file : List ℕ) → task_of (map string_bytes words.now) ≡ Some (migrate file) →
+        IfOk result (λ status. RunsMigrate F.Disk.model (map string_bytes words.now) file status
         (record {
           streams = streams.old.known;
           holds = F.holds folder.old;
