@@ -12,7 +12,7 @@ use Rattle.coord_engine.specs.declared.closed.Closed.{Closed}
 use Rattle.coord_admin.specs.declared.patience.Patience.{Patience}
 use Rattle.coord_server.specs.Ending.{LeavesNothing, fault_at_end}
 use Rattle.coord_server.specs.Lives.{HasLivedToClose, HasServed, silent}
-use Rattle.coord_server.specs.Printed.{HasPrinted, IsPrinted, PrinterState, is_amiss, new_printer, signal_lines}
+use Rattle.coord_server.specs.Printed.{IsPrinted, PrinterState, is_amiss, new_printer, signal_lines}
 use Rattle.coord_server.specs.Signals.{CanSignal}
 use Rattle.coord_server.specs.declared.server_end.ServerEnd.{ServerEnd}
 use Rattle.coord_server.specs.Moments.{AtEachMoment}
@@ -27,7 +27,7 @@ use Rattle.coord_commands.specs.Folders.{bytes_of, known_of, reads}
 use Rattle.coord_server.specs.declared.fault.ServerFault.{ServerFault}
 use Rattle.coord_commands.specs.Faults.{fault_of_server}
 use Rattle.coord_commands.specs.Inspection.{IsOfOpening}
-use Rattle.coord_commands.specs.Serving.{EndsServing, GivesWorld, IsNotOpened, IsOfServing, IsOpenedStore, IsPutBack, IsServed, IsServedToEnd, KeepsToTheWay, PrintsOnly, PrintsToEnd, PrintsUnlessBroken, Tells}
+use Rattle.coord_commands.specs.Serving.{EndsServing, GivesWorld, IsNotOpened, IsOfServing, IsOpenedStore, IsPutBack, IsServed, IsServedToEnd, KeepsToTheWay, PrintsOnly, PrintsToEnd, Tells}
 use Rattle.coord_commands.specs.declared.fault.Fault.{Fault}
 use Rattle.coord_commands.specs.declared.fault.Fault.TheVariants.{Socket, Store}
 use Rattle.coord_commands.proofs.Raising.{closed, if_both, unread}
@@ -100,10 +100,6 @@ module _ {D : Type 0} (model : DiskModel D) where
         any_moment = λ keeps. subst (λ d. LeavesOnly model is.taken d (λ image. IsImage (model.present is.taken) image ⊎ IsOnTheWay store.world (fold closed.base closed.trail.items) image)) (sym same) (and_then model is.taken store.disk closed.store.disk _ _ (is.any_moment keeps) (here.moments (is.same_model ∙ keeps)));
       }
 
-  only_whole : (began : World) (old new : Option (List ℕ)) (p : PrinterState (Unit {0})) → p.is_broken ≡ false → PrintsUnlessBroken began old new p → PrintsOnly began old new p
-  only_whole began old new p whole (inl broken) = absurd (false≢true (sym whole ∙ broken))
-  only_whole began old new p whole (inr printed) = printed
-
   -- what was printed of a store that was served to a close
   pub prints_to_end : (before : Option Present) (old new : Option (List ℕ)) (store : Kept D) (closed : Closed D) → IsOpenedStore model before store → HasLivedToClose model store.world closed → IsServed model store old new (Ok closed) → PrintsToEnd model (reads before) old new
   prints_to_end before old new store closed is lived served = record {
@@ -113,7 +109,7 @@ module _ {D : Type 0} (model : DiskModel D) where
     lived = lived;
     printer = served.ended.printer;
     whole = served.tells.2;
-    printed = only_whole store.world old new served.ended.printer served.tells.2 served.printed;
+    printed = served.printed;
     settled = served.tells.3;
   }
 

@@ -13,7 +13,7 @@ use Rattle.coord_admin.specs.declared.patience.Patience.{Patience}
 use Rattle.coord_server.specs.Ending.{LeavesNothing, fault_at_end}
 use Rattle.coord_server.specs.Lives.{HasLivedToClose, HasServed}
 use Rattle.coord_server.specs.Moments.{AtEachMoment}
-use Rattle.coord_server.specs.Printed.{HasPrinted, PrinterState, is_amiss, new_printer}
+use Rattle.coord_server.specs.Printed.{IsPrinted, PrinterState, is_amiss, new_printer}
 use Rattle.coord_server.specs.Signals.{CanSignal}
 use Rattle.coord_server.specs.declared.fault.ServerFault.{ServerFault}
 use Rattle.coord_server.specs.declared.server_end.ServerEnd.{ServerEnd}
@@ -52,13 +52,9 @@ IsOfServing bytes fault = ⊥
 abbrev pub printer_to : Option (List ℕ) → PrinterState (Unit {0}) → PrinterState (Option (List ℕ))
 printer_to known p = record { output = known; is_broken = p.is_broken; lost = p.lost; last = p.last }
 
--- What a server over this world has printed to an output that held the one and then the other: nothing; or the line of an address, and behind it the lines of signals, each behind the one before it, which steps from that world give out.
+-- What a server over this world has printed to an output that held the one and then the other: nothing; or the line of an address, and behind it the lines of signals, each behind the one before it, which steps from that world give out. Where the output failed in one more such line, a first part of that one stands behind them.
 abbrev pub PrintsOnly : World → Option (List ℕ) → Option (List ℕ) → PrinterState (Unit {0}) → Type 0
-PrintsOnly began old new p = HasPrinted (λ known. known) (CanSignal began) (new_printer old began.count) (printer_to new p)
-
--- so it is, unless a line could not be written
-abbrev pub PrintsUnlessBroken : World → Option (List ℕ) → Option (List ℕ) → PrinterState (Unit {0}) → Type 0
-PrintsUnlessBroken began old new p = (p.is_broken ≡ true) ⊎ PrintsOnly began old new p
+PrintsOnly began old new p = IsPrinted (λ known. known) (CanSignal began) (new_printer old began.count) (printer_to new p)
 
 -- what is told of a server that ended so: what it left, beside the fault if there is one
 abbrev pub Tells : {D : Type 0} → ServerEnd D Patience (Unit {0}) → Result (Closed D) (ServerFault × Closed D) → Type 0
@@ -73,7 +69,7 @@ pub record IsServed {D : Type 0} (model : DiskModel D) (store : Kept D) (old new
   pub ended : ServerEnd D Patience (Unit {0})
   pub lived : HasServed model store.world ended
   pub moments : AtEachMoment model store ended.closed
-  pub printed : PrintsUnlessBroken store.world old new ended.printer
+  pub printed : PrintsOnly store.world old new ended.printer
   pub tells : Tells ended told
 
 -- `model`: what the disks of a folder mean
@@ -107,14 +103,14 @@ module _ {D : Type 0} (model : DiskModel D) where
   abbrev pub IsNotBound : Option Present → Option Present → Fault → Type 0
   IsNotBound before after told = (told ≡ Socket) × GivesWorld (reads before) × IsPutBack 0 before after
 
-  -- The fault that a server tells, by lives from this world: nothing is left; or there were lives, they ended with this fault, the disk that they left is put back, and unless a line could not be written the output has the lines of signals alone.
+  -- The fault that a server tells, by lives from this world: nothing is left; or there were lives, they ended with this fault, the disk that they left is put back, and the output has what the server prints alone.
   abbrev pub EndsAfterLives : World → ServerFault → Option Present → Option (List ℕ) → Option (List ℕ) → Type 0
   EndsAfterLives began fault after old new =
       LeavesNothing model fault
       ⊎ ((ended : ServerEnd D Patience (Unit {0})) × HasServed model began ended
       × (fault_at_end (has_stopped ended.closed.store) ended.served (is_amiss ended.printer ended.closed.settled) ≡ Some fault)
       × IfSome after (λ known. known_of model ended.closed.store.disk ≡ Some known)
-      × PrintsUnlessBroken began old new ended.printer)
+      × PrintsOnly began old new ended.printer)
 
   -- a server over the world of the disk has ended, and tells this
   pub record HasEnded (before after : Option Present) (old new : Option (List ℕ)) (told : Fault) : Type 0 where

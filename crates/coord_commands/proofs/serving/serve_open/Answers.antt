@@ -8,8 +8,8 @@ returns-clause-served g c =
     let ended = c.in_ok-ended.ended in
     let is = c.in_ok-ended.ensures in
     let told = c.into_closed-served.ensures in
-    let back = c.into_output.result.output in
-    let given = c.into_output.ensures ∙ ap (λ p. p.output) told.printer in
+    let back = c.into_output-back.result.output in
+    let given = c.into_output-back.ensures ∙ ap (λ p. p.output) told.printer in
     record {
       ended = silent ended;
       lived = is.lives;
