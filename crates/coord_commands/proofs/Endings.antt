@@ -5,7 +5,7 @@ use Rattle.coord_disk.specs.Model.DiskModel.{DiskModel}
 use Rattle.coord_commands.proofs.Opening.{gave}
 use Rattle.std.proofs.lemmas.Bool.{false≢true}
 use Rattle.std.specs.Io.KnownBytes.{Appends, Keeps}
-use Rattle.coord_drill.specs.Drilled.{WritesFirstPart}
+use Rattle.coord_lines.specs.Written.{WritesFirstPart}
 use Rattle.coord_commands.specs.Ending.{CommandEnds, IsOfWriting, OutputCutShort, PrintsOne}
 use Rattle.coord_commands.specs.Faults.{fault_line, status_of}
 use Rattle.coord_commands.specs.Serving.{IsAddress, IsOfServingAt, IsServedToEnd, ServesAt}

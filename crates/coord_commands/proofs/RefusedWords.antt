@@ -3,7 +3,7 @@ use Rattle.std.proofs.Common.{◌≡◌, ◌⊎◌, inl, inr, refl, ℕ, List, O
 use Rattle.std.proofs.KnownBytes.{Keeps-refl}
 use Rattle.clap.specs.Words.{Text, takes}
 use Rattle.coord_disk.specs.Model.Present.{Present}
-use Rattle.coord_drill.specs.Drilled.{WritesFirstPart}
+use Rattle.coord_lines.specs.Written.{WritesFirstPart}
 use Rattle.coord_commands.specs.Faults.{fault_line, fault_status}
 use Rattle.coord_commands.specs.Running.{IsOfWords, LacksWords, RefusesWords, files_around}
 use Rattle.coord_commands.specs.Words.{resetd, task_of}

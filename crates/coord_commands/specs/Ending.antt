@@ -1,7 +1,7 @@
 -- How a command ends: its exit status, and what it adds to the output and to standard error.
 use Rattle.std.specs.Prelude.{◌≡◌, ◌⊎◌, ℕ, List, Option}
 use Rattle.std.specs.Io.KnownBytes.{Appends, Keeps}
-use Rattle.coord_drill.specs.Drilled.{WritesFirstPart}
+use Rattle.coord_lines.specs.Written.{WritesFirstPart}
 use Rattle.coord_commands.specs.Faults.{fault_line, fault_status}
 use Rattle.coord_commands.specs.Streams.{Streams}
 use Rattle.coord_commands.specs.declared.fault.Fault.{Fault}

@@ -1,14 +1,12 @@
 -- What a run of the program does, by its words.
-use Rattle.std.specs.Prelude.{◌≡◌, ◌⊎◌, ℕ, ◌≤◌, true, List, length, Option, Some, None, IfSome}
-use Rattle.std.specs.Io.KnownBytes.{Appends, Consumes, IsAtEnd, Keeps}
+use Rattle.std.specs.Prelude.{◌≡◌, ◌⊎◌, ℕ, true, List, Option, Some, None}
+use Rattle.std.specs.Io.KnownBytes.{IsAtEnd, Keeps}
 use Rattle.clap.specs.Words.{Text, takes}
 use Rattle.coord_disk.specs.Model.DiskModel.{DiskModel}
 use Rattle.coord_disk.specs.Model.Present.{Present}
-use Rattle.coord_drill.specs.Drilled.{IsDrilled, WritesFirstPart}
+use Rattle.coord_lines.specs.Written.{WritesFirstPart}
 use Rattle.coord_drill.specs.InMemory.{DrillsInMemory, FailsInMemory}
-use Rattle.coord_lines.specs.declared.limits.TheConstants.{MOST_READS}
 use Rattle.coord_drill.specs.declared.fault.Fault.{Fault as DrillFault}
-use Rattle.coord_drill.specs.declared.fault.Fault.TheVariants.{TooManyReads}
 use Rattle.coord_commands.specs.Ending.{CommandEnds, CommandFails}
 use Rattle.coord_commands.specs.Faults.{fault_line, fault_of_drill, fault_status}
 use Rattle.coord_commands.specs.Folders.{reads}
@@ -27,25 +25,19 @@ pub record Around : Type 0 where
   pub holds : List ℕ → Option Present
   pub says : List ℕ → Option (List ℕ)
 
--- the drill has printed what may be printed to all of its input, and was one over a disk in memory
+-- a drill over a disk in memory has carried its input out to its end
 pub record HasDrilled (status : ℕ) (old new : Streams) : Type 0 where
   pub number : status ≡ 0
-  pub printed : IfSome old.input (λ known. (text : List ℕ) × IsDrilled known text × Appends old.output new.output text)
   pub drilled : DrillsInMemory old.input new.input old.output new.output
   pub end : IsAtEnd new.input
   pub silent : Keeps old.errors new.errors
 
--- The drill has failed, and printed a first part of what may be printed to the input that was read. By `broke` a drill over
--- a disk in memory stops so for this fault, where what was read and written ends.
+-- it has failed for this fault, where what was read and written ends
 pub record FailsToDrill (status : ℕ) (old new : Streams) : Type 0 where
   pub fault : DrillFault
   pub number : status ≡ fault_status (fault_of_drill fault)
   pub told : WritesFirstPart old.errors new.errors (fault_line (fault_of_drill fault))
-  pub seen : List ℕ
-  pub read : Consumes old.input new.input seen
-  pub printed : (text : List ℕ) × IsDrilled seen text × WritesFirstPart old.output new.output text
   pub broke : FailsInMemory old.input new.input old.output new.output fault
-  pub reads : fault ≡ TooManyReads → MOST_READS ≤ length seen
 
 -- the drill
 abbrev pub RunsDrill : ℕ → Streams → Streams → Type 0

@@ -6,7 +6,7 @@ use Rattle.std.specs.declared.net.socket_addr.SocketAddrV4.{SocketAddrV4}
 use Rattle.coord_disk.specs.Model.DiskModel.{DiskModel}
 use Rattle.coord_disk.specs.Model.Moments.{AddsNothing, LeavesOnly}
 use Rattle.coord_disk.specs.Model.Present.{IsImage, Present}
-use Rattle.coord_drill.specs.Drilled.{WritesFirstPart}
+use Rattle.coord_lines.specs.Written.{WritesFirstPart}
 use Rattle.coord_engine.specs.Facade.{IsOnTheWay}
 use Rattle.coord_engine.specs.declared.closed.Closed.{Closed}
 use Rattle.coord_admin.specs.declared.patience.Patience.{Patience}

@@ -3,7 +3,7 @@
 ghost use Rattle.std.specs.Prelude.{◌≡◌, IsOk, MatchResult};
 ghost use Rattle.std.specs.Io.KnownBytes.{Keeps};
 ghost use Rattle.coord_commands.specs.Faults.{fault_line, status_of};
-ghost use Rattle.coord_drill.specs.Drilled.{WritesFirstPart};
+ghost use Rattle.coord_lines.specs.Written.{WritesFirstPart};
 
 use crate::fault::Fault;
 use crate::lines::print_fault;

@@ -15,7 +15,6 @@
 -- back is where that has led (`DrillEnded`). Where it fails, the course has the lines that were carried out, and `StopsDrill` says
 -- why it has no more, what was written of what these have printed, and which disk is given back (`BrokeOff`).
 use Rattle.std.specs.Prelude.{◌≡◌, ◌⊎◌, ℕ, ◌+◌, ◌≤◌, true, List, [], ◌∷◌, ◌++◌, length, take, option_map, Option, Some, None, if◌then◌else◌}
-use Rattle.std.specs.Io.KnownBytes.{Appends, Consumes}
 use Rattle.std.specs.List.{AllByRecursion}
 use Rattle.coord_disk.specs.Model.Moments.{IsUntouched, LeavesOnly}
 use Rattle.coord_disk.specs.Model.DiskModel.{DiskModel}

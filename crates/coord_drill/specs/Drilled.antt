@@ -2,7 +2,6 @@
 use Rattle.std.specs.Prelude.{◌≡◌, ℕ, ◌+◌, ◌==◌, Bool, true, false, List, [], ◌∷◌, ◌++◌, Option, Some, None, if◌then◌else◌}
 use Rattle.std.specs.Str.{is_utf8}
 use Rattle.coord_lines.specs.Lines.{Line, lines_of}
-pub use Rattle.coord_lines.specs.Written.{IsFirstPart, WritesFirstPart}
 use Rattle.coord_world.specs.protocol.NumberedWorld.{no_world}
 use Rattle.coord_ledger.specs.declared.events.Answer.{Answer}
 use Rattle.coord_drill.specs.declared.request.Request.{Request}

@@ -5,7 +5,6 @@ use Rattle.coord_disk.specs.Model.Present.{whole}
 use Rattle.coord_disk.specs.declared.choice.Choice.TheVariants.{Kept}
 use Rattle.coord_disk.specs.declared.memory.MemDisk.{MemDisk}
 use Rattle.coord_drill.specs.Course.{DrillFails, Drills}
-use Rattle.coord_drill.specs.Written.{InOut}
 use Rattle.coord_drill.specs.declared.fault.Fault.{Fault}
 
 -- nothing stands on it, no call of it has failed, and a crash of it keeps what a read gives

@@ -1,5 +1,5 @@
 -- What the code's functions say of lines that were carried out, wherever the drill stood before them.
-use Rattle.std.specs.Prelude.{◌≡◌, ℕ, ◌+◌, List, [], ◌∷◌, ◌++◌, length}
+use Rattle.std.specs.Prelude.{◌≡◌, ℕ, ◌+◌, List, [], ◌∷◌, ◌++◌}
 use Rattle.coord_disk.specs.Model.DiskModel.{DiskModel}
 use Rattle.coord_lines.specs.Lines.{Line, lines_on}
 use Rattle.coord_drill.specs.Course.{FirstCutShort, Goes, LineGoes, Place, StopsDrill, StopsWork}

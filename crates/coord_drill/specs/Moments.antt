@@ -3,7 +3,7 @@
 -- The events of a line lead from one driver to another, whatever machine the first one represents: with just the answers
 -- that the line's text and the drill's new state go by. The answers are that machine's, the other driver represents it,
 -- and the headline's chain of moments (`EachMoment`) leads from the disk as it was before the line to the disk then.
-use Rattle.std.specs.Prelude.{◌≡◌, ◌≢◌, ◌⊎◌, ℕ, ◌+◌, ◌≤◌, List, [], ◌∷◌, length, take, false, true, Option, Some, Result}
+use Rattle.std.specs.Prelude.{◌≡◌, ◌≢◌, ◌⊎◌, ℕ, ◌+◌, List, [], ◌∷◌, length, take, false, true, Option, Some, Result}
 use Rattle.std.specs.List.{AllByRecursion}
 use Rattle.coord_disk.specs.Model.Moments.{LeavesOnly}
 use Rattle.coord_disk.specs.Model.DiskModel.{DiskModel}
@@ -20,7 +20,7 @@ use Rattle.coord_ledger.specs.declared.events.Answer.TheVariants.{Refused}
 use Rattle.coord_ledger.specs.declared.events.Event.{Event}
 use Rattle.coord_ledger.specs.declared.events.Event.TheVariants.{Submit}
 use Rattle.coord_ledger.specs.declared.handed.Handed.{Handed}
-use Rattle.coord_ledger.specs.Facade.{Answered, CrashPrefix, DriverState, EachMoment, EventInRange, HandedTo, HasFailed, IsConsistent, LedgerState, Machine, MayBegin, Reopens, Represents, Survives, answer_to, disk_held, failed_until, has_stopped, ledger_over, model_held, run, settled_count, settled_world, started}
+use Rattle.coord_ledger.specs.Facade.{Answered, CrashPrefix, DriverState, EachMoment, EventInRange, HandedTo, HasFailed, IsConsistent, LedgerState, Machine, MayBegin, Reopens, Represents, Survives, answer_to, disk_held, failed_until, has_stopped, ledger_over, model_held, run, settled_world, started}
 use Rattle.coord_drill.specs.Answered.{IsAnswered, flight_lines}
 use Rattle.coord_drill.specs.Course.{IsSettled, Place, start}
 use Rattle.coord_drill.specs.Drill.{flight_events, line_events, machine_of, seen_as}

@@ -1,12 +1,11 @@
 //! A drill over a reader and a writer.
 
-ghost use Rattle.std.specs.Prelude.{◌≡◌, ◌<◌, ◌≤◌, ◌+◌, ◌-◌, ◌^◌, ℕ, List, [], true, OnOk, IfErr, IfOk, IfSome, Some, length};
-ghost use Rattle.std.specs.Io.KnownBytes.{Appends, Consumes, IsAtEnd};
+ghost use Rattle.std.specs.Prelude.{◌≡◌, ◌<◌, ◌≤◌, ◌+◌, ◌-◌, ◌^◌, [], true, OnOk, IfErr, IfOk, Some, length};
+ghost use Rattle.std.specs.Io.KnownBytes.{IsAtEnd};
 ghost use Rattle.coord_ledger.specs.Facade.{disk_held};
 ghost use Rattle.coord_lines.specs.Lines.{lines_on};
 ghost use Rattle.coord_lines.specs.declared.limits.TheConstants.{MOST_READS};
 ghost use Rattle.coord_drill.specs.Course.{DrillFails, Drills, NotMade};
-ghost use Rattle.coord_drill.specs.Drilled.{IsDrilled, WritesFirstPart};
 ghost use Rattle.coord_drill.specs.Faults.{IsOfDisk, IsOfWork};
 ghost use Rattle.coord_drill.specs.Holding.{IsReadyDrill};
 ghost use Rattle.coord_drill.specs.InMemory.{DrillsInMemory, FailsInMemory, IsBlank};
@@ -30,26 +29,17 @@ use std::io::{Read, Write};
 const READ_LEN: usize = 512;
 
 /// Reads requests to the end of the input, a line each, and prints what becomes of each: the drill
-/// over a disk in memory, of which a crash keeps what a read gives. Where it fails, a first part is
-/// printed of what may be printed for the input that was read.
+/// over a disk in memory that was just made, of which a crash keeps what a read gives. What is
+/// printed of a whole input is what `printed_is_drilled` says; where the drill fails, a first part of
+/// that.
 pub fn coord_drill<R: Read, W: Write>(
     alloc: Global,
     reader: &mut R,
     writer: &mut W,
 ) -> Result<(), Fault>
-    ensures printed { OnOk result (IfSome (R.remaining reader.old)
-        (λ input. (text : List ℕ) × IsDrilled input text ×
-        Appends (W.contents writer.old) (W.contents writer.new) text)) }
-    ensures end { OnOk result (IsAtEnd (R.remaining reader.new)) }
-    ensures failed { IfErr result (λ fault. (seen : List ℕ)
-        × Consumes (R.remaining reader.old) (R.remaining reader.new) seen
-        × ((text : List ℕ) × IsDrilled seen text ×
-        WritesFirstPart (W.contents writer.old) (W.contents writer.new) text)
-        × (fault ≡ TooManyReads → MOST_READS ≤ length seen)) }
-
-    // What `coord_drill_on` says, of a disk in memory that was just made.
     ensures ended { OnOk result (DrillsInMemory (R.remaining reader.old) (R.remaining reader.new)
         (W.contents writer.old) (W.contents writer.new)) }
+    ensures end { OnOk result (IsAtEnd (R.remaining reader.new)) }
     ensures broke { IfErr result (FailsInMemory (R.remaining reader.old) (R.remaining reader.new)
         (W.contents writer.old) (W.contents writer.new)) }
 {

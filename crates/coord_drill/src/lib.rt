@@ -13,14 +13,15 @@
 //! line; `specs/Answered.antt` what is printed to it, and `specs/Printed.antt` the lines themselves,
 //! but for those of a view, which are coord_view's.
 //! Memory, the device and a crash choose among the machine's answers: that is the luck of a line.
-//! `specs/Drilled.antt` says what may be printed to a whole input, for some luck at each line, and
-//! `specs/Course.antt` what the disk goes through meanwhile: the events of each line are a run of the
+//! `specs/Course.antt` says how the lines of an input go, for some luck at each: what each prints, and
+//! what the disk goes through meanwhile. The events of each line are a run of the
 //! ledger's machine on the disk, with the ledger's headline at each of its moments. The main theorem
 //! is the contract of [`coord_drill_on`]: what was written is printed to all that was read, and at
 //! each moment of that whatever a crash may leave of the disk is a legal world after a first part of
 //! the accepted steps. Every step of which anything was printed is settled by then, so it is in that
-//! world ([`printed_survives`]). The grammar's law is that of [`spelled_is_read`]: no two requests
-//! share a line.
+//! world ([`printed_survives`]). Without its disk it says what may be printed to a whole input
+//! (`specs/Drilled.antt`, [`printed_is_drilled`]). The grammar's law is that of [`spelled_is_read`]:
+//! no two requests share a line.
 #![tactic(auto)]
 
 mod answers;
@@ -37,4 +38,4 @@ mod writing;
 
 pub use console::{coord_drill, coord_drill_on};
 pub use fault::Fault;
-pub use laws::{printed_survives, spelled_is_read, worked_lines};
+pub use laws::{printed_is_drilled, printed_survives, spelled_is_read, worked_lines};

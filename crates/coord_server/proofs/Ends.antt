@@ -75,7 +75,7 @@ module _ {D : Type 0} (m : DiskModel D) {V : Type 0} (talked : V → List Talk �
   abbrev b : World → Basis D
   b world = based_on m world []
 
-  pub rests : (world : World) (v : V) (life : Life D V) → life.left ≡ Resting → IsLife (b world) talked failed most v life → most ≤ length life.closed.trail.items → has_stopped life.closed.store ≡ false → life.closed.settled ≡ life.closed.base.count + length life.closed.trail.items
+  unfoldable pub rests : (world : World) (v : V) (life : Life D V) → life.left ≡ Resting → IsLife (b world) talked failed most v life → most ≤ length life.closed.trail.items → has_stopped life.closed.store ≡ false → life.closed.settled ≡ life.closed.base.count + length life.closed.trail.items
       → Rests m talked most world v life.callers life.closed.store.world
   rests world v life is so kept going all =
       let rested = subst (ServesLife (b world) talked failed most so.port v life.callers so.desk) is so.served in

@@ -17,7 +17,7 @@ use Rattle.coord_drill.specs.Drill.{DrillState, after_asked, flight_events, mach
 use Rattle.coord_drill.specs.Laws.{PrintedSurvives}
 use Rattle.coord_drill.specs.Told.{flight_told, repeat_told, step_told, told_by}
 use Rattle.coord_drill.specs.declared.asked.Asked.TheVariants as ask
-use Rattle.coord_drill.specs.Facade.{Accepted, Answer, Asked, Begun, Committed, IsSettled, Refusal, Refused, Repeated, Step, Verdict}
+use Rattle.coord_drill.specs.Facade.{Accepted, Answer, Asked, Begun, Committed, Refusal, Refused, Repeated, Step, Verdict}
 use Rattle.coord_drill.proofs.does.FlownTo.{begun_size}
 
 -- ---- what a line tells of is settled behind it

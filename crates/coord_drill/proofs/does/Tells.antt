@@ -2,13 +2,10 @@
 use Rattle.std.proofs.Common.{◌≡◌, ℕ, true, false, List, [], ◌++◌, refl, sym, append-nil, arith}
 use Rattle.std.proofs.lemmas.Bool.{false≢true}
 use Rattle.coord_disk.specs.Model.DiskModel.{DiskModel}
-use Rattle.coord_check.specs.Faults.{first, faults}
-use Rattle.coord_world.specs.protocol.Outputs.{again}
-use Rattle.coord_ledger.specs.Facade.{front_world, settled_world}
-use Rattle.coord_drill.specs.Answered.{asked_lines, shown_lines}
+use Rattle.coord_drill.specs.Answered.{asked_lines}
 use Rattle.coord_drill.specs.Drill.{after_asked, changes_nothing, line_events}
 use Rattle.coord_drill.specs.declared.asked.Asked.TheVariants as ask
-use Rattle.coord_drill.specs.Facade.{Asked, Carries, CarriesIf, Drill, Refusal, Tells, drill_of, fault_line, idle_line, output_lines, refusal_line, state_of}
+use Rattle.coord_drill.specs.Facade.{Asked, Carries, CarriesIf, Drill, Tells, drill_of, state_of}
 use Rattle.coord_drill.proofs.does.Moments.{Survive, by_asked, is_version, leads_none}
 
 module _ {D : Type 0} (disk : DiskModel D) (crashes : D → D → Type 0) where

@@ -1,8 +1,8 @@
 -- Texts that were written, and texts of which a first part was written.
-use Rattle.std.proofs.Common.{◌≡◌, ℕ, ◌≤◌, List, [], ◌++◌, length, length-append, Option, Some, refl, sym, ap, ◌∙◌, subst, arith, append_assoc, append-nil}
+use Rattle.std.proofs.Common.{◌≡◌, ℕ, ◌≤◌, List, [], ◌++◌, length, length-append, Option, Some, sym, ap, ◌∙◌, subst, arith, append_assoc}
 use Rattle.std.specs.Io.KnownBytes.{Appends, Keeps}
-use Rattle.std.proofs.KnownBytes.{Appends-kept, Appends-nil}
-use Rattle.coord_drill.specs.Drilled.{IsFirstPart, WritesFirstPart}
+use Rattle.std.proofs.KnownBytes.{Appends-kept}
+use Rattle.coord_lines.specs.Written.{IsFirstPart}
 use Rattle.coord_drill.specs.Written.{IsShortPart, WritesPart, WritesShort}
 
 -- what was written to a list that was empty has P
@@ -10,10 +10,6 @@ pub writes_list : (items : List ℕ) (P : List ℕ → Type 0) → WritesPart (S
 writes_list items P one = subst P (sym one.1) one.2
 
 -- ---- first parts
-
--- nothing was written
-pub first_part-none : (a : Option (List ℕ)) (text : List ℕ) → WritesFirstPart a a text
-first_part-none a text = ([], Appends-nil a, (text, refl))
 
 -- all of it was, or all but a rest
 pub first_part-all : (written text rest : List ℕ) → written ≡ text → IsFirstPart written (text ++ rest)

@@ -1,19 +1,17 @@
 -- What is printed of a whole input, and which faults come of what.
-use Rattle.std.proofs.Common.{refl, ◌≡◌, ℕ, ◌+◌, List, [], ◌++◌, length, Option, Some, sym, ap, ◌∙◌, subst, append-nil, take, inl, inr}
-use Rattle.std.specs.Io.KnownBytes.{Appends, Consumes}
-use Rattle.std.proofs.KnownBytes.{Consumes-nil, Consumes-trans}
+use Rattle.std.proofs.Common.{refl, ◌≡◌, ℕ, ◌+◌, List, [], ◌++◌, Option, Some, sym, ap, ◌∙◌, subst, append-nil, take, inl, inr}
+use Rattle.std.specs.Io.KnownBytes.{Consumes}
+use Rattle.std.proofs.KnownBytes.{Consumes-trans}
 use Rattle.coord_disk.specs.Model.DiskModel.{DiskModel}
 use Rattle.coord_lines.specs.Lines.{Line, lines_of, lines_on}
+use Rattle.coord_lines.specs.Written.{IsFirstPart}
 use Rattle.coord_lines.proofs.LinesOn.{lines_on-empty}
-use Rattle.coord_store.specs.declared.faults.StoreFault.{StoreFault}
-use Rattle.coord_store.specs.declared.faults.StoreFault.TheVariants.{OutOfMemory}
-use Rattle.coord_drill.specs.Facade.{BrokeOff, Console, DrillEnded, EndsEarly, EndsWith, Fault, InOut, IsBegun, Place, Prints, StopsDrill, WritesFirstPart, drill_over, start, store_fault}
-use Rattle.coord_drill.specs.declared.fault.Fault.TheVariants.{TooManyReads}
-use Rattle.coord_drill.specs.Drilled.{IsDrilled, IsFirstPart}
+use Rattle.coord_drill.specs.Facade.{BrokeOff, Console, DrillEnded, EndsEarly, EndsWith, Fault, IsBegun, Place, Prints, StopsDrill, drill_over, start}
+use Rattle.coord_drill.specs.Drilled.{IsDrilled}
 use Rattle.coord_world.specs.Facade.{no_world}
 use Rattle.coord_drill.proofs.course.Lines.{goes_prints}
 use Rattle.coord_drill.proofs.does.LineResponds.{prints_somehow}
-use Rattle.coord_drill.proofs.prints.FirstParts.{first_part-all, first_part-none, first_part-short}
+use Rattle.coord_drill.proofs.prints.FirstParts.{first_part-all, first_part-short}
 
 -- a read that gave no byte
 pub Consumes-none : (a b c : Option (List ℕ)) (seen bytes : List ℕ) (count : ℕ) → Consumes a b seen → Consumes b c (take count bytes) → count ≡ 0 → Consumes a c seen
@@ -71,18 +69,3 @@ module _ {D : Type 0} (disk : DiskModel D) (crashes : D → D → Type 0) (given
           course = record { begun = begun.begun; made = begun.made; unfailed = begun.unfailed; goes = one.1 };
           why = one.2;
         }
-
--- a refused store is not told as too many reads
-pub never_reads : (why : StoreFault) → store_fault why ≡ TooManyReads → ⊥
-never_reads OutOfMemory same = let no : ⊥ = cc in no
-never_reads why same = let no : ⊥ = cc in no
-
--- nothing was read
-pub nothing_seen : (a b : Option (List ℕ)) → b ≡ a → Consumes a b []
-nothing_seen a b same = rw same (Consumes-nil a)
-
--- where nothing was read, nothing of what may be printed was written
-pub nothing_written : (a b : Option (List ℕ)) → b ≡ a → (text : List ℕ) × IsDrilled [] text × WritesFirstPart a b text
-nothing_written a b same =
-    let some = prints_somehow (drill_over (no_world 1)) 1 (lines_of []) in
-    (some.0, some.1, rw same (first_part-none a some.0))

@@ -1,4 +1,4 @@
-use Rattle.std.proofs.Common.{[], ◌≡◌, rules, string_bytes}
+use Rattle.std.proofs.Common.{[], rules, string_bytes}
 use Rattle.std.proofs.KnownBytes.{Appends-nil}
 use Rattle.coord_drill.specs.Facade.{WritesShort}
 use Rattle.coord_drill.proofs.does.Moments.{passed_on}
