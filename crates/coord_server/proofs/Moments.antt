@@ -83,6 +83,7 @@ module _ {D : Type 0} (m : DiskModel D) {V : Type 0} (talked : V → List Talk �
   -- one more life has rested, and the next one begins with this
   pub rested_on : (first now next : Kept D) (v u others : V) (life : Life D V) → HaveRested m talked most first v now u → IsLife (based_on m now.world []) talked failed most u life → KeepsAlong m now life.closed.trail.items life.closed.store
       → most ≤ length life.closed.trail.items → life.left ≡ Resting → next ≡ life.closed.store → others ≡ life.callers → has_stopped life.closed.store ≡ false → life.closed.settled ≡ life.closed.base.count + length life.closed.trail.items → HaveRested m talked most first v next others
+  unfolding rests
   rested_on first now next v u others life rested so along kept is same same_w going all =
       let lives = steps_of m talked most rested.0 first.world v now.world u rested.1 in
       let come : ComesFrom m first (all_steps lives ++ life.closed.trail.items) life.closed.store = next_from m first now (all_steps lives) life.closed so.desk.notes rested.2 so.history along all in

@@ -1,9 +1,12 @@
-use Rattle.std.proofs.Common.{◌≡◌, false, ap, subst, sym, ◌∙◌}
+use Rattle.std.proofs.Common.{ap, inl, refl, subst, sym, ◌∙◌}
 use Rattle.coord_store.specs.Kept.{Kept, has_stopped}
 use Rattle.coord_server.specs.Moments.{EndsAlong}
 use Rattle.coord_server.proofs.Moments.{ends_along, rested_on}
 use Rattle.coord_server.proofs.Signals.{leads_to}
 use Rattle.coord_server.proofs.lives.live.Goals as goal
+
+pub loop-init : goal.loop-init
+loop-init g c = (tt, tt, c.requires.going, (0, (refl, refl), inl (refl, refl)))
 
 pub loop-preserved : goal.loop-preserved
 loop-preserved g c =
