@@ -1,5 +1,7 @@
 -- What is known of the bytes of a disk.
-use Rattle.std.proofs.Common.{◌≡◌, ◌≢◌, ◌⊎◌, ℕ, ◌+◌, Bool, true, false, List, Option, Some, None, IfSome, inl, inr, refl, sym, ap, ◌∙◌, subst, arith, if◌then◌else◌}
+use Rattle.std.proofs.Common.{◌≡◌, ◌≢◌, ◌⊎◌, ℕ, ◌+◌, Bool, true, false, List, Option, Some, None, Ok, Err, IfSome, inl, inr, refl, sym, ap, ◌∙◌, subst, arith, if◌then◌else◌}
+use Rattle.std.proofs.KnownBytes.{Keeps-refl}
+use Rattle.std.proofs.lemmas.Bool.{false≢true}
 use Rattle.std.proofs.lemmas.Bool.Decides.{nat_tests}
 use Rattle.coord_disk.specs.Model.DiskModel.{DiskModel}
 use Rattle.coord_disk.proofs.MomentLemmas.{and_then}
@@ -10,7 +12,8 @@ use Rattle.coord_engine.specs.declared.closed.Closed.{Closed}
 use Rattle.coord_admin.specs.declared.patience.Patience.{Patience}
 use Rattle.coord_server.specs.Ending.{LeavesNothing, fault_at_end}
 use Rattle.coord_server.specs.Lives.{HasLivedToClose, HasServed, silent}
-use Rattle.coord_server.specs.Printed.{is_amiss}
+use Rattle.coord_server.specs.Printed.{IsPrinted, PrinterState, is_amiss, new_printer, signal_lines}
+use Rattle.coord_server.specs.Signals.{CanSignal}
 use Rattle.coord_server.specs.declared.server_end.ServerEnd.{ServerEnd}
 use Rattle.coord_server.specs.Moments.{AtEachMoment}
 use Rattle.coord_store.specs.Facade.{Kept, Recovered}
@@ -24,7 +27,7 @@ use Rattle.coord_commands.specs.Folders.{bytes_of, known_of, reads}
 use Rattle.coord_server.specs.declared.fault.ServerFault.{ServerFault}
 use Rattle.coord_commands.specs.Faults.{fault_of_server}
 use Rattle.coord_commands.specs.Inspection.{IsOfOpening}
-use Rattle.coord_commands.specs.Serving.{EndsServing, GivesWorld, IsNotOpened, IsOfServing, IsOpenedStore, IsPutBack, IsServedToEnd, KeepsToTheWay}
+use Rattle.coord_commands.specs.Serving.{EndsServing, GivesWorld, IsNotOpened, IsOfServing, IsOpenedStore, IsPutBack, IsServed, IsServedToEnd, KeepsToTheWay, PrintsOnly, PrintsToEnd, Tells}
 use Rattle.coord_commands.specs.declared.fault.Fault.{Fault}
 use Rattle.coord_commands.specs.declared.fault.Fault.TheVariants.{Socket, Store}
 use Rattle.coord_commands.proofs.Raising.{closed, if_both, unread}
@@ -81,10 +84,10 @@ module _ {D : Type 0} (model : DiskModel D) where
   opened before taken store was world failures same_model moments same = grind (arith, nat_tests, if_keeps)
 
   -- a store that was opened, served to a close and put back keeps to the way
-  pub keeps_to_the_way : {W : Type 0} (before after : Option Present) (store : Kept D) (end : ServerEnd D Patience W) (closed : Closed D) (back : D) → IsOpenedStore model before store → HasLivedToClose model store.world closed → AtEachMoment model store end.closed
-      → closed ≡ end.closed → back ≡ closed.store.disk → IfSome after (λ known. known_of model back ≡ Some known) → KeepsToTheWay model before after
-  keeps_to_the_way before after store end closed back is lived moments of_end same put =
-      let here : AtEachMoment model store closed = subst (AtEachMoment model store) (sym of_end) moments in
+  pub keeps_to_the_way : (before after : Option Present) (old new : Option (List ℕ)) (store : Kept D) (closed : Closed D) (back : D) → IsOpenedStore model before store → HasLivedToClose model store.world closed → IsServed model store old new (Ok closed)
+      → back ≡ closed.store.disk → IfSome after (λ known. known_of model back ≡ Some known) → KeepsToTheWay model before after
+  keeps_to_the_way before after old new store closed back is lived served same put =
+      let here : AtEachMoment model store closed = subst (AtEachMoment model store) (sym served.tells.0) served.moments in
       record {
         taken = is.taken;
         back = back;
@@ -97,29 +100,41 @@ module _ {D : Type 0} (model : DiskModel D) where
         any_moment = λ keeps. subst (λ d. LeavesOnly model is.taken d (λ image. IsImage (model.present is.taken) image ⊎ IsOnTheWay store.world (fold closed.base closed.trail.items) image)) (sym same) (and_then model is.taken store.disk closed.store.disk _ _ (is.any_moment keeps) (here.moments (is.same_model ∙ keeps)));
       }
 
+  -- what was printed of a store that was served to a close
+  pub prints_to_end : (before : Option Present) (old new : Option (List ℕ)) (store : Kept D) (closed : Closed D) → IsOpenedStore model before store → HasLivedToClose model store.world closed → IsServed model store old new (Ok closed) → PrintsToEnd model (reads before) old new
+  prints_to_end before old new store closed is lived served = record {
+    began = store.world;
+    left = closed;
+    opened = is.world;
+    lived = lived;
+    printer = served.ended.printer;
+    whole = served.tells.2;
+    printed = served.printed;
+    settled = served.tells.3;
+  }
+
   -- a disk whose store was opened and put back, since no socket could be bound
-  pub not_bound : (before after : Option Present) (store : Kept D) (back : D) → IsOpenedStore model before store → back ≡ store.disk → IfSome after (λ known. known_of model back ≡ Some known) → EndsServing model before after Socket
-  not_bound before after store back is same put =
+  pub not_bound : (before after : Option Present) (old : Option (List ℕ)) (store : Kept D) (back : D) → IsOpenedStore model before store → back ≡ store.disk → IfSome after (λ known. known_of model back ≡ Some known) → EndsServing model before after old old Socket
+  not_bound before after old store back is same put =
       let failures : model.failures back ≡ model.failures is.taken + 0 = omega (arith, ap model.failures same, is.failures) in
-      inr (inl (refl, gives_some (reads before) store.world is.world, put_back 0 before after is.taken back is.was put failures (λ _ keeps. ap (λ d. (model.present d).read) same ∙ is.same keeps)))
+      inr (inl ((refl, gives_some (reads before) store.world is.world, put_back 0 before after is.taken back is.was put failures (λ _ keeps. ap (λ d. (model.present d).read) same ∙ is.same keeps)), Keeps-refl old))
 
   -- a server over it has ended, and nothing is left
-  pub lost : (before after : Option Present) (store : Kept D) (fault : ServerFault) → IsOpenedStore model before store → LeavesNothing model fault → EndsServing model before after (fault_of_server fault)
-  lost before after store fault is nothing = inr (inr (record { began = store.world; opened = is.world; fault = fault; ends = inl nothing; named = refl }))
+  pub lost : (before after : Option Present) (old new : Option (List ℕ)) (store : Kept D) (fault : ServerFault) → IsOpenedStore model before store → LeavesNothing model fault → EndsServing model before after old new (fault_of_server fault)
+  lost before after old new store fault is nothing = inr (inr (record { began = store.world; opened = is.world; fault = fault; ends = inl nothing; named = refl }))
 
   -- a server over it has ended, and its disk is put back
-  pub ended : {W : Type 0} (before after : Option Present) (store : Kept D) (end : ServerEnd D Patience W) (closed : Closed D) (fault : ServerFault) (back : D) → IsOpenedStore model before store → HasServed model store.world end
-      → closed ≡ end.closed → fault_at_end (has_stopped end.closed.store) end.served (is_amiss end.printer end.closed.settled) ≡ Some fault → back ≡ closed.store.disk → IfSome after (λ known. known_of model back ≡ Some known)
-      → EndsServing model before after (fault_of_server fault)
-  ended before after store end closed fault back is served same tells disk put =
-      let home = disk ∙ ap (λ (c : Closed D). c.store.disk) same in
+  pub ended : (before after : Option Present) (old new : Option (List ℕ)) (store : Kept D) (told : ServerFault × Closed D) (back : D) → IsOpenedStore model before store → IsServed model store old new (Err told)
+      → back ≡ told.1.store.disk → IfSome after (λ known. known_of model back ≡ Some known) → EndsServing model before after old new (fault_of_server told.0)
+  ended before after old new store told back is served disk put =
+      let home = disk ∙ ap (λ (c : Closed D). c.store.disk) served.tells.0 in
       let there = subst (λ d. IfSome after (λ known. known_of model d ≡ Some known)) home put in
-      inr (inr (record { began = store.world; opened = is.world; fault = fault; ends = inr (silent end, served, tells, there); named = refl }))
+      inr (inr (record { began = store.world; opened = is.world; fault = told.0; ends = inr (served.ended, served.lived, served.tells.1, there, served.printed); named = refl }))
 
   of_unopened : (before after : Option Present) (fault : StoreFault) → ((fault ≡ Device) × (after ≡ before)) ⊎ (IsOfOpening (reads before) (Store fault) × IsPutBack model (failed_in fault) before after) → IsOfServing (reads before) (Store fault)
   of_unopened before after fault (inl none) = inl none.0
   of_unopened before after fault (inr refuses) = refuses.0
 
   -- as far as the bytes tell
-  pub of_ending : (before after : Option Present) (told : Fault) → EndsServing model before after told → IsOfServing (reads before) told
-  of_ending before after told h1 = grind (arith, nat_tests, of_unopened, of_serving, gives_some)
+  pub of_ending : (before after : Option Present) (old new : Option (List ℕ)) (told : Fault) → EndsServing model before after old new told → IsOfServing (reads before) told
+  of_ending before after old new told h1 = grind (arith, nat_tests, of_unopened, of_serving, gives_some)
