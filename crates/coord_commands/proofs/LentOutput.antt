@@ -2,18 +2,21 @@
 use Rattle.std.proofs.Common.{◌≡◌, ◌⊎◌, ◌∙◌, ℕ, List, [], ◌∷◌, ◌++◌, Option, Some, None, Result, Ok, Err, IfErr, IfOk, false, true, ◌≤◌, inl, inr, refl, subst, sym}
 use Rattle.std.specs.Io.KnownBytes.{Appends}
 use Rattle.std.specs.declared.net.socket_addr.SocketAddr.{SocketAddr}
+use Rattle.coord_admin.specs.Connections.{Talk}
 use Rattle.coord_admin.specs.declared.patience.Patience.{Patience}
 use Rattle.coord_engine.specs.declared.closed.Closed.{Closed}
 use Rattle.coord_server.specs.Ending.{fault_at_end}
 use Rattle.coord_server.specs.Lines.{is_next}
-use Rattle.coord_server.specs.Lives.{silent}
+use Rattle.coord_server.specs.Lives.{AreClosed, LifeSteps, all_steps, life_steps, silent}
+use Rattle.coord_server.specs.Moments.{ClosesAlong, KeepsAlong, LivesKeepAlong}
 use Rattle.coord_server.specs.Printed.{IsPrinted, IsTornAddress, IsTornSignal, PrinterState, listening_line, is_amiss, new_printer, signal_lines}
 use Rattle.coord_server.specs.Signals.{CanSignal, StepSignal}
 use Rattle.coord_server.specs.declared.fault.ServerFault.{ServerFault}
 use Rattle.coord_server.specs.declared.server_end.ServerEnd.{ServerEnd}
-use Rattle.coord_store.specs.Kept.{has_stopped}
+use Rattle.coord_disk.specs.Model.DiskModel.{DiskModel}
+use Rattle.coord_store.specs.Kept.{Kept, has_stopped}
 use Rattle.coord_world.specs.protocol.NumberedWorld.{World}
-use Rattle.coord_commands.specs.Serving.{PrintsOnly, Tells}
+use Rattle.coord_commands.specs.Serving.{PrintsOnly, ToldAtEnd}
 use Rattle.coord_commands.specs.Streams.{known_as}
 
 -- what grew behind a number is what grew
@@ -48,9 +51,9 @@ opened_back may p q first torn signals broken last (inl is) = inl (is.0, is.1, a
 opened_back may p q first torn signals broken last (inr is) = inr (is.0, is.1, signal_back may p q torn broken last is.2)
 
 -- what was printed to an output that was lent was printed to this very output
-pub printed_back : {V : Type 0} (contents : V → Option (List ℕ)) (began : World) (lent : V) (ended : PrinterState V) (first later : ℕ) (old now new : Option (List ℕ)) → contents lent ≡ known_as first old → contents ended.output ≡ known_as later now → (later ≡ first → new ≡ now)
-    → IsPrinted contents (CanSignal began) (new_printer lent began.count) ended → PrintsOnly began old new (record { output = tt; is_broken = ended.is_broken; lost = ended.lost; last = ended.last })
-printed_back {V} contents began lent ended first later old now new at_first at_last same is =
+pub printed_back : {V : Type 0} (contents : V → Option (List ℕ)) (began : World) (lent : V) (ended : PrinterState V) (first later : ℕ) (old now new : Option (List ℕ)) → IsPrinted contents (CanSignal began) (new_printer lent began.count) ended
+    → contents lent ≡ known_as first old → contents ended.output ≡ known_as later now → (later ≡ first → new ≡ now) → PrintsOnly began old new (record { output = tt; is_broken = ended.is_broken; lost = ended.lost; last = ended.last })
+printed_back {V} contents began lent ended first later old now new is at_first at_last same =
     let back : PrinterState (Option (List ℕ)) = record { output = new; is_broken = ended.is_broken; lost = ended.lost; last = ended.last } in
     let text = is.first ++ (signal_lines is.signals ++ is.torn) in
     record {
@@ -64,9 +67,18 @@ printed_back {V} contents began lent ended first later old now new at_first at_l
     }
 
 -- what is told of a server that has ended
-pub tells_of : {D W : Type 0} (ended : ServerEnd D Patience W) (told : Result (Closed D) (ServerFault × Closed D))
+pub told_of : {D W : Type 0} (ended : ServerEnd D Patience W) (told : Result (Closed D) (ServerFault × Closed D))
     → IfOk told (λ closed. (closed ≡ ended.closed) × (fault_at_end (has_stopped ended.closed.store) ended.served (is_amiss ended.printer ended.closed.settled) ≡ None))
     → IfErr told (λ t. (t.1 ≡ ended.closed) × (fault_at_end (has_stopped ended.closed.store) ended.served (is_amiss ended.printer ended.closed.settled) ≡ Some t.0))
-    → IfOk told (λ closed. (ended.printer.is_broken ≡ false) × (ended.printer.last.step ≤ closed.settled)) → Tells (silent ended) told
-tells_of ended (Ok closed) is fault whole = (is.0, is.1, whole.0, whole.1)
-tells_of ended (Err told) is fault whole = fault
+    → IfOk told (λ closed. (ended.printer.is_broken ≡ false) × (ended.printer.last.step ≤ closed.settled)) → ToldAtEnd (silent ended) told
+told_of ended (Ok closed) is fault whole = (is.0, is.1, whole.0, whole.1)
+told_of ended (Err told) is fault whole = fault
+
+-- where a line has closed it, its disk kept to the steps of these very lives
+pub closes_along : {D W V E : Type 0} (m : DiskModel D) (talked : V → List Talk → V → Type 0) (failed : V → V → Type 0) (store : Kept D) (v : V) (ended : ServerEnd D V W) (told : Result (Closed D) E) (along : LivesKeepAlong m talked failed life_steps store v ended)
+    → (P : Closed D → Type 0) → IfOk told (λ closed. (closed ≡ ended.closed) × P closed) → IfOk told (AreClosed m talked failed store.world v ended along.0) → IfOk told (ClosesAlong m store)
+closes_along m talked failed store v ended (Ok closed) along P is lives = (
+  lives.0,
+  subst (λ (ls : List LifeSteps). KeepsAlong m store (all_steps ls) closed.store) (sym lives.1) (subst (λ (c : Closed _). KeepsAlong m store _ c.store) (sym is.0) along.1),
+)
+closes_along m talked failed store v ended (Err told) along P is lives = tt

@@ -5,9 +5,9 @@ ghost use Rattle.std.specs.Io.KnownBytes.{Keeps};
 ghost use Rattle.std.specs.Net.Grammar.{IsSocketV4Text};
 ghost use Rattle.std.specs.declared.net.socket_addr.SocketAddrV4.{SocketAddrV4};
 ghost use Rattle.coord_commands.specs.Folders.{bytes_of, reads};
-ghost use Rattle.coord_commands.specs.Serving.{EndsServing, IsNotOpened, IsOfServing, IsOpenedStore, IsServed, IsServedToEnd, KeepsToTheWay, PrintsToEnd, ServesAt};
+ghost use Rattle.coord_commands.specs.Serving.{EndsServing, IsNotOpened, IsOfServing, IsOpenedStore, ServedWhole, ServedWithOutput, ServesAt};
 ghost use Rattle.coord_server.specs.Ending.{LeavesNothing};
-ghost use Rattle.coord_server.specs.Lives.{HasLivedToClose};
+ghost use Rattle.coord_server.specs.Moments.{ClosesAlong};
 ghost use Rattle.coord_store.specs.Kept.{has_stopped};
 ghost use Rattle.coord_store.specs.Recovered.{Recovered};
 
@@ -18,6 +18,7 @@ use crate::status::report;
 use crate::streams::Streams;
 use coord_disk::Disk;
 use coord_engine::Closed;
+use coord_server::laws::closed_lives_are_one;
 use coord_server::{ServerFault, serve_store};
 use coord_store::Store;
 use std::alloc::Global;
@@ -66,12 +67,8 @@ pub fn serve_in<
         (reads (F.holds folder.new file.now)) result streams.old.known.errors
         streams.new.known.errors }
     ensures unread { streams.new.input ≡ streams.old.input }
-    ensures closed { result ≡ 0 → IsServedToEnd F.Disk.model
-        (reads (F.holds folder.old file.now)) (reads (F.holds folder.new file.now)) }
-    ensures moments { result ≡ 0 → KeepsToTheWay F.Disk.model (F.holds folder.old file.now)
-        (F.holds folder.new file.now) }
-    ensures printed { result ≡ 0 → PrintsToEnd F.Disk.model (reads (F.holds folder.old file.now))
-        streams.old.known.output streams.new.known.output }
+    ensures closed { result ≡ 0 → ServedWhole F.Disk.model (F.holds folder.old file.now)
+        (F.holds folder.new file.now) streams.old.known.output streams.new.known.output }
     ensures usage { ((a : SocketAddrV4) → ¬ IsSocketV4Text address.now a) → (result ≡ 2) ×
         (folder.new ≡ folder.old) × Keeps streams.old.known.output streams.new.known.output }
 {
@@ -84,7 +81,6 @@ pub fn serve_in<
     )
 }
 
-#[tactic(auto, using(crate::proofs::Opening::served_to_end))]
 fn serve_at<S: Net + Threads + Wait + Clock + Sync + AllocGlobal, F: Folder, W: Write + Send>(
     rt: &S,
     folder: &mut F,
@@ -92,12 +88,8 @@ fn serve_at<S: Net + Threads + Wait + Clock + Sync + AllocGlobal, F: Folder, W: 
     address: SocketAddrV4,
     output: &mut W,
 ) -> Result<(), Fault>
-    ensures served { OnOk result (IsServedToEnd F.Disk.model
-        (reads (F.holds folder.old file.now)) (reads (F.holds folder.new file.now))) }
-    ensures moments { OnOk result (KeepsToTheWay F.Disk.model (F.holds folder.old file.now)
-        (F.holds folder.new file.now)) }
-    ensures printed { OnOk result (PrintsToEnd F.Disk.model (reads (F.holds folder.old file.now))
-        (W.contents output.old) (W.contents output.new)) }
+    ensures served { OnOk result (ServedWhole F.Disk.model (F.holds folder.old file.now)
+        (F.holds folder.new file.now) (W.contents output.old) (W.contents output.new)) }
     ensures fault { IfErr result (EndsServing F.Disk.model (F.holds folder.old file.now)
         (F.holds folder.new file.now) (W.contents output.old) (W.contents output.new)) }
 {
@@ -108,6 +100,7 @@ fn serve_at<S: Net + Threads + Wait + Clock + Sync + AllocGlobal, F: Folder, W: 
             drop(listener);
             match served {
                 Ok(closed) => {
+                    closed_lives_are_one::<F::Disk>();
                     folder.close(file, left(closed));
                     Ok(())
                 }
@@ -141,9 +134,9 @@ fn serve_open<
 ) -> Result<Result<Closed<D>, (ServerFault, Closed<D>)>, ServerFault>
     requires { has_stopped store ≡ false }
     ensures served { IfOk result
-        (IsServed D.model store (W.contents output.old) (W.contents output.new)) }
+        (ServedWithOutput D.model store (W.contents output.old) (W.contents output.new)) }
     ensures going { IfOk result (λ told. IfOk told (λ closed. has_stopped closed.store ≡ false)) }
-    ensures lived { IfOk result (λ told. IfOk told (HasLivedToClose D.model store.world)) }
+    ensures along { IfOk result (λ told. IfOk told (ClosesAlong D.model store)) }
     ensures nothing { IfErr result (LeavesNothing D.model) }
 {
     let ended = serve_store(rt, alloc, store, listener, Lent { output })?;

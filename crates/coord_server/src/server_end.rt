@@ -51,7 +51,7 @@ impl<D: Disk, C, W: Write> ServerEnd<D, C, W> {
 }
 
 impl<D: Disk, C: Callers + Drop, W: Write + Drop> ServerEnd<D, C, W> {
-    ghost use Rattle.coord_server.specs.Lives.{HasLived, HasLivedToClose, life_steps};
+    ghost use Rattle.coord_server.specs.Lives.{AreClosed, HasLived, life_steps};
 
     /// What is left of its last engine, or the fault to tell and what is left all the same; and what
     /// printed. No fault is told of a server only where a line closed it and its store has not stopped.
@@ -65,8 +65,9 @@ impl<D: Disk, C: Callers + Drop, W: Write + Drop> ServerEnd<D, C, W> {
         ensures going { IfOk result.0 (λ closed. has_stopped closed.store ≡ false) }
         ensures whole { IfOk result.0 (λ closed. (self.printer.is_broken ≡ false) ×
             (self.printer.last.step ≤ closed.settled)) }
-        ensures lives { (began : World) (v : C) → HasLived D.model C.talked C.failed
-            life_steps began v self → IfOk result.0 (HasLivedToClose D.model began) }
+        ensures lives { (began : World) (v : C) (lived : HasLived D.model C.talked C.failed
+            life_steps began v self) → IfOk result.0 (AreClosed D.model C.talked C.failed began v
+            self lived) }
         ensures printer { result.1 ≡ self.printer }
     {
         let fault = self.fault();

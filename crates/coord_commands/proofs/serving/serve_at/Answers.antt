@@ -1,11 +1,11 @@
 use Rattle.std.proofs.Common.{◌≡◌, Err, IfOk, false, inl, rules, subst, sym}
 use Rattle.std.proofs.KnownBytes.{Keeps-refl}
-use Rattle.coord_server.specs.Lives.{HasLivedToClose}
+use Rattle.coord_server.specs.Moments.{ClosesAlong}
 use Rattle.coord_store.specs.Kept.{has_stopped}
 use Rattle.coord_commands.proofs.Endings.{err_last}
-use Rattle.coord_commands.proofs.Opening.{ended, keeps_to_the_way, lost, not_bound, prints_to_end, served_to_end}
+use Rattle.coord_commands.proofs.Opening.{ended, lost, not_bound, served_whole}
 use Rattle.coord_commands.specs.Faults.{fault_of_server}
-use Rattle.coord_commands.specs.Serving.{EndsServing, IsServed}
+use Rattle.coord_commands.specs.Serving.{EndsServing, ServedWithOutput}
 use Rattle.coord_commands.proofs.serving.serve_at.Goals as goal
 
 pub returns-in_err-served-in-Ok-clause-fault : goal.returns-in_err-served-in-Ok-clause-fault
@@ -36,32 +36,12 @@ pub returns-in-Ok-served-clause-served : goal.returns-in-Ok-served-clause-served
 returns-in-Ok-served-clause-served g c =
     let m = g.F.Disk.Disk.model in
     let store = c.in_ok-store.store in
-    let served = c.in_ok-served-in-Ok.ensures in
-    let is = c.in-Ok-served.is in
-    served_to_end m (g.F.Folder.holds c.args.folder.now c.args.file.now) (g.F.Folder.holds c.close.new.self c.args.file.now) c.left.result store.world c.in-Ok-served.closed c.in_ok-store.ensures.opened.world
-    (subst (λ r. IfOk r (HasLivedToClose m store.world)) is served.lived) (c.left.ensures.bytes (subst (λ r. IfOk r (λ closed. has_stopped closed.store ≡ false)) is served.going)) c.close.ensures
-
-pub returns-in-Ok-served-clause-moments : goal.returns-in-Ok-served-clause-moments
-returns-in-Ok-served-clause-moments g c =
-    let m = g.F.Disk.Disk.model in
-    let store = c.in_ok-store.store in
     let old = g.W.Write.contents c.args.output.now in
     let new = g.W.Write.contents c.serve_open.new.output in
     let served = c.in_ok-served-in-Ok.ensures in
     let is = c.in-Ok-served.is in
-    keeps_to_the_way m (g.F.Folder.holds c.args.folder.now c.args.file.now) (g.F.Folder.holds c.close.new.self c.args.file.now) old new store c.in-Ok-served.closed c.left.result c.in_ok-store.ensures.opened
-    (subst (λ r. IfOk r (HasLivedToClose m store.world)) is served.lived) (subst (IsServed m store old new) is served.served) c.left.ensures.disk c.close.ensures
-
-pub returns-in-Ok-served-clause-printed : goal.returns-in-Ok-served-clause-printed
-returns-in-Ok-served-clause-printed g c =
-    let m = g.F.Disk.Disk.model in
-    let store = c.in_ok-store.store in
-    let old = g.W.Write.contents c.args.output.now in
-    let new = g.W.Write.contents c.serve_open.new.output in
-    let served = c.in_ok-served-in-Ok.ensures in
-    let is = c.in-Ok-served.is in
-    prints_to_end m (g.F.Folder.holds c.args.folder.now c.args.file.now) old new store c.in-Ok-served.closed c.in_ok-store.ensures.opened
-    (subst (λ r. IfOk r (HasLivedToClose m store.world)) is served.lived) (subst (IsServed m store old new) is served.served)
+    served_whole m (g.F.Folder.holds c.args.folder.now c.args.file.now) (g.F.Folder.holds c.close.new.self c.args.file.now) old new store c.in-Ok-served.closed c.left.result c.in_ok-store.ensures.opened (subst (λ r. IfOk r (ClosesAlong m store)) is served.along)
+    (subst (ServedWithOutput m store old new) is served.served) c.closed_lives_are_one.ensures (c.left.ensures.bytes (subst (λ r. IfOk r (λ closed. has_stopped closed.store ≡ false)) is served.going)) c.left.ensures.disk c.close.ensures
 
 -- a server that has ended with a fault
 pub returns-in-Err-served-clause-fault : goal.returns-in-Err-served-clause-fault
@@ -76,4 +56,4 @@ returns-in-Err-served-clause-fault g c =
     let left = c.left-in-Err-served in
     let told : c.into.result ≡ fault_of_server fault = search rules in
     subst (EndsServing m before after old new) (sym told)
-    (ended m before after old new store (fault, c.in-Err-served.closed) left.result c.in_ok-store.ensures.opened (subst (IsServed m store old new) c.in-Err-served.is c.in_ok-served-in-Ok.ensures.served) left.ensures.disk c.close-in-Err-served.ensures)
+    (ended m before after old new store (fault, c.in-Err-served.closed) left.result c.in_ok-store.ensures.opened (subst (ServedWithOutput m store old new) c.in-Err-served.is c.in_ok-served-in-Ok.ensures.served) left.ensures.disk c.close-in-Err-served.ensures)
