@@ -1,5 +1,6 @@
 -- What is known of the bytes of a disk.
-use Rattle.std.proofs.Common.{◌≡◌, ◌≢◌, ◌⊎◌, ⊤, ℕ, ◌+◌, Bool, true, false, List, Option, Some, None, Ok, Err, IfSome, inl, inr, refl, sym, ap, ◌∙◌, subst, arith, if◌then◌else◌}
+use Rattle.std.proofs.Common.{◌≡◌, ◌≢◌, ◌⊎◌, ℕ, ◌+◌, Bool, true, false, List, Option, Some, None, Ok, Err, IfSome, inl, inr, refl, sym, ap, ◌∙◌, subst, arith, if◌then◌else◌}
+use Rattle.std.specs.Prelude.{⊤}
 use Rattle.std.proofs.KnownBytes.{Keeps-refl}
 use Rattle.std.proofs.lemmas.Bool.{false≢true}
 use Rattle.std.proofs.lemmas.Bool.Decides.{nat_tests}
@@ -87,7 +88,7 @@ module _ {D : Type 0} (model : DiskModel D) where
       let steps = all_steps (steps_to_close model store.world closed lived) in (
         record { began = store.world; left = closed; opened = is.world; lived = lived; one = are_one store.world closed lived; closed = back_gives after back closed.store.world gives put },
         record { taken = is.taken; back = back; was = is.was; put = put; any_moment = held_along before store closed.store steps back is along.1 same },
-        record { printer = served.ended.printer; whole = served.told.2; printed = served.printed; settled = served.told.3 },
+        record { printer = served.ended.printer; whole = served.tells.2; printed = served.printed; settled = served.tells.3 },
       )
 
   -- a disk whose store was opened and put back, since no socket could be bound
@@ -105,7 +106,7 @@ module _ {D : Type 0} (model : DiskModel D) where
       → back ≡ told.1.store.disk → IfSome after (λ known. known_of model back ≡ Some known) → EndsServing model before after old new (fault_of_server told.0)
   ended before after old new store told back is served disk put =
       let end = served.ended in
-      let home = disk ∙ ap (λ (c : Closed D). c.store.disk) served.told.0 in
+      let home = disk ∙ ap (λ (c : Closed D). c.store.disk) served.tells.0 in
       let along = served.along.2 in
       let steps = all_steps (steps_had model (λ _ _ _. ⊤) (λ _ _. ⊤) store.world served.along.0 end along.0) in
       let ends : EndsAfterLives model store.world told.0 before after old new =
@@ -114,7 +115,7 @@ module _ {D : Type 0} (model : DiskModel D) where
         was = is.was;
         ended = end;
         lived = (served.along.0, served.along.1, along.0);
-        tells = served.told.1;
+        tells = served.tells.1;
         put = subst (λ d. IfSome after (λ known. known_of model d ≡ Some known)) home put;
         any_moment = held_along before store end.closed.store steps end.closed.store.disk is along.1 refl;
         printed = served.printed;

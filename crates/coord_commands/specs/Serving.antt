@@ -69,7 +69,7 @@ pub record ServedWithOutput {D : Type 0} (model : DiskModel D) (store : Kept D) 
   pub ended : ServerEnd D Patience (Unit {0})
   pub along : ServedAlong model store ended
   pub printed : PrintsOnly store.world old new ended.printer
-  pub told : ToldAtEnd ended told
+  pub tells : ToldAtEnd ended told
 
 -- `model`: what the disks of a folder mean
 module _ {D : Type 0} (model : DiskModel D) where

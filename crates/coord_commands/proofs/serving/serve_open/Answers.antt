@@ -1,4 +1,5 @@
-use Rattle.std.proofs.Common.{◌≡◌, ◌∙◌, ⊤, ap, refl, rules, sym}
+use Rattle.std.proofs.Common.{◌≡◌, ◌∙◌, ap, refl, rules, sym}
+use Rattle.std.specs.Prelude.{⊤}
 use Rattle.coord_server.specs.Lives.{silent}
 use Rattle.coord_commands.proofs.LentOutput.{closes_along, printed_back, told_of}
 use Rattle.coord_commands.proofs.serving.serve_open.Goals as goal
@@ -14,7 +15,7 @@ returns-clause-served g c =
       ended = silent ended;
       along = is.along;
       printed = printed_back _ c.args.store.world _ ended.printer _ back.ghost_name (g.W.Write.contents c.args.output.now) (g.W.Write.contents back.now) _ is.printed refl (ap _ (sym given)) (λ same. search rules);
-      told = told_of ended c.into_closed-served.result.0 told.closed told.fault told.whole;
+      tells = told_of ended c.into_closed-served.result.0 told.closed told.fault told.whole;
     }
 
 pub returns-clause-along : goal.returns-clause-along
