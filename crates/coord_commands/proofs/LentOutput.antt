@@ -1,5 +1,5 @@
 -- What is known of an output that was lent.
-use Rattle.std.proofs.Common.{◌≡◌, ◌⊎◌, ◌∙◌, ℕ, List, [], ◌∷◌, ◌++◌, Option, Some, None, Result, Ok, Err, IfErr, IfOk, false, true, ◌≤◌, inl, inr, refl, subst, sym}
+use Rattle.std.proofs.Common.{◌≡◌, ◌⊎◌, ◌∙◌, ℕ, List, [], ◌∷◌, ◌++◌, Option, Some, None, Result, Ok, Err, IfErr, IfOk, false, true, ◌≤◌, inl, inr, refl, subst, sym, ap}
 use Rattle.std.specs.Io.KnownBytes.{Appends}
 use Rattle.std.specs.declared.net.socket_addr.SocketAddr.{SocketAddr}
 use Rattle.coord_admin.specs.Connections.{Talk}
@@ -50,17 +50,19 @@ opened_back : {V W : Type 0} (may : ℕ → ℕ → ℕ → Type 0) (p : Printer
 opened_back may p q first torn signals broken last (inl is) = inl (is.0, is.1, address_back p q torn broken is.2)
 opened_back may p q first torn signals broken last (inr is) = inr (is.0, is.1, signal_back may p q torn broken last is.2)
 
--- what was printed to an output that was lent was printed to this very output
-pub printed_back : {V : Type 0} (contents : V → Option (List ℕ)) (began : World) (lent : V) (ended : PrinterState V) (first later : ℕ) (old now new : Option (List ℕ)) → IsPrinted contents (CanSignal began) (new_printer lent began.count) ended
-    → contents lent ≡ known_as first old → contents ended.output ≡ known_as later now → (later ≡ first → new ≡ now) → PrintsOnly began old new (record { output = tt; is_broken = ended.is_broken; lost = ended.lost; last = ended.last })
-printed_back {V} contents began lent ended first later old now new is at_first at_last same =
-    let back : PrinterState (Option (List ℕ)) = record { output = new; is_broken = ended.is_broken; lost = ended.lost; last = ended.last } in
+-- What was printed to an output that was lent was printed to this very output: `home` is what came back out of what printed, and `new` is what the lender has at last, which is what stands behind it where it is the one that was lent.
+pub printed_back : {V W : Type 0} (contents : V → Option (List ℕ)) (of : W → Option (List ℕ)) (began : World) (lent home : V) (ended printer : PrinterState V) (first later : ℕ) (old : Option (List ℕ)) (now new : W) → IsPrinted contents (CanSignal began) (new_printer lent began.count) ended
+    → printer ≡ ended → home ≡ printer.output → contents lent ≡ known_as first old → contents home ≡ known_as later (of now) → (later ≡ first → new ≡ now) → PrintsOnly began old (of new) (record { output = tt; is_broken = ended.is_broken; lost = ended.lost; last = ended.last })
+printed_back {V} contents of began lent home ended printer first later old now new is came out at_first at_last same =
+    let back : PrinterState (Option (List ℕ)) = record { output = of new; is_broken = ended.is_broken; lost = ended.lost; last = ended.last } in
     let text = is.first ++ (signal_lines is.signals ++ is.torn) in
+    let given : home ≡ ended.output = out ∙ ap (λ (p : PrinterState V). p.output) came in
+    let held : contents ended.output ≡ known_as later (of now) = ap contents (sym given) ∙ at_last in
     record {
       first = is.first;
       signals = is.signals;
       torn = is.torn;
-      bytes = through first later old now new text same (subst (λ o. Appends (known_as first old) o text) at_last (subst (λ o. Appends o (contents ended.output) text) at_first is.bytes));
+      bytes = through first later old (of now) (of new) text (λ named. ap of (same named)) (subst (λ o. Appends (known_as first old) o text) held (subst (λ o. Appends o (contents ended.output) text) at_first is.bytes));
       opened = opened_back (CanSignal began) ended back is.first is.torn is.signals refl refl is.opened;
       may_be_told = is.may_be_told;
       follow = is.follow;

@@ -1,4 +1,4 @@
-use Rattle.std.proofs.Common.{◌≡◌, ◌∙◌, ap, refl, rules, sym}
+use Rattle.std.proofs.Common.{refl, rules}
 use Rattle.std.specs.Prelude.{⊤}
 use Rattle.coord_server.specs.Lives.{silent}
 use Rattle.coord_commands.proofs.LentOutput.{closes_along, printed_back, told_of}
@@ -9,12 +9,10 @@ returns-clause-served g c =
     let ended = c.in_ok-ended.ended in
     let is = c.in_ok-ended.ensures in
     let told = c.into_closed-served.ensures in
-    let back = c.into_output-back.result.output in
-    let given = c.into_output-back.ensures ∙ ap (λ p. p.output) told.printer in
     record {
       ended = silent ended;
       along = is.along;
-      printed = printed_back _ c.args.store.world _ ended.printer _ back.ghost_name (g.W.Write.contents c.args.output.now) (g.W.Write.contents back.now) _ is.printed refl (ap _ (sym given)) (λ same. search rules);
+      printed = printed_back _ g.W.Write.contents c.args.store.world _ c.into_output-back.result ended.printer _ _ _ _ _ _ is.printed told.printer c.into_output-back.ensures refl refl (λ same. search rules);
       tells = told_of ended c.into_closed-served.result.0 told.closed told.fault told.whole;
     }
 
