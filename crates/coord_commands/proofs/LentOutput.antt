@@ -7,7 +7,7 @@ use Rattle.coord_admin.specs.declared.patience.Patience.{Patience}
 use Rattle.coord_engine.specs.declared.closed.Closed.{Closed}
 use Rattle.coord_server.specs.Ending.{fault_at_end}
 use Rattle.coord_server.specs.Lines.{is_next}
-use Rattle.coord_server.specs.Lives.{AreClosed, LifeSteps, all_steps, life_steps, silent}
+use Rattle.coord_server.specs.Lives.{AreClosed, LifeSteps, all_steps, life_steps, silent, steps_had}
 use Rattle.coord_server.specs.Moments.{ClosesAlong, KeepsAlong, LivesKeepAlong}
 use Rattle.coord_server.specs.Printed.{IsPrinted, IsTornAddress, IsTornSignal, PrinterState, listening_line, is_amiss, new_printer, signal_lines}
 use Rattle.coord_server.specs.Signals.{CanSignal, StepSignal}
@@ -79,8 +79,9 @@ told_of ended (Err told) is fault whole = fault
 -- where a line has closed it, its disk kept to the steps of these very lives
 pub closes_along : {D W V E : Type 0} (m : DiskModel D) (talked : V → List Talk → V → Type 0) (failed : V → V → Type 0) (store : Kept D) (v : V) (ended : ServerEnd D V W) (told : Result (Closed D) E) (along : LivesKeepAlong m talked failed life_steps store v ended)
     → (P : Closed D → Type 0) → IfOk told (λ closed. (closed ≡ ended.closed) × P closed) → IfOk told (AreClosed m talked failed store.world v ended along.0) → IfOk told (ClosesAlong m store)
-closes_along m talked failed store v ended (Ok closed) along P is lives = (
-  lives.0,
-  subst (λ (ls : List LifeSteps). KeepsAlong m store (all_steps ls) closed.store) (sym lives.1) (subst (λ (c : Closed _). KeepsAlong m store _ c.store) (sym is.0) along.1),
-)
+closes_along m talked failed store v ended (Ok closed) along P is lives =
+    let steps = all_steps (steps_had m talked failed store.world v ended along.0) in (
+      lives.0,
+      subst (λ (ls : List LifeSteps). KeepsAlong m store (all_steps ls) closed.store) (sym lives.1) (subst (λ (c : Closed _). KeepsAlong m store steps c.store) (sym is.0) along.1),
+    )
 closes_along m talked failed store v ended (Err told) along P is lives = tt
