@@ -2,13 +2,15 @@
 use Rattle.std.proofs.Common.{◌≡◌, ℕ, List, Option, Result, Ok, Err, inl, inr, MatchResult, IsOk, OnOk, OnErr, IfErr, arith}
 use Rattle.std.proofs.lemmas.Bool.Decides.{nat_tests}
 use Rattle.coord_disk.specs.Model.DiskModel.{DiskModel}
+use Rattle.coord_disk.specs.Model.Present.{Present}
 use Rattle.coord_commands.proofs.Opening.{gave}
 use Rattle.std.proofs.lemmas.Bool.{false≢true}
 use Rattle.std.specs.Io.KnownBytes.{Appends, Keeps}
 use Rattle.coord_lines.specs.Written.{WritesFirstPart}
 use Rattle.coord_commands.specs.Ending.{CommandEnds, IsOfWriting, OutputCutShort, PrintsOne}
 use Rattle.coord_commands.specs.Faults.{fault_line, status_of}
-use Rattle.coord_commands.specs.Serving.{IsAddress, IsOfServingAt, IsServedToEnd, ServesAt}
+use Rattle.coord_commands.specs.Folders.{reads}
+use Rattle.coord_commands.specs.Serving.{IsAddress, IsOfServingAt, ServedWhole, ServesAt}
 use Rattle.coord_commands.specs.Streams.{Streams}
 use Rattle.coord_commands.specs.declared.fault.Fault.{Fault}
 
@@ -35,13 +37,13 @@ of_writing Q (Ok x) among of = tt
 of_writing Q (Err fault) among of = among fault of
 
 -- what was served, or was not
-pub served : {A D : Type 0} (of : Fault → Type 0) (model : DiskModel D) (word : List ℕ) (bytes after : Option (List ℕ)) (ended : Result A Fault) (status : ℕ) (old new : Option (List ℕ)) → IsAddress word → status ≡ status_of ended
+pub served : {A D : Type 0} (of : Fault → Type 0) (model : DiskModel D) (word : List ℕ) (before after : Option Present) (was is : Option (List ℕ)) (ended : Result A Fault) (status : ℕ) (old new : Option (List ℕ)) → IsAddress word → status ≡ status_of ended
     → MatchResult ended (λ _. Keeps old new) (λ fault. WritesFirstPart old new (fault_line fault))
-    → OnOk ended (IsServedToEnd model bytes after) → IfErr ended of → ServesAt of word bytes after status old new
-served of model word bytes after (Ok x) status old new proper is told closed possible =
-    let gives = gave model bytes after closed in
-    inl (record { number = is; address = proper; opened = gives.0; closed = gives.1; silent = told })
-served of model word bytes after (Err fault) status old new proper is told closed possible = inr (record { fault = fault; possible = inr (proper, possible); number = is; told = told })
+    → OnOk ended (ServedWhole model before after was is) → IfErr ended of → ServesAt of word (reads before) (reads after) status old new
+served of model word before after was is (Ok x) status old new proper number told closed possible =
+    let gives = gave model before after was is closed in
+    inl (record { number = number; address = proper; opened = gives.0; closed = gives.1; silent = told })
+served of model word before after was is (Err fault) status old new proper number told closed possible = inr (record { fault = fault; possible = inr (proper, possible); number = number; told = told })
 
 serving_weaker : (P Q : Fault → Type 0) (word : List ℕ) (fault : Fault) → (P fault → Q fault) → IsOfServingAt P word fault → IsOfServingAt Q word fault
 serving_weaker P Q word fault so (inl none) = inl none

@@ -1,6 +1,7 @@
 mod CommandsTaken
 mod Endings
 mod Judged
+mod LentOutput
 mod Made
 mod OneClient
 mod Opening

@@ -1,30 +1,30 @@
 -- What is known of the bytes of a disk.
-use Rattle.std.proofs.Common.{◌≡◌, ◌≢◌, ◌⊎◌, ℕ, ◌+◌, Bool, true, false, List, Option, Some, None, IfSome, inl, inr, refl, sym, ap, ◌∙◌, subst, arith, if◌then◌else◌}
+use Rattle.std.proofs.Common.{◌≡◌, ◌≢◌, ◌⊎◌, ℕ, ◌+◌, Bool, true, false, List, Option, Some, None, Ok, Err, IfSome, inl, inr, refl, sym, ap, ◌∙◌, subst, arith, if◌then◌else◌}
+use Rattle.std.specs.Prelude.{⊤}
+use Rattle.std.proofs.KnownBytes.{Keeps-refl}
+use Rattle.std.proofs.lemmas.Bool.{false≢true}
 use Rattle.std.proofs.lemmas.Bool.Decides.{nat_tests}
 use Rattle.coord_disk.specs.Model.DiskModel.{DiskModel}
 use Rattle.coord_disk.proofs.MomentLemmas.{and_then}
 use Rattle.coord_disk.specs.Model.Moments.{AddsNothing, LeavesOnly}
 use Rattle.coord_disk.specs.Model.Present.{IsImage, Present, whole}
-use Rattle.coord_engine.specs.Facade.{IsOnTheWay}
+use Rattle.coord_types.specs.declared.steps.Step.{Step}
+use Rattle.coord_engine.specs.Facade.{IsAfterSome}
 use Rattle.coord_engine.specs.declared.closed.Closed.{Closed}
-use Rattle.coord_admin.specs.declared.patience.Patience.{Patience}
-use Rattle.coord_server.specs.Ending.{LeavesNothing, fault_at_end}
-use Rattle.coord_server.specs.Lives.{HasLivedToClose, HasServed, silent}
-use Rattle.coord_server.specs.Printed.{is_amiss}
-use Rattle.coord_server.specs.declared.server_end.ServerEnd.{ServerEnd}
-use Rattle.coord_server.specs.Moments.{AtEachMoment}
+use Rattle.coord_server.specs.Ending.{LeavesNothing}
+use Rattle.coord_server.specs.Lives.{ClosedLivesAreOne, all_steps, steps_had, steps_to_close}
+use Rattle.coord_server.specs.Moments.{ClosesAlong, KeepsAlong}
 use Rattle.coord_store.specs.Facade.{Kept, Recovered}
 use Rattle.coord_store.specs.Kept.{has_stopped}
 use Rattle.coord_store.specs.Refused.{failed_in}
 use Rattle.coord_store.specs.declared.faults.StoreFault.{StoreFault}
 use Rattle.coord_store.specs.declared.faults.StoreFault.TheVariants.{Device}
-use Rattle.coord_world.specs.protocol.Next.{fold}
 use Rattle.coord_world.specs.protocol.NumberedWorld.{World}
 use Rattle.coord_commands.specs.Folders.{bytes_of, known_of, reads}
 use Rattle.coord_server.specs.declared.fault.ServerFault.{ServerFault}
 use Rattle.coord_commands.specs.Faults.{fault_of_server}
 use Rattle.coord_commands.specs.Inspection.{IsOfOpening}
-use Rattle.coord_commands.specs.Serving.{EndsServing, GivesWorld, IsNotOpened, IsOfServing, IsOpenedStore, IsPutBack, IsServedToEnd, KeepsToTheWay}
+use Rattle.coord_commands.specs.Serving.{EndsAfterLives, EndsServing, GivesWorld, HeldAlong, IsNotOpened, IsOfServing, IsOpenedStore, IsPutBack, ServedWhole, ServedWithOutput}
 use Rattle.coord_commands.specs.declared.fault.Fault.{Fault}
 use Rattle.coord_commands.specs.declared.fault.Fault.TheVariants.{Socket, Store}
 use Rattle.coord_commands.proofs.Raising.{closed, if_both, unread}
@@ -39,19 +39,14 @@ module _ {D : Type 0} (model : DiskModel D) where
   back_gives None disk w gives is = tt
   back_gives (Some known) disk w gives is = subst (λ k. IfSome (reads k) (λ bytes. Recovered bytes w)) is gives
 
-  -- a store with this world was opened, it was served to a close, and what that left is put back
-  pub served_to_end : (before after : Option Present) (left : D) (began : World) (closed : Closed D) → IfSome (reads before) (λ known. Recovered known began) → HasLivedToClose model began closed
-      → IfSome (bytes_of model left) (λ known. Recovered known closed.store.world) → IfSome after (λ known. known_of model left ≡ Some known) → IsServedToEnd model (reads before) (reads after)
-  served_to_end before after left began closed opened lived gives back = record { began = began; left = closed; opened = opened; lived = lived; closed = back_gives after left closed.store.world gives back }
-
 -- known bytes give a world
 pub gives_some : (o : Option (List ℕ)) (w : World) → IfSome o (λ known. Recovered known w) → GivesWorld o
 gives_some None w is = tt
 gives_some (Some known) w is = (w, is)
 
 -- where a server was served and put back, the bytes give a world before and after
-pub gave : {D : Type 0} (model : DiskModel D) (bytes after : Option (List ℕ)) → IsServedToEnd model bytes after → GivesWorld bytes × GivesWorld after
-gave model bytes after is = (gives_some bytes is.began is.opened, gives_some after is.left.store.world is.closed)
+pub gave : {D : Type 0} (model : DiskModel D) (before after : Option Present) (old new : Option (List ℕ)) → ServedWhole model before after old new → GivesWorld (reads before) × GivesWorld (reads after)
+gave model before after old new is = (gives_some (reads before) is.0.began is.0.opened, gives_some (reads after) is.0.left.store.world is.0.closed)
 
 -- the faults of serving, where the disk gave a world
 pub of_serving : (bytes : Option (List ℕ)) (fault : ServerFault) → GivesWorld bytes → IsOfServing bytes (fault_of_server fault)
@@ -80,46 +75,58 @@ module _ {D : Type 0} (model : DiskModel D) where
       → model.failures store.disk ≡ model.failures taken + 0 → model.keeps_model store.disk ≡ model.keeps_model taken → AddsNothing model taken store.disk → (model.keeps_model taken ≡ true → model.present store.disk ≡ whole (model.present taken).read) → IsOpenedStore model before store
   opened before taken store was world failures same_model moments same = grind (arith, nat_tests, if_keeps)
 
-  -- a store that was opened, served to a close and put back keeps to the way
-  pub keeps_to_the_way : {W : Type 0} (before after : Option Present) (store : Kept D) (end : ServerEnd D Patience W) (closed : Closed D) (back : D) → IsOpenedStore model before store → HasLivedToClose model store.world closed → AtEachMoment model store end.closed
-      → closed ≡ end.closed → back ≡ closed.store.disk → IfSome after (λ known. known_of model back ≡ Some known) → KeepsToTheWay model before after
-  keeps_to_the_way before after store end closed back is lived moments of_end same put =
-      let here : AtEachMoment model store closed = subst (AtEachMoment model store) (sym of_end) moments in
-      record {
-        taken = is.taken;
-        back = back;
-        was = is.was;
-        is = put;
-        began = store.world;
-        left = closed;
-        opened = is.world;
-        lived = lived;
-        any_moment = λ keeps. subst (λ d. LeavesOnly model is.taken d (λ image. IsImage (model.present is.taken) image ⊎ IsOnTheWay store.world (fold closed.base closed.trail.items) image)) (sym same) (and_then model is.taken store.disk closed.store.disk _ _ (is.any_moment keeps) (here.moments (is.same_model ∙ keeps)));
-      }
+  -- what a store's disk held from the taking on, along the steps of its server
+  held_along : (before : Option Present) (store now : Kept D) (steps : List Step) (back : D) (is : IsOpenedStore model before store) → KeepsAlong model store steps now → back ≡ now.disk → HeldAlong model is.taken store.world steps back
+  held_along before store now steps back is along same =
+      λ keeps. subst (λ d. LeavesOnly model is.taken d (λ image. IsImage (model.present is.taken) image ⊎ IsAfterSome store.world steps image)) (sym same) (and_then model is.taken store.disk now.disk _ _ (is.any_moment keeps) (along.moments (is.same_model ∙ keeps)))
+
+  -- a store was opened, served to a close and put back
+  pub served_whole : (before after : Option Present) (old new : Option (List ℕ)) (store : Kept D) (closed : Closed D) (back : D) → IsOpenedStore model before store → ClosesAlong model store closed → ServedWithOutput model store old new (Ok closed) → ClosedLivesAreOne model
+      → IfSome (bytes_of model back) (λ known. Recovered known closed.store.world) → back ≡ closed.store.disk → IfSome after (λ known. known_of model back ≡ Some known) → ServedWhole model before after old new
+  served_whole before after old new store closed back is along served are_one gives same put =
+      let lived = along.0 in
+      let steps = all_steps (steps_to_close model store.world closed lived) in (
+        record { began = store.world; left = closed; opened = is.world; lived = lived; one = are_one store.world closed lived; closed = back_gives after back closed.store.world gives put },
+        record { taken = is.taken; back = back; was = is.was; put = put; any_moment = held_along before store closed.store steps back is along.1 same },
+        record { printer = served.ended.printer; whole = served.tells.2; printed = served.printed; settled = served.tells.3 },
+      )
 
   -- a disk whose store was opened and put back, since no socket could be bound
-  pub not_bound : (before after : Option Present) (store : Kept D) (back : D) → IsOpenedStore model before store → back ≡ store.disk → IfSome after (λ known. known_of model back ≡ Some known) → EndsServing model before after Socket
-  not_bound before after store back is same put =
+  pub not_bound : (before after : Option Present) (old : Option (List ℕ)) (store : Kept D) (back : D) → IsOpenedStore model before store → back ≡ store.disk → IfSome after (λ known. known_of model back ≡ Some known) → EndsServing model before after old old Socket
+  not_bound before after old store back is same put =
       let failures : model.failures back ≡ model.failures is.taken + 0 = omega (arith, ap model.failures same, is.failures) in
-      inr (inl (refl, gives_some (reads before) store.world is.world, put_back 0 before after is.taken back is.was put failures (λ _ keeps. ap (λ d. (model.present d).read) same ∙ is.same keeps)))
+      inr (inl ((refl, gives_some (reads before) store.world is.world, put_back 0 before after is.taken back is.was put failures (λ _ keeps. ap (λ d. (model.present d).read) same ∙ is.same keeps)), Keeps-refl old))
 
   -- a server over it has ended, and nothing is left
-  pub lost : (before after : Option Present) (store : Kept D) (fault : ServerFault) → IsOpenedStore model before store → LeavesNothing model fault → EndsServing model before after (fault_of_server fault)
-  lost before after store fault is nothing = inr (inr (record { began = store.world; opened = is.world; fault = fault; ends = inl nothing; named = refl }))
+  pub lost : (before after : Option Present) (old new : Option (List ℕ)) (store : Kept D) (fault : ServerFault) → IsOpenedStore model before store → LeavesNothing model fault → EndsServing model before after old new (fault_of_server fault)
+  lost before after old new store fault is nothing = inr (inr (record { began = store.world; opened = is.world; fault = fault; ends = inl nothing; named = refl }))
 
   -- a server over it has ended, and its disk is put back
-  pub ended : {W : Type 0} (before after : Option Present) (store : Kept D) (end : ServerEnd D Patience W) (closed : Closed D) (fault : ServerFault) (back : D) → IsOpenedStore model before store → HasServed model store.world end
-      → closed ≡ end.closed → fault_at_end (has_stopped end.closed.store) end.served (is_amiss end.printer end.closed.settled) ≡ Some fault → back ≡ closed.store.disk → IfSome after (λ known. known_of model back ≡ Some known)
-      → EndsServing model before after (fault_of_server fault)
-  ended before after store end closed fault back is served same tells disk put =
-      let home = disk ∙ ap (λ (c : Closed D). c.store.disk) same in
-      let there = subst (λ d. IfSome after (λ known. known_of model d ≡ Some known)) home put in
-      inr (inr (record { began = store.world; opened = is.world; fault = fault; ends = inr (silent end, served, tells, there); named = refl }))
+  pub ended : (before after : Option Present) (old new : Option (List ℕ)) (store : Kept D) (told : ServerFault × Closed D) (back : D) → IsOpenedStore model before store → ServedWithOutput model store old new (Err told)
+      → back ≡ told.1.store.disk → IfSome after (λ known. known_of model back ≡ Some known) → EndsServing model before after old new (fault_of_server told.0)
+  ended before after old new store told back is served disk put =
+      let end = served.ended in
+      let home = disk ∙ ap (λ (c : Closed D). c.store.disk) served.tells.0 in
+      let along = served.along.2 in
+      let steps = all_steps (steps_had model (λ _ _ _. ⊤) (λ _ _. ⊤) store.world served.along.0 end along.0) in
+      let ends : EndsAfterLives model store.world told.0 before after old new =
+      record {
+        taken = is.taken;
+        was = is.was;
+        ended = end;
+        lived = (served.along.0, served.along.1, along.0);
+        tells = served.tells.1;
+        put = subst (λ d. IfSome after (λ known. known_of model d ≡ Some known)) home put;
+        any_moment = held_along before store end.closed.store steps end.closed.store.disk is along.1 refl;
+        printed = served.printed;
+      }
+      in
+      inr (inr (record { began = store.world; opened = is.world; fault = told.0; ends = inr ends; named = refl }))
 
   of_unopened : (before after : Option Present) (fault : StoreFault) → ((fault ≡ Device) × (after ≡ before)) ⊎ (IsOfOpening (reads before) (Store fault) × IsPutBack model (failed_in fault) before after) → IsOfServing (reads before) (Store fault)
   of_unopened before after fault (inl none) = inl none.0
   of_unopened before after fault (inr refuses) = refuses.0
 
   -- as far as the bytes tell
-  pub of_ending : (before after : Option Present) (told : Fault) → EndsServing model before after told → IsOfServing (reads before) told
-  of_ending before after told h1 = grind (arith, nat_tests, of_unopened, of_serving, gives_some)
+  pub of_ending : (before after : Option Present) (old new : Option (List ℕ)) (told : Fault) → EndsServing model before after old new told → IsOfServing (reads before) told
+  of_ending before after old new told h1 = grind (arith, nat_tests, of_unopened, of_serving, gives_some)

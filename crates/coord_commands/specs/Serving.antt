@@ -1,18 +1,21 @@
 -- How `serve` ends, where this is the word of its address, and this is what is known of the disk before and after it.
-use Rattle.std.specs.Prelude.{◌≡◌, ◌⊎◌, ℕ, ◌+◌, true, List, Option, Some, IfSome}
+use Rattle.std.specs.Prelude.{◌≡◌, ◌⊎◌, ⊤, ℕ, ◌+◌, ◌≤◌, false, true, List, Option, Some, None, IfSome, Result, Ok, Err}
 use Rattle.std.specs.Io.KnownBytes.{Keeps}
 use Rattle.std.specs.Net.Grammar.{IsSocketV4Text}
 use Rattle.std.specs.declared.net.socket_addr.SocketAddrV4.{SocketAddrV4}
 use Rattle.coord_disk.specs.Model.DiskModel.{DiskModel}
 use Rattle.coord_disk.specs.Model.Moments.{AddsNothing, LeavesOnly}
 use Rattle.coord_disk.specs.Model.Present.{IsImage, Present}
+use Rattle.coord_types.specs.declared.steps.Step.{Step}
 use Rattle.coord_lines.specs.Written.{WritesFirstPart}
-use Rattle.coord_engine.specs.Facade.{IsOnTheWay}
+use Rattle.coord_engine.specs.Facade.{IsAfterSome}
 use Rattle.coord_engine.specs.declared.closed.Closed.{Closed}
 use Rattle.coord_admin.specs.declared.patience.Patience.{Patience}
 use Rattle.coord_server.specs.Ending.{LeavesNothing, fault_at_end}
-use Rattle.coord_server.specs.Lives.{HasLivedToClose, HasServed}
-use Rattle.coord_server.specs.Printed.{is_amiss}
+use Rattle.coord_server.specs.Lives.{AreOneHistory, HasLivedToClose, HasServed, all_steps, steps_had, steps_to_close}
+use Rattle.coord_server.specs.Moments.{ServedAlong}
+use Rattle.coord_server.specs.Printed.{IsPrinted, PrinterState, is_amiss, new_printer}
+use Rattle.coord_server.specs.Signals.{CanSignal}
 use Rattle.coord_server.specs.declared.fault.ServerFault.{ServerFault}
 use Rattle.coord_server.specs.declared.server_end.ServerEnd.{ServerEnd}
 use Rattle.coord_store.specs.Facade.{Kept, Recovered}
@@ -20,7 +23,6 @@ use Rattle.coord_store.specs.Kept.{has_stopped}
 use Rattle.coord_store.specs.Refused.{failed_in}
 use Rattle.coord_store.specs.declared.faults.StoreFault.{StoreFault}
 use Rattle.coord_store.specs.declared.faults.StoreFault.TheVariants.{Device}
-use Rattle.coord_world.specs.protocol.Next.{fold}
 use Rattle.coord_world.specs.protocol.NumberedWorld.{World}
 use Rattle.coord_commands.specs.Faults.{fault_line, fault_of_server, fault_status}
 use Rattle.coord_commands.specs.Folders.{known_of, reads}
@@ -45,6 +47,29 @@ IsOfServing bytes Socket = GivesWorld bytes
 IsOfServing bytes Write = GivesWorld bytes
 IsOfServing bytes (NotClosed fault) = GivesWorld bytes
 IsOfServing bytes fault = ⊥
+
+-- what printed to an output, by what is known of it
+abbrev pub printer_to : Option (List ℕ) → PrinterState (Unit {0}) → PrinterState (Option (List ℕ))
+printer_to known p = record { output = known; is_broken = p.is_broken; lost = p.lost; last = p.last }
+
+-- What a server over this world has printed to an output that held the one and then the other: nothing; or the line of an address, and behind it the lines of signals, each behind the one before it, which steps from that world give out. Where the output failed in one more such line, a first part of that one stands behind them.
+abbrev pub PrintsOnly : World → Option (List ℕ) → Option (List ℕ) → PrinterState (Unit {0}) → Type 0
+PrintsOnly began old new p = IsPrinted (λ known. known) (CanSignal began) (new_printer old began.count) (printer_to new p)
+
+-- what is told of a server that ended so: what it left, beside the fault if there is one
+abbrev pub ToldAtEnd : {D : Type 0} → ServerEnd D Patience (Unit {0}) → Result (Closed D) (ServerFault × Closed D) → Type 0
+ToldAtEnd ended (Ok closed) =
+    (closed ≡ ended.closed) × (fault_at_end (has_stopped ended.closed.store) ended.served (is_amiss ended.printer ended.closed.settled) ≡ None)
+    × (ended.printer.is_broken ≡ false) × (ended.printer.last.step ≤ closed.settled)
+ToldAtEnd ended (Err told) =
+    (told.1 ≡ ended.closed) × (fault_at_end (has_stopped ended.closed.store) ended.served (is_amiss ended.printer ended.closed.settled) ≡ Some told.0)
+
+-- a store was served, an output held the one and then the other, and this is told
+pub record ServedWithOutput {D : Type 0} (model : DiskModel D) (store : Kept D) (old new : Option (List ℕ)) (told : Result (Closed D) (ServerFault × Closed D)) : Type 0 where
+  pub ended : ServerEnd D Patience (Unit {0})
+  pub along : ServedAlong model store ended
+  pub printed : PrintsOnly store.world old new ended.printer
+  pub tells : ToldAtEnd ended told
 
 -- `model`: what the disks of a folder mean
 module _ {D : Type 0} (model : DiskModel D) where
@@ -77,45 +102,62 @@ module _ {D : Type 0} (model : DiskModel D) where
   abbrev pub IsNotBound : Option Present → Option Present → Fault → Type 0
   IsNotBound before after told = (told ≡ Socket) × GivesWorld (reads before) × IsPutBack 0 before after
 
-  -- The fault that a server tells, by lives from this world: nothing is left; or there were lives, they ended with this fault, and the disk that they left is put back.
-  abbrev pub EndsAfterLives : World → ServerFault → Option Present → Type 0
-  EndsAfterLives began fault after =
-      LeavesNothing model fault
-      ⊎ ((ended : ServerEnd D Patience (Unit {0})) × HasServed model began ended
-      × (fault_at_end (has_stopped ended.closed.store) ended.served (is_amiss ended.printer ended.closed.settled) ≡ Some fault)
-      × IfSome after (λ known. known_of model ended.closed.store.disk ≡ Some known))
+  -- At every moment from the disk that was taken to this one, whatever it may hold is what it may have held when it was taken, or the legal world after the first of these steps, some number of them.
+  abbrev pub HeldAlong : D → World → List Step → D → Type 0
+  HeldAlong taken began steps back = model.keeps_model taken ≡ true → LeavesOnly model taken back (λ image. IsImage (model.present taken) image ⊎ IsAfterSome began steps image)
 
-  -- a server over the world of the disk has ended, and tells this
-  pub record HasEnded (before after : Option Present) (told : Fault) : Type 0 where
+  -- There were lives from this world, and they ended with this fault. The disk that was taken is put back as they left it, and kept to the steps that these very lives accepted; and the output has what the server prints alone.
+  pub record EndsAfterLives (began : World) (fault : ServerFault) (before after : Option Present) (old new : Option (List ℕ)) : Type 0 where
+    pub taken : D
+    pub was : known_of model taken ≡ before
+    pub ended : ServerEnd D Patience (Unit {0})
+    pub lived : HasServed model began ended
+    pub tells : fault_at_end (has_stopped ended.closed.store) ended.served (is_amiss ended.printer ended.closed.settled) ≡ Some fault
+    pub put : IfSome after (λ known. known_of model ended.closed.store.disk ≡ Some known)
+    pub any_moment : HeldAlong taken began (all_steps (steps_had model (λ _ _ _. ⊤) (λ _ _. ⊤) began lived.0 ended lived.2)) ended.closed.store.disk
+    pub printed : PrintsOnly began old new ended.printer
+
+  -- a server over the world of the disk has ended, and tells this: nothing is left, or it ended behind lives
+  pub record HasEnded (before after : Option Present) (old new : Option (List ℕ)) (told : Fault) : Type 0 where
     pub began : World
     pub opened : IfSome (reads before) (λ known. Recovered known began)
     pub fault : ServerFault
-    pub ends : EndsAfterLives began fault after
+    pub ends : LeavesNothing model fault ⊎ EndsAfterLives began fault before after old new
     pub named : told ≡ fault_of_server fault
 
-  -- the faults of `serve` at an address
-  abbrev pub EndsServing : Option Present → Option Present → Fault → Type 0
-  EndsServing before after told = IsNotOpened before after told ⊎ (IsNotBound before after told ⊎ HasEnded before after told)
+  -- the faults of `serve` at an address, and what then became of its output: nothing was printed before the store was open and the socket bound
+  abbrev pub EndsServing : Option Present → Option Present → Option (List ℕ) → Option (List ℕ) → Fault → Type 0
+  EndsServing before after old new told =
+      (IsNotOpened before after told × Keeps old new) ⊎ ((IsNotBound before after told × Keeps old new) ⊎ HasEnded before after old new told)
 
--- A store on a disk was served until a line closed it: these bytes gave its world, from which there were lives one behind the other, of which a line closed the last, and the bytes that are put back give the world that they left.
+-- A store on a disk was served until a line closed it: these bytes gave its world, from which there were lives one behind the other, of which a line closed the last. They are one history, and the bytes that are put back give the world that they left.
 pub record IsServedToEnd {D : Type 0} (model : DiskModel D) (bytes after : Option (List ℕ)) : Type 0 where
   pub began : World
   pub left : Closed D
   pub opened : IfSome bytes (λ known. Recovered known began)
   pub lived : HasLivedToClose model began left
+  pub one : AreOneHistory began (steps_to_close model began left lived) left.store left.settled
   pub closed : IfSome after (λ known. Recovered known left.store.world)
 
--- The disk of a name was taken, served until a line closed it, and put back. At every moment in between, whatever it may hold is what it may have held when it was taken, or a legal world on the way from the world that was opened to the one after all accepted steps.
-pub record KeepsToTheWay {D : Type 0} (model : DiskModel D) (before after : Option Present) : Type 0 where
+-- The disk of a name was taken, served so, and put back. Meanwhile it kept to the steps that these very lives accepted, one life's behind the other's.
+pub record KeepsToTheWay {D : Type 0} (model : DiskModel D) (before after : Option Present) (is : IsServedToEnd model (reads before) (reads after)) : Type 0 where
   pub taken : D
   pub back : D
   pub was : known_of model taken ≡ before
-  pub is : IfSome after (λ known. known_of model back ≡ Some known)
-  pub began : World
-  pub left : Closed D
-  pub opened : IfSome (reads before) (λ known. Recovered known began)
-  pub lived : HasLivedToClose model began left
-  pub any_moment : model.keeps_model taken ≡ true → LeavesOnly model taken back (λ image. IsImage (model.present taken) image ⊎ IsOnTheWay began (fold left.base left.trail.items) image)
+  pub put : IfSome after (λ known. known_of model back ≡ Some known)
+  pub any_moment : HeldAlong model taken is.began (all_steps (steps_to_close model is.began is.left is.lived)) back
+
+-- An output held the one and then the other while a store was served so. No line failed: of what was printed each signal is of a step that is settled in what these lives left.
+pub record PrintsToEnd {D : Type 0} (model : DiskModel D) (bytes after : Option (List ℕ)) (is : IsServedToEnd model bytes after) (old new : Option (List ℕ)) : Type 0 where
+  pub printer : PrinterState (Unit {0})
+  pub whole : printer.is_broken ≡ false
+  pub printed : PrintsOnly is.began old new printer
+  pub settled : printer.last.step ≤ is.left.settled
+
+-- A store was served until a line closed it, its disk kept to the way, and this was printed: all of it of the same lives.
+abbrev pub ServedWhole : {D : Type 0} → DiskModel D → Option Present → Option Present → Option (List ℕ) → Option (List ℕ) → Type 0
+ServedWhole model before after old new =
+    (is : IsServedToEnd model (reads before) (reads after)) × KeepsToTheWay model before after is × PrintsToEnd model (reads before) (reads after) is old new
 
 -- the store was served until a line closed it, and the disk put back
 pub record ServesToEnd (word : List ℕ) (bytes after : Option (List ℕ)) (status : ℕ) (old new : Option (List ℕ)) : Type 0 where

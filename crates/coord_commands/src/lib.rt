@@ -29,6 +29,7 @@ mod folder;
 mod founding;
 mod inspection;
 pub mod laws;
+mod lent;
 mod lines;
 mod making;
 mod memory;

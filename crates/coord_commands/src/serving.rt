@@ -5,23 +5,27 @@ ghost use Rattle.std.specs.Io.KnownBytes.{Keeps};
 ghost use Rattle.std.specs.Net.Grammar.{IsSocketV4Text};
 ghost use Rattle.std.specs.declared.net.socket_addr.SocketAddrV4.{SocketAddrV4};
 ghost use Rattle.coord_commands.specs.Folders.{bytes_of, reads};
-ghost use Rattle.coord_commands.specs.Serving.{EndsServing, IsNotOpened, IsOfServing, IsOpenedStore, IsServedToEnd, KeepsToTheWay, ServesAt};
+ghost use Rattle.coord_commands.specs.Serving.{EndsServing, IsNotOpened, IsOfServing, IsOpenedStore, ServedWhole, ServedWithOutput, ServesAt};
+ghost use Rattle.coord_server.specs.Ending.{LeavesNothing};
+ghost use Rattle.coord_server.specs.Moments.{ClosesAlong};
 ghost use Rattle.coord_store.specs.Kept.{has_stopped};
 ghost use Rattle.coord_store.specs.Recovered.{Recovered};
 
 use crate::fault::Fault;
 use crate::folder::{FileFolder, Folder};
+use crate::lent::Lent;
 use crate::status::report;
 use crate::streams::Streams;
 use coord_disk::Disk;
 use coord_engine::Closed;
-use coord_server::serve_store;
+use coord_server::laws::closed_lives_are_one;
+use coord_server::{ServerFault, serve_store};
 use coord_store::Store;
 use std::alloc::Global;
 use std::fs::File;
 use std::io;
 use std::io::{Read, Write};
-use std::net::{Net, OpenListener, SocketAddr, SocketAddrV4, TcpListener};
+use std::net::{Net, OpenListener, OpenStream, SocketAddr, SocketAddrV4, TcpListener};
 use std::rt::Files;
 use std::sync::Wait;
 use std::thread::Threads;
@@ -48,7 +52,8 @@ pub fn serve<
 /// Serves the store on the disk of a name to the connections that come to an address, until one of
 /// them closes it, and answers the exit status. The address is judged before the disk is opened,
 /// and the socket is bound once the store is open. Where a server has ended, the disk is put back; so
-/// is one that is refused, or whose socket can't be bound.
+/// is one that is refused, or whose socket can't be bound. What the server prints goes to the output,
+/// and nothing else does.
 pub fn serve_in<
     S: Net + Threads + Wait + Clock + Sync + AllocGlobal,
     F: Folder,
@@ -57,14 +62,13 @@ pub fn serve_in<
     E: Write,
 >(rt: &S, folder: &mut F, file: &str, address: &str, streams: &mut Streams<R, W, E>) -> u8
     ensures served { ServesAt (EndsServing F.Disk.model (F.holds folder.old file.now)
-        (F.holds folder.new file.now)) address.now (reads (F.holds folder.old file.now))
+        (F.holds folder.new file.now) streams.old.known.output streams.new.known.output)
+        address.now (reads (F.holds folder.old file.now))
         (reads (F.holds folder.new file.now)) result streams.old.known.errors
         streams.new.known.errors }
     ensures unread { streams.new.input ≡ streams.old.input }
-    ensures closed { result ≡ 0 → IsServedToEnd F.Disk.model
-        (reads (F.holds folder.old file.now)) (reads (F.holds folder.new file.now)) }
-    ensures moments { result ≡ 0 → KeepsToTheWay F.Disk.model (F.holds folder.old file.now)
-        (F.holds folder.new file.now) }
+    ensures closed { result ≡ 0 → ServedWhole F.Disk.model (F.holds folder.old file.now)
+        (F.holds folder.new file.now) streams.old.known.output streams.new.known.output }
     ensures usage { ((a : SocketAddrV4) → ¬ IsSocketV4Text address.now a) → (result ≡ 2) ×
         (folder.new ≡ folder.old) × Keeps streams.old.known.output streams.new.known.output }
 {
@@ -77,7 +81,6 @@ pub fn serve_in<
     )
 }
 
-#[tactic(auto, using(crate::proofs::Opening::served_to_end))]
 fn serve_at<S: Net + Threads + Wait + Clock + Sync + AllocGlobal, F: Folder, W: Write + Send>(
     rt: &S,
     folder: &mut F,
@@ -85,21 +88,19 @@ fn serve_at<S: Net + Threads + Wait + Clock + Sync + AllocGlobal, F: Folder, W: 
     address: SocketAddrV4,
     output: &mut W,
 ) -> Result<(), Fault>
-    ensures served { OnOk result (IsServedToEnd F.Disk.model
-        (reads (F.holds folder.old file.now)) (reads (F.holds folder.new file.now))) }
-    ensures moments { OnOk result (KeepsToTheWay F.Disk.model (F.holds folder.old file.now)
-        (F.holds folder.new file.now)) }
+    ensures served { OnOk result (ServedWhole F.Disk.model (F.holds folder.old file.now)
+        (F.holds folder.new file.now) (W.contents output.old) (W.contents output.new)) }
     ensures fault { IfErr result (EndsServing F.Disk.model (F.holds folder.old file.now)
-        (F.holds folder.new file.now)) }
+        (F.holds folder.new file.now) (W.contents output.old) (W.contents output.new)) }
 {
     let store = opened(rt.alloc(), folder, file)?;
     match listening(rt, address) {
         Ok(listener) => {
-            let ended = serve_store(rt, rt.alloc(), store, &listener, output)?;
-            let served = ended.into_closed();
+            let served = serve_open(rt, rt.alloc(), store, &listener, output)?;
             drop(listener);
             match served {
                 Ok(closed) => {
+                    closed_lives_are_one::<F::Disk>();
                     folder.close(file, left(closed));
                     Ok(())
                 }
@@ -114,6 +115,34 @@ fn serve_at<S: Net + Threads + Wait + Clock + Sync + AllocGlobal, F: Folder, W: 
             Err(Fault::Socket)
         }
     }
+}
+
+/// Serves an opened store to the connections of a listener, until a line closes it, and gives back what
+/// is left of its last engine, beside the fault if one is told. What it prints goes to the output.
+fn serve_open<
+    D: Disk + Send,
+    S: Read + Write + OpenStream + Drop,
+    A: OpenListener<Stream = S>,
+    W: Write + Send,
+    R: Threads + Wait + Clock + Sync,
+>(
+    rt: &R,
+    alloc: Global,
+    store: Store<D>,
+    listener: &A,
+    output: &mut W,
+) -> Result<Result<Closed<D>, (ServerFault, Closed<D>)>, ServerFault>
+    requires { has_stopped store ≡ false }
+    ensures served { IfOk result
+        (ServedWithOutput D.model store (W.contents output.old) (W.contents output.new)) }
+    ensures going { IfOk result (λ told. IfOk told (λ closed. has_stopped closed.store ≡ false)) }
+    ensures along { IfOk result (λ told. IfOk told (ClosesAlong D.model store)) }
+    ensures nothing { IfErr result (LeavesNothing D.model) }
+{
+    let ended = serve_store(rt, alloc, store, listener, Lent { output })?;
+    let (served, printer) = ended.into_closed();
+    let Lent { output: _back } = printer.into_output();
+    Ok(served)
 }
 
 /// A listener at an address, where a descriptor is left for a connection: without one the server

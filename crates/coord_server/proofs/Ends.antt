@@ -13,7 +13,7 @@ use Rattle.coord_world.specs.protocol.NumberedWorld.{World}
 use Rattle.coord_admin.specs.Connections.{Talk}
 use Rattle.coord_server.specs.EngineDesk.{DeskState}
 use Rattle.coord_server.specs.Ending.{AddsWorkers, HasRun, IsLife, IsNotClosed, IsOneHistory, IsServedToClose, LeavesNothing, Local, Serves, ServesLife, fault_at_end}
-use Rattle.coord_server.specs.Lives.{EndsLives, HasLived, HasLivedToClose, IsLastLife, Lives, Rests, life_steps, talked_any}
+use Rattle.coord_server.specs.Lives.{AreClosed, EndsLives, HasLived, IsLastLife, LifeSteps, Lives, Rests, life_steps, steps_in, steps_of, talked_any}
 use Rattle.coord_server.specs.Printed.{is_amiss}
 use Rattle.coord_server.specs.declared.fault.ServerFault.{ServerFault}
 use Rattle.coord_server.specs.declared.fault.ServerFault.TheVariants as fault
@@ -127,15 +127,24 @@ module _ {D : Type 0} (m : DiskModel D) {V : Type 0} (talked : V → List Talk �
   lives_any zero began next v w is = (is.0, refl)
   lives_any (suc n) began next v w is = (is.0, tt, lives_any n began is.0 v is.1 is.2, rested_any is.0 next is.1 w is.3)
 
+  -- each of them did what it did
+  same_steps : (n : ℕ) (began next : World) (v w : V) (is : Lives m talked most n began v next w) → steps_of m talked_any most n began tt next tt (lives_any n began next v w is) ≡ steps_of m talked most n began v next w is
+  unfolding lives_any rested_any
+  same_steps zero began next v w is = refl
+  same_steps (suc n) began next v w is = ap (λ (ls : List LifeSteps). ls ++ steps_in is.3.left ∷ []) (same_steps n began is.0 v is.1 is.2)
+
 -- of a server whose lives have the steps that its own have
 pub closed_lives : {D W : Type 0} (m : DiskModel D) {V : Type 0} (talked : V → List Talk → V → Type 0) (failed : V → V → Type 0) (began : World) (v : V) (ended : ServerEnd D V W)
-    → fault_at_end (has_stopped ended.closed.store) ended.served (is_amiss ended.printer ended.closed.settled) ≡ None → HasLived m talked failed life_steps began v ended → HasLivedToClose m began ended.closed
+    → fault_at_end (has_stopped ended.closed.store) ended.served (is_amiss ended.printer ended.closed.settled) ≡ None → (is : HasLived m talked failed life_steps began v ended) → AreClosed m talked failed began v ended is ended.closed
 closed_lives m talked failed began v ended none is =
     let b = based_on m is.1 [] in (
-      is.0,
-      is.1,
-      lives_any m talked life_steps is.0 began is.1 v is.2 is.3,
-      (is.4.0, is.4.1, closed_if_none b talked failed life_steps (has_stopped ended.closed.store) ended.served (is_amiss ended.printer ended.closed.settled) is.4.0 is.2 ended.callers is.4.1 none is.4.2, is.4.3),
+      (
+        is.0,
+        is.1,
+        lives_any m talked life_steps is.0 began is.1 v is.2 is.3,
+        (is.4.0, is.4.1, closed_if_none b talked failed life_steps (has_stopped ended.closed.store) ended.served (is_amiss ended.printer ended.closed.settled) is.4.0 is.2 ended.callers is.4.1 none is.4.2, is.4.3),
+      ),
+      ap (λ (ls : List LifeSteps). ls ++ steps_in ended.closed ∷ []) (same_steps m talked life_steps is.0 began is.1 v is.2 is.3),
     )
 
 -- of a store that has stopped a fault is told

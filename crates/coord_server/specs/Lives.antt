@@ -124,11 +124,25 @@ LivesAreOne {D} W m {V} talked failed most =
     (began : World) (v : V) (ended : ServerEnd D V W) (lived : HasLived m talked failed most began v ended)
     → AreOneHistory began (steps_of m talked most lived.0 began v lived.1 lived.2 lived.3 ++ steps_in ended.closed ∷ []) ended.closed.store ended.closed.settled
 
+-- what each of these lives did, of which a line has closed the last one
+abbrev pub steps_to_close : {D : Type 0} (m : DiskModel D) (began : World) (left : Closed D) → HasLivedToClose m began left → List LifeSteps
+steps_to_close m began left lived = steps_of m talked_any life_steps lived.0 began tt lived.1 tt lived.2 ++ steps_in left ∷ []
+
 -- the same where a line has closed the last one
 abbrev pub ClosedLivesAreOne : {D : Type 0} → DiskModel D → Type 0
 ClosedLivesAreOne {D} m =
     (began : World) (left : Closed D) (lived : HasLivedToClose m began left)
-    → AreOneHistory began (steps_of m talked_any life_steps lived.0 began tt lived.1 tt lived.2 ++ steps_in left ∷ []) left.store left.settled
+    → AreOneHistory began (steps_to_close m began left lived) left.store left.settled
+
+-- `failed v w`: those who call were v, and have failed
+module _ {D W : Type 0} (m : DiskModel D) {V : Type 0} (talked : V → List Talk → V → Type 0) (failed : V → V → Type 0) (began : World) (v : V) (ended : ServerEnd D V W) where
+  -- what each of these lives did, of a server that has ended
+  abbrev pub steps_had : HasLived m talked failed life_steps began v ended → List LifeSteps
+  steps_had lived = steps_of m talked life_steps lived.0 began v lived.1 lived.2 lived.3 ++ steps_in ended.closed ∷ []
+
+  -- A line has closed the last of these very lives: whoever called, each of them did what it did.
+  abbrev pub AreClosed : HasLived m talked failed life_steps began v ended → Closed D → Type 0
+  AreClosed lived left = (closed : HasLivedToClose m began left) × (steps_to_close m began left closed ≡ steps_had lived)
 
 -- this is what lives, all of them one history, have left
 abbrev pub EndsOneHistory : {D : Type 0} → World → Closed D → Type 0

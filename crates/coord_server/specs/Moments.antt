@@ -11,7 +11,7 @@ use Rattle.coord_admin.specs.Times.{IsUsual}
 use Rattle.coord_admin.specs.declared.patience.Patience.{Patience}
 use Rattle.coord_engine.specs.Facade.{IsAfterSome, IsOnTheWay}
 use Rattle.coord_engine.specs.declared.closed.Closed.{Closed}
-use Rattle.coord_server.specs.Lives.{EndsLives, HasLived, Lives, all_steps, life_steps, steps_in, steps_of}
+use Rattle.coord_server.specs.Lives.{EndsLives, HasLived, HasLivedToClose, Lives, all_steps, life_steps, steps_in, steps_of, steps_to_close}
 use Rattle.coord_server.specs.declared.life.Life.{Life}
 use Rattle.coord_server.specs.declared.server_end.ServerEnd.{ServerEnd}
 
@@ -54,3 +54,7 @@ module _ {D : Type 0} (m : DiskModel D) {V : Type 0} (talked : V → List Talk �
 -- the same where clients are waited for as usual, and a life has the steps of a server's
 abbrev pub ServedAlong : {D W : Type 0} → DiskModel D → Kept D → ServerEnd D Patience W → Type 0
 ServedAlong {D} {W} m first ended = (callers : Patience) × IsUsual callers × LivesKeepAlong m (λ _ _ _. ⊤) (λ _ _. ⊤) life_steps first callers ended
+
+-- the same of lives of which a line has closed the last one
+abbrev pub ClosesAlong : {D : Type 0} → DiskModel D → Kept D → Closed D → Type 0
+ClosesAlong {D} m first left = (lived : HasLivedToClose m first.world left) × KeepsAlong m first (all_steps (steps_to_close m first.world left lived)) left.store

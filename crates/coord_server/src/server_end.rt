@@ -51,22 +51,24 @@ impl<D: Disk, C, W: Write> ServerEnd<D, C, W> {
 }
 
 impl<D: Disk, C: Callers + Drop, W: Write + Drop> ServerEnd<D, C, W> {
-    ghost use Rattle.coord_server.specs.Lives.{HasLived, HasLivedToClose, life_steps};
+    ghost use Rattle.coord_server.specs.Lives.{AreClosed, HasLived, life_steps};
 
-    /// What is left of its last engine, or the fault to tell and what is left all the same. No fault is
-    /// told of a server only where a line closed it and its store has not stopped.
-    pub fn into_closed(self) -> Result<Closed<D>, (ServerFault, Closed<D>)>
-        ensures closed { IfOk result (λ closed. (closed ≡ self.closed) ×
+    /// What is left of its last engine, or the fault to tell and what is left all the same; and what
+    /// printed. No fault is told of a server only where a line closed it and its store has not stopped.
+    pub fn into_closed(self) -> (Result<Closed<D>, (ServerFault, Closed<D>)>, Printer<W>)
+        ensures closed { IfOk result.0 (λ closed. (closed ≡ self.closed) ×
             (fault_at_end (has_stopped self.closed.store) self.served
             (is_amiss self.printer self.closed.settled) ≡ None)) }
-        ensures fault { IfErr result (λ told. (told.1 ≡ self.closed) ×
+        ensures fault { IfErr result.0 (λ told. (told.1 ≡ self.closed) ×
             (fault_at_end (has_stopped self.closed.store) self.served
             (is_amiss self.printer self.closed.settled) ≡ Some told.0)) }
-        ensures going { IfOk result (λ closed. has_stopped closed.store ≡ false) }
-        ensures whole { IfOk result (λ closed. (self.printer.is_broken ≡ false) ×
+        ensures going { IfOk result.0 (λ closed. has_stopped closed.store ≡ false) }
+        ensures whole { IfOk result.0 (λ closed. (self.printer.is_broken ≡ false) ×
             (self.printer.last.step ≤ closed.settled)) }
-        ensures lives { (began : World) (v : C) → HasLived D.model C.talked C.failed
-            life_steps began v self → IfOk result (HasLivedToClose D.model began) }
+        ensures lives { (began : World) (v : C) (lived : HasLived D.model C.talked C.failed
+            life_steps began v self) → IfOk result.0 (AreClosed D.model C.talked C.failed began v
+            self lived) }
+        ensures printer { result.1 ≡ self.printer }
     {
         let fault = self.fault();
         let ServerEnd {
@@ -76,10 +78,9 @@ impl<D: Disk, C: Callers + Drop, W: Write + Drop> ServerEnd<D, C, W> {
             printer,
         } = self;
         drop(callers);
-        drop(printer);
         match fault {
-            None => Ok(closed),
-            Some(fault) => Err((fault, closed)),
+            None => (Ok(closed), printer),
+            Some(fault) => (Err((fault, closed)), printer),
         }
     }
 }

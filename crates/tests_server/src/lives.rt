@@ -81,7 +81,9 @@ fn ends_last<R: Threads + Wait + Clock + Sync + Abort>(
     assert!(rt; !store.stopped());
     let callers = Accepted::new(rt, listener, Patience::usual());
     let ended = serve_lives(rt, alloc, MOST, store, callers, output).expect(rt, "no end");
-    match ended.into_closed() {
+    let (served, printer) = ended.into_closed();
+    drop(printer);
+    match served {
         Ok(closed) => {
             let is_left = is_last(&closed);
             drop(closed);

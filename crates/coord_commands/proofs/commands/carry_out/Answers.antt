@@ -14,7 +14,7 @@ returns-in-Err g c =
     let status = c.serve_in.result in
     let errors = c.serve_in.new.streams.known.errors in
     let after = g.F.Folder.holds c.serve_in.new.folder file in
-    let served = serves_weaker _ (IsOfServing (reads (g.F.Folder.holds c.run_in.new.folder file))) address _ (reads after) status _ errors (of_ending _ _ _) c.serve_in.ensures.served in
+    let served = serves_weaker _ (IsOfServing (reads (g.F.Folder.holds c.run_in.new.folder file))) address _ (reads after) status _ errors (of_ending _ _ _ _ _) c.serve_in.ensures.served in
     inr (
       serve file address,
       c.in-Err.ensures.left,

@@ -1,0 +1,30 @@
+//! An output that is lent.
+
+use std::io;
+use std::io::Write;
+
+/// An output that is lent to a server. What contracts see of its bytes begins with the number that stands
+/// for this output: so where a server gives back one that holds what was lent, and more behind it, that
+/// is this very output, and no other.
+#[derive(Drop)]
+pub struct Lent<'a, W: Write> {
+    pub output: &'a mut W,
+}
+
+impl<W: Write> Write for Lent<'_, W> {
+    ghost use Rattle.coord_commands.specs.Streams.{known_as};
+
+    ghost contents = { λ l. known_as l.output.ghost_name (W.contents l.output.now) };
+
+    fn write(&mut self, bytes: &[u8]) -> io::Result<usize> {
+        Write::write(self.output, bytes)
+    }
+
+    fn flush(&mut self) -> io::Result<()> {
+        Write::flush(self.output)
+    }
+
+    fn write_all(&mut self, bytes: &[u8]) -> io::Result<()> {
+        Write::write_all(self.output, bytes)
+    }
+}
