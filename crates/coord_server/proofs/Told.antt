@@ -68,10 +68,10 @@ note_of_place n w (s ∷ steps) note (suc k) d count lt is =
     record { number = omega (arith, there.number); there = there.there; outcome = there.outcome; given = there.given; reply = there.reply }
 
 pub notes_are_replies : (D : Type 0) → NotesAreReplies D
-notes_are_replies D b desk left history note noted =
+notes_are_replies D b desk left history note is_noted =
     let all = all_notes (desk ∷ history.workers) in
     let notes = notes_of left.base.count left.trail.items (kinds_of left.base left.trail.items) in
-    let here : Contains all note = Contains-append_left desk (all_notes history.workers) note noted in
+    let here : Contains all note = Contains-append_left desk (all_notes history.workers) note is_noted in
     let there : Contains notes note = Contains-permutation all notes note history.named.each_once here in
     let is = note_of_place left.base.count left.base left.trail.items note there.0 note refl there.1 there.2 in
     record { place = there.0; number = is.number; there = is.there; outcome = is.outcome; given = is.given; reply = is.reply }
