@@ -141,6 +141,22 @@ class Patience(Case):
             self.assertEqual(await_end(connection), b"")
             self.expect_within(LINE, begun, server)
 
+    def test_each_part_of_a_reply_has_what_is_left(self) -> None:
+        """Before each write the system is told anew how long it may wait, so all that goes out byte by byte has no more time
+        than what goes out at once."""
+        self.needs("a C compiler", preloaded.has_compiler())
+        log = self.path("calls")
+        environment = preloaded.environment(self.folder, CALLS=log, WAITS=1, PIECE=1)
+        with self.serving(env=environment) as server:
+            self.assertEqual(server.ask({"op": "resend"}), {"count": 0, "kind": "resent"})
+            self.assertEqual(server.close().status, 0)
+        with open(log, encoding="ascii") as calls:
+            rows = [line.split(" ") for line in calls]
+        sockets = {file for name, file, *_ in rows if name == "write-within"}
+        told = [name for name, file, *_ in rows if name in ("write-within", "out") and file in sockets]
+        written = sum(map(len, ('{"count":0,"kind":"resent"}\n', '{"kind":"closed"}\n')))
+        self.assertEqual(told, ["write-within", "out"] * written)
+
     def test_the_times_that_the_system_is_told(self) -> None:
         """Where a read or a write waits otherwise than the last one: of a line that has begun what is left of its time, and
         not of a silence. The clock stands still, and is put forward by a second between two parts of what is sent."""
