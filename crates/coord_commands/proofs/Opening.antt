@@ -86,7 +86,7 @@ module _ {D : Type 0} (model : DiskModel D) where
   served_whole before after old new store closed back is along served are_one gives same put =
       let lived = along.0 in
       let steps = all_steps (steps_to_close model store.world closed lived) in (
-        record { began = store.world; left = closed; opened = is.world; lived = lived; one = are_one store.world closed lived; closed = back_gives after back closed.store.world gives put },
+        record { began = store.world; left = closed; opened = is.world; lived = lived; one = are_one store.world closed lived; closed = back_gives model after back closed.store.world gives put },
         record { taken = is.taken; back = back; was = is.was; put = put; any_moment = held_along before store closed.store steps back is along.1 same },
         record { printer = served.ended.printer; whole = served.tells.2; printed = served.printed; settled = served.tells.3 },
       )
