@@ -169,7 +169,8 @@ fn a_run_breaks_off_at_a_crash_that_is_not_opened(rt: HostRuntime) {
     let ledger = opened(&rt, FuseDisk::new(made(&rt), OPENING));
     match run_events_keeping_disk(rt.alloc(), ledger, &events) {
         Ok(_ran) => panic!(rt; "it came to its end"),
-        Err((RunFault { at, trace, kind }, _disk)) => {
+        Err((fault, _disk)) => {
+            let RunFault { at, trace, kind } = fault;
             let (number, answered) = (kind.number(), trace.answers.len());
             same(&rt, &(at, answered, number), &(2, 2, 2));
             same(&rt, &kind, &RunFaultKind::Store(StoreFault::Device));
