@@ -5,7 +5,7 @@ import json
 import socket
 import subprocess
 import sys
-from collections.abc import Callable
+from collections.abc import Callable, Iterator
 
 from support import preloaded
 from support.case import until
@@ -164,10 +164,17 @@ class Refused(Served):
 
     takes = 30
 
+    @contextlib.contextmanager
+    def started(self, store: str, environment: dict[str, str]) -> Iterator[Serving]:
+        """A server that has allocated all that its start takes: it goes on with that behind the line that it listens."""
+        with Serving(store, env=environment) as server:
+            server.show()
+            yield server
+
     def orders(self, store: str, refusing: Refusing, threads: range, first: int = 0) -> tuple[list[Answer], int, int]:
         """Three orders in one packet, behind which nothing comes: their replies, and how many allocations were asked for
         before them and with them."""
-        with Serving(store, env=refusing.environment(first, threads=threads)) as server, server.connect() as connection:
+        with self.started(store, refusing.environment(first, threads=threads)) as server, server.connect() as connection:
             before = refusing.count()
             connection.socket.settimeout(PATIENCE)
             # a connection without memory may be over already
@@ -175,6 +182,8 @@ class Refused(Served):
                 connection.send(*({"op": "reset", "client": 1, "number": number, "node": 1} for number in range(1, 4)))
                 connection.socket.shutdown(socket.SHUT_WR)
             replies, behind = self.replies(connection), refusing.count()
+            # how many came before differs a little: where this one has not come yet, it is none of the close
+            refusing.refuse(0, 0)
             # whatever that client had, the next one is served
             self.assertEqual(self.close(server).status, 0)
             return replies, before, behind
@@ -242,12 +251,13 @@ class Refused(Served):
 
     def answers(self, store: str, refusing: Refusing, asked: list[Answer], first: int) -> tuple[list[Answer], int, int]:
         """What is answered over one connection, whose server's first thread is refused one allocation."""
-        with Serving(store, env=refusing.environment(first, threads=FIRST_THREAD)) as server, server.connect() as connection:
+        with self.started(store, refusing.environment(first, threads=FIRST_THREAD)) as server, server.connect() as connection:
             before = refusing.count()
             with contextlib.suppress(OSError):
                 connection.send(*asked)
                 connection.socket.shutdown(socket.SHUT_WR)
             answers, behind = self.replies(connection), refusing.count()
+            refusing.refuse(0, 0)
             self.assertEqual(self.close(server).status, 0)
             return answers, before, behind
 
