@@ -34,7 +34,7 @@ use std::alloc::Global;
 /// all that was released until then. The ledger, its flight and its tickets are given up. The disk
 /// is given back: as those events have left it, or, where the run ended in a crash, as the opening
 /// behind the crash has left it (`EndedEarly`).
-pub fn run_events_keeping_disk<D: CrashDisk>(
+pub fn run_events<D: CrashDisk>(
     alloc: Global,
     ledger: Ledger<D>,
     events: &[Event],

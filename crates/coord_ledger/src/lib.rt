@@ -17,7 +17,7 @@
 //! `FlightState` and a `Claim` (`specs/ledger/State.antt`), and what each call makes of them
 //! (`specs/ledger/Calls.antt`).
 //!
-//! [`run_events_keeping_disk`] runs a list of events in one thread, with crashes in between: the main
+//! [`run_events`] runs a list of events in one thread, with crashes in between: the main
 //! theorem is its contract, and `specs/promises/Broken.antt` has what it says of a run that ends
 //! early. `specs/ledger/Follows.antt` says where a run is between two events.
 //!
@@ -41,7 +41,7 @@ mod trace;
 
 pub use coord_view::{LinkView, NodeView, View};
 pub use driver::Driver;
-pub use event_driver::run_events_keeping_disk;
+pub use event_driver::run_events;
 pub use events::{Answer, Event};
 pub use flight::Flight;
 pub use handed::Handed;

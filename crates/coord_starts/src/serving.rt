@@ -8,7 +8,7 @@ ghost use Rattle.coord_store.specs.Refused.{IsPassing};
 
 use crate::named::lemma_all_named;
 use coord_disk::{CrashDisk, Disk};
-use coord_ledger::{Event, Ledger, RunFaultKind, Trace, run_events_keeping_disk};
+use coord_ledger::{Event, Ledger, RunFaultKind, Trace, run_events};
 use coord_store::{Store, StoreFault};
 use std::alloc::Global;
 
@@ -56,7 +56,7 @@ pub fn serve<D: CrashDisk>(
         Ok(ledger) => ledger,
         Err((_, store)) => return Err((StoreFault::OutOfMemory, store.into_disk())),
     };
-    match run_events_keeping_disk(alloc, ledger, events) {
+    match run_events(alloc, ledger, events) {
         Ok((trace, ledger)) => Ok((trace, cut(ledger))),
         Err((fault, disk)) => {
             let kind = fault.kind;

@@ -5,7 +5,7 @@ use crate::runs::{
     Host, OPENING, add, choosing, linking, made, opened, push, ran, reset, same, tells,
 };
 use coord_disk::{BlipDisk, CrashDisk, Disk, FailingDisk, FuseDisk, MemDisk, Rule};
-use coord_ledger::{Driver, Event, RunFault, RunFaultKind, Trace, run_events_keeping_disk};
+use coord_ledger::{Driver, Event, RunFault, RunFaultKind, Trace, run_events};
 use coord_store::StoreFault;
 use coord_types::Step;
 
@@ -167,7 +167,7 @@ fn a_run_breaks_off_at_a_crash_that_is_not_opened(rt: HostRuntime) {
         Event::Show,
     ];
     let ledger = opened(&rt, FuseDisk::new(made(&rt), OPENING));
-    match run_events_keeping_disk(rt.alloc(), ledger, &events) {
+    match run_events(rt.alloc(), ledger, &events) {
         Ok(_ran) => panic!(rt; "it came to its end"),
         Err((fault, _disk)) => {
             let RunFault { at, trace, kind } = fault;

@@ -3,7 +3,7 @@
 ghost use Rattle.std.specs.Prelude.{◌≡◌, ◌≤◌, None};
 
 use coord_disk::{Choice, CrashDisk, Disk, MemDisk};
-use coord_ledger::{Event, Ledger, Release, Trace, run_events_keeping_disk};
+use coord_ledger::{Event, Ledger, Release, Trace, run_events};
 use coord_store::Store;
 use coord_types::{Client, Command, DataPacket, Group, Msg, NodeId, Step};
 use std::fmt::Debug;
@@ -132,7 +132,7 @@ pub(crate) fn disk_of<D: Disk>(rt: &impl Host, ledger: Ledger<D>) -> D {
 
 /// Runs events on the store of a device.
 pub(crate) fn ran<D: CrashDisk>(rt: &impl Host, disk: D, events: &[Event]) -> (Trace, D) {
-    match run_events_keeping_disk(rt.alloc(), opened(rt, disk), events) {
+    match run_events(rt.alloc(), opened(rt, disk), events) {
         Ok((trace, ledger)) => (trace, disk_of(rt, ledger)),
         Err((fault, _disk)) => panic!(rt; "it broke off at {}: {:?}", fault.at, fault.kind),
     }

@@ -5,7 +5,7 @@ ghost use Rattle.std.specs.Prelude.{◌≡◌, None};
 
 use crate::runs::{Host, add, disk_of, made, opened, same};
 use coord_disk::MemDisk;
-use coord_ledger::{Event, Flight, Ledger, Seen, run_events_keeping_disk};
+use coord_ledger::{Event, Flight, Ledger, Seen, run_events};
 use coord_types::{Refusal, Step};
 
 fn accept(rt: &impl Host, ledger: &mut Ledger<MemDisk>, step: Step) {
@@ -49,7 +49,7 @@ fn returns(rt: &impl Host, own: &mut Ledger<MemDisk>, other: &Ledger<MemDisk>) {
 // Settles the next steps of a ledger.
 fn settled(rt: &impl Host, ledger: Ledger<MemDisk>) -> Ledger<MemDisk> {
     assert!(rt; !ledger.is_out() && !ledger.stopped());
-    match run_events_keeping_disk(
+    match run_events(
         rt.alloc(),
         ledger,
         &[Event::Begin, Event::Commit, Event::Finish],

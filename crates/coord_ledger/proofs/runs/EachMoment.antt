@@ -1,5 +1,5 @@
 -- What a crash may leave at each moment of an event, and of a run.
-use Rattle.std.proofs.Common.{◌≡◌, ◌⊎◌, ℕ, ◌+◌, Bool, true, false, List, [], ◌∷◌, ◌++◌, length, Option, Some, None, Result, Ok, Err, refl, sym, ap, ◌∙◌, subst, inl, inr, IfErr, IfSome, IsErrOf, MatchResult, arith}
+use Rattle.std.proofs.Common.{◌≡◌, ◌⊎◌, ℕ, ◌+◌, Bool, true, false, List, [], ◌∷◌, ◌++◌, length, Option, Some, None, Result, Ok, Err, refl, sym, ap, ◌∙◌, subst, inl, inr, IfSome, IsErrOf, MatchResult, arith}
 use Rattle.std.proofs.lemmas.Bool.Decides.{nat_tests}
 use Rattle.std.specs.Option.{option_map}
 use Rattle.coord_disk.specs.Model.Moments.{LeavesOnly}
@@ -83,10 +83,6 @@ module _ {D : Type 0} (model : DiskModel D) (d : DriverState D) (s : Machine) (i
 pub match_map : {A E : Type 0} {P P2 : A → Type 0} {Q Q2 : E → Type 0} (r : Result A E) → ((a : A) → P a → P2 a) → ((e : E) → Q e → Q2 e) → MatchResult r P Q → MatchResult r P2 Q2
 match_map (Ok a) f g p = f a p
 match_map (Err e) f g q = g e q
-
-pub match_both : {A E : Type 0} {P P2 : A → Type 0} {Q R Q2 : E → Type 0} (r : Result A E) → ((a : A) → P a → P2 a) → ((e : E) → Q e → R e → Q2 e) → MatchResult r P Q → IfErr r R → MatchResult r P2 Q2
-match_both (Ok a) f g p more = f a p
-match_both (Err e) f g q more = g e q more
 
 -- a commit's answer
 abbrev pub commit_answer : {T : Type 0} → Result T CommitFault → Answer

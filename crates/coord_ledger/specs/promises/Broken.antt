@@ -71,7 +71,7 @@ EndsAt model crashes keeps_model before None kind released disk lost = IsGivenUp
 EndsAt model crashes keeps_model before (Some event) kind released disk lost = IsCutShort before event kind released × IsGivenBack model crashes keeps_model before event kind disk lost
 
 -- A run that ended early, with the answers to the events before. At each moment of it, also inside the event that was
--- cut short, the headline holds. It is what `run_events_keeping_disk` ensures where it answers a fault.
+-- cut short, the headline holds. It is what `run_events` ensures where it answers a fault.
 pub record EndedEarly {D : Type 0} (model : DiskModel D) (crashes : D → D → Type 0) (start : Machine) (events : List Event) (at : ℕ) (given : List Answer) (released : List Release) (kind : RunFaultKind) (keeps_model : Bool) (first lost : D) : Type 0 where
   pub within : at ≤ length events
   pub answered : Answered start (take at events) given

@@ -148,7 +148,7 @@ pub record IsLeft {D : Type 0} (s : Machine) (l : LedgerState D) : Type 0 where
 
 -- A run from a ledger at home, on a disk that it has led from one state to another: the answers are
 -- the machine's, these were released, wherever it is stopped, after an event or at any moment inside one, the headline
--- holds, and this ledger is left. It is what `run_events_keeping_disk` ensures where it answers a trace and a ledger.
+-- holds, and this ledger is left. It is what `run_events` ensures where it answers a trace and a ledger.
 pub record Completed {D : Type 0} (model : DiskModel D) (crashes : D → D → Type 0) (start : Machine) (events : List Event) (given : List Answer) (released : List Release) (left : LedgerState D) (keeps_model : Bool) (first last : D) : Type 0 where
   pub answered : Answered start events given
   pub released_is : released ≡ (run start events given).released

@@ -1,7 +1,7 @@
 use Rattle.std.proofs.Common.{◌≡◌, ℕ, ◌+◌, ◌≤◌, length, take, vec_capacity, vec_len}
 use Rattle.coord_ledger.specs.Facade.{HasFailed, disk_held, failed_until}
 use Rattle.coord_ledger.proofs.runs.SoFar.{LoopInvariant}
-use Rattle.coord_ledger.proofs.event_driver.run_events_keeping_disk.Given as goal
+use Rattle.coord_ledger.proofs.event_driver.run_events.Given as goal
 
 abbrev pub invariant-loop-at : goal.invariant-loop-at
 invariant-loop-at g l = record {

@@ -7,7 +7,7 @@ use Rattle.coord_ledger.proofs.runs.BreaksOff.{ended_after, ended_first, ended_a
 use Rattle.coord_ledger.proofs.runs.SoFar.{invariant_first, invariant_on}
 use Rattle.coord_ledger.proofs.runs.Ends.{completed_all}
 use Rattle.coord_ledger.proofs.runs.Calls.{failed_as, failed_giving_up, failed_on, failed_same}
-use Rattle.coord_ledger.proofs.event_driver.run_events_keeping_disk.Goals as goal
+use Rattle.coord_ledger.proofs.event_driver.run_events.Goals as goal
 
 -- what a call ensures where it succeeds
 on_ok_gives : {A E X : Type 0} (r : Result A E) → is_err r ≡ false → OnOk r X → X
