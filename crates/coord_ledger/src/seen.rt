@@ -1,6 +1,6 @@
 //! What a caller has seen of a ledger.
 
-ghost use Rattle.std.specs.Prelude.{◌≡◌, max};
+ghost use Rattle.std.specs.Prelude.{◌≡◌, max, nat_le};
 
 use std::marker::Model;
 
@@ -34,6 +34,13 @@ impl Seen {
         if self.count < step {
             self.count = step;
         }
+    }
+
+    /// Whether no later step was seen than this one.
+    pub fn is_within(&self, settled: u64) -> bool
+        ensures { result ≡ nat_le self.now settled }
+    {
+        self.count <= settled
     }
 
     // The number.
