@@ -4,6 +4,7 @@
 ghost use Rattle.std.specs.Prelude.{ℕ};
 ghost use Rattle.coord_server.specs.Lives.{ClosedLivesAreOne, LivesAreOne};
 ghost use Rattle.coord_server.specs.Told.{LivesLeaveSteps, NotesAreReplies, NotesEndALife, RepliesNameSteps, ToldIsSettled};
+ghost use Rattle.coord_server.specs.WorkedTold.{TellUpToThird};
 
 use coord_admin::Callers;
 use coord_disk::Disk;
@@ -38,6 +39,12 @@ pub fn notes_are_replies<D: Disk, P: Port>()
 /// left: no reply has a greater number, and no world that was shown counts more steps as settled.
 pub fn told_is_settled<D: Disk, C: Callers, P: Port>()
     ensures { ToldIsSettled D P C.talked }
+{}
+
+/// The reply to the third step and a world with three settled steps, told, tell of three steps, and not
+/// of two.
+pub fn tell_up_to_third()
+    ensures { TellUpToThird }
 {}
 
 /// Whatever a crash may leave of a life's disk gives the world after the settled steps; after a
