@@ -2,8 +2,9 @@
 use Rattle.std.proofs.Common.{◌≡◌, ◌⊎◌, ℕ, ◌+◌, ◌≤◌, List, [], ◌∷◌, ◌++◌, Some, None, Result, Ok, Err, length, max, take, refl, sym, ap, ◌∙◌, subst, inl, inr, append-nil, arith}
 use Rattle.std.specs.List.{AllByRecursion}
 use Rattle.std.proofs.lemmas.Grind.{flat_map-append}
-use Rattle.std.proofs.lemmas.List.{length-take}
+use Rattle.std.proofs.lemmas.List.{length-take-le}
 use Rattle.coord_types.specs.declared.refusals.Refusal.{Refusal}
+use Rattle.coord_types.specs.declared.refusals.Refusal.TheVariants as refusal
 use Rattle.coord_types.specs.declared.steps.Reply.{Reply}
 use Rattle.coord_lines.specs.Lines.{Line}
 use Rattle.coord_lines.specs.Written.{IsFirstPart}
@@ -154,7 +155,28 @@ and_last n (c ∷ cs) last is also = (is.0, and_last n cs last is.1 also)
 -- ---- the desk over an engine
 
 refused_tells : (n : ℕ) (r : Refusal) → TellsUpTo n (refused r)
-refused_tells n r = grind arith
+refused_tells n refusal.Stopped = tt
+refused_tells n refusal.OutOfMemory = tt
+refused_tells n refusal.Exhausted = tt
+refused_tells n refusal.OutOfTurn = tt
+refused_tells n refusal.NumberReused = tt
+refused_tells n refusal.UnknownNode = tt
+refused_tells n refusal.NodeExists = tt
+refused_tells n refusal.HasLinks = tt
+refused_tells n refusal.SameNode = tt
+refused_tells n refusal.OtherGroup = tt
+refused_tells n refusal.LinkExists = tt
+refused_tells n refusal.NoLink = tt
+refused_tells n refusal.DegreeFull = tt
+refused_tells n refusal.LinksFull = tt
+refused_tells n refusal.BadEpoch = tt
+refused_tells n refusal.Old = tt
+refused_tells n refusal.Early = tt
+refused_tells n refusal.Differs = tt
+refused_tells n refusal.NotReleased = tt
+refused_tells n refusal.PendingFull = tt
+refused_tells n (refusal.Behind settled) = tt
+refused_tells n refusal.Stranger = tt
 
 order_goes : (result : Result Reply Refusal) (n m : ℕ) → m ≡ seen_after result n → Goes n (order_answer result) m
 order_goes (Ok r) n m is = (omega (arith, is), omega (arith, is))
@@ -162,7 +184,7 @@ order_goes (Err r) n m is = (omega (arith, is), refused_tells m r)
 
 -- the settled world has as many steps as are settled
 world_counts : (log : Log) → log.settled ≤ length log.trail → (settled_world log).count ≡ settled_count log
-world_counts log within = omega (arith, within, fold_counts log.base (take log.settled log.trail), length-take log.settled log.trail)
+world_counts log within = omega (arith, fold_counts log.base (take log.settled log.trail), length-take-le log.settled log.trail within)
 
 show_goes : {D : Type 0} (b : Basis D) (result : Result Shown Refusal) (n m : ℕ) → AnswersShow b result n m → Goes n (show_answer result) m
 show_goes b (Ok view) n m is =
