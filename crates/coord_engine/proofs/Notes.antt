@@ -11,6 +11,10 @@ use Rattle.coord_types.specs.declared.steps.Step.{Step}
 use Rattle.coord_ledger.specs.declared.ticket.Note.{Note}
 use Rattle.coord_engine.specs.Named.{IsAscending, all_notes, notes_of}
 
+-- notes with the same fields are the same
+pub same_note : (a b : Note) → a.step ≡ b.step → a.what ≡ b.what → a.kind ≡ b.kind → a ≡ b
+same_note a b step what kind = λ i. record { step = step i; what = what i; kind = kind i }
+
 -- ---- the notes of some steps
 
 pub note_at : (n k : ℕ) (steps : List Step) (kinds : List Kind) (d : Note) (x : Step) (y : Kind) → length kinds ≡ length steps → k < length steps

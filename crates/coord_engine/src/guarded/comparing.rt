@@ -33,6 +33,7 @@ pub fn all_ascending<L: Count>(shares: &[Share<L>]) -> bool
 }
 
 /// Whether these are the same note.
+#[tactic(auto, using(crate::proofs::Notes::same_note))]
 fn is_same(a: &Note, b: &Note) -> bool
     ensures { IsTrue result ↔ (a.now ≡ b.now) }
 {
