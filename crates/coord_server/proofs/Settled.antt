@@ -189,7 +189,8 @@ world_counts log within = omega (arith, fold_counts log.base (take log.settled l
 show_goes : {D : Type 0} (b : Basis D) (result : Result Shown Refusal) (n m : ℕ) → AnswersShow b result n m → Goes n (show_answer result) m
 show_goes b (Ok view) n m is =
     let log = is.state.ledger.log in
-    (omega (arith, is.so.1, is.so.3), omega (arith, is.so.3, ap (λ (v : Shown). v.settled) is.so.2, world_counts log is.held.log.within))
+    let counted : view.settled ≡ (settled_world log).count = ap (λ (v : Shown). v.settled) is.so.2 in
+    (omega (arith, is.so.1, is.so.3), omega (arith, is.so.3, counted, world_counts log is.held.log.within))
 show_goes b (Err r) n m is = (omega (arith, is.1), refused_tells m r)
 
 resend_tells : (n : ℕ) (result : Result ℕ Refusal) → TellsUpTo n (resend_answer result)

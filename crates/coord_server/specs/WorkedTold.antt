@@ -15,4 +15,4 @@ third_world = Shown (record { accepted = 5; settled = 3; nodes = []; links = [] 
 
 -- they tell of no step behind the third, and not of the first two alone
 abbrev pub TellUpToThird : Type 0
-TellUpToThird = AllByRecursion (TellsUpTo 3) (third_reply ∷ third_world ∷ Closed ∷ []) × ¬ TellsUpTo 2 third_reply × ¬ TellsUpTo 2 third_world
+TellUpToThird = AllByRecursion (TellsUpTo 3) (third_reply ∷ third_world ∷ Closed ∷ []) × (¬ TellsUpTo 2 third_reply) × (¬ TellsUpTo 2 third_world)
