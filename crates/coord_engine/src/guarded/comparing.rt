@@ -1,6 +1,6 @@
 //! The notes of shares against the steps that were accepted. It takes no memory.
 
-ghost use Rattle.std.specs.Prelude.{◌≡◌, ◌↔◌, ◌+◌, ◌^◌, ◌<◌, length, All, Contains, IsTrue};
+ghost use Rattle.std.specs.Prelude.{◌≡◌, ◌↔◌, ◌+◌, ◌^◌, ◌<◌, get_or, length, All, Contains, IsTrue};
 ghost use Rattle.coord_engine.specs.Named.{IsAscending, all_notes, notes_of};
 
 use crate::Share;
@@ -64,6 +64,14 @@ fn some_has<L: Count>(shares: &[Share<L>], note: &Note) -> bool
     false
 }
 
+/// The kind at this place.
+fn kind_at(kinds: &[Kind], place: usize) -> Kind
+    requires { place < length kinds.now }
+    ensures { result ≡ get_or kinds.now place result }
+{
+    kinds[place]
+}
+
 /// Whether each of these steps, which come behind some others, was noted in some share with the kind
 /// of its reply.
 pub fn all_noted<L: Count>(shares: &[Share<L>], others: u64, steps: &[Step], kinds: &[Kind]) -> bool
@@ -75,7 +83,7 @@ pub fn all_noted<L: Count>(shares: &[Share<L>], others: u64, steps: &[Step], kin
 {
     for place in 0..steps.len() {
         let step = steps[place];
-        let kind = kinds[place];
+        let kind = kind_at(kinds, place);
         let note = Note {
             step: others + place as u64 + 1,
             what: step,
