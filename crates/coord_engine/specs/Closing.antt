@@ -1,23 +1,25 @@
 -- Why an engine isn't taken apart, and the numbers and names of these faults.
-use Rattle.std.specs.Prelude.{◌≡◌, ◌≢◌, ℕ, ◌+◌, true, false, List, codes, drop, is_none, length, take}
+use Rattle.std.specs.Prelude.{◌≡◌, ◌≢◌, ℕ, ◌+◌, ◌<◌, ◌≤◌, true, false, List, codes, drop, is_none, length, take}
 use Rattle.coord_types.specs.declared.steps.Step.{Step}
 use Rattle.coord_world.specs.protocol.NumberedWorld.{World}
 use Rattle.coord_ledger.specs.declared.ticket.Note.{Note}
-use Rattle.coord_ledger.specs.machine.Log.{kinds_of}
+use Rattle.coord_ledger.specs.machine.Log.{kinds_of, settled_count}
 use Rattle.coord_engine.specs.Named.{IsNamed}
 use Rattle.coord_engine.specs.State.{GuardedState}
 use Rattle.coord_engine.specs.declared.closed.CloseFault.{CloseFault}
-use Rattle.coord_engine.specs.declared.closed.CloseFault.TheVariants.{FlightOut, SharesMissing, NotNamed}
+use Rattle.coord_engine.specs.declared.closed.CloseFault.TheVariants.{FlightOut, SharesMissing, NotNamed, NotSettled}
 
 abbrev pub fault_number : CloseFault → ℕ
 fault_number FlightOut = 1
 fault_number SharesMissing = 2
 fault_number NotNamed = 3
+fault_number NotSettled = 4
 
 abbrev pub fault_name : CloseFault → List ℕ
 fault_name FlightOut = codes "FlightOut"
 fault_name SharesMissing = codes "SharesMissing"
 fault_name NotNamed = codes "NotNamed"
+fault_name NotSettled = codes "NotSettled"
 
 -- What is left is of a ledger that had this base and had accepted these steps, and that has accepted since just what the shares noted: each step once with the kind of its reply, and each share's own in order.
 pub record IsSince (base : World) (before : List Step) (shares : List (List Note)) (left : World) (trail : List Step) : Type 0 where
@@ -36,8 +38,9 @@ pub record MayClose {D : Type 0} (g : GuardedState D) (shares : List (List Note)
   pub all : length shares ≡ g.given
   pub named : IsNamedBy g shares
 
--- why that isn't so: the first that applies
-abbrev pub RefusesClosing : {D : Type 0} → GuardedState D → List (List Note) → CloseFault → Type 0
-RefusesClosing g shares FlightOut = is_none g.ledger.disk ≡ true
-RefusesClosing g shares SharesMissing = (is_none g.ledger.disk ≡ false) × (length shares ≢ g.given)
-RefusesClosing g shares NotNamed = (is_none g.ledger.disk ≡ false) × (length shares ≡ g.given) × ¬ IsNamedBy g shares
+-- why an engine isn't taken apart with these shares, where callers have seen the settled world up to this step: the first that applies
+abbrev pub RefusesClosing : {D : Type 0} → GuardedState D → List (List Note) → ℕ → CloseFault → Type 0
+RefusesClosing g shares seen FlightOut = is_none g.ledger.disk ≡ true
+RefusesClosing g shares seen SharesMissing = (is_none g.ledger.disk ≡ false) × (length shares ≢ g.given)
+RefusesClosing g shares seen NotSettled = (is_none g.ledger.disk ≡ false) × (length shares ≡ g.given) × (settled_count g.ledger.log < seen)
+RefusesClosing g shares seen NotNamed = (is_none g.ledger.disk ≡ false) × (length shares ≡ g.given) × (seen ≤ settled_count g.ledger.log) × ¬ IsNamedBy g shares

@@ -21,10 +21,12 @@ pub enum CloseFault {
     SharesMissing,
     /// The shares' notes are not the steps that were accepted since the engine was made.
     NotNamed,
+    /// A step that callers have seen to be settled is not.
+    NotSettled,
 }
 
 impl CloseFault {
-    /// From 1 to 3.
+    /// From 1 to 4.
     pub fn number(self) -> u8
         ensures { result ≡ fault_number self }
     {
@@ -40,6 +42,7 @@ impl fmt::Display for CloseFault {
             CloseFault::FlightOut => "FlightOut",
             CloseFault::SharesMissing => "SharesMissing",
             CloseFault::NotNamed => "NotNamed",
+            CloseFault::NotSettled => "NotSettled",
         })
     }
 }

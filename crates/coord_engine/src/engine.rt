@@ -1,6 +1,6 @@
 //! The engine: the value under a lock, and a condition on which callers wait.
 
-ghost use Rattle.std.specs.Prelude.{◌≡◌, ◌<◌, [], length, Err, None, Ok, Some, IfErr, IfNone, IfOk, IfSome, MatchResult};
+ghost use Rattle.std.specs.Prelude.{◌≡◌, ◌<◌, ◌≤◌, [], length, Err, None, Ok, Some, IfErr, IfNone, IfOk, IfSome, MatchResult};
 ghost use Rattle.std.specs.Sync.Mutex.{mutex_guard_value};
 ghost use Rattle.coord_ledger.specs.ledger.Calls.{releases_in};
 ghost use Rattle.coord_engine.specs.Calls.{IsToldTicket};
@@ -260,13 +260,14 @@ impl<D: Disk, L: Origin> Engine<D, L> {
         self.wake_all();
     }
 
-    /// Takes the engine apart, where no flight is out, all shares are there, and their notes are
-    /// what was accepted since the engine was made. What is left has the base of the ledger that
+    /// Takes the engine apart, where no flight is out, all shares are there, what callers have seen is
+    /// settled, and the shares' notes are what was accepted since the engine was made. What is left has the base of the ledger that
     /// the engine was made over, and a trail that begins with that ledger's. A crash at any moment
     /// since then left only worlds after the first steps of that trail. It takes no memory.
     pub fn close(
         self,
         shares: Vec<Share<L>>,
+        seen: &Seen,
     ) -> Result<Closed<D>, (CloseFault, Self, Vec<Share<L>>)>
         requires { L.parts ≡ 65536 }
         ensures since { IfOk result (λ closed.
@@ -275,9 +276,10 @@ impl<D: Disk, L: Origin> Engine<D, L> {
             StaysAlong D.model L.disk L.base closed.trail.items closed.store.disk) }
         ensures closed { IfOk result (λ closed. AtSomeMoment (based_on D.model L.base L.before)
             (Closes closed.store closed.base closed.trail.items closed.settled shares.items)) }
+        ensures seen { IfOk result (λ closed. seen.now ≤ closed.settled) }
         ensures refused { IfErr result (λ refused.
             AtSomeMoment (based_on D.model L.base L.before) (λ g.
-            RefusesClosing g shares.items refused.0)) }
+            RefusesClosing g shares.items seen.now refused.0)) }
         ensures back { IfErr result (λ refused. refused.2.items ≡ shares.items) }
     {
         let Engine {
@@ -288,7 +290,7 @@ impl<D: Disk, L: Origin> Engine<D, L> {
         } = self;
         let guarded = guarded.into_inner();
         guarded.keeps();
-        match guarded.close(shares) {
+        match guarded.close(shares, seen) {
             Ok(closed) => Ok(closed),
             Err((fault, guarded, shares)) => Err((
                 fault,

@@ -29,38 +29,38 @@ adds_worker first all later notes added pushed packets = (added.0 ++ notes ∷ [
 named_of : (shares : List (List Note)) (count : ℕ) (before trail : List Step) (kinds : List Kind) → before ≡ [] → IsNamed shares (count + length before) (drop (length before) trail) (drop (length before) kinds) → IsNamed shares count trail kinds
 named_of shares count before trail kinds none named = grind arith
 
-one_history : {D : Type 0} (b : Basis D) (own : List Note) (shares : List (List Note)) (left : Closed D) → b.before ≡ [] → AddsWorkers (own ∷ []) shares
-    → IsSince b.base b.before shares left.base left.trail.items → AtSomeMoment b (Closes {D = D} left.store left.base left.trail.items left.settled shares) → IsOneHistory b own left
-one_history b own shares left h1 h2 h3 h4 = grind (arith, named_of)
+one_history : {D P : Type 0} (b : Basis D) (desk : DeskState P) (shares : List (List Note)) (left : Closed D) → b.before ≡ [] → AddsWorkers (desk.notes ∷ []) shares
+    → IsSince b.base b.before shares left.base left.trail.items → AtSomeMoment b (Closes {D = D} left.store left.base left.trail.items left.settled shares) → desk.seen ≤ left.settled → IsOneHistory b desk left
+one_history b desk shares left h1 h2 h3 h4 h5 = grind (arith, named_of)
 
 -- of an engine that was not taken apart nothing is left
-pub nothing_left : {D : Type 0} (m : DiskModel D) (world : World) (before : List Step) (shares : List (List Note)) (told : ServerFault) → before ≡ [] → length shares ≡ 9
-    → IsNotClosed (based_on m world before) shares told → LeavesNothing m told
-nothing_left m world before shares fault.OutOfMemory none all is = tt
-nothing_left m world before shares fault.Socket none all is = absurd is
-nothing_left m world before shares fault.Device none all is = absurd is
-nothing_left m world before shares fault.Write none all is = absurd is
-nothing_left m world before shares (fault.NotClosed why) none all is = (world, shares, all, rw (sym none) is)
+pub nothing_left : {D : Type 0} (m : DiskModel D) (world : World) (before : List Step) (shares : List (List Note)) (seen : ℕ) (told : ServerFault) → before ≡ [] → length shares ≡ 9
+    → IsNotClosed (based_on m world before) shares seen told → LeavesNothing m told
+nothing_left m world before shares seen fault.OutOfMemory none all is = tt
+nothing_left m world before shares seen fault.Socket none all is = absurd is
+nothing_left m world before shares seen fault.Device none all is = absurd is
+nothing_left m world before shares seen fault.Write none all is = absurd is
+nothing_left m world before shares seen (fault.NotClosed why) none all is = (world, shares, seen, all, rw (sym none) is)
 
 module _ {D : Type 0} (b : Basis D) {V : Type 0} (talked : V → List Talk → V → Type 0) (failed : V → V → Type 0) (most : ℕ) where
   closed_if_none : (stopped : Bool) (served : Option ServerFault) (is_broken : Bool) (port : Local) (v w : V) (desk : DeskState Local) → fault_at_end stopped served is_broken ≡ None → Serves b talked failed most port v w desk served → IsServedToClose b most port desk
   closed_if_none stopped served is_broken port v w desk h1 h2 = grind arith
 
   -- the desk's notes, in the share that it gave back
-  pub serves_with : (v w : V) (desk : DeskState Local) (left : LifeEnd) (notes : List Note) → (port : Local) × ServesLife b talked failed most port v w desk left → notes ≡ desk.notes
-      → (seen : ℕ) × (port : Local) × (later : Local) × ServesLife b talked failed most port v w (record { notes = notes; seen = seen; port = later }) left
-  serves_with v w desk left notes s same = (desk.seen, s.0, desk.port, rw same s.1)
+  pub serves_with : (v w : V) (desk : DeskState Local) (left : LifeEnd) (notes : List Note) (seen : ℕ) → (port : Local) × ServesLife b talked failed most port v w desk left → notes ≡ desk.notes → seen ≡ desk.seen
+      → (port : Local) × (later : Local) × ServesLife b talked failed most port v w (record { notes = notes; seen = seen; port = later }) left
+  serves_with v w desk left notes seen s same saw = (s.0, desk.port, rw same (rw saw s.1))
 
   -- the shares of the desk and of the workers, once all are back
-  pub has_run : (v w : V) (left : LifeEnd) (own : List Note) (shares : List (List Note)) → (seen : ℕ) × (port : Local) × (later : Local) × ServesLife b talked failed most port v w (record { notes = own; seen = seen; port = later }) left
-      → AddsWorkers (own ∷ []) shares → length shares ≡ 9 → HasRun b talked failed most v w left shares
-  has_run v w left own shares s added all = record { port = s.1; desk = record { notes = own; seen = s.0; port = s.2 }; served = s.3; added = added; all = all }
+  pub has_run : (v w : V) (left : LifeEnd) (own : List Note) (seen : ℕ) (shares : List (List Note)) → (port : Local) × (later : Local) × ServesLife b talked failed most port v w (record { notes = own; seen = seen; port = later }) left
+      → AddsWorkers (own ∷ []) shares → length shares ≡ 9 → HasRun b talked failed most v w left shares seen
+  has_run v w left own seen shares s added all = record { port = s.0; desk = record { notes = own; seen = seen; port = s.1 }; served = s.2; saw = refl; added = added; all = all }
 
   -- one life: how the desk went on, and what is left of the engine, which was taken apart with all shares
-  pub lived : (v u : V) (ran : LifeEnd) (shares : List (List Note)) (life : Life D V) → b.before ≡ [] → HasRun b talked failed most v u ran shares
+  pub lived : (v u : V) (ran : LifeEnd) (shares : List (List Note)) (seen : ℕ) (life : Life D V) → b.before ≡ [] → HasRun b talked failed most v u ran shares seen
       → IsSince b.base b.before shares life.closed.base life.closed.trail.items → AtSomeMoment b (Closes {D = D} life.closed.store life.closed.base life.closed.trail.items life.closed.settled shares)
-      → life.callers ≡ u → life.left ≡ ran → IsLife b talked failed most v life
-  lived v u ran shares life none is since closed same_w same = grind (arith, one_history)
+      → life.callers ≡ u → life.left ≡ ran → seen ≤ life.closed.settled → IsLife b talked failed most v life
+  lived v u ran shares seen life none is since closed same_w same settled = grind (arith, one_history)
 
   -- a last life that ended so
   served_so : (port : Local) (v w : V) (desk : DeskState Local) (served : Option ServerFault) → ServesLife b talked failed most port v w desk (Ended served) → Serves b talked failed most port v w desk served
@@ -104,7 +104,7 @@ module _ {D : Type 0} (m : DiskModel D) {V : Type 0} (talked : V → List Talk �
       so.port,
       so.desk,
       rw same_w (served_at_last (b world) talked failed most so.port u life.callers so.desk life.left ended.served so.served over),
-      subst (IsOneHistory (b world) so.desk.notes) (sym same) so.history,
+      subst (IsOneHistory (b world) so.desk) (sym same) so.history,
     ),
   )
 

@@ -20,6 +20,7 @@ use Rattle.coord_engine.specs.State.{based_on}
 use Rattle.coord_engine.specs.declared.closed.Closed.{Closed}
 use Rattle.coord_server.proofs.Ends.{rests, served_at_last}
 use Rattle.coord_server.proofs.OneHistory.{leaves_all, lives_are_one, tells}
+use Rattle.coord_server.specs.EngineDesk.{DeskState}
 use Rattle.coord_server.specs.Ending.{IsLife, IsOneHistory}
 use Rattle.coord_server.specs.Lives.{AreOneHistory, IsLastLife, LifeSteps, all_steps, steps_in, steps_of}
 use Rattle.coord_server.specs.Moments.{AtEachMoment, ComesFrom, EndsAlong, HasComeTo, HaveRested, KeepsAlong, LivesKeepAlong}
@@ -64,7 +65,7 @@ module _ {D : Type 0} (m : DiskModel D) where
   }
 
   -- a life that rests: the next one begins where it ended
-  pub next_from : (first now : Kept D) (steps : List Step) (left : Closed D) (desk : List Note) → ComesFrom m first steps now → IsOneHistory (based_on m now.world []) desk left → KeepsAlong m now left.trail.items left.store
+  pub next_from : (first now : Kept D) (steps : List Step) (left : Closed D) {P : Type 0} (desk : DeskState P) → ComesFrom m first steps now → IsOneHistory (based_on m now.world []) desk left → KeepsAlong m now left.trail.items left.store
       → left.settled ≡ left.base.count + length left.trail.items → ComesFrom m first (steps ++ left.trail.items) left.store
   next_from first now steps left desk come history along all =
       let t = tells (based_on m now.world []) desk left history in
@@ -86,7 +87,7 @@ module _ {D : Type 0} (m : DiskModel D) {V : Type 0} (talked : V → List Talk �
   unfolding rests
   rested_on first now next v u others life rested so along kept is same same_w going all =
       let lives = steps_of m talked most rested.0 first.world v now.world u rested.1 in
-      let come : ComesFrom m first (all_steps lives ++ life.closed.trail.items) life.closed.store = next_from m first now (all_steps lives) life.closed so.desk.notes rested.2 so.history along all in
+      let come : ComesFrom m first (all_steps lives ++ life.closed.trail.items) life.closed.store = next_from m first now (all_steps lives) life.closed so.desk rested.2 so.history along all in
       let more = subst (λ l. ComesFrom m first l life.closed.store) (sym (and_steps lives (steps_in life.closed))) come in
       let whole : HaveRested m talked most first v life.closed.store life.callers = (suc rested.0, (now.world, u, rested.1, rests m talked failed most now.world u life is so kept going all), more) in
       subst (λ k. HaveRested m talked most first v k others) (sym same) (subst (λ w. HaveRested m talked most first v life.closed.store w) (sym same_w) whole)
@@ -110,7 +111,7 @@ module _ {D : Type 0} (m : DiskModel D) {V : Type 0} (talked : V → List Talk �
         so.port,
         so.desk,
         rw same_w (served_at_last (based_on m world []) talked failed most so.port u life.callers so.desk life.left ended.served so.served over),
-        subst (IsOneHistory (based_on m world []) so.desk.notes) (sym same) so.history,
+        subst (IsOneHistory (based_on m world []) so.desk) (sym same) so.history,
       ),
     ),
     subst (λ (c : Closed D). KeepsAlong m first (all_steps (steps_of m talked most n first.world v world u lives ++ steps_in c ∷ [])) c.store) (sym same) along,

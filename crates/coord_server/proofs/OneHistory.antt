@@ -12,6 +12,7 @@ use Rattle.coord_ledger.specs.declared.ticket.Note.{Note}
 use Rattle.coord_admin.specs.Connections.{Talk}
 use Rattle.coord_engine.specs.State.{Basis, based_on}
 use Rattle.coord_engine.specs.declared.closed.Closed.{Closed}
+use Rattle.coord_server.specs.EngineDesk.{DeskState}
 use Rattle.coord_server.specs.Ending.{IsOneHistory}
 use Rattle.coord_server.specs.Lives.{AreOneHistory, ClosedLivesAreOne, EndsOneHistory, HasLived, LifeSteps, Lives, LivesAreOne, Rests, all_given, all_steps, life_steps, talked_any, steps_in, steps_of}
 use Rattle.coord_server.specs.declared.server_end.ServerEnd.{ServerEnd}
@@ -28,7 +29,7 @@ pub record Tells {D : Type 0} (world : World) (left : Closed D) : Type 0 where
   pub kept : left.store.world ≡ fold world (take done left.trail.items)
 
 -- a history tells so: the log under the lock was consistent, and its settled world is the store's
-pub tells : {D : Type 0} (b : Basis D) (desk : List Note) (left : Closed D) → IsOneHistory b desk left → Tells b.base left
+pub tells : {D P : Type 0} (b : Basis D) (desk : DeskState P) (left : Closed D) → IsOneHistory b desk left → Tells b.base left
 tells b desk left h1 = grind arith
 
 -- a life of which all is settled leaves the world after its trail
@@ -137,7 +138,7 @@ module _ {D : Type 0} (m : DiskModel D) {V : Type 0} (talked : V → List Talk �
 module _ {D : Type 0} (m : DiskModel D) {V : Type 0} (talked : V → List Talk → V → Type 0) (failed : V → V → Type 0) (most : ℕ) where
   pub lives_are_one : (W : Type 0) → LivesAreOne W m talked failed most
   lives_are_one W began v ended lived =
-      one_history began lived.1 (steps_of m talked most lived.0 began v lived.1 lived.2 lived.3) ended.closed (lives_go_on m talked most lived.0 began lived.1 v lived.2 lived.3) (tells (based_on m lived.1 []) lived.4.1.notes ended.closed lived.4.3)
+      one_history began lived.1 (steps_of m talked most lived.0 began v lived.1 lived.2 lived.3) ended.closed (lives_go_on m talked most lived.0 began lived.1 v lived.2 lived.3) (tells (based_on m lived.1 []) lived.4.1 ended.closed lived.4.3)
 
   -- what the last life leaves ends one history
   pub ends : {W : Type 0} (began : World) (v : V) (ended : ServerEnd D V W) → HasLived m talked failed most began v ended → EndsOneHistory began ended.closed
@@ -145,4 +146,4 @@ module _ {D : Type 0} (m : DiskModel D) {V : Type 0} (talked : V → List Talk �
 
 pub closed_lives_are_one : {D : Type 0} (m : DiskModel D) → ClosedLivesAreOne m
 closed_lives_are_one {D} m began left lived =
-    one_history began lived.1 (steps_of m talked_any life_steps lived.0 began tt lived.1 tt lived.2) left (lives_go_on m talked_any life_steps lived.0 began lived.1 tt tt lived.2) (tells (based_on m lived.1 []) lived.3.1.notes left lived.3.3)
+    one_history began lived.1 (steps_of m talked_any life_steps lived.0 began tt lived.1 tt lived.2) left (lives_go_on m talked_any life_steps lived.0 began lived.1 tt tt lived.2) (tells (based_on m lived.1 []) lived.3.1 left lived.3.3)

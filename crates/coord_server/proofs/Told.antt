@@ -67,11 +67,11 @@ note_of_place n w (s ∷ steps) note (suc k) d count lt is =
     let there = note_of_place (n + 1) (next w s) steps note k d (ap (λ c. c + 1) count) (omega (arith, lt)) is in
     record { number = omega (arith, there.number); there = there.there; outcome = there.outcome; given = there.given; reply = there.reply }
 
-pub notes_are_replies : (D : Type 0) → NotesAreReplies D
-notes_are_replies D b desk left history note is_noted =
-    let all = all_notes (desk ∷ history.workers) in
+pub notes_are_replies : (D P : Type 0) → NotesAreReplies D P
+notes_are_replies D P b desk left history note is_noted =
+    let all = all_notes (desk.notes ∷ history.workers) in
     let notes = notes_of left.base.count left.trail.items (kinds_of left.base left.trail.items) in
-    let here : Contains all note = Contains-append_left desk (all_notes history.workers) note is_noted in
+    let here : Contains all note = Contains-append_left desk.notes (all_notes history.workers) note is_noted in
     let there : Contains notes note = Contains-permutation all notes note history.named.each_once here in
     let is = note_of_place left.base.count left.base left.trail.items note there.0 note refl there.1 there.2 in
     record { place = there.0; number = is.number; there = is.there; outcome = is.outcome; given = is.given; reply = is.reply }
@@ -98,8 +98,8 @@ fits_of : (log : Log) (doubt : Option ℕ) (P : ℕ → Type 0) → IfSome doubt
 fits_of log None P is = tt
 fits_of log (Some size) P is = is.1
 
-pub lives_leave_steps : (D : Type 0) → LivesLeaveSteps D
-lives_leave_steps D b desk left history keeps image is =
+pub lives_leave_steps : (D P : Type 0) → LivesLeaveSteps D P
+lives_leave_steps D P b desk left history keeps image is =
     let g = history.closed.state in
     let so = history.closed.so in
     let held = history.closed.held in

@@ -1,6 +1,6 @@
 -- How a server ends, and what it leaves of its engine.
 use Rattle.std.specs.Borrow.{Bor}
-use Rattle.std.specs.Prelude.{◌≡◌, ◌⊎◌, ℕ, List, [], ◌∷◌, ◌++◌, All, Bool, true, false, Option, Some, None, length}
+use Rattle.std.specs.Prelude.{◌≡◌, ◌⊎◌, ℕ, ◌≤◌, List, [], ◌∷◌, ◌++◌, All, Bool, true, false, Option, Some, None, length}
 use Rattle.coord_ledger.specs.declared.ticket.Note.{Note}
 use Rattle.coord_ledger.specs.machine.Log.{kinds_of}
 use Rattle.coord_disk.specs.Model.DiskModel.{DiskModel}
@@ -24,13 +24,14 @@ new_desk port = record { notes = []; seen = 0; port = port }
 abbrev pub Local : Type 0
 Local = Bor (Unit {0})
 
--- One history: what the desk and the workers noted are the steps that were accepted since the store was opened, each once with the kind of its reply, and each one's own in order. What workers noted are steps of packets. The store has the world after those that are settled.
-pub record IsOneHistory {D : Type 0} (b : Basis D) (desk : List Note) (left : Closed D) : Type 0 where
+-- One history: what the desk and the workers noted are the steps that were accepted since the store was opened, each once with the kind of its reply, and each one's own in order. What workers noted are steps of packets. The store has the world after those that are settled, and what the desk has seen is settled.
+pub record IsOneHistory {D P : Type 0} (b : Basis D) (desk : DeskState P) (left : Closed D) : Type 0 where
   pub workers : List (List Note)
   pub of_packets : All (All IsOfPacket) workers
   pub same_base : left.base ≡ b.base
-  pub named : IsNamed (desk ∷ workers) left.base.count left.trail.items (kinds_of left.base left.trail.items)
-  pub closed : AtSomeMoment b (Closes {D = D} left.store left.base left.trail.items left.settled (desk ∷ workers))
+  pub named : IsNamed (desk.notes ∷ workers) left.base.count left.trail.items (kinds_of left.base left.trail.items)
+  pub closed : AtSomeMoment b (Closes {D = D} left.store left.base left.trail.items left.settled (desk.notes ∷ workers))
+  pub seen : desk.seen ≤ left.settled
 
 -- behind these shares those of workers were put, whose notes are all of packets
 abbrev pub AddsWorkers : List (List Note) → List (List Note) → Type 0
@@ -62,11 +63,12 @@ module _ {D : Type 0} (b : Basis D) {V : Type 0} (talked : V → List Talk → V
     Serves port v w desk (Some fault.Device) = ServesLife port v w desk end.Resting
     Serves port v w desk served = ServesLife port v w desk (end.Ended served)
 
-    -- the threads of a life have run: the desk served until this end, and with its share all nine are back, the desk's and those of eight workers
-    pub record HasRun (v w : V) (left : LifeEnd) (shares : List (List Note)) : Type 0 where
+    -- the threads of a life have run: the desk served until this end and saw that much, and with its share all nine are back, the desk's and those of eight workers
+    pub record HasRun (v w : V) (left : LifeEnd) (shares : List (List Note)) (seen : ℕ) : Type 0 where
       pub port : Local
       pub desk : DeskState Local
       pub served : ServesLife port v w desk left
+      pub saw : desk.seen ≡ seen
       pub added : AddsWorkers (desk.notes ∷ []) shares
       pub all : length shares ≡ 9
 
@@ -75,7 +77,7 @@ module _ {D : Type 0} (b : Basis D) {V : Type 0} (talked : V → List Talk → V
       pub port : Local
       pub desk : DeskState Local
       pub served : ServesLife port v life.callers desk life.left
-      pub history : IsOneHistory b desk.notes life.closed
+      pub history : IsOneHistory b desk life.closed
 
 -- a desk that began with nothing was served over some connections, the last of which closed it
 abbrev pub IsServedToClose : {D P : Type 0} → Basis D → ℕ → P → DeskState P → Type 0
@@ -88,15 +90,15 @@ IsOfStart fault.Socket = Unit {0}
 IsOfStart fault.Write = Unit {0}
 IsOfStart other = ⊥
 
--- an engine was not taken apart with these shares, and that is why
-abbrev pub IsNotClosed : {D : Type 0} → Basis D → List (List Note) → ServerFault → Type 0
-IsNotClosed {D} b shares (fault.NotClosed why) = AtSomeMoment b (λ g. RefusesClosing {D = D} g shares why)
-IsNotClosed b shares other = ⊥
+-- an engine was not taken apart with these shares, where its desk had seen that much, and that is why
+abbrev pub IsNotClosed : {D : Type 0} → Basis D → List (List Note) → ℕ → ServerFault → Type 0
+IsNotClosed {D} b shares seen (fault.NotClosed why) = AtSomeMoment b (λ g. RefusesClosing {D = D} g shares seen why)
+IsNotClosed b shares seen other = ⊥
 
 -- what is told where nothing is left to give back: no memory or no thread could be had to begin a life, or the engine of a life was not taken apart with all nine shares
 abbrev pub LeavesNothing : {D : Type 0} → DiskModel D → ServerFault → Type 0
 LeavesNothing m fault.OutOfMemory = Unit {0}
-LeavesNothing m (fault.NotClosed why) = (world : World) × (shares : List (List Note)) × (length shares ≡ 9) × IsNotClosed (based_on m world []) shares (fault.NotClosed why)
+LeavesNothing m (fault.NotClosed why) = (world : World) × (shares : List (List Note)) × (seen : ℕ) × (length shares ≡ 9) × IsNotClosed (based_on m world []) shares seen (fault.NotClosed why)
 LeavesNothing m other = ⊥
 
 -- what a server that has ended tells: a store that has stopped first, then what ended the serving, then an output that is amiss

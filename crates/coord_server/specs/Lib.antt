@@ -7,4 +7,5 @@ pub mod Moments
 pub mod Printed
 pub mod Signals
 pub mod Told
+pub mod WorkedTold
 pub mod Workers

@@ -46,7 +46,7 @@ module _ {D : Type 0} (m : DiskModel D) {V : Type 0} (talked : V → List Talk �
     pub left : Closed D
     pub served : ServedWhileOpen (begun_over began) talked most port v w desk
     pub old : most ≤ length left.trail.items
-    pub history : IsOneHistory (begun_over began) desk.notes left
+    pub history : IsOneHistory (begun_over began) desk left
     pub all_settled : left.settled ≡ left.base.count + length left.trail.items
     pub going : has_stopped left.store ≡ false
     pub goes_on : next ≡ left.store.world
@@ -66,13 +66,13 @@ EndsLives {D} m {V} talked failed most began v last =
 abbrev pub HasLived : {D W : Type 0} → DiskModel D → {V : Type 0} → (V → List Talk → V → Type 0) → (V → V → Type 0) → ℕ → World → V → ServerEnd D V W → Type 0
 HasLived {D} {W} m {V} talked failed most began v ended =
     (n : ℕ) × (world : World) × (u : V) × Lives m talked most n began v world u
-    × ((port : Local) × (desk : DeskState Local) × Serves (based_on m world []) talked failed most port u ended.callers desk ended.served × IsOneHistory (based_on m world []) desk.notes ended.closed)
+    × ((port : Local) × (desk : DeskState Local) × Serves (based_on m world []) talked failed most port u ended.callers desk ended.served × IsOneHistory (based_on m world []) desk ended.closed)
 
 -- the same where a line has closed the last one, and each life has the steps of a server's
 abbrev pub HasLivedToClose : {D : Type 0} → DiskModel D → World → Closed D → Type 0
 HasLivedToClose {D} m began left =
     (n : ℕ) × (world : World) × Lives m talked_any life_steps n began tt world tt
-    × ((port : Local) × (desk : DeskState Local) × IsServedToClose (based_on m world []) life_steps port desk × IsOneHistory (based_on m world []) desk.notes left)
+    × ((port : Local) × (desk : DeskState Local) × IsServedToClose (based_on m world []) life_steps port desk × IsOneHistory (based_on m world []) desk left)
 
 -- the lives of a server whose clients are waited for as usual, from this world
 abbrev pub HasServed : {D W : Type 0} → DiskModel D → World → ServerEnd D Patience W → Type 0

@@ -1,4 +1,5 @@
 -- What a reply, and what is left of a disk, tell of the steps of a life.
+use Rattle.std.specs.List.{AllByRecursion}
 use Rattle.std.specs.Prelude.{◌≡◌, ◌⊎◌, ℕ, ◌+◌, ◌-◌, ◌≤◌, true, List, [], ◌∷◌, ◌++◌, Contains, Ok, Some, length, slice_get, take}
 use Rattle.coord_disk.specs.Model.Present.{IsImage}
 use Rattle.coord_types.specs.declared.steps.Reply.{Reply}
@@ -11,9 +12,15 @@ use Rattle.coord_ledger.specs.Facade.{IsCollectable}
 use Rattle.coord_engine.specs.State.{Basis}
 use Rattle.coord_engine.specs.Threads.{AtSomeMoment}
 use Rattle.coord_engine.specs.declared.closed.Closed.{Closed}
+use Rattle.coord_admin.specs.Connections.{Connection, Talk}
 use Rattle.coord_admin.specs.LifeLimit.{HasKeptFewer}
+use Rattle.coord_admin.specs.Replies.{reply_line, reply_lines}
+use Rattle.coord_admin.specs.declared.answer.Answer.{Answer}
+use Rattle.coord_admin.specs.declared.answer.Answer.TheVariants.{Faulted, Refused, Replied, Resent, Shown}
+use Rattle.coord_admin.specs.declared.answer.Answer.TheVariants as answer
+use Rattle.coord_lines.specs.Written.{IsFirstPart}
 use Rattle.coord_server.specs.EngineDesk.{AnswersOrder, DeskKeeps, DeskState}
-use Rattle.coord_server.specs.Ending.{IsOneHistory}
+use Rattle.coord_server.specs.Ending.{IsClosed, IsOneHistory, ServedWhileOpen}
 
 -- An order that is told a reply was noted just then, with the number and the kind that it is told; or nothing was, since it repeats one. At some moment of that life the step was settled: the log had it at that number and answered it with that kind, or the base kept that reply for that order.
 pub record NamesItsStep {D : Type 0} (b : Basis D) (s : Step) (reply : Reply) (before after : List Note) : Type 0 where
@@ -34,8 +41,36 @@ pub record IsReplied {D : Type 0} (left : Closed D) (note : Note) : Type 0 where
   pub reply : outcome.reply ≡ record { step = note.step; kind = note.kind }
 
 -- each reply that a desk noted in a life is the reply of its step in the history that is left
-abbrev pub NotesAreReplies : Type 0 → Type 0
-NotesAreReplies D = (b : Basis D) (desk : List Note) (left : Closed D) → IsOneHistory b desk left → (note : Note) → Contains desk note → IsReplied left note
+abbrev pub NotesAreReplies : Type 0 → Type 0 → Type 0
+NotesAreReplies D P = (b : Basis D) (desk : DeskState P) (left : Closed D) → IsOneHistory b desk left → (note : Note) → Contains desk.notes note → IsReplied left note
+
+-- an answer tells of no step behind this one: neither its reply nor what it shows
+abbrev pub TellsUpTo : ℕ → Answer → Type 0
+TellsUpTo step (Replied r) = r.step ≤ step
+TellsUpTo step (Shown v) = v.settled ≤ step
+TellsUpTo step (Refused r) = Unit {0}
+TellsUpTo step (Resent n) = Unit {0}
+TellsUpTo step answer.Closed = Unit {0}
+TellsUpTo step (Faulted f) = Unit {0}
+
+-- what was written is lines, each of which tells of no step behind this one; in the last of them it may break off
+pub record WritesUpTo (step : ℕ) (text : List ℕ) : Type 0 where
+  pub told : List Answer
+  pub up_to : AllByRecursion (TellsUpTo step) told
+  pub part : List ℕ
+  pub broken : (part ≡ []) ⊎ ((last : Answer) × TellsUpTo step last × IsFirstPart part (reply_line last))
+  pub text_is : text ≡ reply_lines told ++ part
+
+-- over each of these connections
+abbrev pub AllWriteUpTo : ℕ → List Connection → Type 0
+AllWriteUpTo step cs = AllByRecursion (λ c. WritesUpTo step c.talk.bytes_written) cs
+
+-- all that the desk of a life told or showed is settled in what is left of it, whether or not a line closed it
+abbrev pub ToldIsSettled : Type 0 → Type 0 → {V : Type 0} → (V → List Talk → V → Type 0) → Type 0
+ToldIsSettled D P {V} talked =
+    (b : Basis D) (most : ℕ) (port : P) (v w : V) (desk : DeskState P) (left : Closed D) → IsOneHistory b desk left
+    → ((served : ServedWhileOpen b talked most port v w desk) → AllWriteUpTo left.settled served.0)
+    × ((served : IsClosed b talked most port v w desk) → AllWriteUpTo left.settled (served.0 ++ served.1 ∷ []))
 
 -- these bytes give the world after the settled steps of a life; or after a stop that of those and the next ones, which were in doubt
 abbrev pub LifeGives : {D : Type 0} → Closed D → List ℕ → Type 0
@@ -45,9 +80,9 @@ LifeGives left bytes =
     × Recovered bytes (fold left.base (take (left.settled - left.base.count + size) left.trail.items)))
 
 -- whatever a crash may leave of the disk of a life gives so
-abbrev pub LivesLeaveSteps : Type 0 → Type 0
-LivesLeaveSteps D =
-    (b : Basis D) (desk : List Note) (left : Closed D) → IsOneHistory b desk left
+abbrev pub LivesLeaveSteps : Type 0 → Type 0 → Type 0
+LivesLeaveSteps D P =
+    (b : Basis D) (desk : DeskState P) (left : Closed D) → IsOneHistory b desk left
     → b.keeps_model left.store.disk ≡ true → (image : List ℕ) → IsImage (b.present left.store.disk) image → LifeGives left image
 
 -- a desk that has noted as many steps as its life has does not keep fewer, whatever its engine keeps

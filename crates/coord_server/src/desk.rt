@@ -47,18 +47,19 @@ impl<'a, D: Disk, L: Origin, P: Port + Drop, R: Wait> EngineDesk<'a, D, L, P, R>
         }
     }
 
-    /// The desk's share, with the notes of what was accepted for it.
-    pub fn into_share(self) -> Share<L>
-        ensures { result ≡ self.entry.notes }
+    /// The desk's share, with the notes of what was accepted for it, and what the desk has seen.
+    pub fn into_parts(self) -> (Share<L>, Seen)
+        ensures notes { result.0 ≡ self.entry.notes }
+        ensures seen { result.1 ≡ self.entry.seen }
     {
         let EngineDesk {
             rt: _,
             engine: _,
             port: _,
             share,
-            seen: _,
+            seen,
         } = self;
-        share
+        (share, seen)
     }
 }
 

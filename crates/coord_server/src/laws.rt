@@ -3,7 +3,8 @@
 
 ghost use Rattle.std.specs.Prelude.{ℕ};
 ghost use Rattle.coord_server.specs.Lives.{ClosedLivesAreOne, LivesAreOne};
-ghost use Rattle.coord_server.specs.Told.{LivesLeaveSteps, NotesAreReplies, NotesEndALife, RepliesNameSteps};
+ghost use Rattle.coord_server.specs.Told.{LivesLeaveSteps, NotesAreReplies, NotesEndALife, RepliesNameSteps, ToldIsSettled};
+ghost use Rattle.coord_server.specs.WorkedTold.{TellUpToThird};
 
 use coord_admin::Callers;
 use coord_disk::Disk;
@@ -30,14 +31,26 @@ pub fn replies_name_steps<D: Disk>()
 
 /// Each reply that a desk noted in a life is the reply of its step in the history that is left: the
 /// trail has the step at the number of the reply, and gives out a reply of that kind there.
-pub fn notes_are_replies<D: Disk>()
-    ensures { NotesAreReplies D }
+pub fn notes_are_replies<D: Disk, P: Port>()
+    ensures { NotesAreReplies D P }
+{}
+
+/// All that the desk of a life told or showed, over each connection that ended, is settled in what is
+/// left: no reply has a greater number, and no world that was shown counts more steps as settled.
+pub fn told_is_settled<D: Disk, C: Callers, P: Port>()
+    ensures { ToldIsSettled D P C.talked }
+{}
+
+/// The reply to the third step and a world with three settled steps, told, tell of three steps, and not
+/// of two.
+pub fn tell_up_to_third()
+    ensures { TellUpToThird }
 {}
 
 /// Whatever a crash may leave of a life's disk gives the world after the settled steps; after a
 /// stop perhaps the world after the next ones too, which were in doubt.
-pub fn lives_leave_steps<D: Disk>()
-    ensures { LivesLeaveSteps D }
+pub fn lives_leave_steps<D: Disk, P: Port>()
+    ensures { LivesLeaveSteps D P }
 {}
 
 /// No connection begins at a desk that has noted as many steps as its life has, whatever its engine

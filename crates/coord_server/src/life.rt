@@ -1,6 +1,6 @@
 //! One life of a server: an engine with its threads, from a store to what is left of it.
 
-ghost use Rattle.std.specs.Prelude.{◌≡◌, [], false, length, IfErr, IfOk, IfSome, None};
+ghost use Rattle.std.specs.Prelude.{◌≡◌, ◌≤◌, [], false, length, IfErr, IfOk, IfSome, None};
 ghost use Rattle.coord_engine.specs.Past.{IsPastOf, StaysAlong};
 ghost use Rattle.coord_engine.specs.State.{based_on};
 ghost use Rattle.coord_store.specs.Kept.{has_stopped};
@@ -146,18 +146,20 @@ fn closed_life<D: Disk, L: Origin, C: Drop>(
         IsSince L.base L.before completed.shares.items life.closed.base life.closed.trail.items ×
         AtSomeMoment (based_on D.model L.base L.before)
         (Closes life.closed.store life.closed.base life.closed.trail.items life.closed.settled
-        completed.shares.items) × (life.callers ≡ completed.callers) × (life.left ≡ completed.left)) }
+        completed.shares.items) × (life.callers ≡ completed.callers) × (life.left ≡ completed.left) ×
+        (completed.seen ≤ life.closed.settled)) }
     ensures along { IfOk result (λ life.
         StaysAlong D.model L.disk L.base life.closed.trail.items life.closed.store.disk) }
     ensures nothing { IfErr result
-        (IsNotClosed (based_on D.model L.base L.before) completed.shares.items) }
+        (IsNotClosed (based_on D.model L.base L.before) completed.shares.items completed.seen) }
 {
     let JoinedThreads {
         shares,
+        seen,
         callers,
         left,
     } = completed;
-    match engine.close(shares) {
+    match engine.close(shares, &seen) {
         Ok(closed) => Ok(Life {
             closed,
             callers,

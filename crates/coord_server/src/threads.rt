@@ -1,6 +1,6 @@
 //! The threads of one life of a server, while connections are served.
 
-ghost use Rattle.std.specs.Prelude.{◌≡◌, ◌⊎◌, ◌+◌, ◌≤◌, [], ◌∷◌, ℕ, IfErr, IfOk, IfSome, Some, length, vec_capacity, vec_len};
+ghost use Rattle.std.specs.Prelude.{◌≡◌, ◌⊎◌, ◌+◌, ◌≤◌, [], ◌∷◌, IfErr, IfOk, IfSome, Some, length, vec_capacity, vec_len};
 ghost use Rattle.std.specs.Thread.{IsSend, IsSync};
 ghost use Rattle.coord_engine.specs.State.{based_on};
 ghost use Rattle.coord_server.specs.EngineDesk.{HandsAgain};
@@ -14,6 +14,7 @@ use crate::{EngineDesk, ServerFault, Telling};
 use coord_admin::{Callers, Desk, Stop, serve_connections};
 use coord_disk::Disk;
 use coord_engine::{Engine, Origin, PacketShare, Port, Share, flusher, packet_worker};
+use coord_ledger::Seen;
 use coord_types::Packet;
 use crossbeam_channel::Receiver;
 use std::sync::Wait;
@@ -36,10 +37,11 @@ pub struct Begun<L: Count> {
     pub ghost eight: { length packets.items ≡ 8 },
 }
 
-/// What they leave once all have ended: all shares, the desk's first.
+/// What they leave once all have ended: all shares, the desk's first, and what the desk has seen.
 #[derive(Drop)]
 pub struct JoinedThreads<L: Count, C> {
     pub shares: Vec<Share<L>>,
+    pub seen: Seen,
     pub callers: C,
     pub left: LifeEnd,
 }
@@ -73,7 +75,7 @@ pub fn run<
     requires { MayTell (based_on D.model L.base L.before) O.may }
     ensures completed { IfOk result (λ completed.
         HasRun (based_on D.model L.base L.before) C.talked C.failed setting.now.life_steps
-        callers completed.callers completed.left completed.shares.items) }
+        callers completed.callers completed.left completed.shares.items completed.seen) }
     ensures unserved { IfErr result (λ back. (back.0 ≡ callers) × (back.1 ≡ opening)) }
 {
     thread::scope(
@@ -84,7 +86,7 @@ pub fn run<
                 MayTell (based_on D.model L.base L.before) O.may }
             ensures completed { IfOk result (λ completed.
                 HasRun (based_on D.model L.base L.before) C.talked C.failed
-                setting.entry.now.life_steps callers completed.callers completed.left completed.shares.items) }
+                setting.entry.now.life_steps callers completed.callers completed.left completed.shares.items completed.seen) }
             ensures unserved { IfErr result (λ back. (back.0 ≡ callers) × (back.1 ≡ opening)) }
         { run_in(scope, setting, engine, begun, callers, opening) },
     )
@@ -113,7 +115,7 @@ fn run_in<
     requires { MayTell (based_on D.model L.base L.before) O.may }
     ensures completed { IfOk result (λ completed.
         HasRun (based_on D.model L.base L.before) C.talked C.failed setting.now.life_steps
-        callers completed.callers completed.left completed.shares.items) }
+        callers completed.callers completed.left completed.shares.items completed.seen) }
     ensures unserved { IfErr result (λ back. (back.0 ≡ callers) × (back.1 ≡ opening)) }
 {
     let rt = setting.rt;
@@ -124,13 +126,14 @@ fn run_in<
         return Err((callers, opening));
     };
     let mut callers = callers;
-    let (own, left) = serve_over(setting, &*engine, &crew, own, &mut callers, opening);
+    let (own, seen, left) = serve_over(setting, &*engine, &crew, own, &mut callers, opening);
     let Crew { flushing, workers } = crew;
     engine.finish(rt);
     flushing.join(rt);
     setting.port.hang_up();
     Ok(JoinedThreads {
         shares: all_joined(rt, room, own, workers),
+        seen,
         callers,
         left,
     })
@@ -223,7 +226,7 @@ fn start_worker<
 }
 
 /// Opens the output, and serves those who call by a desk with this share, while a crew is at work.
-/// What ended that, and the share.
+/// The share, what the desk has seen, and what ended that.
 fn serve_over<D: Disk, L: Origin, C: Callers, O: Telling, R: Wait>(
     setting: &Setting<'_, R, O>,
     engine: &Engine<D, L>,
@@ -231,16 +234,17 @@ fn serve_over<D: Disk, L: Origin, C: Callers, O: Telling, R: Wait>(
     own: Share<L>,
     callers: &mut C,
     opening: Option<Opening>,
-) -> (Share<L>, LifeEnd)
+) -> (Share<L>, Seen, LifeEnd)
     requires { own ≡ [] }
-    ensures { (seen : ℕ) × (port : Local) × (later : Local) × ServesLife
+    ensures { (port : Local) × (later : Local) × ServesLife
         (based_on D.model L.base L.before) C.talked C.failed setting.now.life_steps port
-        callers.old callers.new (record { notes = result.0; seen = seen; port = later }) result.1 }
+        callers.old callers.new (record { notes = result.0; seen = result.1; port = later }) result.2 }
 {
     let opened = open(setting.rt, &*callers, opening);
     let mut desk = EngineDesk::new(setting.rt, engine, setting.port, own);
     let left = serve_clients(setting, opened, callers, &mut desk);
-    (desk.into_share(), left)
+    let (own, seen) = desk.into_parts();
+    (own, seen, left)
 }
 
 /// Opens the output, where that was not done before; or says why it can't be opened.

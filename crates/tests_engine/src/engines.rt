@@ -16,7 +16,7 @@ use crate::threads::ports::Manner;
 use crate::threads::rings::{is_legal, resets_ring};
 use coord_disk::Disk;
 use coord_engine::{CloseFault, Closed, Engine, NewHistory, Origin, Share};
-use coord_ledger::{Ledger, Note};
+use coord_ledger::{Ledger, Note, Seen};
 use coord_store::Store;
 use coord_types::Step;
 use std::alloc::Global;
@@ -117,12 +117,18 @@ fn closed<D: Disk, L: Origin, R: Abort>(
     requires { L.parts ≡ 65536 }
 {
     let Some(last) = shares.pop() else {
-        return engine.close(shares).ok().expect(rt, "no close");
+        return engine
+            .close(shares, &Seen::new())
+            .ok()
+            .expect(rt, "no close");
     };
-    match engine.close(shares) {
+    match engine.close(shares, &Seen::new()) {
         Err((CloseFault::SharesMissing, engine, mut shares)) => {
             shares.push(last).expect(rt, "no memory");
-            engine.close(shares).ok().expect(rt, "no close")
+            engine
+                .close(shares, &Seen::new())
+                .ok()
+                .expect(rt, "no close")
         }
         _ => panic!(rt; "it closes without the last share"),
     }

@@ -202,7 +202,7 @@ fn run<D: Disk + Send, L: Origin + Send + Sync, R: Threads + Wait + Clock + Sync
             engine.finish(rt);
             flushing.join(rt);
             let Front { desk, .. } = front;
-            (desk.into_share(), are_replied)
+            (desk.into_parts().0, are_replied)
         },
     )
 }

@@ -11,6 +11,7 @@ use super::Guarded;
 use super::comparing::{all_ascending, all_noted};
 use crate::{CloseFault, Closed, Origin, Share};
 use coord_disk::Disk;
+use coord_ledger::Seen;
 use coord_types::{Kind, Step};
 use std::sync::ledger::{Book, Ledger as Count, Share as Part};
 
@@ -65,11 +66,13 @@ impl<D: Disk, L: Origin> Guarded<D, L> {
         all_noted(shares, others, steps, kinds)
     }
 
-    /// Takes the ledger apart, where no flight is out, all shares are there and what they noted is
-    /// what was accepted since the start, with the kinds of the replies. It takes no memory.
+    /// Takes the ledger apart, where no flight is out, all shares are there, what callers have seen is
+    /// settled, and what the shares noted is what was accepted since the start, with the kinds of the
+    /// replies. It takes no memory.
     pub fn close(
         self,
         shares: Vec<Share<L>>,
+        seen: &Seen,
     ) -> Result<Closed<D>, (CloseFault, Self, Vec<Share<L>>)>
         requires { L.parts ≡ 65536 }
         ensures may { IfOk result (λ closed. MayClose self shares.items) }
@@ -83,7 +86,9 @@ impl<D: Disk, L: Origin> Guarded<D, L> {
             (closed.settled ≡ settled_count self.ledger.log)) }
         ensures along { IfOk result (λ closed.
             StaysAlong D.model L.disk L.base closed.trail.items closed.store.disk) }
-        ensures refused { IfErr result (λ refused. RefusesClosing self shares.items refused.0) }
+        ensures seen { IfOk result (λ closed. seen.now ≤ closed.settled) }
+        ensures refused { IfErr result (λ refused.
+            RefusesClosing self shares.items seen.now refused.0) }
         ensures back { IfErr result (λ refused. (refused.1 ≡ self) ×
             (refused.2.items ≡ shares.items)) }
     {
@@ -92,6 +97,9 @@ impl<D: Disk, L: Origin> Guarded<D, L> {
         }
         if shares.len() != self.given as usize {
             return Err((CloseFault::SharesMissing, self, shares));
+        }
+        if !seen.is_within(self.ledger.settled_count()) {
+            return Err((CloseFault::NotSettled, self, shares));
         }
         if !self.are_noted(&shares) {
             return Err((CloseFault::NotNamed, self, shares));

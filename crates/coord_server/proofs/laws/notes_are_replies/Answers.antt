@@ -2,4 +2,4 @@ use Rattle.coord_server.proofs.Told.{notes_are_replies}
 use Rattle.coord_server.proofs.laws.notes_are_replies.Goals as goal
 
 pub returns : goal.returns
-returns g c = notes_are_replies g.row.D.Denot
+returns g c = notes_are_replies g.row.D.Denot g.row.P.Denot

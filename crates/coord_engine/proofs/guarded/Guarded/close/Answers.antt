@@ -1,7 +1,8 @@
-use Rattle.std.proofs.Common.{◌≡◌, ◌+◌, false, drop, length, refl, rules, sym, ap, subst, arith, is_none, sum_by}
+use Rattle.std.proofs.Common.{◌≡◌, ◌+◌, ◌≤◌, false, drop, length, refl, rules, sym, ap, subst, arith, is_none, sum_by}
 use Rattle.std.proofs.lemmas.Bool.{false≢true}
+use Rattle.std.proofs.lemmas.Bool.Decides.{nat_tests}
 use Rattle.std.proofs.lemmas.List.{length-drop}
-use Rattle.coord_ledger.specs.machine.Log.{kinds_of}
+use Rattle.coord_ledger.specs.machine.Log.{kinds_of, settled_count}
 use Rattle.coord_engine.specs.Facade.{AreNoted, GuardedState, IsNamed}
 use Rattle.coord_engine.proofs.Naming.{as_many_kinds, named, named_noted}
 use Rattle.coord_engine.proofs.Past.{closed_along}
@@ -12,10 +13,11 @@ pub returns-then-not-are_noted-clause-refused : goal.returns-then-not-are_noted-
 returns-then-not-are_noted-clause-refused g c =
     let home : is_none c.args.self.ledger.disk ≡ false = search rules in
     let all : length c.args.shares.items ≡ c.args.self.given = search rules in
+    let within : c.args.seen.now ≤ settled_count c.args.self.ledger.log = grind (arith, nat_tests) in
     let n = c.args.self.ledger.log.base.count + c.args.self.start in
     let steps = drop c.args.self.start c.args.self.ledger.log.trail in
     let kinds = drop c.args.self.start (kinds_of c.args.self.ledger.log.base c.args.self.ledger.log.trail) in
-    (home, all, λ is. false≢true (c.if-not-are_noted.ensures.1 (rw c.deref.ensures.value (named_noted c.args.shares.items n steps kinds is))))
+    (home, all, within, λ is. false≢true (c.if-not-are_noted.ensures.1 (rw c.deref.ensures.value (named_noted c.args.shares.items n steps kinds is))))
 
 pub returns-clause-may : goal.returns-clause-may
 returns-clause-may g c =

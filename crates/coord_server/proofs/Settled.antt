@@ -1,0 +1,216 @@
+-- All that the desk of a life told or showed is settled.
+use Rattle.std.proofs.Common.{◌≡◌, ◌⊎◌, ℕ, ◌+◌, ◌≤◌, List, [], ◌∷◌, ◌++◌, Some, None, Result, Ok, Err, length, max, take, refl, sym, ap, ◌∙◌, subst, inl, inr, append-nil, arith}
+use Rattle.std.specs.List.{AllByRecursion}
+use Rattle.std.proofs.lemmas.Grind.{flat_map-append}
+use Rattle.std.proofs.lemmas.List.{length-take-le}
+use Rattle.coord_types.specs.declared.refusals.Refusal.{Refusal}
+use Rattle.coord_types.specs.declared.refusals.Refusal.TheVariants as refusal
+use Rattle.coord_types.specs.declared.steps.Reply.{Reply}
+use Rattle.coord_lines.specs.Lines.{Line}
+use Rattle.coord_lines.specs.Written.{IsFirstPart}
+use Rattle.coord_view.specs.Shown.{Shown}
+use Rattle.coord_world.specs.Facade.{World}
+use Rattle.coord_world.proofs.Facade.{fold_counts}
+use Rattle.coord_ledger.specs.Facade.{Log, settled_count, settled_world}
+use Rattle.coord_engine.specs.Facade.{Basis}
+use Rattle.coord_engine.specs.Threads.{AnswersShow}
+use Rattle.coord_engine.specs.declared.closed.Closed.{Closed}
+use Rattle.coord_admin.specs.Connections.{AllServed, Connection, IsServed, Talk}
+use Rattle.coord_admin.specs.Replies.{order_answer, refused, reply_line, reply_lines, resend_answer, show_answer}
+use Rattle.coord_admin.specs.Requests.{asked_by}
+use Rattle.coord_admin.specs.Stream.{AllGet, FindsNoMemory, Gets, GetsAtLast, MayAnswer, Served, last_answers}
+use Rattle.coord_admin.specs.declared.answer.Answer.{Answer}
+use Rattle.coord_admin.specs.declared.answer.Answer.TheVariants as answer
+use Rattle.coord_admin.specs.declared.fault.LineFault.{LineFault}
+use Rattle.coord_admin.specs.declared.fault.ServeFault.{ServeFault}
+use Rattle.coord_admin.specs.declared.fault.ServeFault.TheVariants as serve
+use Rattle.coord_admin.specs.declared.request.Request.{Request}
+use Rattle.coord_admin.specs.declared.request.Request.TheVariants as request
+use Rattle.coord_admin.specs.declared.session.Ended.{Ended}
+use Rattle.coord_admin.specs.declared.session.Ended.TheVariants as ended
+use Rattle.coord_server.specs.EngineDesk.{DeskAnswers, DeskKeeps, DeskState, seen_after}
+use Rattle.coord_server.specs.Ending.{IsOneHistory, new_desk}
+use Rattle.coord_server.specs.Told.{AllWriteUpTo, TellsUpTo, ToldIsSettled, WritesUpTo}
+
+-- ---- what an answer tells
+
+further : (n m : ℕ) (a : Answer) → n ≤ m → TellsUpTo n a → TellsUpTo m a
+further n m (answer.Replied r) le is = omega (arith, le, is)
+further n m (answer.Shown v) le is = omega (arith, le, is)
+further n m (answer.Refused r) le is = tt
+further n m (answer.Resent k) le is = tt
+further n m answer.Closed le is = tt
+further n m (answer.Faulted f) le is = tt
+
+all_further : (n m : ℕ) (told : List Answer) → n ≤ m → AllByRecursion (TellsUpTo n) told → AllByRecursion (TellsUpTo m) told
+all_further n m [] le is = tt
+all_further n m (a ∷ told) le is = (further n m a le is.0, all_further n m told le is.1)
+
+all_both : (n : ℕ) (told more : List Answer) → AllByRecursion (TellsUpTo n) told → AllByRecursion (TellsUpTo n) more → AllByRecursion (TellsUpTo n) (told ++ more)
+all_both n [] more is also = also
+all_both n (a ∷ told) more is also = (is.0, all_both n told more is.1 also)
+
+-- ---- what a text tells
+
+text_further : (n m : ℕ) (text : List ℕ) → n ≤ m → WritesUpTo n text → WritesUpTo m text
+text_further n m text le is = record { told = is.told; up_to = all_further n m is.told le is.up_to; part = is.part; broken = broken is.part is.broken; text_is = is.text_is }
+  where
+    broken : (part : List ℕ) → (part ≡ []) ⊎ ((last : Answer) × TellsUpTo n last × IsFirstPart part (reply_line last)) → (part ≡ []) ⊎ ((last : Answer) × TellsUpTo m last × IsFirstPart part (reply_line last))
+    broken part (inl none) = inl none
+    broken part (inr at) = inr (at.0, further n m at.0 le at.1, at.2)
+
+-- whole lines
+lines_tell : (n : ℕ) (told : List Answer) (text : List ℕ) → AllByRecursion (TellsUpTo n) told → text ≡ reply_lines told → WritesUpTo n text
+lines_tell n told text all is = record { told = told; up_to = all; part = []; broken = inl refl; text_is = is ∙ sym (append-nil (reply_lines told)) }
+
+-- and those behind them
+more_tell : (n : ℕ) (told more : List Answer) (text : List ℕ) → AllByRecursion (TellsUpTo n) told → AllByRecursion (TellsUpTo n) more → text ≡ reply_lines told ++ reply_lines more → WritesUpTo n text
+more_tell n told more text all also is = lines_tell n (told ++ more) text (all_both n told more all also) (is ∙ sym (flat_map-append reply_line told more))
+
+last_tells : (n : ℕ) (line : Line) → AllByRecursion (TellsUpTo n) (last_answers line)
+last_tells n None = (tt, tt)
+last_tells n (Some []) = tt
+last_tells n (Some (x ∷ xs)) = (tt, tt)
+
+-- a desk that had seen n answers so, and then has seen m
+abbrev Goes : ℕ → Answer → ℕ → Type 0
+Goes n a m = (n ≤ m) × TellsUpTo m a
+
+-- ---- a desk that sees all that it tells
+
+module _ {D : Type 0} (answers : D → Request → Answer → D → Type 0) (seen : D → ℕ) (sees : (d e : D) (r : Request) (a : Answer) → answers d r a e → Goes (seen d) a (seen e)) where
+  same : (d e : D) → e ≡ d → seen d ≤ seen e
+  same d e is = omega (arith, ap seen is)
+
+  may : (d e : D) (asked : Result Request LineFault) (a : Answer) → MayAnswer answers d asked a e → Goes (seen d) a (seen e)
+  may d e (Ok r) a is = sees d e r a is
+  may d e (Err f) a is = subst (λ (x : Answer). Goes (seen d) x (seen e)) (sym is.0) (same d e is.1, tt)
+
+  no_memory : (d e : D) (line : Line) → FindsNoMemory answers d line e → seen d ≤ seen e
+  no_memory d e line (inl is) = same d e is.1
+  no_memory d e line (inr is) = (may d e (asked_by line) is.0 is.2).0
+
+  gets : (d e : D) (line : Line) (a : Answer) → Gets answers d line a e → Goes (seen d) a (seen e)
+  gets d e line a (inl is) = may d e (asked_by line) a is
+  gets d e line a (inr is) = subst (λ (x : Answer). Goes (seen d) x (seen e)) (sym is.0) (no_memory d e line is.1, tt)
+
+  gets_at_last : (d e : D) (line : Line) (a : Answer) → GetsAtLast answers d line a e → Goes (seen d) a (seen e)
+  gets_at_last d e line a (inl is) = gets d e line a is
+  gets_at_last d e line a (inr is) = subst (λ (x : Answer). Goes (seen d) x (seen e)) (sym is.0) (same d e is.1, tt)
+
+  all_get : (d e : D) (lines : List Line) (told : List Answer) → AllGet answers d lines told e → (seen d ≤ seen e) × AllByRecursion (TellsUpTo (seen e)) told
+  all_get d e [] [] is = (same d e is, tt)
+  all_get d e [] (a ∷ told) is = absurd is
+  all_get d e (line ∷ lines) [] is = absurd is
+  all_get d e (line ∷ lines) (a ∷ told) is =
+      let first = gets d is.0 line a is.1 in
+      let later = all_get is.0 e lines told is.3 in
+      (omega (arith, first.0, later.0), (further (seen is.0) (seen e) a later.0 first.1, later.1))
+
+  served : (d e : D) (read text : List ℕ) (how : Result Ended ServeFault) → Served answers d read text how e → (seen d ≤ seen e) × WritesUpTo (seen e) text
+  served d e read text (Ok ended.Input) (told, last, reaches, is) =
+      let all = all_get d e reaches.0 told reaches.2 in
+      (all.0, more_tell (seen e) told (last_answers last) text all.1 (last_tells (seen e) last) is)
+  served d e read text (Ok ended.Closed) (told, line, next, left, f, reaches, last, is) =
+      let all = all_get d f reaches.0 told reaches.2 in
+      let on = (gets f e line answer.Closed last).0 in (
+        omega (arith, all.0, on),
+        more_tell (seen e) told (answer.Closed ∷ []) text (all_further (seen f) (seen e) told on all.1) (tt, tt) (is ∙ ap (λ l. reply_lines told ++ l) (sym (append-nil (reply_line answer.Closed)))),
+      )
+  served d e read text (Ok ended.Cut) (told, last, reaches, is) =
+      let all = all_get d e reaches.0 told reaches.2 in
+      (all.0, lines_tell (seen e) told text all.1 is)
+  served d e read text (Err serve.Read) (told, last, reaches, is) =
+      let all = all_get d e reaches.0 told reaches.2 in
+      (all.0, lines_tell (seen e) told text all.1 is)
+  served d e read text (Err serve.Turns) ((told, last, reaches, is), many) =
+      let all = all_get d e reaches.0 told reaches.2 in
+      (all.0, lines_tell (seen e) told text all.1 is)
+  served d e read text (Err serve.Write) (told, line, behind, left, f, g, a, untold, part, reaches, last, rest, posted, first, is) =
+      let all = all_get d f reaches.0 told reaches.2 in
+      let here = gets_at_last f g line a last in
+      let on = (all_get g e behind untold rest).0 in
+      let le : seen f ≤ seen e = omega (arith, here.0, on) in (
+        omega (arith, all.0, le),
+        record { told = told; up_to = all_further (seen f) (seen e) told le all.1; part = part; broken = inr (a, further (seen g) (seen e) a on here.1, first); text_is = is },
+      )
+  served d e read text (Err serve.OutOfMemory) (nothing, none, is) = (same d e is, lines_tell (seen e) [] text tt none)
+
+  module _ (keeps : D → ℕ → Type 0) (most : ℕ) where
+    all_served : (d e : D) (cs : List Connection) → AllServed answers keeps most d cs e → (seen d ≤ seen e) × AllWriteUpTo (seen e) cs
+    all_served d e [] is = (same d e is, tt)
+    all_served d e (c ∷ cs) is =
+        let first = served d is.0 c.talk.bytes_read c.talk.bytes_written c.ended is.1.1 in
+        let later = all_served is.0 e cs is.3 in
+        (omega (arith, first.0, later.0), (text_further (seen is.0) (seen e) c.talk.bytes_written later.0 first.1, later.1))
+
+all_write_further : (n m : ℕ) (cs : List Connection) → n ≤ m → AllWriteUpTo n cs → AllWriteUpTo m cs
+all_write_further n m [] le is = tt
+all_write_further n m (c ∷ cs) le is = (text_further n m c.talk.bytes_written le is.0, all_write_further n m cs le is.1)
+
+and_last : (n : ℕ) (cs : List Connection) (last : Connection) → AllWriteUpTo n cs → WritesUpTo n last.talk.bytes_written → AllWriteUpTo n (cs ++ last ∷ [])
+and_last n [] last is also = (also, tt)
+and_last n (c ∷ cs) last is also = (is.0, and_last n cs last is.1 also)
+
+-- ---- the desk over an engine
+
+refused_tells : (n : ℕ) (r : Refusal) → TellsUpTo n (refused r)
+refused_tells n refusal.Stopped = tt
+refused_tells n refusal.OutOfMemory = tt
+refused_tells n refusal.Exhausted = tt
+refused_tells n refusal.OutOfTurn = tt
+refused_tells n refusal.NumberReused = tt
+refused_tells n refusal.UnknownNode = tt
+refused_tells n refusal.NodeExists = tt
+refused_tells n refusal.HasLinks = tt
+refused_tells n refusal.SameNode = tt
+refused_tells n refusal.OtherGroup = tt
+refused_tells n refusal.LinkExists = tt
+refused_tells n refusal.NoLink = tt
+refused_tells n refusal.DegreeFull = tt
+refused_tells n refusal.LinksFull = tt
+refused_tells n refusal.BadEpoch = tt
+refused_tells n refusal.Old = tt
+refused_tells n refusal.Early = tt
+refused_tells n refusal.Differs = tt
+refused_tells n refusal.NotReleased = tt
+refused_tells n refusal.PendingFull = tt
+refused_tells n (refusal.Behind settled) = tt
+refused_tells n refusal.Stranger = tt
+
+order_goes : (result : Result Reply Refusal) (n m : ℕ) → m ≡ seen_after result n → Goes n (order_answer result) m
+order_goes (Ok r) n m is = (omega (arith, is), omega (arith, is))
+order_goes (Err r) n m is = (omega (arith, is), refused_tells m r)
+
+-- the settled world has as many steps as are settled
+world_counts : (log : Log) → log.settled ≤ length log.trail → (settled_world log).count ≡ settled_count log
+world_counts log within = omega (arith, fold_counts log.base (take log.settled log.trail), length-take-le log.settled log.trail within)
+
+show_goes : {D : Type 0} (b : Basis D) (result : Result Shown Refusal) (n m : ℕ) → AnswersShow b result n m → Goes n (show_answer result) m
+show_goes b (Ok view) n m is =
+    let log = is.state.ledger.log in
+    let counted : view.settled ≡ (settled_world log).count = ap (λ (v : Shown). v.settled) is.so.2 in
+    (omega (arith, is.so.1, is.so.3), omega (arith, is.so.3, counted, world_counts log is.held.log.within))
+show_goes b (Err r) n m is = (omega (arith, is.1), refused_tells m r)
+
+resend_tells : (n : ℕ) (result : Result ℕ Refusal) → TellsUpTo n (resend_answer result)
+resend_tells n (Ok k) = tt
+resend_tells n (Err r) = refused_tells n r
+
+desk_goes : {D P : Type 0} (b : Basis D) (d e : DeskState P) (r : Request) (a : Answer) → DeskAnswers b d r a e → Goes d.seen a e.seen
+desk_goes b d e (request.Order client number command) a is = subst (λ (x : Answer). Goes d.seen x e.seen) (sym is.1) (order_goes is.0 d.seen e.seen is.3)
+desk_goes b d e request.Show a is = subst (λ (x : Answer). Goes d.seen x e.seen) (sym is.1) (show_goes b is.0 d.seen e.seen is.2)
+desk_goes b d e request.Resend a is = subst (λ (x : Answer). Goes d.seen x e.seen) (sym is.1) (omega (arith, is.4), resend_tells e.seen is.0)
+desk_goes {D} {P} b d e request.Close a is = subst (λ (x : Answer). Goes d.seen x e.seen) (sym is.0) (omega (arith, ap (λ (x : DeskState P). x.seen) is.1), tt)
+
+pub told_is_settled : (D P : Type 0) {V : Type 0} (talked : V → List Talk → V → Type 0) → ToldIsSettled D P talked
+told_is_settled D P talked b most port v w desk left history =
+    let sees = desk_goes {D} {P} b in
+    let saw = λ (x : DeskState P). x.seen in (
+      λ is. all_write_further desk.seen left.settled is.0 history.seen (all_served (DeskAnswers b) saw sees (DeskKeeps b) most (new_desk port) desk is.0 is.2).1,
+      λ is.
+          let first = all_served (DeskAnswers b) saw sees (DeskKeeps b) most (new_desk port) is.2 is.0 is.4 in
+          let last = served (DeskAnswers b) saw sees is.2 desk is.1.talk.bytes_read is.1.talk.bytes_written is.1.ended is.5.1 in
+          let le : is.2.seen ≤ left.settled = omega (arith, last.0, history.seen) in
+          and_last left.settled is.0 is.1 (all_write_further is.2.seen left.settled is.0 le first.1) (text_further desk.seen left.settled is.1.talk.bytes_written history.seen last.1),
+    )
