@@ -77,14 +77,25 @@ splits pass v table one at =
           (at_end table.views (knows v.read []) u j e),
     )
 
-pub joins : (pass : ℕ) (v : Known) (other : ℕ) (w : Known) → pass ≡ 0 → Joins {S = Unit {0}} (λ table. KnowOneHistory table.views) pass v other w (knows v.read w.read) (knows [] [])
-joins pass v other w first table one at apart there =
+pub reads : (slots pass : ℕ) (me : Me (Unit {0}) Known) → Allows (λ table. KnowOneHistory table.views) slots pass me 0 (λ n. n) (λ found after. StartsWith after.0.read me.0.read × StartsWith after.0.read me.0.told × (after.1 ≡ me.1))
+reads slots pass me table one homes at small =
+    let mine = one.1 pass me.0 at in
+    let w = knows one.0 me.0.told in (
+      w,
+      keeps,
+      tt,
+      (one.0, set_fits one.0 table.views pass w (λ j u _ e. one.1 j u e) (record { read = all_of one.0; told = mine.told; whole = λ _. refl })),
+      (mine.read, mine.told, refl),
+    )
+
+pub joins : (pass : ℕ) (v : Known) (other : ℕ) (w : Known) (read : List Step) → w.read ≡ read → Joins {S = Unit {0}} (λ table. KnowOneHistory table.views) pass v other w (knows v.read w.read) (knows read [])
+joins pass v other w read named table one at apart there =
     let mine = one.1 pass v at in
     let told = knows v.read w.read in
     let theirs : Fits one.0 other w = ⊎_elim (λ (same : (other ≡ pass) × (told ≡ w)). absurd (apart same.0)) (λ (is : (other ≢ pass) × (get_elem? table.views other ≡ some w)). one.1 other w is.1) (at_set table.views pass other told w there) in
     let both : Fits one.0 pass told = record { read = mine.read; told = theirs.read; whole = mine.whole } in (
       one.0,
-      set_fits one.0 (set table.views pass told) other (knows [] [])
+      set_fits one.0 (set table.views pass told) other (knows read [])
           (λ j u _ e. set_fits one.0 table.views pass told (λ i x _ is. one.1 i x is) both j u e)
-          (record { read = none_of one.0; told = none_of one.0; whole = λ is_first. absurd (apart (is_first ∙ sym first)) }),
+          (record { read = subst (StartsWith one.0) named theirs.read; told = none_of one.0; whole = λ is_first. sym named ∙ theirs.whole is_first }),
     )

@@ -10,6 +10,7 @@ pub mod OnTheWay
 pub mod PacketNotes
 pub mod Past
 mod Puts
+pub mod Released
 pub mod Showing
 pub mod Since
 pub mod Submitting

@@ -11,6 +11,11 @@ use Rattle.coord_engine.specs.declared.history.Known.{Known}
 abbrev pub StartsWith : List Step → List Step → Type 0
 StartsWith steps first = (others : List Step) × (steps ≡ first ++ others)
 
+-- a beginning of a history: which history, and its first steps, some number of them
+pub record Beginning : Type 0 where
+  pub history : TableId
+  pub steps : List Step
+
 abbrev pub knows : List Step → List Step → Known
 knows read told = record { read = read; told = told }
 
@@ -31,6 +36,10 @@ IsWrittenOn steps s before found after = after ≡ (knows steps before.0.told, b
 -- what a pass has read begins with what it was told of
 abbrev pub IsCompared : TableStep (Unit {0}) → Me (Unit {0}) Known → ℕ → Me (Unit {0}) Known → Type 0
 IsCompared s before found after = (after ≡ before) × StartsWith before.0.read before.0.told
+
+-- what a pass has read now begins with what it had read, and with what it was told of
+abbrev pub HasReadOn : TableStep (Unit {0}) → Me (Unit {0}) Known → ℕ → Me (Unit {0}) Known → Type 0
+HasReadOn s before found after = StartsWith after.0.read before.0.read × StartsWith after.0.read before.0.told × (after.1 ≡ before.1)
 
 -- which history it is, where none is
 abbrev pub no_history : TableId

@@ -8,6 +8,7 @@ pub mod WorkedNames
 pub mod Pacing
 pub mod Past
 pub mod Port
+pub mod Released
 pub mod State
 pub mod Threads
 pub mod Waiting

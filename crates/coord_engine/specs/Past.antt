@@ -2,6 +2,7 @@
 use Rattle.std.specs.Prelude.{◌≡◌, ◌⊎◌, ℕ, ◌+◌, ◌≤◌, Bool, false, true, List, ◌++◌, Option, Some, None, Result, length, take, IsErrOf}
 use Rattle.coord_disk.specs.Model.DiskModel.{DiskModel}
 use Rattle.coord_disk.specs.Model.Moments.{LeavesOnly}
+use Rattle.atomic_table.specs.Seated.{TableId}
 use Rattle.coord_types.specs.declared.steps.Step.{Step}
 use Rattle.coord_store.specs.Facade.{GivesEither, IsOnlyWorld, Recovered}
 use Rattle.coord_store.specs.declared.faults.CommitFault.{CommitFault}
@@ -11,6 +12,8 @@ use Rattle.coord_world.specs.Facade.{World, fold}
 use Rattle.coord_ledger.specs.declared.mark.Mark.{Mark}
 use Rattle.coord_ledger.specs.declared.mark.Mark.TheVariants.{New, Good, Torn}
 use Rattle.coord_ledger.specs.Facade.{FlightState, Log, settled_steps}
+use Rattle.coord_engine.specs.History.{Beginning}
+use Rattle.coord_engine.specs.Released.{HasReadSettled}
 
 -- A disk at a moment, as later ones are compared with it: whether it kept the model, the moment, and what a crash might have left since each earlier one. It names no type of disks, so it can be a ghost of an engine's name.
 pub record Past : Type 1 where
@@ -83,6 +86,12 @@ pub record FliesFrom {D : Type 0} (m : DiskModel D) (first : Past) (base : World
   pub number : f.first ≡ base.count + length settled + 1
   pub world : f.world ≡ fold base settled
   pub along : StaysAlong m first base (flown_steps f.mark settled f.steps) f.disk
+
+-- A flight left behind settled steps that were read, which come behind earlier ones in this history.
+pub record FliesBehind {D : Type 0} (m : DiskModel D) (history : TableId) (earlier : List Step) (first : Past) (base : World) (read : Beginning) (f : FlightState D) : Type 0 where
+  pub settled : List Step
+  pub read_them : HasReadSettled history earlier settled read
+  pub flies : FliesFrom m first base settled f
 
 -- A new flight was committed with this answer: its disk keeps the model as before, and a crash at any moment of the call left the world from before its steps or the one after them; where there was no memory, the one from before.
 pub record LeavesFlown {D : Type 0} (m : DiskModel D) (left now : FlightState D) (answer : Result (Unit {0}) CommitFault) : Type 0 where

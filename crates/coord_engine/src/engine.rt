@@ -7,15 +7,16 @@ ghost use Rattle.coord_engine.specs.Calls.{IsToldTicket};
 ghost use Rattle.coord_engine.specs.Closing.{IsSince, RefusesClosing};
 ghost use Rattle.coord_engine.specs.Flights.{AnswersBegin, AnswersFlush, ComesBack};
 ghost use Rattle.coord_engine.specs.Past.{IsPastOf, StaysAlong};
+ghost use Rattle.coord_engine.specs.Released.{HasReadSettled, first_settled};
 ghost use Rattle.coord_engine.specs.State.{based_on, most_shares};
 ghost use Rattle.coord_engine.specs.Threads.{AnswersShow, AnswersTicket, AtSomeMoment, Closes, SendsAgain, Submits};
 
 use crate::flushing::rest;
 use crate::{
-    CloseFault, Closed, Collected, EngineHistory, Guarded, NewHistory, Origin, OwnFlight, Share,
+    CloseFault, Closed, Collected, Guarded, History, Origin, OwnFlight, Released, Share, Writer,
 };
 use coord_disk::Disk;
-use coord_ledger::{Ledger, Releases, Seen, Ticket};
+use coord_ledger::{Ledger, Seen, Ticket};
 use coord_store::CommitFault;
 use coord_types::{Refusal, Reply, Step};
 use coord_view::View;
@@ -26,16 +27,16 @@ use std::time::Clock;
 
 /// What a flush answers whose flight was committed with this answer, and then gave these releases as
 /// it came back: a flight that was not settled releases nothing.
-fn answer_of(
+fn answer_of<L: Origin>(
     committed: Result<(), CommitFault>,
-    releases: Releases,
-) -> Result<Option<Releases>, CommitFault>
+    releases: Released<L>,
+) -> Result<Option<Released<L>>, CommitFault>
     ensures { MatchResult committed (λ _. result ≡ Ok (Some releases)) (λ fault. result ≡ Err fault) }
 {
     match committed {
         Ok(()) => Ok(Some(releases)),
         Err(fault) => {
-            releases.lose_rest();
+            releases.into_releases().lose_rest();
             Err(fault)
         }
     }
@@ -47,30 +48,38 @@ fn answer_of(
 pub struct Engine<D: Disk, L: Origin> {
     pub(crate) guarded: Mutex<Guarded<D, L>>,
     /// What flights read, and the value under the lock writes.
-    history: EngineHistory<L>,
+    pub(crate) history: History,
     /// On which callers wait for their replies.
     pub(crate) changed: Condvar,
     /// On which flushers wait for steps.
     pub(crate) work: Condvar,
+    ghost here: { history ≡ L.history },
 }
 
 impl<D: Disk, L: Origin> Engine<D, L> {
-    /// Makes an engine over a ledger whose store is at home. `L` names the history and that ledger: its
-    /// base, the steps that it has accepted, and its disk as it is. The blank has 65,536 parts. No clause can say what lies
-    /// behind a lock; so the contract is that of `Guarded::new`, and `close` says what it gives
-    /// back in terms of `L`.
-    pub fn new(alloc: Global, blank: Blank, history: NewHistory, ledger: Ledger<D>) -> Self
+    /// Makes an engine over a ledger whose store is at home. `L` names the history with the steps of
+    /// earlier lives, which are written there, and that ledger: its base, the steps that it has accepted,
+    /// and its disk as it is. The blank has 65,536 parts. No clause can say what lies behind a lock; so
+    /// the contract is that of `Guarded::new`, and `close` says what it gives back in terms of `L`.
+    pub fn new(
+        alloc: Global,
+        blank: Blank,
+        history: History,
+        writer: Writer,
+        ledger: Ledger<D>,
+    ) -> Self
         requires name { blank.name ≡ L.name }
         requires parts { (blank.parts ≡ L.parts) × (L.parts ≡ 65536) }
-        requires history { history ≡ L.history }
+        requires here { history ≡ L.history }
+        requires earlier { writer ≡ record { history = L.history; steps = L.earlier } }
         requires home { ledger.out ≡ None }
         requires base { ledger.log.base ≡ L.base }
         requires before { ledger.log.trail ≡ L.before }
         requires disk { IfSome ledger.disk (IsPastOf D.model L.disk) }
     {
-        let (history, writer) = history.named();
+        let guarded = Guarded::new(alloc, blank, &history, writer, ledger);
         Engine {
-            guarded: Mutex::new(Guarded::new(alloc, blank, writer, ledger)),
+            guarded: Mutex::new(guarded),
             history,
             changed: Condvar::new(),
             work: Condvar::new(),
@@ -188,20 +197,20 @@ impl<D: Disk, L: Origin> Engine<D, L> {
     }
 
     /// The packets that may have been lost, to be sent again as of step 0.
-    pub fn resend<R: Wait>(&self, rt: &R) -> Result<Releases, AllocError>
+    pub fn resend<R: Wait>(&self, rt: &R) -> Result<Released<L>, AllocError>
         ensures { IfOk result (λ releases. AtSomeMoment (based_on D.model L.base L.before)
             (SendsAgain {D = D} releases)) }
     {
-        let guarded = self.guarded.lock(rt);
+        let mut guarded = self.guarded.lock(rt);
         guarded.keeps();
-        guarded.ledger().resend()
+        guarded.resend(&self.history)
     }
 
     /// Sends a flight out under the lock, commits it outside the lock, and takes it back under it.
     /// None where nothing is pending, a flight is out or the ledger has stopped.
     ///
     /// After `OutOfMemory` it may be tried again; after `Device` the ledger has stopped.
-    pub fn flush_once<R: Wait + Clock>(&self, rt: &R) -> Result<Option<Releases>, CommitFault>
+    pub fn flush_once<R: Wait + Clock>(&self, rt: &R) -> Result<Option<Released<L>>, CommitFault>
         ensures { AnswersFlush (based_on D.model L.base L.before) result }
     {
         let mut flight = match self.begin(rt) {
@@ -232,7 +241,7 @@ impl<D: Disk, L: Origin> Engine<D, L> {
     }
 
     /// Takes a flight back. Where it is refused, for memory, it is tried again behind a rest.
-    pub(crate) fn end<R: Wait + Clock>(&self, rt: &R, flight: OwnFlight<D, L>) -> Releases
+    pub(crate) fn end<R: Wait + Clock>(&self, rt: &R, flight: OwnFlight<D, L>) -> Released<L>
         ensures released { result ≡ releases_in flight flight.mark }
         ensures back { AtSomeMoment (based_on D.model L.base L.before) (ComesBack flight) }
     {
@@ -263,20 +272,24 @@ impl<D: Disk, L: Origin> Engine<D, L> {
     /// Takes the engine apart, where no flight is out, all shares are there, what callers have seen is
     /// settled, and the shares' notes are what was accepted since the engine was made. What is left has the base of the ledger that
     /// the engine was made over, and a trail that begins with that ledger's. A crash at any moment
-    /// since then left only worlds after the first steps of that trail. It takes no memory.
+    /// since then left only worlds after the first steps of that trail. What writes the history comes back
+    /// too: it has written the settled steps of that trail behind those of earlier lives. It takes no
+    /// memory.
     pub fn close(
         self,
         shares: Vec<Share<L>>,
         seen: &Seen,
-    ) -> Result<Closed<D>, (CloseFault, Self, Vec<Share<L>>)>
+    ) -> Result<(Closed<D>, Writer), (CloseFault, Self, Vec<Share<L>>)>
         requires { L.parts ≡ 65536 }
-        ensures since { IfOk result (λ closed.
-            IsSince L.base L.before shares.items closed.base closed.trail.items) }
-        ensures along { IfOk result (λ closed.
-            StaysAlong D.model L.disk L.base closed.trail.items closed.store.disk) }
-        ensures closed { IfOk result (λ closed. AtSomeMoment (based_on D.model L.base L.before)
-            (Closes closed.store closed.base closed.trail.items closed.settled shares.items)) }
-        ensures seen { IfOk result (λ closed. seen.now ≤ closed.settled) }
+        ensures since { IfOk result (λ left.
+            IsSince L.base L.before shares.items left.0.base left.0.trail.items) }
+        ensures along { IfOk result (λ left.
+            StaysAlong D.model L.disk L.base left.0.trail.items left.0.store.disk) }
+        ensures written { IfOk result (λ left. HasReadSettled L.history L.earlier
+            (first_settled left.0.base left.0.trail.items left.0.settled) left.1) }
+        ensures closed { IfOk result (λ left. AtSomeMoment (based_on D.model L.base L.before)
+            (Closes left.0.store left.0.base left.0.trail.items left.0.settled shares.items)) }
+        ensures seen { IfOk result (λ left. seen.now ≤ left.0.settled) }
         ensures refused { IfErr result (λ refused.
             AtSomeMoment (based_on D.model L.base L.before) (λ g.
             RefusesClosing g shares.items seen.now refused.0)) }
@@ -291,7 +304,7 @@ impl<D: Disk, L: Origin> Engine<D, L> {
         let guarded = guarded.into_inner();
         guarded.keeps();
         match guarded.close(shares, seen) {
-            Ok(closed) => Ok(closed),
+            Ok(left) => Ok(left),
             Err((fault, guarded, shares)) => Err((
                 fault,
                 Engine {

@@ -1,17 +1,17 @@
 //! Flights as they are needed, and what they release handed to a port.
 
-ghost use Rattle.std.specs.Prelude.{◌≡◌, List, false, true, length};
+ghost use Rattle.std.specs.Prelude.{◌≡◌, false, true, length};
 ghost use Rattle.std.specs.Sync.Mutex.{mutex_guard_value};
 ghost use Rattle.coord_engine.specs.Flights.{AnswersFlush};
 ghost use Rattle.coord_engine.specs.Flushing.{HasFlushed, finds_no_memory};
 ghost use Rattle.coord_engine.specs.Pacing.{is_idle, is_over};
 ghost use Rattle.coord_engine.specs.Port.{AreAsked, AreHanded, IsAsked, MayAsk, MayAskAll, deliveries_of};
+ghost use Rattle.coord_engine.specs.Released.{MayHand, MayTell};
 ghost use Rattle.coord_engine.specs.State.{based_on};
-ghost use Rattle.coord_ledger.specs.declared.release.Release.{Release};
-ghost use Rattle.coord_engine.specs.Threads.{AtSomeMoment, Flushes};
+ghost use Rattle.coord_engine.specs.Threads.{AtSomeMoment};
 
 use crate::port::{Delivery, Port};
-use crate::{Engine, Guarded, Origin};
+use crate::{Engine, Guarded, History, Origin, Reader, Released};
 use coord_disk::Disk;
 use coord_ledger::Releases;
 use coord_store::CommitFault;
@@ -117,13 +117,20 @@ impl<D: Disk, L: Origin> Engine<D, L> {
 
 /// Asks a port for a delivery. Whether a packet is in its hand by that: a signal is no packet, and
 /// one may be lost.
-fn ask<P: Port>(port: &mut P, delivery: Delivery) -> bool
-    requires { MayAsk P.may_signal delivery }
-    ensures { IsAsked P.carried P.signalled port.old delivery port.new }
+fn ask<P: Port>(
+    port: &mut P,
+    history: &History,
+    reader: &mut Reader,
+    delivery: Delivery,
+) -> bool
+    requires here { history.now ≡ reader.old.history }
+    requires may { MayAsk (P.may_signal reader.old) delivery }
+    ensures asked { IsAsked P.carried P.signalled port.old delivery port.new }
+    ensures same { reader.new ≡ reader.old }
 {
     match delivery {
         Delivery::Signal(step, node, epoch) => {
-            port.signal(step, node, epoch);
+            port.signal(reader.another(history), step, node, epoch);
             false
         }
         Delivery::Carry(to, packet) => port.carry(to, packet),
@@ -131,16 +138,24 @@ fn ask<P: Port>(port: &mut P, delivery: Delivery) -> bool
 }
 
 /// Asks a port for a delivery for each release, in order. How many packets are in its hand by that.
-fn ask_for_all<P: Port>(port: &mut P, releases: Releases) -> u64
-    requires { MayAskAll P.may_signal releases }
+fn ask_for_all<P: Port>(
+    port: &mut P,
+    history: &History,
+    reader: Reader,
+    releases: Releases,
+) -> u64
+    requires here { history.now ≡ reader.history }
+    requires may { MayAskAll (P.may_signal reader) releases }
     ensures { AreAsked P.carried P.signalled port.old (deliveries_of releases) port.new }
 {
+    let mut reader = reader;
     let mut left = releases;
     let count = left.len();
     let mut in_hand = 0u64;
     for _handed in 0..count {
         if let Some(release) = left.next() {
-            let is_in_hand = ask(port, Delivery::of(release.step, release.output));
+            let delivery = Delivery::of(release.step, release.output);
+            let is_in_hand = ask(port, history, &mut reader, delivery);
             in_hand = in_hand.saturating_add(u64::from(is_in_hand));
         }
     }
@@ -154,15 +169,20 @@ pub fn hand_over<D: Disk, L: Origin, P: Port, R: Wait>(
     rt: &R,
     engine: &Engine<D, L>,
     port: &mut P,
-    releases: Releases,
+    released: Released<L>,
 ) -> u64
-    requires { MayAskAll P.may_signal releases }
-    ensures count { result ≡ length releases }
-    ensures handed { AreHanded P.carried P.signalled P.handed_on port.old (deliveries_of releases) port.new }
+    requires { MayHand L.history L.earlier L.base P.may_signal released }
+    ensures count { result ≡ length released }
+    ensures handed { AreHanded P.carried P.signalled P.handed_on port.old (deliveries_of released) port.new }
 {
-    let count = releases.len();
+    let count = released.len();
     engine.take_in_hand(rt, count);
-    let in_hand = ask_for_all(port, releases);
+    let Released {
+        releases,
+        reader,
+        of: _,
+    } = released;
+    let in_hand = ask_for_all(port, &engine.history, reader, releases);
     let lost = port.hand_on();
     let carried = in_hand.saturating_sub(lost);
     engine.let_go(rt, count.saturating_sub(carried));
@@ -202,7 +222,7 @@ fn flush<D: Disk, L: Origin, R: Wait + Clock>(
     rt: &R,
     engine: &Engine<D, L>,
     pace: &mut Pace,
-) -> Result<Option<Releases>, CommitFault>
+) -> Result<Option<Released<L>>, CommitFault>
     requires { pace.old.rest_is_due ≡ false }
     ensures flushed { AnswersFlush (based_on D.model L.base L.before) result }
     ensures rest { pace.new.rest_is_due ≡ finds_no_memory result }
@@ -219,16 +239,14 @@ fn flush<D: Disk, L: Origin, R: Wait + Clock>(
 /// where they are few, they have a sixteenth of that flight's time. Packets that it released may come
 /// back as steps: they have some milliseconds.
 ///
-/// The port may be asked for the signals that a flight can release. It ends after a fault of the device, and after `Engine::finish` once nothing is pending. Where it
+/// The port may be asked for each signal of a settled step. It ends after a fault of the device, and after `Engine::finish` once nothing is pending. Where it
 /// finds no memory it rests and tries again.
 pub fn flusher<D: Disk, L: Origin, P: Port, R: Wait + Clock>(
     rt: &R,
     engine: &Engine<D, L>,
     port: &mut P,
 )
-    requires { (released : List Release) →
-        AtSomeMoment (based_on D.model L.base L.before) (Flushes released) →
-        MayAskAll P.may_signal released }
+    requires { MayTell L.history L.earlier L.base P.may_signal }
     ensures { HasFlushed (based_on D.model L.base L.before)
         P.carried P.signalled P.handed_on port.old port.new }
 {
@@ -239,8 +257,8 @@ pub fn flusher<D: Disk, L: Origin, P: Port, R: Wait + Clock>(
         }
         match flush(rt, engine, &mut pace) {
             Ok(None) => {}
-            Ok(Some(releases)) => {
-                hand_over(rt, engine, port, releases);
+            Ok(Some(released)) => {
+                hand_over(rt, engine, port, released);
             }
             Err(CommitFault::OutOfMemory) => pace.rest(rt),
             Err(_) => return,

@@ -4,6 +4,7 @@
 //! calls it.
 
 ghost use Rattle.std.specs.Prelude.{◌≡◌, ◌<◌, [], IfNone, IfSome, None};
+ghost use Rattle.coord_engine.specs.History.{Beginning};
 ghost use Rattle.coord_engine.specs.Past.{IsPastOf};
 ghost use Rattle.coord_engine.specs.State.{CanHold, based_on, guarded_over, most_shares, with_finish, with_share};
 
@@ -14,7 +15,7 @@ mod flushing;
 mod pacing;
 mod submitting;
 
-use crate::{Origin, Share, Writer};
+use crate::{History, Origin, Share, Writer};
 use coord_disk::Disk;
 use coord_ledger::Ledger;
 pub use pacing::PutDown;
@@ -37,8 +38,8 @@ pub struct Guarded<D: Disk, L: Origin> {
     ledger: Ledger<D>,
     /// Counts the steps that were accepted for shares.
     book: Book<L>,
-    /// Has written the steps that were settled when the last flight left.
-    writer: Writer<L>,
+    /// Has written the steps of earlier lives, and behind them the settled ones.
+    writer: Writer,
     /// The parts of the count that were not given out.
     rest: Part<L>,
     given: u32,
@@ -50,7 +51,7 @@ pub struct Guarded<D: Disk, L: Origin> {
 
 impl<D: Disk, L: Origin> Model for Guarded<D, L> {
     ghost use Rattle.std.specs.Prelude.{◌≡◌, ◌+◌, ◌≤◌, length, take, IfSome, None};
-    ghost use Rattle.coord_engine.specs.History.{StartsWith};
+    ghost use Rattle.coord_engine.specs.Released.{HasReadSettled};
     ghost use Rattle.coord_engine.specs.Past.{StaysAlong, last_steps};
     ghost use Rattle.coord_engine.specs.State.{GuardedState, most_shares};
     ghost use Rattle.coord_ledger.specs.machine.Log.{settled_steps};
@@ -74,16 +75,23 @@ impl<D: Disk, L: Origin> Model for Guarded<D, L> {
         (take g.start g.ledger.log.trail ≡ L.before)
         × IfSome g.ledger.log.doubt (λ _. g.ledger.out ≡ None)
         × IfSome g.ledger.disk (StaysAlong D.model L.disk L.base (last_steps g.ledger.log g.ledger.log.doubt))
-        × StartsWith (settled_steps g.ledger.log) g.writer };
+        × HasReadSettled L.history L.earlier (settled_steps g.ledger.log) g.writer };
 }
 
 impl<D: Disk, L: Origin> Guarded<D, L> {
-    /// Over a ledger whose store is at home, and which `L` names. The blank has 65,536 parts, and
-    /// nothing is written in the history.
-    pub fn new(alloc: Global, blank: Blank, writer: Writer<L>, ledger: Ledger<D>) -> Self
+    /// Over a ledger whose store is at home, and which `L` names. The blank has 65,536 parts, and the
+    /// steps of earlier lives are written in the history.
+    pub fn new(
+        alloc: Global,
+        blank: Blank,
+        history: &History,
+        writer: Writer,
+        ledger: Ledger<D>,
+    ) -> Self
         requires name { blank.name ≡ L.name }
         requires parts { (blank.parts ≡ L.parts) × (L.parts ≡ 65536) }
-        requires history { writer ≡ [] }
+        requires here { history.now ≡ L.history }
+        requires earlier { writer ≡ record { history = L.history; steps = L.earlier } }
         requires home { ledger.out ≡ None }
         requires base { ledger.log.base ≡ L.base }
         requires before { ledger.log.trail ≡ L.before }
@@ -92,6 +100,8 @@ impl<D: Disk, L: Origin> Guarded<D, L> {
     {
         ledger.lemma_log_is_consistent();
         ledger.lemma_images_give_settled();
+        let mut writer = writer;
+        flushing::write_settled::<D, L>(&mut writer, history, &ledger);
         let (book, rest) = blank.open::<L>();
         let start = ledger.trail().len();
         Guarded {

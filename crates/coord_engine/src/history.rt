@@ -1,10 +1,11 @@
-//! The steps that were settled when each flight left, as a history that grows. It stands in the
-//! proofs alone.
+//! The steps that were settled, life behind life, as a history that grows. It stands in the proofs
+//! alone.
 //!
 //! Nothing is known of the value under a lock but what its type keeps. So a flight that leaves under
 //! the lock takes a [`Reader`] along, and the [`Writer`] stays there. When the flight is back, the
-//! writer says that its history begins with what the reader has read. Neither takes a byte; each
-//! call loads a word of the [`EngineHistory`], which is 0.
+//! writer says that its history begins with what the reader has read. What a flight released has a
+//! reader too, which has read the steps that gave it out. Neither takes a byte; each call loads a word
+//! of the [`History`], which is 0.
 
 use crate::Origin;
 use atomic_table::{Join, Play, Seat, Split, Table, TableRule};
@@ -12,6 +13,7 @@ use coord_types::Step;
 use std::alloc::{AllocError, Global};
 use std::collections::LinkedList;
 use std::marker::{Brand, Model, PhantomData};
+use std::sync::Arc;
 
 /// What a pass knows: a beginning of the history that it has read, and one that it was told of. No
 /// value of it is made.
@@ -36,26 +38,26 @@ impl TableRule<(), Known, ()> for OneHistory {
 /// A pass that stands for a part of what is known.
 type Pass = Seat<(), Known>;
 
-/// Names what a history is to be once it is written on.
-trait WrittenSteps {
+/// Names steps that a history is to have, or that a pass has read.
+trait NamedSteps {
     ghost use Rattle.std.specs.Prelude.{List};
     ghost use Rattle.coord_types.specs.declared.steps.Step.{Step};
 
     ghost steps: { List Step };
 }
 
-impl WrittenSteps for Brand {
+impl NamedSteps for Brand {
     ghost use Rattle.std.specs.Prelude.{[]};
 
     ghost steps = { [] };
 }
 
 /// The first pass reads on, in a history that it writes on.
-struct WritesOn<G: WrittenSteps> {
+struct WritesOn<G: NamedSteps> {
     of: PhantomData<G>,
 }
 
-impl<G: WrittenSteps> Play<(), Known> for WritesOn<G> {
+impl<G: NamedSteps> Play<(), Known> for WritesOn<G> {
     ghost use Rattle.coord_engine.specs.History.{IsWrittenOn};
 
     ghost then = { IsWrittenOn G.steps };
@@ -70,6 +72,15 @@ impl Play<(), Known> for Compares {
     ghost then = { IsCompared };
 }
 
+/// A pass reads all that is written.
+struct ReadsOn;
+
+impl Play<(), Known> for ReadsOn {
+    ghost use Rattle.coord_engine.specs.History.{HasReadOn};
+
+    ghost then = { HasReadOn };
+}
+
 /// A pass is cut in two, which have both read as much.
 struct ReadsAlong;
 
@@ -82,145 +93,121 @@ impl Split<Known> for ReadsAlong {
     ghost right = { λ v. knows v.read [] };
 }
 
-/// A pass is told what another one has read.
-struct Tells;
+/// A pass is told what another one has read, which these steps name.
+struct Tells<G: NamedSteps> {
+    of: PhantomData<G>,
+}
 
-impl Join<Known> for Tells {
+impl<G: NamedSteps> Join<Known> for Tells<G> {
     ghost use Rattle.std.specs.Prelude.{[]};
     ghost use Rattle.coord_engine.specs.History.{knows};
 
     ghost both = { λ v w. knows v.read w.read };
 
-    ghost spent = { knows [] [] };
+    ghost spent = { knows G.steps [] };
 }
 
-/// A history without steps, with the pass that writes it. No type names it yet. Contracts see which
-/// one it is.
+/// A history that passes read and one writes. All that is shared of it is which one it is, so contracts
+/// see that.
 #[derive(Drop)]
-pub struct NewHistory {
-    table: Table<(), Known, (), OneHistory, Global>,
-    pass: Pass,
+pub struct History {
+    table: Arc<Table<(), Known, (), OneHistory, Global>>,
 }
 
-impl Model for NewHistory {
-    ghost use Rattle.std.specs.Prelude.{◌≡◌, []};
-    ghost use Rattle.atomic_table.specs.Seated.{TableId};
-    ghost use Rattle.coord_engine.specs.History.{knows};
-
-    ghost Value = { TableId };
-
-    ghost view = { λ h. h.table.shared.table_id };
-
-    ghost invariant = { λ h. (h.table.shared.table_id.words ≡ 1) ×
-        (h.pass.table_id ≡ h.table.shared.table_id) × (h.pass.id ≡ 0) ×
-        (h.pass.me ≡ (knows [] [], [])) };
-}
-
-/// Which history an engine has. Contracts see the one that `L` names.
-#[derive(Drop)]
-pub struct EngineHistory<L: Origin> {
-    table: Table<(), Known, (), OneHistory, Global>,
-    of: PhantomData<L>,
-}
-
-impl<L: Origin> Model for EngineHistory<L> {
+impl Model for History {
     ghost use Rattle.std.specs.Prelude.{◌≡◌};
+    ghost use Rattle.std.specs.Arc.{arc_value};
     ghost use Rattle.atomic_table.specs.Seated.{TableId};
 
     ghost Value = { TableId };
 
-    ghost view = { λ h. h.table.shared.table_id };
+    ghost view = { λ h. (arc_value h.table).shared.table_id };
 
-    ghost invariant = { λ h. (h.table.shared.table_id ≡ L.history) × (L.history.words ≡ 1) };
+    ghost invariant = { λ h. (arc_value h.table).shared.table_id.words ≡ 1 };
 }
 
-/// Writes the history that `L` names. There is one of it. Contracts see the steps that are written.
+/// Writes a history. There is one of it. Contracts see which history it is, and all of its steps.
 #[derive(Drop)]
-pub struct Writer<L: Origin> {
+pub struct Writer {
     pass: Pass,
-    of: PhantomData<L>,
 }
 
-impl<L: Origin> Model for Writer<L> {
-    ghost use Rattle.std.specs.Prelude.{◌≡◌, [], List};
-    ghost use Rattle.coord_types.specs.declared.steps.Step.{Step};
-
-    ghost Value = { List Step };
-
-    ghost view = { λ w. w.pass.me.0.read };
-
-    ghost invariant = { λ w. (w.pass.table_id ≡ L.history) × (w.pass.id ≡ 0) × (w.pass.me.1 ≡ []) };
-}
-
-/// Has read a beginning of the history that `L` names. Contracts see its steps.
-#[derive(Drop)]
-pub struct Reader<L: Origin> {
-    pass: Pass,
-    of: PhantomData<L>,
-}
-
-impl<L: Origin> Model for Reader<L> {
-    ghost use Rattle.std.specs.Prelude.{◌≡◌, [], List};
-    ghost use Rattle.coord_types.specs.declared.steps.Step.{Step};
-
-    ghost Value = { List Step };
-
-    ghost view = { λ r. r.pass.me.0.read };
-
-    ghost invariant = { λ r. (r.pass.table_id ≡ L.history) × (r.pass.me.1 ≡ []) };
-}
-
-impl NewHistory {
+impl Model for Writer {
     ghost use Rattle.std.specs.Prelude.{◌≡◌, []};
+    ghost use Rattle.coord_engine.specs.History.{Beginning};
 
-    /// Takes memory for one word.
-    pub fn new(alloc: Global) -> Result<NewHistory, AllocError> {
-        let (table, pass) = Table::of_words(alloc, &[0], &())?;
-        Ok(NewHistory { table, pass })
-    }
+    ghost Value = { Beginning };
 
-    /// The history and its writer, once `L` names it.
-    pub fn named<L: Origin>(self) -> (EngineHistory<L>, Writer<L>)
-        requires { self ≡ L.history }
-        ensures { result.1 ≡ [] }
+    ghost view = { λ w. record { history = w.pass.table_id; steps = w.pass.me.0.read } };
+
+    ghost invariant = { λ w. (w.pass.id ≡ 0) × (w.pass.me.1 ≡ []) };
+}
+
+/// Has read a beginning of a history. Contracts see which history it is, and these steps.
+#[derive(Drop)]
+pub struct Reader {
+    pass: Pass,
+}
+
+impl Model for Reader {
+    ghost use Rattle.std.specs.Prelude.{◌≡◌, []};
+    ghost use Rattle.coord_engine.specs.History.{Beginning};
+
+    ghost Value = { Beginning };
+
+    ghost view = { λ r. record { history = r.pass.table_id; steps = r.pass.me.0.read } };
+
+    ghost invariant = { λ r. r.pass.me.1 ≡ [] };
+}
+
+impl History {
+    ghost use Rattle.std.specs.Prelude.{◌≡◌, [], IfOk};
+
+    /// A history without steps, and the pass that writes it. Takes memory for one word.
+    pub fn new(alloc: Global) -> Result<(History, Writer), AllocError>
+        ensures { IfOk result (λ made. made.1 ≡ record { history = made.0; steps = [] }) }
     {
-        let NewHistory { table, pass } = self;
-        (
-            EngineHistory {
-                table,
-                of: PhantomData,
-            },
-            Writer {
-                pass,
-                of: PhantomData,
-            },
-        )
+        let (table, pass) = Table::of_words(alloc, &[0], &())?;
+        let table = Arc::new(alloc, table)?;
+        Ok((History { table }, Writer { pass }))
+    }
+
+    /// The same history once more. It takes no memory; there is an error only where the count of all that
+    /// share it is full.
+    pub fn another(&self) -> Result<History, AllocError>
+        ensures { IfOk result (λ other. other ≡ self.now) }
+    {
+        let table = Arc::try_clone(&self.table)?;
+        Ok(History { table })
     }
 }
 
-impl<L: Origin> Writer<L> {
-    ghost use Rattle.std.specs.Prelude.{◌≡◌};
+impl Writer {
+    ghost use Rattle.std.specs.Prelude.{◌≡◌, ◌++◌};
     ghost use Rattle.coord_engine.specs.History.{StartsWith};
 
-    /// Writes on, so that these are the steps of the history.
-    pub fn write_on(&mut self, history: &EngineHistory<L>, steps: &[Step])
-        requires { StartsWith steps.now self.old }
-        ensures { self.new ≡ steps.now }
+    /// Writes on, so that the steps of the history are those of earlier lives, as `L` names them, and
+    /// behind them these.
+    pub fn write_on<L: Origin>(&mut self, history: &History, steps: &[Step])
+        requires here { history.now ≡ self.old.history }
+        requires on { StartsWith (L.earlier ++ steps.now) self.old.steps }
+        ensures { self.new ≡ record { history = self.old.history; steps = L.earlier ++ steps.now } }
     {
         self.write_as::<Brand>(history, steps);
     }
 
-    /// The same, for steps that have a name.
-    fn write_as<G: WrittenSteps>(&mut self, history: &EngineHistory<L>, steps: &[Step])
-        requires on { StartsWith steps.now self.old }
-        requires named { steps.now ≡ G.steps }
-        ensures { self.new ≡ G.steps }
+    /// Writes on, so that these are all steps of the history, which have a name. They end with some.
+    fn write_as<G: NamedSteps>(&mut self, history: &History, _last: &[Step])
+        requires here { history.now ≡ self.old.history }
+        requires on { StartsWith G.steps self.old.steps }
+        ensures { self.new ≡ record { history = self.old.history; steps = G.steps } }
     {
         history.table.shared.load::<WritesOn<G>>(&mut self.pass, 0);
     }
 
     /// A reader that has read all that is written.
-    pub fn reader(&mut self, history: &EngineHistory<L>) -> Reader<L>
+    pub fn reader(&mut self, history: &History) -> Reader
+        requires { history.now ≡ self.old.history }
         ensures read { result ≡ self.old }
         ensures same { self.new ≡ self.old }
     {
@@ -228,22 +215,79 @@ impl<L: Origin> Writer<L> {
             .table
             .shared
             .split_seat::<ReadsAlong>(&mut self.pass);
-        Reader {
-            pass,
-            of: PhantomData,
-        }
+        Reader { pass }
     }
 
     /// Takes a reader back: what is written begins with what it has read.
-    pub fn take_back(&mut self, history: &EngineHistory<L>, reader: Reader<L>)
-        ensures begins { StartsWith self.new reader }
+    pub fn take_back(&mut self, history: &History, reader: Reader)
+        requires here { history.now ≡ self.old.history }
+        requires theirs { reader.history ≡ self.old.history }
+        ensures begins { StartsWith self.new.steps reader.steps }
         ensures same { self.new ≡ self.old }
     {
-        let Reader { pass, of: _ } = reader;
+        self.take_back_as::<Brand>(history, reader);
+    }
+
+    /// The same, where what the reader has read has a name.
+    fn take_back_as<G: NamedSteps>(&mut self, history: &History, reader: Reader)
+        requires here { history.now ≡ self.old.history }
+        requires theirs { reader.history ≡ self.old.history }
+        requires named { reader.steps ≡ G.steps }
+        ensures begins { StartsWith self.new.steps reader.steps }
+        ensures same { self.new ≡ self.old }
+    {
+        let Reader { pass } = reader;
         history
             .table
             .shared
-            .join_seat::<Tells>(&mut self.pass, pass);
+            .join_seat::<Tells<G>>(&mut self.pass, pass);
         history.table.shared.load::<Compares>(&mut self.pass, 0);
+    }
+}
+
+impl Reader {
+    ghost use Rattle.std.specs.Prelude.{◌≡◌};
+    ghost use Rattle.coord_engine.specs.History.{StartsWith};
+
+    /// One more reader that has read as much.
+    pub fn another(&mut self, history: &History) -> Reader
+        requires { history.now ≡ self.old.history }
+        ensures read { result ≡ self.old }
+        ensures same { self.new ≡ self.old }
+    {
+        let pass = history
+            .table
+            .shared
+            .split_seat::<ReadsAlong>(&mut self.pass);
+        Reader { pass }
+    }
+
+    /// Takes another reader of the history in, and reads on: what it has read then begins with what it had
+    /// read, and with what the other one has read.
+    pub fn join(&mut self, history: &History, other: Reader)
+        requires here { history.now ≡ self.old.history }
+        requires theirs { other.history ≡ self.old.history }
+        ensures begins { StartsWith self.new.steps self.old.steps }
+        ensures others { StartsWith self.new.steps other.steps }
+        ensures same { self.new.history ≡ self.old.history }
+    {
+        self.join_as::<Brand>(history, other);
+    }
+
+    /// The same, where what the other has read has a name.
+    fn join_as<G: NamedSteps>(&mut self, history: &History, other: Reader)
+        requires here { history.now ≡ self.old.history }
+        requires theirs { other.history ≡ self.old.history }
+        requires named { other.steps ≡ G.steps }
+        ensures begins { StartsWith self.new.steps self.old.steps }
+        ensures others { StartsWith self.new.steps other.steps }
+        ensures same { self.new.history ≡ self.old.history }
+    {
+        let Reader { pass } = other;
+        history
+            .table
+            .shared
+            .join_seat::<Tells<G>>(&mut self.pass, pass);
+        history.table.shared.load::<ReadsOn>(&mut self.pass, 0);
     }
 }

@@ -14,10 +14,14 @@ use std::sync::ledger::Ledger as Count;
 /// by `Engine::new` and told by `Engine::close`, since no clause can say what lies behind a lock.
 ///
 /// An engine is made in code that is generic over this name and called with `Brand`, which picks
-/// the history, and the base, the steps and the disk's past of the ledger at hand.
+/// the history with what is written in it, and the base, the steps and the disk's past of the ledger at
+/// hand.
 pub trait Origin: Count {
     /// Which history it writes.
     ghost history: { TableId };
+
+    /// The steps of that history that were settled before, in earlier lives of the store.
+    ghost earlier: { List Step };
 
     /// The world before the ledger's first step.
     ghost base: { World };
@@ -31,6 +35,8 @@ pub trait Origin: Count {
 
 impl Origin for Brand {
     ghost history = { no_history };
+
+    ghost earlier = { [] };
 
     ghost base = { no_world 1 };
 

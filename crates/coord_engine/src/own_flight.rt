@@ -9,26 +9,27 @@ use crate::{Origin, Reader};
 use coord_disk::Disk;
 use coord_ledger::Flight;
 use coord_store::CommitFault;
-use std::marker::Model;
+use std::marker::{Model, PhantomData};
 
-/// A flight of the engine that `L` names, with what it has read of the engine's history: the steps
-/// that were settled when it left. Contracts see the flight. Its type keeps that it left behind these
-/// steps, and that a crash at any moment since the engine was made left only worlds after the first
-/// of them and of its own.
+/// A flight of the engine that `L` names, with what it has read of the engine's history: behind those
+/// of earlier lives the steps that were settled when it left. Contracts see the flight. Its type keeps
+/// that it left behind these steps, and that a crash at any moment since the engine was made left only
+/// worlds after the first of them and of its own.
 pub struct OwnFlight<D: Disk, L: Origin> {
     pub(crate) flight: Flight<D>,
-    pub(crate) reader: Reader<L>,
+    pub(crate) reader: Reader,
+    pub(crate) of: PhantomData<L>,
 }
 
 impl<D: Disk, L: Origin> Model for OwnFlight<D, L> {
     ghost use Rattle.coord_ledger.specs.ledger.State.{FlightState};
-    ghost use Rattle.coord_engine.specs.Past.{FliesFrom};
+    ghost use Rattle.coord_engine.specs.Past.{FliesBehind};
 
     ghost Value = { FlightState D };
 
     ghost view = { λ f. f.flight };
 
-    ghost invariant = { λ f. FliesFrom D.model L.disk L.base f.reader f.flight };
+    ghost invariant = { λ f. FliesBehind D.model L.history L.earlier L.disk L.base f.reader f.flight };
 }
 
 /// Commits a flight. A crash at any moment of the call leaves the world from before its steps, or the

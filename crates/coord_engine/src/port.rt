@@ -3,6 +3,7 @@
 ghost use Rattle.std.specs.Prelude.{◌≡◌};
 ghost use Rattle.coord_engine.specs.Port.{delivery_of, step_of};
 
+use crate::Reader;
 use coord_types::{NodeId, Output, Packet, Step};
 
 /// What carries released packets to the workers of nodes, and signals to their services. No promise
@@ -14,13 +15,14 @@ use coord_types::{NodeId, Output, Packet, Step};
 pub trait Port {
     ghost use Rattle.std.specs.Prelude.{ℕ, Bool, ⊤};
     ghost use Rattle.coord_types.specs.declared.packets.Packet.{Packet as Asked};
+    ghost use Rattle.coord_engine.specs.History.{Beginning};
 
     /// What it may be once it was asked to carry a packet to a node, and answered so.
     ghost carried: { Self → ℕ → Asked → Bool → Self → Type 0 } = { λ _ _ _ _ _. ⊤ };
 
-    /// Of which signals it may be asked: by the number of the step that gives one out, the node and
-    /// the epoch.
-    ghost may_signal: { ℕ → ℕ → ℕ → Type 0 } = { λ _ _ _. ⊤ };
+    /// Of which signals it may be asked: by what was read of a history, the number of the step that gives
+    /// one out, the node and the epoch.
+    ghost may_signal: { Beginning → ℕ → ℕ → ℕ → Type 0 } = { λ _ _ _ _. ⊤ };
 
     /// What it may be once it was asked to signal an epoch to a node, for a step, and answered so.
     ghost signalled: { Self → ℕ → ℕ → ℕ → Bool → Self → Type 0 } = { λ _ _ _ _ _ _. ⊤ };
@@ -33,9 +35,9 @@ pub trait Port {
         ensures { carried self.old to packet result self.new };
 
     /// Says to the service at this node that a reset has ended there, with the epoch that began. The
-    /// step with this number gives the signal out.
-    fn signal(&mut self, step: u64, node: NodeId, epoch: u64) -> bool
-        requires { may_signal step node epoch }
+    /// step with this number gives the signal out, and the reader has read it among the settled steps.
+    fn signal(&mut self, reader: Reader, step: u64, node: NodeId, epoch: u64) -> bool
+        requires { may_signal reader step node epoch }
         ensures { signalled self.old step node epoch result self.new };
 
     /// Hands on the packets that it has gathered: nothing more is asked of it for now. Answers how many

@@ -1,6 +1,8 @@
 -- Moments of one life after the other.
-use Rattle.std.proofs.Common.{◌≡◌, inl, inr, ⊎_elim, true, false, ℕ, suc, List, [], ◌∷◌, ◌++◌, ◌+◌, ◌≤◌, length, take, Option, Some, IfSome, Result, Ok, Err, IfOk, refl, sym, ap, subst, ◌∙◌, append-nil, length-append, arith}
-use Rattle.std.proofs.Math.Seq.{take-append-add}
+use Rattle.std.proofs.Common.{◌≡◌, inl, inr, ⊎_elim, true, false, ℕ, suc, List, [], ◌∷◌, ◌++◌, ◌+◌, ◌-◌, ◌≤◌, length, take, drop, Option, Some, IfSome, Result, Ok, Err, IfOk, refl, sym, ap, subst, ◌∙◌, append-nil, length-append, arith}
+use Rattle.std.proofs.Math.Seq.{take-append-add, take-length}
+use Rattle.std.proofs.lemmas.List.{take-append-drop}
+use Rattle.atomic_table.specs.Seated.{TableId}
 use Rattle.std.proofs.lemmas.Grind.{flat_map-append}
 use Rattle.coord_disk.proofs.MomentLemmas.{and_then, weaker}
 use Rattle.coord_disk.specs.Model.DiskModel.{DiskModel}
@@ -10,20 +12,24 @@ use Rattle.coord_store.specs.Facade.{Recovered}
 use Rattle.coord_store.specs.Kept.{Kept, has_stopped}
 use Rattle.coord_world.specs.laws.Trails.{IsTrail}
 use Rattle.coord_world.specs.Facade.{World, fold}
-use Rattle.coord_world.proofs.Facade.{fold-append}
+use Rattle.coord_world.proofs.Facade.{fold-append, fold_counts}
 use Rattle.coord_ledger.specs.declared.ticket.Note.{Note}
 use Rattle.coord_admin.specs.Connections.{Talk}
 use Rattle.coord_engine.proofs.OnTheWay.{joined}
 use Rattle.coord_engine.proofs.Past.{after_some_is_on_the_way, left_only, of_more}
-use Rattle.coord_engine.specs.Facade.{IsAfterSome, IsOnTheWay, IsPastOf, Past, StaysAlong}
+use Rattle.coord_engine.proofs.Released.{gives_on}
+use Rattle.coord_engine.specs.Facade.{Beginning, GivesSignal, IsAfterSome, IsOnTheWay, IsPastOf, MayTell, Past, StartsWith, StaysAlong, first_settled}
 use Rattle.coord_engine.specs.State.{based_on}
 use Rattle.coord_engine.specs.declared.closed.Closed.{Closed}
 use Rattle.coord_server.proofs.Ends.{rests, served_at_last}
-use Rattle.coord_server.proofs.OneHistory.{leaves_all, lives_are_one, tells}
+use Rattle.coord_server.proofs.OneHistory.{Tells, leaves_all, lives_are_one, tells}
+use Rattle.coord_server.proofs.Starts.{printed_more}
 use Rattle.coord_server.specs.EngineDesk.{DeskState}
 use Rattle.coord_server.specs.Ending.{IsLife, IsOneHistory}
 use Rattle.coord_server.specs.Lives.{AreOneHistory, IsLastLife, LifeSteps, all_steps, steps_in, steps_of}
-use Rattle.coord_server.specs.Moments.{AtEachMoment, ComesFrom, EndsAlong, HasComeTo, HaveRested, KeepsAlong, LivesKeepAlong}
+use Rattle.coord_server.specs.Moments.{AtEachMoment, ComesFrom, EndsAlong, HasComeTo, HaveRested, KeepsAlong, LivesKeepAlong, LivesTell}
+use Rattle.coord_server.specs.Printed.{IsPrinted, PrinterState}
+use Rattle.coord_server.specs.Signals.{CanSignal}
 use Rattle.coord_server.specs.declared.life.Life.{Life}
 use Rattle.coord_server.specs.declared.life_end.LifeEnd.TheVariants.{Resting}
 use Rattle.coord_server.specs.declared.server_end.ServerEnd.{ServerEnd}
@@ -80,28 +86,62 @@ module _ {D : Type 0} (m : DiskModel D) where
       )
       path_of (inr come) more trail = (joined first.world steps more come.trail (subst (λ w. IsTrail w more) (sym come.leads) trail), fold-append steps more first.world ∙ ap (λ w. fold w more) come.leads)
 
+  -- some steps lead there
+  leads_of : (first now : Kept D) (steps : List Step) → ComesFrom m first steps now → fold first.world steps ≡ now.world
+  leads_of first now steps (inl is) = ap (fold first.world) is.0 ∙ ap (λ (k : Kept D). k.world) (sym is.1)
+  leads_of first now steps (inr come) = come.leads
+
+  -- the settled steps of a life behind those before it
+  settled_behind : (first : World) (steps : List Step) (world : World) (left : Closed D) → fold first steps ≡ world → Tells world left → first_settled first (steps ++ left.trail.items) left.settled ≡ steps ++ first_settled left.base left.trail.items left.settled
+  settled_behind first steps world left leads t =
+      let trail = left.trail.items in
+      let count : world.count ≡ first.count + length steps = ap (λ (w : World). w.count) (sym leads) ∙ fold_counts first steps in
+      let base : left.base.count ≡ world.count = ap (λ (w : World). w.count) t.from in
+      let by : left.settled - first.count ≡ length steps + t.done = omega (arith, t.counted, count) in
+      let own : t.done ≡ left.settled - left.base.count = omega (arith, t.counted, base) in
+      ap (λ n. take n (steps ++ trail)) by ∙ take-append-add steps trail t.done ∙ ap (λ n. steps ++ take n trail) own
+
+  -- of a life of which all is settled
+  all_of_settled : (left : Closed D) → left.settled ≡ left.base.count + length left.trail.items → first_settled left.base left.trail.items left.settled ≡ left.trail.items
+  all_of_settled left all =
+      let n : left.settled - left.base.count ≡ length left.trail.items = omega (arith, all) in
+      ap (λ k. take k left.trail.items) n ∙ take-length left.trail.items
+
+-- a life may tell of signals by the history of the lives before it
+pub tells_on : {D : Type 0} (m : DiskModel D) (may : Beginning → ℕ → ℕ → ℕ → Type 0) (history own : TableId) (first now : Kept D) (steps written : List Step) → ((earlier : List Step) → MayTell history earlier (fold first.world earlier) may) → own ≡ history → ComesFrom m first steps now → written ≡ steps
+    → MayTell own written now.world may
+tells_on m may history own first now steps written tell same come is =
+    subst (λ h. MayTell h written now.world may) (sym same) (subst (λ w. MayTell history written w may) (ap (fold first.world) is ∙ leads_of m first now steps come) (tell written))
+
 module _ {D : Type 0} (m : DiskModel D) {V : Type 0} (talked : V → List Talk → V → Type 0) (failed : V → V → Type 0) (most : ℕ) where
   -- one more life has rested, and the next one begins with this
-  pub rested_on : (first now next : Kept D) (v u others : V) (life : Life D V) → HaveRested m talked most first v now u → IsLife (based_on m now.world []) talked failed most u life → KeepsAlong m now life.closed.trail.items life.closed.store
-      → most ≤ length life.closed.trail.items → life.left ≡ Resting → next ≡ life.closed.store → others ≡ life.callers → has_stopped life.closed.store ≡ false → life.closed.settled ≡ life.closed.base.count + length life.closed.trail.items → HaveRested m talked most first v next others
+  pub rested_on : (first now next : Kept D) (v u others : V) (life : Life D V) (written later : List Step) → HaveRested m talked most first v now u written → later ≡ written ++ first_settled life.closed.base life.closed.trail.items life.closed.settled → IsLife (based_on m now.world []) talked failed most u life → KeepsAlong m now life.closed.trail.items life.closed.store
+      → most ≤ length life.closed.trail.items → life.left ≡ Resting → next ≡ life.closed.store → others ≡ life.callers → has_stopped life.closed.store ≡ false → life.closed.settled ≡ life.closed.base.count + length life.closed.trail.items → HaveRested m talked most first v next others later
   unfolding rests
-  rested_on first now next v u others life rested so along kept is same same_w going all =
+  rested_on first now next v u others life written later rested adds so along kept is same same_w going all =
       let lives = steps_of m talked most rested.0 first.world v now.world u rested.1 in
       let come : ComesFrom m first (all_steps lives ++ life.closed.trail.items) life.closed.store = next_from m first now (all_steps lives) life.closed so.desk rested.2 so.history along all in
+      let here : later ≡ all_steps lives ++ life.closed.trail.items = adds ∙ ap (λ l. written ++ l) (all_of_settled m life.closed all) ∙ ap (λ l. l ++ life.closed.trail.items) rested.3 in
       let more = subst (λ l. ComesFrom m first l life.closed.store) (sym (and_steps lives (steps_in life.closed))) come in
-      let whole : HaveRested m talked most first v life.closed.store life.callers = (suc rested.0, (now.world, u, rested.1, rests m talked failed most now.world u life is so kept going all), more) in
-      subst (λ k. HaveRested m talked most first v k others) (sym same) (subst (λ w. HaveRested m talked most first v life.closed.store w) (sym same_w) whole)
+      let whole : HaveRested m talked most first v life.closed.store life.callers later = (suc rested.0, (now.world, u, rested.1, rests m talked failed most now.world u life is so kept going all), more, here ∙ sym (and_steps lives (steps_in life.closed))) in
+      subst (λ k. HaveRested m talked most first v k others later) (sym same) (subst (λ w. HaveRested m talked most first v life.closed.store w later) (sym same_w) whole)
 
   -- the last life has ended
-  pub ends_along : (first now : Kept D) (v u : V) (life : Life D V) → HaveRested m talked most first v now u → IsLife (based_on m now.world []) talked failed most u life → KeepsAlong m now life.closed.trail.items life.closed.store → EndsAlong m talked failed most first v life
-  ends_along first now v u life rested so along =
+  pub ends_along : (first now : Kept D) (v u : V) (life : Life D V) (written : List Step) → HaveRested m talked most first v now u written → life.writer.steps ≡ written ++ first_settled life.closed.base life.closed.trail.items life.closed.settled → IsLife (based_on m now.world []) talked failed most u life → KeepsAlong m now life.closed.trail.items life.closed.store → EndsAlong m talked failed most first v life
+  ends_along first now v u life written rested adds so along =
       let lives = steps_of m talked most rested.0 first.world v now.world u rested.1 in
       let whole = after_life m first now (all_steps lives) life.closed rested.2 along in
-      ((rested.0, now.world, u, rested.1, so), subst (λ l. KeepsAlong m first l life.closed.store) (sym (and_steps lives (steps_in life.closed))) whole)
+      let steps = and_steps lives (steps_in life.closed) in
+      let settled = settled_behind m first.world (all_steps lives) now.world life.closed (leads_of m first now (all_steps lives) rested.2) (tells (based_on m now.world []) so.desk life.closed so.history) in
+      let here : life.writer.steps ≡ first_settled first.world (all_steps lives ++ life.closed.trail.items) life.closed.settled = adds ∙ ap (λ l. l ++ first_settled life.closed.base life.closed.trail.items life.closed.settled) rested.3 ∙ sym settled in (
+        (rested.0, now.world, u, rested.1, so),
+        subst (λ l. KeepsAlong m first l life.closed.store) (sym steps) whole,
+        here ∙ ap (λ l. first_settled first.world l life.closed.settled) (sym steps),
+      )
 
   -- and so has the server
   pub lives_along : {W : Type 0} (first : Kept D) (v : V) (life : Life D V) (ended : ServerEnd D V W) → EndsAlong m talked failed most first v life → IsLastLife life.left ended.served → ended.closed ≡ life.closed → ended.callers ≡ life.callers → LivesKeepAlong m talked failed most first v ended
-  lives_along first v life ended ((n, world, u, lives, so), along) over same same_w = (
+  lives_along first v life ended ((n, world, u, lives, so), along, written) over same same_w = (
     (
       n,
       world,
@@ -116,6 +156,39 @@ module _ {D : Type 0} (m : DiskModel D) {V : Type 0} (talked : V → List Talk �
     ),
     subst (λ (c : Closed D). KeepsAlong m first (all_steps (steps_of m talked most n first.world v world u lives ++ steps_in c ∷ [])) c.store) (sym same) along,
   )
+
+  -- what the last life has written are the settled steps of all of them
+  written_at_last : {W : Type 0} (first : Kept D) (v : V) (life : Life D V) (ended : ServerEnd D V W) (ends : EndsAlong m talked failed most first v life) (over : IsLastLife life.left ended.served) (same : ended.closed ≡ life.closed) (same_w : ended.callers ≡ life.callers)
+      → let lived = (lives_along first v life ended ends over same same_w).0 in
+      life.writer.steps ≡ first_settled first.world (all_steps (steps_of m talked most lived.0 first.world v lived.1 lived.2 lived.3 ++ steps_in ended.closed ∷ [])) ended.closed.settled
+  written_at_last first v life ended ((n, world, u, lives, so), along, written) over same same_w =
+      subst (λ (c : Closed D). life.writer.steps ≡ first_settled first.world (all_steps (steps_of m talked most n first.world v world u lives ++ steps_in c ∷ [])) c.settled) (sym same) written
+
+  -- and what it printed are signals of these steps
+  pub lives_tell : {W : Type 0} (contents : W → Option (List ℕ)) (first : Kept D) (v : V) (life : Life D V) (ended : ServerEnd D V W) (gives : List Step → ℕ → ℕ → ℕ → Type 0) (lasts : (first more : List Step) (step node epoch : ℕ) → gives first step node epoch → gives (first ++ more) step node epoch) (p q : PrinterState W) (read : List Step) → EndsAlong m talked failed most first v life → IsLastLife life.left ended.served → ended.closed ≡ life.closed → ended.callers ≡ life.callers
+      → ended.printer ≡ q → StartsWith life.writer.steps read → IsPrinted contents (gives read) p q → LivesTell m talked failed most contents gives first v p ended
+  lives_tell contents first v life ended gives lasts p q read ends over same same_w same_q reads printed =
+      let along = lives_along first v life ended ends over same same_w in
+      let written = written_at_last first v life ended ends over same same_w in
+      let here : IsPrinted contents (gives life.writer.steps) p ended.printer =
+      subst (λ x. IsPrinted contents (gives life.writer.steps) p x) (sym same_q)
+          (printed_more contents (gives read) (gives life.writer.steps) (λ step node epoch is. subst (λ l. gives l step node epoch) (sym reads.1) (lasts read reads.0 step node epoch is)) p q printed)
+      in
+      (along.0, along.1, subst (λ l. IsPrinted contents (gives l) p ended.printer) written here)
+
+  -- each of them is a signal of some step of a trail
+  pub may_signal : {W : Type 0} (contents : W → Option (List ℕ)) (first : Kept D) (v : V) (ended : ServerEnd D V W) (p : PrinterState W) → LivesTell m talked failed most contents (GivesSignal first.world) first v p ended → IsPrinted contents (CanSignal first.world) p ended.printer
+  may_signal {W} contents first v ended p tell =
+      let lived = tell.0 in
+      let all = all_steps (steps_of m talked most lived.0 first.world v lived.1 lived.2 lived.3 ++ steps_in ended.closed ∷ []) in
+      let settled = first_settled first.world all ended.closed.settled in
+      let one = lives_are_one m talked failed most W first.world v ended lived in
+      let first_of : StartsWith all settled = (drop (ended.closed.settled - first.world.count) all, sym (take-append-drop (ended.closed.settled - first.world.count) all)) in
+      printed_more contents (GivesSignal first.world settled) (CanSignal first.world)
+          (λ step node epoch gives.
+          let on = gives_on first.world all settled step node epoch first_of gives in
+          record { steps = all; trail = one.trail; before = on.before; after = on.after; given = on.given })
+          p ended.printer tell.2
 
   -- the server's disk is on the way of all accepted steps
   pub on_the_way : {W : Type 0} (first : Kept D) (v : V) (ended : ServerEnd D V W) → LivesKeepAlong m talked failed most first v ended → AtEachMoment m first ended.closed

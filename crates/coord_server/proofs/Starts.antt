@@ -7,7 +7,7 @@ use Rattle.std.specs.Io.KnownBytes.{Appends}
 use Rattle.std.specs.declared.net.socket_addr.SocketAddr.{SocketAddr}
 use Rattle.coord_server.specs.Ending.{IsOfStart}
 use Rattle.coord_server.specs.Lines.{after_line, is_next}
-use Rattle.coord_server.specs.Printed.{BreaksIn, Follow, HasTold, IsOfPrinting, IsPrinted, IsTornSignal, PrinterState, Prints, PrintsEach, TellsAddress, signal_lines, listening_line, signal_line, with_lost}
+use Rattle.coord_server.specs.Printed.{BreaksIn, Follow, HasTold, IsOfPrinting, IsPrinted, IsTornAddress, IsTornSignal, PrinterState, Prints, PrintsEach, TellsAddress, signal_lines, listening_line, signal_line, with_lost}
 use Rattle.coord_server.specs.Signals.{StepSignal}
 use Rattle.coord_server.specs.declared.fault.ServerFault.{ServerFault}
 use Rattle.coord_server.specs.declared.last_line.LastLine.{LastLine}
@@ -56,6 +56,45 @@ module _ {W : Type 0} (contents : W → Option (List ℕ)) where
     each_may : (signals : List StepSignal) (s : StepSignal) → AllByRecursion (λ x. may x.step x.node x.epoch) signals → may s.step s.node s.epoch → AllByRecursion (λ x. may x.step x.node x.epoch) (signals ++ s ∷ [])
     each_may [] s all one = (one, tt)
     each_may (x ∷ signals) s all one = (all.0, each_may signals s all.1 one)
+
+    -- what may be told may be told of more
+    module _ (more : ℕ → ℕ → ℕ → Type 0) (on : (step node epoch : ℕ) → may step node epoch → more step node epoch) where
+      each_more : (signals : List StepSignal) → AllByRecursion (λ x. may x.step x.node x.epoch) signals → AllByRecursion (λ x. more x.step x.node x.epoch) signals
+      each_more [] all = tt
+      each_more (x ∷ signals) all = (on x.step x.node x.epoch all.0, each_more signals all.1)
+
+      torn_more : (q : PrinterState W) (torn : List ℕ) → IsTornSignal may q torn → IsTornSignal more q torn
+      torn_more q torn is = record { broken = is.broken; signal = is.signal; may_be_told = on is.signal.step is.signal.node is.signal.epoch is.may_be_told; next = is.next; part = is.part }
+
+      whole_more : (q : PrinterState W) (torn : List ℕ) → (torn ≡ []) ⊎ IsTornSignal may q torn → (torn ≡ []) ⊎ IsTornSignal more q torn
+      whole_more q torn (inl none) = inl none
+      whole_more q torn (inr is) = inr (torn_more q torn is)
+
+      pub told_more : (p q : PrinterState W) → HasTold contents may p q → HasTold contents more p q
+      told_more p q told = record {
+        signals = told.signals;
+        torn = told.torn;
+        bytes = told.bytes;
+        may_be_told = each_more told.signals told.may_be_told;
+        follow = told.follow;
+        whole = whole_more q told.torn told.whole;
+      }
+
+      opened_more : (q : PrinterState W) (first torn : List ℕ) (signals : List StepSignal) → ((first ≡ []) × (signals ≡ []) × ((torn ≡ []) ⊎ IsTornAddress q torn)) ⊎ ((address : SocketAddr) × (first ≡ listening_line address) × ((torn ≡ []) ⊎ IsTornSignal may q torn))
+          → ((first ≡ []) × (signals ≡ []) × ((torn ≡ []) ⊎ IsTornAddress q torn)) ⊎ ((address : SocketAddr) × (first ≡ listening_line address) × ((torn ≡ []) ⊎ IsTornSignal more q torn))
+      opened_more q first torn signals (inl none) = inl none
+      opened_more q first torn signals (inr is) = inr (is.0, is.1, whole_more q torn is.2)
+
+      pub printed_more : (p q : PrinterState W) → IsPrinted contents may p q → IsPrinted contents more p q
+      printed_more p q is = record {
+        first = is.first;
+        signals = is.signals;
+        torn = is.torn;
+        bytes = is.bytes;
+        opened = opened_more q is.first is.torn is.signals is.opened;
+        may_be_told = each_more is.signals is.may_be_told;
+        follow = is.follow;
+      }
 
     -- nothing was told yet
     pub told_none : (p : PrinterState W) → HasTold contents may p p

@@ -1,5 +1,6 @@
 -- What a crash may have left at each moment of the life of a store that is served.
-use Rattle.std.specs.Prelude.{◌≡◌, ◌⊎◌, ⊤, ℕ, true, List, [], ◌∷◌, ◌++◌}
+use Rattle.std.specs.Prelude.{◌≡◌, ◌⊎◌, ⊤, ℕ, true, List, [], ◌∷◌, ◌++◌, Option}
+use Rattle.atomic_table.specs.Seated.{TableId}
 use Rattle.coord_disk.specs.Model.DiskModel.{DiskModel}
 use Rattle.coord_disk.specs.Model.Moments.{LeavesOnly}
 use Rattle.coord_types.specs.declared.steps.Step.{Step}
@@ -9,9 +10,10 @@ use Rattle.coord_world.specs.Facade.{fold}
 use Rattle.coord_admin.specs.Connections.{Talk}
 use Rattle.coord_admin.specs.Times.{IsUsual}
 use Rattle.coord_admin.specs.declared.patience.Patience.{Patience}
-use Rattle.coord_engine.specs.Facade.{IsAfterSome, IsOnTheWay}
+use Rattle.coord_engine.specs.Facade.{Beginning, HasReadSettled, IsAfterSome, IsOnTheWay, first_settled}
 use Rattle.coord_engine.specs.declared.closed.Closed.{Closed}
 use Rattle.coord_server.specs.Lives.{EndsLives, HasLived, HasLivedToClose, Lives, all_steps, life_steps, steps_in, steps_of, steps_to_close}
+use Rattle.coord_server.specs.Printed.{IsPrinted, PrinterState}
 use Rattle.coord_server.specs.declared.life.Life.{Life}
 use Rattle.coord_server.specs.declared.server_end.ServerEnd.{ServerEnd}
 
@@ -35,21 +37,37 @@ pub record HasComeTo {D : Type 0} (m : DiskModel D) (first : Kept D) (steps : Li
 abbrev pub ComesFrom : {D : Type 0} → DiskModel D → Kept D → List Step → Kept D → Type 0
 ComesFrom m first steps now = ((steps ≡ []) × (now ≡ first)) ⊎ HasComeTo m first steps now
 
+-- behind the earlier steps of this history the settled ones of a life are written
+abbrev pub HasWritten : {D : Type 0} → TableId → List Step → Closed D → Beginning → Type 0
+HasWritten history earlier left written = HasReadSettled history earlier (first_settled left.base left.trail.items left.settled) written
+
 -- `talked v talks w`: those who call were v, had these talks, and then are w. A life ends after `most` steps
 module _ {D : Type 0} (m : DiskModel D) {V : Type 0} (talked : V → List Talk → V → Type 0) (most : ℕ) where
-  -- a number of lives have rested, and come by their steps from the first store to this one
-  abbrev pub HaveRested : Kept D → V → Kept D → V → Type 0
-  HaveRested first v now w = (n : ℕ) × (lives : Lives m talked most n first.world v now.world w) × ComesFrom m first (all_steps (steps_of m talked most n first.world v now.world w lives)) now
+  -- a number of lives have rested, and come by their steps, which are written, from the first store to this one
+  abbrev pub HaveRested : Kept D → V → Kept D → V → List Step → Type 0
+  HaveRested first v now w written =
+      (n : ℕ) × (lives : Lives m talked most n first.world v now.world w)
+      × ComesFrom m first (all_steps (steps_of m talked most n first.world v now.world w lives)) now × (written ≡ all_steps (steps_of m talked most n first.world v now.world w lives))
 
 -- `failed v w`: those who call were v, and have failed
 module _ {D : Type 0} (m : DiskModel D) {V : Type 0} (talked : V → List Talk → V → Type 0) (failed : V → V → Type 0) (most : ℕ) where
-  -- some lives that rest, and then this one: at every moment from the first store to what they left, whatever the disk may hold is the world after the first of all the steps that they accepted
+  -- some lives that rest, and then this one: at every moment from the first store to what they left, whatever the disk may hold is the world after the first of all the steps that they accepted; and those that are settled are written
   abbrev pub EndsAlong : Kept D → V → Life D V → Type 0
-  EndsAlong first v last = (ends : EndsLives m talked failed most first.world v last) × KeepsAlong m first (all_steps (steps_of m talked most ends.0 first.world v ends.1 ends.2 ends.3 ++ steps_in last.closed ∷ [])) last.closed.store
+  EndsAlong first v last =
+      (ends : EndsLives m talked failed most first.world v last)
+      × KeepsAlong m first (all_steps (steps_of m talked most ends.0 first.world v ends.1 ends.2 ends.3 ++ steps_in last.closed ∷ [])) last.closed.store
+      × (last.writer.steps ≡ first_settled first.world (all_steps (steps_of m talked most ends.0 first.world v ends.1 ends.2 ends.3 ++ steps_in last.closed ∷ [])) last.closed.settled)
 
   -- the same of the lives of a server that has ended
   abbrev pub LivesKeepAlong : {W : Type 0} → Kept D → V → ServerEnd D V W → Type 0
   LivesKeepAlong {W} first v ended = (lived : HasLived m talked failed most first.world v ended) × KeepsAlong m first (all_steps (steps_of m talked most lived.0 first.world v lived.1 lived.2 lived.3 ++ steps_in ended.closed ∷ [])) ended.closed.store
+
+  -- The same; and of the signals that were printed, or in whose line the output failed, each is given out by the settled steps of all these very lives. `contents`: the bytes of an output, where they are known; `gives`: which signals some steps give out
+  abbrev pub LivesTell : {W : Type 0} → (W → Option (List ℕ)) → (List Step → ℕ → ℕ → ℕ → Type 0) → Kept D → V → PrinterState W → ServerEnd D V W → Type 0
+  LivesTell {W} contents gives first v printer ended =
+      (lived : HasLived m talked failed most first.world v ended)
+      × KeepsAlong m first (all_steps (steps_of m talked most lived.0 first.world v lived.1 lived.2 lived.3 ++ steps_in ended.closed ∷ [])) ended.closed.store
+      × IsPrinted contents (gives (first_settled first.world (all_steps (steps_of m talked most lived.0 first.world v lived.1 lived.2 lived.3 ++ steps_in ended.closed ∷ [])) ended.closed.settled)) printer ended.printer
 
 -- the same where clients are waited for as usual, and a life has the steps of a server's
 abbrev pub ServedAlong : {D W : Type 0} → DiskModel D → Kept D → ServerEnd D Patience W → Type 0

@@ -2,13 +2,14 @@
 
 ghost use Rattle.std.specs.Prelude.{◌≡◌, ◌≤◌, [], false, length, IfErr, IfOk, IfSome, None};
 ghost use Rattle.coord_engine.specs.Past.{IsPastOf, StaysAlong};
+ghost use Rattle.coord_engine.specs.Released.{MayTell};
 ghost use Rattle.coord_engine.specs.State.{based_on};
 ghost use Rattle.coord_store.specs.Kept.{has_stopped};
 ghost use Rattle.coord_engine.specs.Closing.{IsSince};
 ghost use Rattle.coord_engine.specs.Threads.{AtSomeMoment, Closes};
 ghost use Rattle.coord_server.specs.Ending.{IsLife, IsNotClosed, LeavesNothing};
-ghost use Rattle.coord_server.specs.Moments.{KeepsAlong};
-ghost use Rattle.coord_server.specs.Signals.{MayTell};
+ghost use Rattle.coord_server.specs.Moments.{HasWritten, KeepsAlong};
+ghost use Rattle.coord_server.specs.Signals.{MaySignal};
 
 use crate::life_end::LifeEnd;
 use crate::printing::Opening;
@@ -17,7 +18,7 @@ use crate::threads::{Begun, JoinedThreads, run};
 use crate::{ServerFault, Telling, WORKERS};
 use coord_admin::Callers;
 use coord_disk::Disk;
-use coord_engine::{Closed, Engine, NewHistory, Origin};
+use coord_engine::{Closed, Engine, Origin, Writer};
 use coord_ledger::Ledger;
 use coord_store::Store;
 use coord_types::Packet;
@@ -34,10 +35,12 @@ use std::time::Clock;
 /// gives it back when the life ends: smaller blocks stay with the thread that took them.
 const NOTES_ROOM: usize = 600_000;
 
-/// What is left of a life, and of the callers.
+/// What is left of a life, and of the callers, and what writes the history, which has its settled steps
+/// now.
 #[derive(Drop)]
 pub struct Life<D: Disk, C> {
     pub closed: Closed<D>,
+    pub writer: Writer,
     pub callers: C,
     pub left: LifeEnd,
 }
@@ -54,25 +57,26 @@ pub fn serve_life<
 >(
     setting: &Setting<'_, R, O>,
     store: Store<D>,
+    writer: Writer,
     callers: C,
     opening: Option<Opening>,
 ) -> Result<Life<D, C>, ServerFault>
     requires going { has_stopped store ≡ false }
-    requires tell { MayTell (based_on D.model store.world []) O.may }
+    requires here { writer.history ≡ O.history }
+    requires tell { MayTell writer.history writer.steps store.world (MaySignal O.history O.gives) }
     ensures life { IfOk result
         (IsLife (based_on D.model store.world []) C.talked C.failed setting.now.life_steps callers) }
     ensures along { IfOk result (λ life.
         KeepsAlong D.model store life.closed.trail.items life.closed.store) }
+    ensures written { IfOk result (λ life.
+        HasWritten writer.history writer.steps life.closed life.writer) }
     ensures nothing { IfErr result (LeavesNothing D.model) }
 {
     let Ok(ledger) = Ledger::adopt(setting.alloc, store) else {
         return Err(ServerFault::OutOfMemory);
     };
-    let Ok(history) = NewHistory::new(setting.alloc) else {
-        return Err(ServerFault::OutOfMemory);
-    };
     let blank = Blank::new(65536);
-    serve_ledger::<D, Brand, C, O, R>(setting, blank, history, ledger, callers, opening)
+    serve_ledger::<D, Brand, C, O, R>(setting, blank, writer, ledger, callers, opening)
 }
 
 /// Runs the threads of a life over an engine, and takes the engine apart. `L` names the history and the
@@ -86,26 +90,30 @@ fn serve_ledger<
 >(
     setting: &Setting<'_, R, O>,
     blank: Blank,
-    history: NewHistory,
+    writer: Writer,
     ledger: Ledger<D>,
     callers: C,
     opening: Option<Opening>,
 ) -> Result<Life<D, C>, ServerFault>
     requires name { blank.name ≡ L.name }
     requires parts { (blank.parts ≡ L.parts) × (L.parts ≡ 65536) }
-    requires history { history ≡ L.history }
+    requires earlier { writer ≡ record { history = L.history; steps = L.earlier } }
     requires home { ledger.out ≡ None }
     requires base { ledger.log.base ≡ L.base }
     requires before { (ledger.log.trail ≡ L.before) × (L.before ≡ []) }
     requires disk { IfSome ledger.disk (IsPastOf D.model L.disk) }
-    requires tell { MayTell (based_on D.model L.base L.before) O.may }
+    requires here { O.history ≡ L.history }
+    requires tell { MayTell L.history L.earlier L.base (MaySignal O.history O.gives) }
     ensures life { IfOk result
         (IsLife (based_on D.model L.base L.before) C.talked C.failed setting.now.life_steps callers) }
     ensures along { IfOk result (λ life.
         StaysAlong D.model L.disk L.base life.closed.trail.items life.closed.store.disk) }
+    ensures written { IfOk result (λ life.
+        HasWritten L.history L.earlier life.closed life.writer) }
     ensures nothing { IfErr result (LeavesNothing D.model) }
 {
-    let engine: Engine<D, L> = Engine::new(setting.alloc, blank, history, ledger);
+    let history = setting.history.another()?;
+    let engine: Engine<D, L> = Engine::new(setting.alloc, blank, history, writer, ledger);
     let begun = begin(setting, &engine)?;
     match run(setting, &engine, begun, callers, opening) {
         Ok(completed) => closed_life(engine, completed),
@@ -150,6 +158,8 @@ fn closed_life<D: Disk, L: Origin, C: Drop>(
         (completed.seen ≤ life.closed.settled)) }
     ensures along { IfOk result (λ life.
         StaysAlong D.model L.disk L.base life.closed.trail.items life.closed.store.disk) }
+    ensures written { IfOk result (λ life.
+        HasWritten L.history L.earlier life.closed life.writer) }
     ensures nothing { IfErr result
         (IsNotClosed (based_on D.model L.base L.before) completed.shares.items completed.seen) }
 {
@@ -160,8 +170,9 @@ fn closed_life<D: Disk, L: Origin, C: Drop>(
         left,
     } = completed;
     match engine.close(shares, &seen) {
-        Ok(closed) => Ok(Life {
+        Ok((closed, writer)) => Ok(Life {
             closed,
+            writer,
             callers,
             left,
         }),

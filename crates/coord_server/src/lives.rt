@@ -1,25 +1,27 @@
 //! The lives of a server, one after the other.
 
-ghost use Rattle.std.specs.Prelude.{◌≡◌, ◌+◌, ◌≤◌, [], false, true, is_some, length, IfErr, IfOk, IfSome, OnOk};
+ghost use Rattle.std.specs.Prelude.{◌≡◌, ◌+◌, ◌≤◌, List, [], false, true, is_some, length, IfErr, IfOk, IfSome, OnOk};
 ghost use Rattle.std.specs.Thread.{IsSend, IsSync};
 ghost use Rattle.coord_store.specs.Kept.{has_stopped};
 ghost use Rattle.coord_server.specs.Ending.{LeavesNothing};
 ghost use Rattle.coord_server.specs.declared.life_end.LifeEnd.TheVariants as LifeEndAs;
 ghost use Rattle.coord_server.specs.Lives.{EndsOneHistory, HasLived, IsLastLife};
-ghost use Rattle.coord_server.specs.Moments.{AtEachMoment, EndsAlong, LivesKeepAlong};
+ghost use Rattle.coord_server.specs.Moments.{AtEachMoment, EndsAlong, LivesKeepAlong, LivesTell};
 ghost use Rattle.coord_server.specs.Printed.{IsPrinted, new_printer};
-ghost use Rattle.coord_server.specs.Signals.{CanSignal, Leads, MayTell};
-ghost use Rattle.coord_engine.specs.State.{based_on};
-ghost use Rattle.coord_world.specs.protocol.NumberedWorld.{World};
+ghost use Rattle.coord_server.specs.Signals.{CanSignal, MaySignal};
+ghost use Rattle.coord_engine.specs.History.{StartsWith};
+ghost use Rattle.coord_engine.specs.Released.{GivesSignal, MayTell};
+ghost use Rattle.coord_types.specs.declared.steps.Step.{Step};
+ghost use Rattle.coord_world.specs.Facade.{fold};
 
 use crate::life::{Life, serve_life};
 use crate::life_end::LifeEnd;
-use crate::printing::{Opening, Outlet, Printing, PrintsFrom};
+use crate::printing::{Opening, Outlet, Printed, Printing, PrintsFrom};
 use crate::setting::Setting;
-use crate::{Printer, ServerEnd, ServerFault, Telling};
+use crate::{ServerEnd, ServerFault, Telling};
 use coord_admin::Callers;
 use coord_disk::Disk;
-use coord_engine::Closed;
+use coord_engine::{Closed, History, Writer};
 use coord_store::Store;
 use std::alloc::Global;
 use std::io::Write;
@@ -64,12 +66,15 @@ pub fn serve_lives<
     ensures moments { IfOk result (λ ended. AtEachMoment D.model store ended.closed) }
     ensures printed { IfOk result (λ ended. IsPrinted W.contents (CanSignal store.world)
         (new_printer output store.world.count) ended.printer) }
+    ensures told { IfOk result (LivesTell D.model C.talked C.failed most W.contents (GivesSignal store.world)
+        store callers (new_printer output store.world.count)) }
     ensures nothing { IfErr result (LeavesNothing D.model) }
 {
-    serve_told::<D, C, W, Brand, R>(rt, alloc, most, store, callers, output)
+    let written = History::new(alloc)?;
+    serve_told::<D, C, W, Brand, R>(rt, alloc, most, store, callers, output, written)
 }
 
-/// Serves while signals are printed that may be told. `O` names them.
+/// Serves while signals are printed of the steps that are settled in a new history. `O` names it.
 fn serve_told<
     D: Disk + Send,
     C: Callers + Drop,
@@ -83,28 +88,33 @@ fn serve_told<
     store: Store<D>,
     callers: C,
     output: W,
+    written: (History, Writer),
 ) -> Result<ServerEnd<D, C, W>, ServerFault>
     requires going { has_stopped store ≡ false }
-    requires tell { (world : World) → Leads store.world world →
-        MayTell (based_on D.model world []) O.may }
-    ensures lived { IfOk result (LivesKeepAlong D.model C.talked C.failed most store callers) }
-    ensures printed { IfOk result (λ ended. IsPrinted W.contents O.may
-        (new_printer output store.world.count) ended.printer) }
+    requires here { written.0 ≡ O.history }
+    requires new { written.1 ≡ record { history = O.history; steps = [] } }
+    requires tell { (earlier : List Step) → MayTell O.history earlier (fold store.world earlier)
+        (MaySignal O.history O.gives) }
+    ensures told { IfOk result (LivesTell D.model C.talked C.failed most W.contents O.gives store callers
+        (new_printer output store.world.count)) }
     ensures nothing { IfErr result (LeavesNothing D.model) }
 {
+    let (history, mut writer) = written;
     let since = store.world().count();
+    let reader = writer.reader(&history);
     let Outlet {
         port,
         opening,
         printing,
-    } = Outlet::<&R, W, O>::new(rt, alloc, output, since)?;
+    } = Outlet::<&R, W, O>::new(rt, alloc, output, since, history.another()?, reader)?;
     let setting = Setting {
         rt,
         alloc,
         port: &port,
+        history: &history,
         life_steps: most,
     };
-    serve_and_print(&setting, store, callers, opening, printing)
+    serve_and_print(&setting, store, writer, callers, opening, printing)
 }
 
 /// Lives in a scope with what prints the port's signals.
@@ -117,16 +127,17 @@ fn serve_and_print<
 >(
     setting: &Setting<'_, R, O>,
     store: Store<D>,
+    writer: Writer,
     callers: C,
     opening: Opening,
     printing: Printing<W, O>,
 ) -> Result<ServerEnd<D, C, W>, ServerFault>
     requires going { has_stopped store ≡ false }
-    requires tell { (world : World) → Leads store.world world →
-        MayTell (based_on D.model world []) O.may }
-    ensures lived { IfOk result
-        (LivesKeepAlong D.model C.talked C.failed setting.now.life_steps store callers) }
-    ensures printed { IfOk result (λ ended. IsPrinted W.contents O.may printing.printer ended.printer) }
+    requires new { writer ≡ record { history = O.history; steps = [] } }
+    requires tell { (earlier : List Step) → MayTell O.history earlier (fold store.world earlier)
+        (MaySignal O.history O.gives) }
+    ensures told { IfOk result (LivesTell D.model C.talked C.failed
+        setting.now.life_steps W.contents O.gives store callers printing.printer) }
     ensures nothing { IfErr result (LeavesNothing D.model) }
 {
     thread::scope(
@@ -134,15 +145,15 @@ fn serve_and_print<
         setting.rt,
         |scope| -> Result<ServerEnd<D, C, W>, ServerFault>
             requires { IsSend D.row × IsSend W.row × IsSend O.row × IsSync O.row × IsSync R.row ×
-                (has_stopped store ≡ false) × ((world : World) → Leads store.world world →
-                MayTell (based_on D.model world []) O.may) }
-            ensures lived { IfOk result
-                (LivesKeepAlong D.model C.talked C.failed setting.entry.now.life_steps store callers) }
-            ensures printed { IfOk result (λ ended. IsPrinted W.contents O.may printing.printer ended.printer) }
+                (has_stopped store ≡ false) × (writer ≡ record { history = O.history; steps = [] }) ×
+                ((earlier : List Step) → MayTell O.history earlier (fold store.world earlier)
+                (MaySignal O.history O.gives)) }
+            ensures told { IfOk result (LivesTell D.model C.talked C.failed
+                setting.entry.now.life_steps W.contents O.gives store callers printing.printer) }
             ensures nothing { IfErr result (LeavesNothing D.model) }
         {
             let printing = start_printing(scope, setting.rt, printing);
-            print_and_live(setting, store, callers, opening, printing)
+            print_and_live(setting, store, writer, callers, opening, printing)
         },
     )
 }
@@ -159,7 +170,7 @@ fn start_printing<
     scope: &Scope<'s, E>,
     rt: &'r R,
     printing: Printing<W, O>,
-) -> Option<PromisedHandle<Printer<W>, PrintsFrom<W, O>>>
+) -> Option<PromisedHandle<Printed<W>, PrintsFrom<W, O>>>
     ensures { IfSome result (λ handle. handle.promise.first.value ≡ printing.printer) }
 {
     let promise = PrintsFrom::new(&printing.printer);
@@ -177,28 +188,28 @@ fn print_and_live<
 >(
     setting: &Setting<'_, R, O>,
     store: Store<D>,
+    writer: Writer,
     callers: C,
     opening: Opening,
-    printing: Option<PromisedHandle<Printer<W>, PrintsFrom<W, O>>>,
+    printing: Option<PromisedHandle<Printed<W>, PrintsFrom<W, O>>>,
 ) -> Result<ServerEnd<D, C, W>, ServerFault>
     requires going { has_stopped store ≡ false }
-    requires tell { (world : World) → Leads store.world world →
-        MayTell (based_on D.model world []) O.may }
+    requires new { writer ≡ record { history = O.history; steps = [] } }
+    requires tell { (earlier : List Step) → MayTell O.history earlier (fold store.world earlier)
+        (MaySignal O.history O.gives) }
     ensures starts { OnOk result (is_some printing ≡ true) }
-    ensures printed { IfOk result (λ ended. IfSome printing (λ handle.
-        IsPrinted W.contents O.may handle.promise.first.value ended.printer)) }
-    ensures lived { IfOk result
-        (LivesKeepAlong D.model C.talked C.failed setting.now.life_steps store callers) }
+    ensures told { IfOk result (λ ended. IfSome printing (λ handle.
+        LivesTell D.model C.talked C.failed setting.now.life_steps W.contents O.gives store callers
+        handle.promise.first.value ended)) }
     ensures nothing { IfErr result (LeavesNothing D.model) }
 {
     let Some(printing) = printing else {
         return Err(ServerFault::OutOfMemory);
     };
-    let lived = live(setting, store, callers, opening);
+    let lived = live(setting, store, writer, callers, opening);
     setting.port.fall_silent();
-    let printer = printing.join(setting.rt);
-    let life = lived?;
-    Ok(end_of(life, printer))
+    let printed = printing.join(setting.rt);
+    Ok(end_of(setting.history, lived?, printed))
 }
 
 /// Runs one life after the other, each with the store and the callers that the one before left, and
@@ -211,24 +222,29 @@ fn live<
 >(
     setting: &Setting<'_, R, O>,
     store: Store<D>,
+    writer: Writer,
     callers: C,
     opening: Opening,
 ) -> Result<Life<D, C>, ServerFault>
     requires going { has_stopped store ≡ false }
-    requires tell { (world : World) → Leads store.world world →
-        MayTell (based_on D.model world []) O.may }
+    requires new { writer ≡ record { history = O.history; steps = [] } }
+    requires tell { (earlier : List Step) → MayTell O.history earlier (fold store.world earlier)
+        (MaySignal O.history O.gives) }
     ensures lived { IfOk result
         (EndsAlong D.model C.talked C.failed setting.now.life_steps store callers) }
+    ensures same { IfOk result (λ life. life.writer.history ≡ O.history) }
     ensures nothing { IfErr result (LeavesNothing D.model) }
 {
     let mut store = store;
+    let mut writer = writer;
     let mut callers = callers;
     let mut opening = Some(opening);
     for _ in setting.rt.forever() {
-        let life = serve_life(setting, store, callers, opening.take())?;
+        let life = serve_life(setting, store, writer, callers, opening.take())?;
         match next_of(setting.life_steps, life) {
-            Ok((left, others)) => {
+            Ok((left, written, others)) => {
                 store = left;
+                writer = written;
                 callers = others;
             }
             Err(last) => return Ok(last),
@@ -249,12 +265,13 @@ fn is_settled<D: Disk>(closed: &Closed<D>) -> bool
     !closed.store.stopped() && closed.settled - base == closed.trail.len() as u64
 }
 
-/// The store and the callers with which the next life begins, or the last life: one that was ended,
-/// or rests over a store that has stopped. One that rests has kept `most` steps.
-fn next_of<D: Disk, C>(most: usize, life: Life<D, C>) -> Result<(Store<D>, C), Life<D, C>>
+/// The store, what writes the history, and the callers with which the next life begins, or the last life:
+/// one that was ended, or rests over a store that has stopped. One that rests has kept `most` steps.
+fn next_of<D: Disk, C>(most: usize, life: Life<D, C>) -> Result<(Store<D>, Writer, C), Life<D, C>>
     ensures kept { IfOk result (λ next. most ≤ length life.closed.trail.items) }
     ensures next { IfOk result (λ next. (life.left ≡ LifeEndAs.Resting) ×
-        (next.0 ≡ life.closed.store) × (next.1 ≡ life.callers)) }
+        (next.0 ≡ life.closed.store) × (next.2 ≡ life.callers)) }
+    ensures writer { IfOk result (λ next. next.1 ≡ life.writer) }
     ensures settled { IfOk result (λ next. (has_stopped life.closed.store ≡ false) ×
         (life.closed.settled ≡ life.closed.base.count + length life.closed.trail.items)) }
     ensures last { IfErr result (λ last. last ≡ life) }
@@ -265,22 +282,34 @@ fn next_of<D: Disk, C>(most: usize, life: Life<D, C>) -> Result<(Store<D>, C), L
     }
     let Life {
         closed,
+        writer,
         callers,
         left: _,
     } = life;
-    Ok((closed.store, callers))
+    Ok((closed.store, writer, callers))
 }
 
-/// How a server ended, by its last life. One that rests is the last only where its store has stopped.
-fn end_of<D: Disk, C, W: Write>(life: Life<D, C>, printer: Printer<W>) -> ServerEnd<D, C, W>
-    ensures { IsLastLife life.left result.served × (result.closed ≡ life.closed) ×
-        (result.callers ≡ life.callers) × (result.printer ≡ printer) }
+/// How a server ended, by its last life. One that rests is the last only where its store has stopped. The
+/// steps of all signals that were printed are among those that all lives have written.
+fn end_of<D: Disk, C, W: Write>(
+    history: &History,
+    life: Life<D, C>,
+    printed: Printed<W>,
+) -> ServerEnd<D, C, W>
+    requires here { history.now ≡ life.writer.history }
+    requires same { printed.reader.history ≡ life.writer.history }
+    ensures last { IsLastLife life.left result.served × (result.closed ≡ life.closed) ×
+        (result.callers ≡ life.callers) × (result.printer ≡ printed.printer) }
+    ensures read { StartsWith life.writer.steps printed.reader.steps }
 {
     let Life {
         closed,
+        mut writer,
         callers,
         left,
     } = life;
+    let Printed { printer, reader } = printed;
+    writer.take_back(history, reader);
     let served = match left {
         LifeEnd::Resting => Some(ServerFault::Device),
         LifeEnd::Ended(served) => served,

@@ -4,7 +4,7 @@ ghost use Rattle.std.specs.Prelude.{◌≡◌};
 ghost use Rattle.coord_server.specs.Workers.{worker_of};
 
 use crate::signal::{Signal, Telling};
-use coord_engine::Port;
+use coord_engine::{Port, Reader};
 use coord_types::{NodeId, Packet};
 use crossbeam_channel::Sender;
 use std::alloc::Global;
@@ -126,7 +126,9 @@ impl Ways {
 }
 
 impl<R: Wait, O: Telling> Port for &LocalPort<R, O> {
-    ghost may_signal = { O.may };
+    ghost use Rattle.coord_server.specs.Signals.{MaySignal};
+
+    ghost may_signal = { MaySignal O.history O.gives };
 
     /// The packet names its node, so `_to` is not used.
     fn carry(&mut self, _to: NodeId, packet: Packet) -> bool {
@@ -134,9 +136,9 @@ impl<R: Wait, O: Telling> Port for &LocalPort<R, O> {
         port.ways.lock(&port.rt).gather(packet)
     }
 
-    fn signal(&mut self, step: u64, node: NodeId, epoch: u64) -> bool {
+    fn signal(&mut self, reader: Reader, step: u64, node: NodeId, epoch: u64) -> bool {
         let port = *self;
-        let signal = Signal::new(step, node, epoch);
+        let signal = Signal::new(reader, step, node, epoch);
         match &*port.signals.lock(&port.rt) {
             Some(signals) => signals.send(&port.rt, signal).is_ok(),
             None => false,

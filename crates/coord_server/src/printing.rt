@@ -8,6 +8,7 @@ ghost use Rattle.coord_server.specs.Signals.{StepSignal};
 
 use crate::{LocalPort, Printer, ServerFault, Signal, Telling};
 use coord_admin::Callers;
+use coord_engine::{History, Reader};
 use crossbeam_channel::{Receiver, Sender};
 use std::alloc::{AllocError, Global};
 use std::io::Write;
@@ -17,28 +18,42 @@ use std::snapshot::Snapshot;
 use std::sync::Wait;
 use std::thread::Promise;
 
+/// What has printed, with a reader that has read the step of each signal that was printed.
+#[derive(Drop)]
+pub struct Printed<W: Write> {
+    pub printer: Printer<W>,
+    pub reader: Reader,
+}
+
 /// Prints the signals that come, in their order, up to the last one or to a line that could not be
 /// written. A signal for whose line there is no memory is lost, and so is one that does not come behind
 /// the last one.
 #[tactic(auto, using(crate::proofs::Starts::told_none))]
 pub fn print_signals<W: Write, O: Telling, I: Iterator<Item = Signal<O>>>(
+    history: &History,
     signals: I,
     printer: Printer<W>,
-) -> Printer<W>
-    requires { I.can_next signals × IsFinite (I.remaining signals) }
-    ensures each { (result.is_broken ≡ true) ⊎
+    reader: Reader,
+) -> Printed<W>
+    requires signals { I.can_next signals × IsFinite (I.remaining signals) }
+    requires here { history.now ≡ O.history }
+    requires own { reader.history ≡ O.history }
+    ensures each { (result.printer.is_broken ≡ true) ⊎
         ((came : List StepSignal) × Drains I.next_gives signals came ×
-        PrintsEach W.contents printer came result) }
-    ensures told { HasTold W.contents O.may printer result }
+        PrintsEach W.contents printer came result.printer) }
+    ensures told { HasTold W.contents (O.gives result.reader.steps) printer result.printer }
+    ensures own { result.reader.history ≡ O.history }
 {
     let mut printer = printer;
+    let mut reader = reader;
     for signal in signals {
         printer.print_signal(signal.step(), signal.node(), signal.epoch());
+        reader.join(history, signal.into_reader());
         if printer.is_broken() {
-            return printer;
+            return Printed { printer, reader };
         }
     }
-    printer
+    Printed { printer, reader }
 }
 
 /// What became of the first line: it was printed, or it met one of the faults of a start.
@@ -104,42 +119,51 @@ fn print_listening<W: Write>(
 #[derive(Drop)]
 pub struct Printing<W: Write + Drop, O: Telling> {
     pub printer: Printer<W>,
+    history: History,
+    reader: Reader,
     addresses: Receiver<SocketAddr>,
     told: Sender<Opened>,
     signals: Receiver<Signal<O>>,
+    ghost here: { history ≡ O.history },
+    ghost own: { reader.history ≡ O.history },
 }
 
 #[tactic(auto, using(crate::proofs::Starts::printed_none))]
 impl<W: Write + Drop, O: Telling> Printing<W, O> {
     /// Prints the address that comes, and then the signals that come, and gives back what printed. No
     /// clause can say what comes over a channel but what the type of a signal says.
-    pub fn print<R: Wait>(self, rt: &R) -> Printer<W>
-        ensures { IsPrinted W.contents O.may self.printer result }
+    pub fn print<R: Wait>(self, rt: &R) -> Printed<W>
+        ensures printed { IsPrinted W.contents (O.gives result.reader.steps)
+            self.printer result.printer }
+        ensures own { result.reader.history ≡ O.history }
     {
         let Printing {
             printer,
+            history,
+            reader,
             addresses,
             told,
             signals,
         } = self;
         let mut printer = printer;
         let Ok(address) = addresses.recv(rt) else {
-            return printer;
+            return Printed { printer, reader };
         };
         match print_listening(address, &mut printer) {
             Ok(()) => {
                 let _heard = told.send(rt, Opened { result: Ok(()) });
-                print_signals(signals.iter(rt), printer)
+                print_signals(&history, signals.iter(rt), printer, reader)
             }
             Err(fault) => {
                 let _heard = told.send(rt, Opened { result: Err(fault) });
-                printer
+                Printed { printer, reader }
             }
         }
     }
 }
 
-/// That what printed has printed from what it was: the address, and signals that may be told.
+/// That what printed has printed from what it was: the address, and signals of steps that its reader has
+/// read.
 #[derive(Drop)]
 pub struct PrintsFrom<W: Write + Drop, O: Telling> {
     pub first: Snapshot<Printer<W>>,
@@ -158,10 +182,12 @@ impl<W: Write + Drop, O: Telling> PrintsFrom<W, O> {
     }
 }
 
-impl<W: Write + Drop, O: Telling> Promise<Printer<W>> for PrintsFrom<W, O> {
+impl<W: Write + Drop, O: Telling> Promise<Printed<W>> for PrintsFrom<W, O> {
+    ghost use Rattle.std.specs.Prelude.{◌≡◌};
     ghost use Rattle.coord_server.specs.Printed.{IsPrinted};
 
-    ghost kept_by = { λ p r. IsPrinted W.contents O.may p.first.value r };
+    ghost kept_by = { λ p r. (r.reader.history ≡ O.history) ×
+        IsPrinted W.contents (O.gives r.reader.steps) p.first.value r.printer };
 }
 
 /// The two sides of an output: the port that signals come to and what opens it, and its thread's.
@@ -173,9 +199,18 @@ pub struct Outlet<R: Wait, W: Write + Drop, O: Telling> {
 }
 
 impl<R: Wait + Drop, W: Write + Drop, O: Telling> Outlet<R, W, O> {
-    /// Of an output to which nothing was printed yet, for signals of the steps behind this one. No clause
-    /// can say that the two sides of a channel belong together.
-    pub fn new(rt: R, alloc: Global, output: W, since: u64) -> Result<Self, AllocError>
+    /// Of an output to which nothing was printed yet, for signals of the steps behind this one, which
+    /// the history has. No clause can say that the two sides of a channel belong together.
+    pub fn new(
+        rt: R,
+        alloc: Global,
+        output: W,
+        since: u64,
+        history: History,
+        reader: Reader,
+    ) -> Result<Self, AllocError>
+        requires here { history ≡ O.history }
+        requires own { reader.history ≡ O.history }
         ensures { IfOk result (λ outlet. outlet.printing.printer ≡ new_printer output since) }
     {
         let (to, addresses) = crossbeam_channel::bounded(alloc, 1)?;
@@ -186,6 +221,8 @@ impl<R: Wait + Drop, W: Write + Drop, O: Telling> Outlet<R, W, O> {
             opening: Opening { to, told: opened },
             printing: Printing {
                 printer: Printer::new(alloc, output, since),
+                history,
+                reader,
                 addresses,
                 told,
                 signals,

@@ -1,14 +1,20 @@
 //! What all lives of a server share.
 
+ghost use Rattle.std.specs.Prelude.{◌≡◌};
+
 use crate::{LocalPort, Telling};
+use coord_engine::History;
 use std::alloc::Global;
 use std::sync::Wait;
 
-/// The runtime, the memory and the port of a server, and after how many steps a life of it ends.
+/// The runtime, the memory, the port and the history of a server, and after how many steps a life of it
+/// ends.
 #[derive(Drop)]
 pub struct Setting<'r, R: Wait, O: Telling> {
     pub rt: &'r R,
     pub alloc: Global,
     pub port: &'r LocalPort<&'r R, O>,
+    pub history: &'r History,
     pub life_steps: usize,
+    pub ghost here: { history.now ≡ O.history },
 }

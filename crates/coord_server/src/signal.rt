@@ -1,31 +1,51 @@
 //! A signal on its way to the output.
 
 ghost use Rattle.std.specs.Prelude.{◌≡◌};
+ghost use Rattle.coord_server.specs.Signals.{MaySignal};
 
+use coord_engine::Reader;
 use coord_types::NodeId;
 use std::marker::{Brand, Model, PhantomData};
 
-/// Names a server by the signals that it may tell of.
+/// Names a server by its history: the signals that it tells of are those that the steps give out which are
+/// settled there.
 ///
 /// A port and an output are made in code that is generic over this name and called with `Brand`, which
-/// picks what the server at hand may tell.
+/// picks the history of the server at hand, and what its steps give out.
 pub trait Telling {
-    ghost use Rattle.std.specs.Prelude.{ℕ};
+    ghost use Rattle.std.specs.Prelude.{ℕ, List, ◌++◌};
+    ghost use Rattle.atomic_table.specs.Seated.{TableId};
+    ghost use Rattle.coord_types.specs.declared.steps.Step.{Step};
 
-    /// By the number of the step that gives a signal out, the node and the epoch.
-    ghost may: { ℕ → ℕ → ℕ → Type 0 };
+    /// The history that its lives write.
+    ghost history: { TableId };
+
+    /// Which signals some steps give out: by the number of the step that gives one out, the node and the
+    /// epoch.
+    ghost gives: { List Step → ℕ → ℕ → ℕ → Type 0 };
+
+    /// More steps give it out too.
+    ghost lasts: { (first more : List Step) (step node epoch : ℕ) → gives first step node epoch →
+        gives (first ++ more) step node epoch };
 }
 
 impl Telling for Brand {
     ghost use Rattle.std.specs.Prelude.{⊤};
+    ghost use Rattle.coord_engine.specs.History.{no_history};
 
-    ghost may = { λ _ _ _. ⊤ };
+    ghost history = { no_history };
+
+    ghost gives = { λ _ _ _ _. ⊤ };
+
+    ghost lasts = { λ _ _ _ _ _ is. is };
 }
 
 /// The step with this number has ended a reset at this node, and this epoch has begun. Its type keeps
-/// that the server which `O` names may tell so: it is known of each that comes over a channel.
+/// that the server which `O` names may tell so, since the step is among the settled ones that the reader has
+/// read: it is known of each that comes over a channel.
 #[derive(Drop)]
 pub struct Signal<O: Telling> {
+    reader: Reader,
     step: u64,
     node: NodeId,
     epoch: u64,
@@ -33,22 +53,23 @@ pub struct Signal<O: Telling> {
 }
 
 impl<O: Telling> Model for Signal<O> {
-    ghost use Rattle.coord_server.specs.Signals.{StepSignal};
+    ghost use Rattle.coord_server.specs.Signals.{MaySignal, StepSignal};
 
     ghost Value = { StepSignal };
 
     ghost view = { λ s. record { step = s.step; node = s.node; epoch = s.epoch } };
 
-    ghost invariant = { λ s. O.may s.step s.node s.epoch };
+    ghost invariant = { λ s. MaySignal O.history O.gives s.reader s.step s.node s.epoch };
 }
 
 impl<O: Telling> Signal<O> {
     /// One that may be told.
-    pub fn new(step: u64, node: NodeId, epoch: u64) -> Self
-        requires { O.may step node epoch }
+    pub fn new(reader: Reader, step: u64, node: NodeId, epoch: u64) -> Self
+        requires { MaySignal O.history O.gives reader step node epoch }
         ensures { result ≡ record { step = step; node = node; epoch = epoch } }
     {
         Signal {
+            reader,
             step,
             node,
             epoch,
@@ -58,8 +79,7 @@ impl<O: Telling> Signal<O> {
 
     /// The number of its step.
     pub fn step(&self) -> u64
-        ensures step { result ≡ self.now.step }
-        ensures may { O.may self.now.step self.now.node self.now.epoch }
+        ensures { result ≡ self.now.step }
     {
         self.step
     }
@@ -76,5 +96,19 @@ impl<O: Telling> Signal<O> {
         ensures { result ≡ self.now.epoch }
     {
         self.epoch
+    }
+
+    /// What has read its step.
+    pub fn into_reader(self) -> Reader
+        ensures { MaySignal O.history O.gives result self.step self.node self.epoch }
+    {
+        let Signal {
+            reader,
+            step: _,
+            node: _,
+            epoch: _,
+            of: _,
+        } = self;
+        reader
     }
 }

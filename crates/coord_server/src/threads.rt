@@ -2,10 +2,11 @@
 
 ghost use Rattle.std.specs.Prelude.{◌≡◌, ◌⊎◌, ◌+◌, ◌≤◌, [], ◌∷◌, IfErr, IfOk, IfSome, Some, length, vec_capacity, vec_len};
 ghost use Rattle.std.specs.Thread.{IsSend, IsSync};
+ghost use Rattle.coord_engine.specs.Released.{MayTell};
 ghost use Rattle.coord_engine.specs.State.{based_on};
 ghost use Rattle.coord_server.specs.EngineDesk.{HandsAgain};
 ghost use Rattle.coord_server.specs.Ending.{AddsWorkers, HasRun, IsOfStart, Local, ServesLife, new_desk};
-ghost use Rattle.coord_server.specs.Signals.{MayTell};
+ghost use Rattle.coord_server.specs.Signals.{MaySignal};
 
 use crate::life_end::LifeEnd;
 use crate::printing::Opening;
@@ -72,7 +73,7 @@ pub fn run<
     callers: C,
     opening: Option<Opening>,
 ) -> Result<JoinedThreads<L, C>, (C, Option<Opening>)>
-    requires { MayTell (based_on D.model L.base L.before) O.may }
+    requires { MayTell L.history L.earlier L.base (MaySignal O.history O.gives) }
     ensures completed { IfOk result (λ completed.
         HasRun (based_on D.model L.base L.before) C.talked C.failed setting.now.life_steps
         callers completed.callers completed.left completed.shares.items completed.seen) }
@@ -83,7 +84,7 @@ pub fn run<
         setting.rt,
         |scope| -> Result<JoinedThreads<L, C>, (C, Option<Opening>)>
             requires { IsSend D.row × IsSend L.row × IsSync L.row × IsSync R.row × IsSend O.row × IsSync O.row ×
-                MayTell (based_on D.model L.base L.before) O.may }
+                MayTell L.history L.earlier L.base (MaySignal O.history O.gives) }
             ensures completed { IfOk result (λ completed.
                 HasRun (based_on D.model L.base L.before) C.talked C.failed
                 setting.entry.now.life_steps callers completed.callers completed.left completed.shares.items completed.seen) }
@@ -112,7 +113,7 @@ fn run_in<
     callers: C,
     opening: Option<Opening>,
 ) -> Result<JoinedThreads<L, C>, (C, Option<Opening>)>
-    requires { MayTell (based_on D.model L.base L.before) O.may }
+    requires { MayTell L.history L.earlier L.base (MaySignal O.history O.gives) }
     ensures completed { IfOk result (λ completed.
         HasRun (based_on D.model L.base L.before) C.talked C.failed setting.now.life_steps
         callers completed.callers completed.left completed.shares.items completed.seen) }
@@ -156,13 +157,13 @@ fn start<
     packets: Vec<Receiver<Vec<Packet>>>,
 ) -> Option<Crew<L>>
     requires eight { vec_len packets ≡ 8 }
-    requires tell { MayTell (based_on D.model L.base L.before) O.may }
+    requires tell { MayTell L.history L.earlier L.base (MaySignal O.history O.gives) }
 {
     let (rt, port) = (setting.rt, setting.port);
     let flushing = scope
         .spawn(
             move ||
-                requires { MayTell (based_on D.model L.base L.before) O.may }
+                requires { MayTell L.history L.earlier L.base (MaySignal O.history O.gives) }
             {
                 let mut port = port;
                 flusher(rt, engine, &mut port);

@@ -4,12 +4,13 @@ ghost use Rattle.std.specs.Prelude.{◌≡◌, ◌↔◌, ◌+◌, ◌≤◌, dr
 ghost use Rattle.coord_engine.specs.Closing.{IsSince, MayClose, RefusesClosing};
 ghost use Rattle.coord_engine.specs.Named.{AreNoted};
 ghost use Rattle.coord_engine.specs.Past.{StaysAlong};
-ghost use Rattle.coord_ledger.specs.machine.Log.{kinds_of, settled_count, settled_world};
+ghost use Rattle.coord_engine.specs.Released.{HasReadSettled};
+ghost use Rattle.coord_ledger.specs.machine.Log.{kinds_of, settled_count, settled_steps, settled_world};
 ghost use Rattle.coord_store.specs.Kept.{has_stopped};
 
 use super::Guarded;
 use super::comparing::{all_ascending, all_noted};
-use crate::{CloseFault, Closed, Origin, Share};
+use crate::{CloseFault, Closed, Origin, Share, Writer};
 use coord_disk::Disk;
 use coord_ledger::Seen;
 use coord_types::{Kind, Step};
@@ -68,25 +69,28 @@ impl<D: Disk, L: Origin> Guarded<D, L> {
 
     /// Takes the ledger apart, where no flight is out, all shares are there, what callers have seen is
     /// settled, and what the shares noted is what was accepted since the start, with the kinds of the
-    /// replies. It takes no memory.
+    /// replies. It gives back what writes the history too, which has written the settled steps. It takes
+    /// no memory.
     pub fn close(
         self,
         shares: Vec<Share<L>>,
         seen: &Seen,
-    ) -> Result<Closed<D>, (CloseFault, Self, Vec<Share<L>>)>
+    ) -> Result<(Closed<D>, Writer), (CloseFault, Self, Vec<Share<L>>)>
         requires { L.parts ≡ 65536 }
-        ensures may { IfOk result (λ closed. MayClose self shares.items) }
-        ensures since { IfOk result (λ closed.
-            IsSince L.base L.before shares.items closed.base closed.trail.items) }
-        ensures store { IfOk result (λ closed. (self.ledger.disk ≡ Some closed.store.disk) ×
-            (closed.store.world ≡ settled_world self.ledger.log) ×
-            (has_stopped closed.store ≡ is_some self.ledger.log.doubt)) }
-        ensures log { IfOk result (λ closed. (closed.base ≡ self.ledger.log.base) ×
-            (closed.trail.items ≡ self.ledger.log.trail) ×
-            (closed.settled ≡ settled_count self.ledger.log)) }
-        ensures along { IfOk result (λ closed.
-            StaysAlong D.model L.disk L.base closed.trail.items closed.store.disk) }
-        ensures seen { IfOk result (λ closed. seen.now ≤ closed.settled) }
+        ensures may { IfOk result (λ left. MayClose self shares.items) }
+        ensures since { IfOk result (λ left.
+            IsSince L.base L.before shares.items left.0.base left.0.trail.items) }
+        ensures store { IfOk result (λ left. (self.ledger.disk ≡ Some left.0.store.disk) ×
+            (left.0.store.world ≡ settled_world self.ledger.log) ×
+            (has_stopped left.0.store ≡ is_some self.ledger.log.doubt)) }
+        ensures log { IfOk result (λ left. (left.0.base ≡ self.ledger.log.base) ×
+            (left.0.trail.items ≡ self.ledger.log.trail) ×
+            (left.0.settled ≡ settled_count self.ledger.log)) }
+        ensures along { IfOk result (λ left.
+            StaysAlong D.model L.disk L.base left.0.trail.items left.0.store.disk) }
+        ensures written { IfOk result (λ left.
+            HasReadSettled L.history L.earlier (settled_steps self.ledger.log) left.1) }
+        ensures seen { IfOk result (λ left. seen.now ≤ left.0.settled) }
         ensures refused { IfErr result (λ refused.
             RefusesClosing self shares.items seen.now refused.0) }
         ensures back { IfErr result (λ refused. (refused.1 ≡ self) ×
@@ -108,7 +112,7 @@ impl<D: Disk, L: Origin> Guarded<D, L> {
             alloc: _,
             ledger,
             book,
-            writer: _,
+            writer,
             rest,
             given: _,
             start: _,
@@ -119,12 +123,15 @@ impl<D: Disk, L: Origin> Guarded<D, L> {
         gather(book, rest, shares);
         ledger.lemma_log_is_consistent();
         match ledger.into_parts() {
-            Ok((store, base, trail, settled)) => Ok(Closed {
-                store,
-                base,
-                trail,
-                settled,
-            }),
+            Ok((store, base, trail, settled)) => {
+                let closed = Closed {
+                    store,
+                    base,
+                    trail,
+                    settled,
+                };
+                Ok((closed, writer))
+            }
             Err(_) => unreachable!(),
         }
     }

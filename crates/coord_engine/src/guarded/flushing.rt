@@ -1,19 +1,22 @@
 //! Flights go out, and come back.
 
-ghost use Rattle.std.specs.Prelude.{◌≡◌, ◌-◌, false, true, None, Ok, length, take, IfErr, IfOk, IfSome, IsSomeAnd, OnErr, OnOk, Some, ◌≤◌};
+ghost use Rattle.std.specs.Prelude.{◌≡◌, ◌-◌, ◌++◌, false, true, None, Ok, length, take, IfErr, IfOk, IfSome, IsSomeAnd, OnErr, OnOk, Some, ◌≤◌};
 ghost use Rattle.coord_engine.specs.History.{StartsWith};
 ghost use Rattle.coord_engine.specs.Past.{FliesFrom};
+ghost use Rattle.coord_engine.specs.Released.{HasReadSettled};
 ghost use Rattle.coord_engine.specs.State.{with_ledger};
 ghost use Rattle.coord_ledger.specs.ledger.Calls.{RefusesFlight, keeps_store, next_flight, releases_in, taken_back, with_store_out};
 ghost use Rattle.coord_ledger.specs.ledger.Flights.{IsOut};
-ghost use Rattle.coord_ledger.specs.machine.Log.{pending, settled_steps};
+ghost use Rattle.coord_ledger.specs.machine.After.{resent};
+ghost use Rattle.coord_ledger.specs.machine.Log.{pending, settled_steps, settled_world};
 
 use super::Guarded;
-use crate::{EngineHistory, Origin, OwnFlight, Reader, Writer};
+use crate::{History, Origin, OwnFlight, Released, Writer};
 use coord_disk::Disk;
-use coord_ledger::{Ledger, Releases};
+use coord_ledger::Ledger;
 use coord_types::{Refusal, Step};
 use std::alloc::AllocError;
+use std::marker::PhantomData;
 
 /// The first of these steps, so many.
 fn first_steps(steps: &[Step], count: usize) -> &[Step]
@@ -23,20 +26,19 @@ fn first_steps(steps: &[Step], count: usize) -> &[Step]
     &steps[..count]
 }
 
-/// Writes the settled steps of a ledger in the history, behind those that are written, and reads them.
-fn read_settled<D: Disk, L: Origin>(
-    writer: &mut Writer<L>,
-    history: &EngineHistory<L>,
+/// Writes the settled steps of a ledger in the history, behind those of earlier lives.
+pub(super) fn write_settled<D: Disk, L: Origin>(
+    writer: &mut Writer,
+    history: &History,
     ledger: &Ledger<D>,
-) -> Reader<L>
-    requires { StartsWith (settled_steps ledger.now.log) writer.old }
-    ensures written { writer.new ≡ settled_steps ledger.now.log }
-    ensures read { result ≡ settled_steps ledger.now.log }
+)
+    requires here { history.now ≡ writer.old.history }
+    requires on { StartsWith (L.earlier ++ settled_steps ledger.now.log) writer.old.steps }
+    ensures { HasReadSettled writer.old.history L.earlier (settled_steps ledger.now.log) writer.new }
 {
     ledger.lemma_log_is_consistent();
     let trail = ledger.trail();
-    writer.write_on(history, first_steps(trail, trail.len() - ledger.pending()));
-    writer.reader(history)
+    writer.write_on::<L>(history, first_steps(trail, trail.len() - ledger.pending()));
 }
 
 impl<D: Disk, L: Origin> Guarded<D, L> {
@@ -48,10 +50,8 @@ impl<D: Disk, L: Origin> Guarded<D, L> {
     }
 
     /// Sends the next flight out, as the ledger does. It has read the settled steps.
-    pub fn begin(
-        &mut self,
-        history: &EngineHistory<L>,
-    ) -> Result<Option<OwnFlight<D, L>>, AllocError>
+    pub fn begin(&mut self, history: &History) -> Result<Option<OwnFlight<D, L>>, AllocError>
+        requires here { history.now ≡ L.history }
         ensures nothing { keeps_store self.old.ledger ≡ true → (result ≡ Ok None) ×
             (self.new ≡ self.old) }
         ensures begun { keeps_store self.old.ledger ≡ false →
@@ -66,20 +66,26 @@ impl<D: Disk, L: Origin> Guarded<D, L> {
         self.ledger.lemma_log_is_consistent();
         match self.ledger.begin_flush() {
             Ok(Some(flight)) => {
-                let reader = read_settled(&mut self.writer, history, &self.ledger);
-                Ok(Some(OwnFlight { flight, reader }))
+                let reader = self.writer.reader(history);
+                Ok(Some(OwnFlight {
+                    flight,
+                    reader,
+                    of: PhantomData,
+                }))
             }
             Ok(None) => Ok(None),
             Err(fault) => Err(fault),
         }
     }
 
-    /// Takes the flight that is out back, as the ledger does.
+    /// Takes the flight that is out back, as the ledger does. What it releases has read the settled
+    /// steps, its own among them.
     pub fn end(
         &mut self,
-        history: &EngineHistory<L>,
+        history: &History,
         flight: OwnFlight<D, L>,
-    ) -> Result<Releases, (Refusal, OwnFlight<D, L>)>
+    ) -> Result<Released<L>, (Refusal, OwnFlight<D, L>)>
+        requires here { history.now ≡ L.history }
         ensures own { OnOk result (IsOut self.old.ledger flight) }
         ensures taken { OnOk result (self.new ≡
             with_ledger self.old (taken_back self.old.ledger
@@ -89,13 +95,35 @@ impl<D: Disk, L: Origin> Guarded<D, L> {
         ensures back { IfErr result (λ refused. refused.1 ≡ flight) }
         ensures unchanged { OnErr result (self.new ≡ self.old) }
     {
-        let OwnFlight { flight, reader } = flight;
+        let OwnFlight {
+            flight,
+            reader,
+            of: _,
+        } = flight;
         match self.ledger.end_flush(flight) {
             Ok(releases) => {
                 self.writer.take_back(history, reader);
-                Ok(releases)
+                write_settled::<D, L>(&mut self.writer, history, &self.ledger);
+                Ok(Released::new(releases, self.writer.reader(history)))
             }
-            Err((refusal, flight)) => Err((refusal, OwnFlight { flight, reader })),
+            Err((refusal, flight)) => Err((
+                refusal,
+                OwnFlight {
+                    flight,
+                    reader,
+                    of: PhantomData,
+                },
+            )),
         }
+    }
+
+    /// What may have been lost, to be sent again as of step 0. No signal is among it.
+    pub fn resend(&mut self, history: &History) -> Result<Released<L>, AllocError>
+        requires here { history.now ≡ L.history }
+        ensures again { IfOk result (λ releases. releases ≡ resent (settled_world self.old.ledger.log)) }
+        ensures same { self.new ≡ self.old }
+    {
+        let releases = self.ledger.resend()?;
+        Ok(Released::new(releases, self.writer.reader(history)))
     }
 }

@@ -1,11 +1,11 @@
-use Rattle.std.proofs.Common.{◌∙◌, sym, ap, arith}
+use Rattle.std.proofs.Common.{◌≡◌, ◌∙◌, sym, ap, arith}
 use Rattle.atomic_table.specs.Seated.{TableId}
 use Rattle.coord_engine.proofs.Histories.{splits}
+use Rattle.coord_engine.specs.History.{Beginning}
 use Rattle.coord_engine.proofs.history.Writer.reader.Goals as goal
 
 pub split_seat-pass-requires : goal.split_seat-pass-requires
 split_seat-pass-requires g c =
-    let self = c.self.invariant in
-    let history = c.history.invariant in
     let pass = c.self.inside.pass in
-    (self.0 ∙ sym history.0, omega (arith, ap (λ (t : TableId). t.words) history.0, history.1), splits pass.id pass.me.0)
+    let here = sym (ap (λ (b : Beginning). b.history) c.self.view_is) in
+    (omega arith, omega arith, splits pass.id pass.me.0)

@@ -1,4 +1,5 @@
+use Rattle.std.proofs.Common.{◌++◌}
 use Rattle.coord_engine.proofs.history.Writer.write_on.Given as goal
 
 abbrev pub ghosts-write_as : goal.ghosts-write_as
-ghosts-write_as g a = record { steps = a.steps.now }
+ghosts-write_as g a = record { steps = g.L.Origin.earlier ++ a._last.now }

@@ -1,0 +1,39 @@
+-- What a flight releases, and by which steps of the history: of each signal it is known which settled step gives it out.
+use Rattle.std.specs.Prelude.{◌≡◌, ℕ, ◌-◌, List, ◌∷◌, ◌++◌, take}
+use Rattle.atomic_table.specs.Seated.{TableId}
+use Rattle.coord_types.specs.declared.outputs.Output.TheVariants.{Signalled}
+use Rattle.coord_types.specs.declared.steps.Step.{Step}
+use Rattle.coord_world.specs.Facade.{World, outs}
+use Rattle.coord_ledger.specs.declared.release.Release.{Release}
+use Rattle.coord_ledger.specs.machine.After.{release_of, releases_of}
+use Rattle.coord_engine.specs.History.{Beginning}
+use Rattle.coord_engine.specs.Port.{MayAskAll}
+
+-- one of these steps, taken from this world on, has this number and gives out this signal
+pub record GivesSignal (base : World) (steps : List Step) (step node epoch : ℕ) : Type 0 where
+  pub before : List Release
+  pub after : List Release
+  pub given : releases_of (outs base steps) ≡ before ++ release_of step (Signalled node epoch) ∷ after
+
+-- what was read are earlier steps of this history, and behind them the settled steps of a life that began with this world
+abbrev pub HasReadSettled : TableId → List Step → List Step → Beginning → Type 0
+HasReadSettled history earlier settled read = read ≡ record { history = history; steps = earlier ++ settled }
+
+-- the settled steps of a trail that goes on from this world, where this many are settled in all
+abbrev pub first_settled : World → List Step → ℕ → List Step
+first_settled base trail settled = take (settled - base.count) trail
+
+-- settled steps that were read give out each signal among these
+pub record AreOfSettled (history : TableId) (earlier : List Step) (base : World) (read : Beginning) (released : List Release) : Type 0 where
+  pub settled : List Step
+  pub read_them : HasReadSettled history earlier settled read
+  pub given : MayAskAll (GivesSignal base settled) released
+
+-- a port may be asked for each signal among these by one who has read the settled steps that give them out
+abbrev pub MayHand : TableId → List Step → World → (Beginning → ℕ → ℕ → ℕ → Type 0) → List Release → Type 0
+MayHand history earlier base may released = (read : Beginning) → AreOfSettled history earlier base read released → MayAskAll (may read) released
+
+-- A port may be asked for each signal of a settled step by one who has read that step. `may`: for which it may be asked, by what was read, step, node and epoch
+abbrev pub MayTell : TableId → List Step → World → (Beginning → ℕ → ℕ → ℕ → Type 0) → Type 0
+MayTell history earlier base may =
+    (settled : List Step) (step node epoch : ℕ) → GivesSignal base settled step node epoch → may (record { history = history; steps = earlier ++ settled }) step node epoch

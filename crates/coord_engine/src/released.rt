@@ -1,0 +1,63 @@
+//! What a flight has released, with what was read of the history.
+
+ghost use Rattle.std.specs.Prelude.{◌≡◌, length};
+ghost use Rattle.coord_engine.specs.Port.{MayAskAll};
+ghost use Rattle.coord_engine.specs.Released.{AreOfSettled};
+
+use crate::{Origin, Reader};
+use coord_ledger::Releases;
+use std::marker::{Model, PhantomData};
+
+/// What is to be handed to a port, with a reader that has read the settled steps of the engine that `L`
+/// names. It has to be spent. Contracts see what is left to hand out. Its type keeps that steps which the
+/// reader has read give out each signal among it.
+pub struct Released<L: Origin> {
+    pub(crate) releases: Releases,
+    pub(crate) reader: Reader,
+    pub(crate) of: PhantomData<L>,
+}
+
+impl<L: Origin> Model for Released<L> {
+    ghost use Rattle.std.specs.Prelude.{List};
+    ghost use Rattle.coord_ledger.specs.declared.release.Release.{Release};
+    ghost use Rattle.coord_engine.specs.Released.{AreOfSettled};
+
+    ghost Value = { List Release };
+
+    ghost view = { λ r. r.releases };
+
+    ghost invariant = { λ r. AreOfSettled L.history L.earlier L.base r.reader r.releases };
+}
+
+impl<L: Origin> Released<L> {
+    /// Of these releases, whose signals are of steps that the reader has read.
+    pub(crate) fn new(releases: Releases, reader: Reader) -> Self
+        requires { AreOfSettled L.history L.earlier L.base reader releases }
+        ensures { result ≡ releases }
+    {
+        Released {
+            releases,
+            reader,
+            of: PhantomData,
+        }
+    }
+
+    /// How many are left.
+    pub fn len(&self) -> u64
+        ensures { result ≡ length self.now }
+    {
+        self.releases.len()
+    }
+
+    /// The releases by themselves.
+    pub fn into_releases(self) -> Releases
+        ensures { result ≡ self }
+    {
+        let Released {
+            releases,
+            reader: _,
+            of: _,
+        } = self;
+        releases
+    }
+}
