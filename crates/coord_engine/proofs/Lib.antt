@@ -10,7 +10,7 @@ pub mod OnTheWay
 pub mod PacketNotes
 pub mod Past
 mod Puts
-pub mod Released
+pub mod Releasing
 pub mod Showing
 pub mod Since
 pub mod Submitting

@@ -36,7 +36,7 @@ fn answer_of<L: Origin>(
     match committed {
         Ok(()) => Ok(Some(releases)),
         Err(fault) => {
-            releases.into_releases().lose_rest();
+            releases.lose_rest();
             Err(fault)
         }
     }

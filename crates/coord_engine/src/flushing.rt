@@ -117,12 +117,7 @@ impl<D: Disk, L: Origin> Engine<D, L> {
 
 /// Asks a port for a delivery. Whether a packet is in its hand by that: a signal is no packet, and
 /// one may be lost.
-fn ask<P: Port>(
-    port: &mut P,
-    history: &History,
-    reader: &mut Reader,
-    delivery: Delivery,
-) -> bool
+fn ask<P: Port>(port: &mut P, history: &History, reader: &mut Reader, delivery: Delivery) -> bool
     requires here { history.now ≡ reader.old.history }
     requires may { MayAsk (P.may_signal reader.old) delivery }
     ensures asked { IsAsked P.carried P.signalled port.old delivery port.new }
@@ -138,12 +133,7 @@ fn ask<P: Port>(
 }
 
 /// Asks a port for a delivery for each release, in order. How many packets are in its hand by that.
-fn ask_for_all<P: Port>(
-    port: &mut P,
-    history: &History,
-    reader: Reader,
-    releases: Releases,
-) -> u64
+fn ask_for_all<P: Port>(port: &mut P, history: &History, reader: Reader, releases: Releases) -> u64
     requires here { history.now ≡ reader.history }
     requires may { MayAskAll (P.may_signal reader) releases }
     ensures { AreAsked P.carried P.signalled port.old (deliveries_of releases) port.new }

@@ -49,6 +49,13 @@ impl<L: Origin> Released<L> {
         self.releases.len()
     }
 
+    /// How many were not handed out. They are lost.
+    pub fn lose_rest(self) -> u64
+        ensures { result ≡ length self }
+    {
+        self.into_releases().lose_rest()
+    }
+
     /// The releases by themselves.
     pub fn into_releases(self) -> Releases
         ensures { result ≡ self }

@@ -17,7 +17,7 @@ use Rattle.coord_ledger.specs.declared.ticket.Note.{Note}
 use Rattle.coord_admin.specs.Connections.{Talk}
 use Rattle.coord_engine.proofs.OnTheWay.{joined}
 use Rattle.coord_engine.proofs.Past.{after_some_is_on_the_way, left_only, of_more}
-use Rattle.coord_engine.proofs.Released.{gives_on}
+use Rattle.coord_engine.proofs.Releasing.{gives_on}
 use Rattle.coord_engine.specs.Facade.{Beginning, GivesSignal, IsAfterSome, IsOnTheWay, IsPastOf, MayTell, Past, StartsWith, StaysAlong, first_settled}
 use Rattle.coord_engine.specs.State.{based_on}
 use Rattle.coord_engine.specs.declared.closed.Closed.{Closed}

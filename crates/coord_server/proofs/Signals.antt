@@ -3,7 +3,7 @@ use Rattle.std.proofs.Common.{ℕ, List, refl}
 use Rattle.atomic_table.specs.Seated.{TableId}
 use Rattle.coord_types.specs.declared.steps.Step.{Step}
 use Rattle.coord_world.specs.Facade.{World, fold}
-use Rattle.coord_engine.proofs.Released.{gives_behind}
+use Rattle.coord_engine.proofs.Releasing.{gives_behind}
 use Rattle.coord_engine.specs.Facade.{GivesSignal, MayTell}
 use Rattle.coord_server.specs.Signals.{MaySignal}
 

@@ -15,7 +15,7 @@ use crate::threads::patience::waits_once;
 use crate::threads::ports::Manner;
 use crate::threads::rings::{is_legal, resets_ring};
 use coord_disk::Disk;
-use coord_engine::{CloseFault, Closed, Engine, NewHistory, Origin, Share};
+use coord_engine::{CloseFault, Closed, Engine, History, Origin, Share, Writer};
 use coord_ledger::{Ledger, Note, Seen};
 use coord_store::Store;
 use coord_types::Step;
@@ -120,7 +120,8 @@ fn closed<D: Disk, L: Origin, R: Abort>(
         return engine
             .close(shares, &Seen::new())
             .ok()
-            .expect(rt, "no close");
+            .expect(rt, "no close")
+            .0;
     };
     match engine.close(shares, &Seen::new()) {
         Err((CloseFault::SharesMissing, engine, mut shares)) => {
@@ -129,6 +130,7 @@ fn closed<D: Disk, L: Origin, R: Abort>(
                 .close(shares, &Seen::new())
                 .ok()
                 .expect(rt, "no close")
+                .0
         }
         _ => panic!(rt; "it closes without the last share"),
     }
@@ -138,19 +140,21 @@ fn done_over<D: Disk + Send, L: Origin + Send + Sync, R: Threads + Wait + Clock 
     rt: &R,
     alloc: Global,
     blank: Blank,
-    history: NewHistory,
+    history: History,
+    writer: Writer,
     ledger: Ledger<D>,
     doing: Doing<'_>,
 )
     requires name { blank.name ≡ L.name }
     requires parts { (blank.parts ≡ L.parts) × (L.parts ≡ 65536) }
-    requires history { history ≡ L.history }
+    requires here { history ≡ L.history }
+    requires earlier { writer ≡ record { history = L.history; steps = L.earlier } }
     requires base { ledger.log.base ≡ L.base }
     requires before { ledger.log.trail ≡ L.before }
     requires disk { IfSome ledger.disk (IsPastOf D.model L.disk) }
 {
     assert!(rt; !ledger.is_out());
-    let engine: Engine<D, L> = Engine::new(alloc, blank, history, ledger);
+    let engine: Engine<D, L> = Engine::new(alloc, blank, history, writer, ledger);
     let shares = done(rt, alloc, &engine, doing);
     let notes = notes_of(rt, alloc, &shares);
     let closed = closed(rt, engine, shares);
@@ -169,6 +173,7 @@ pub(crate) fn does<D: Disk + Send, R: Threads + Wait + Clock + Sync + Abort>(
     doing: Doing<'_>,
 ) {
     let ledger = made_with(rt, alloc, disk, steps);
-    let history = NewHistory::new(alloc).expect(rt, "no memory");
-    done_over::<D, Brand, R>(rt, alloc, Blank::new(65536), history, ledger, doing);
+    let (history, writer) = History::new(alloc).expect(rt, "no memory");
+    let blank = Blank::new(65536);
+    done_over::<D, Brand, R>(rt, alloc, blank, history, writer, ledger, doing);
 }

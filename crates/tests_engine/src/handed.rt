@@ -4,7 +4,7 @@
 use crate::engines::{Doing, does, same};
 use crate::scripts::{adding, pair_steps, resetting};
 use coord_disk::{Disk, MemDisk};
-use coord_engine::{Engine, Origin, Port, Share, flusher, hand_over};
+use coord_engine::{Engine, Origin, Port, Reader, Share, flusher, hand_over};
 use coord_types::{NodeId, Packet, Step};
 use std::alloc::Global;
 use std::process::Abort;
@@ -31,7 +31,7 @@ impl Port for Counting {
         true
     }
 
-    fn signal(&mut self, _step: u64, _node: NodeId, _epoch: u64) -> bool {
+    fn signal(&mut self, _reader: Reader, _step: u64, _node: NodeId, _epoch: u64) -> bool {
         self.signalled = self.signalled.saturating_add(1);
         true
     }

@@ -39,7 +39,7 @@ pub(crate) fn takes_new_first<D: Disk, L: Origin, R: Wait + Clock + Abort>(
     engine: &Engine<D, L>,
 ) -> Vec<Share<L>> {
     let flight = engine.flush_once(rt).expect(rt, "no flight");
-    let mut releases = flight.expect(rt, "no releases");
+    let mut releases = flight.expect(rt, "no releases").into_releases();
     let first = packet_of(releases.next()).expect(rt, "no packet");
     let second = packet_of(releases.next()).expect(rt, "no packet");
     releases.lose_rest();

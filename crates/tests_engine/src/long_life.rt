@@ -5,7 +5,7 @@ ghost use Rattle.std.specs.Prelude.{◌<◌};
 use crate::engines::{Doing, does, same};
 use crate::scripts::{adding, resetting};
 use coord_disk::{Disk, MemDisk};
-use coord_engine::{Closed, Engine, Origin, Port, Share, hand_over};
+use coord_engine::{Closed, Engine, Origin, Port, Reader, Share, hand_over};
 use coord_types::{NodeId, Packet};
 use std::alloc::Global;
 use std::process::Abort;
@@ -32,7 +32,7 @@ impl<R: Wait> Port for &Epochs<R> {
         true
     }
 
-    fn signal(&mut self, _step: u64, node: NodeId, epoch: u64) -> bool {
+    fn signal(&mut self, _reader: Reader, _step: u64, node: NodeId, epoch: u64) -> bool {
         let mut last = self.last.lock(&self.rt);
         let is_next = node.number() == NODE && last.checked_add(1) == Some(epoch);
         if is_next {

@@ -7,7 +7,7 @@ ghost use Rattle.std.specs.Thread.{IsSend, IsSync};
 use crate::rings::created;
 use coord_admin::{Desk, Halves, serve};
 use coord_disk::{Disk, MemDisk};
-use coord_engine::{Closed, Engine, NewHistory, Origin, Share, flusher};
+use coord_engine::{Closed, Engine, History, Origin, Share, Writer, flusher};
 use coord_ledger::{Ledger, View};
 use coord_server::{EngineDesk, LocalPort};
 use coord_types::{Client, Command, Group, NodeId, Refusal, Reply, Step};
@@ -240,19 +240,21 @@ fn asks_engine<D: Disk + Send, L: Origin + Send + Sync, R: Threads + Wait + Cloc
     rt: &R,
     alloc: Global,
     blank: Blank,
-    history: NewHistory,
+    history: History,
+    writer: Writer,
     ledger: Ledger<D>,
     lines: &Lines<'_>,
 )
     requires name { blank.name ≡ L.name }
     requires parts { (blank.parts ≡ L.parts) × (L.parts ≡ 65536) }
-    requires history { history ≡ L.history }
+    requires here { history ≡ L.history }
+    requires earlier { writer ≡ record { history = L.history; steps = L.earlier } }
     requires base { ledger.log.base ≡ L.base }
     requires before { ledger.log.trail ≡ L.before }
     requires disk { IfSome ledger.disk (IsPastOf D.model L.disk) }
 {
     assert!(rt; !ledger.is_out());
-    let engine: Engine<D, L> = Engine::new(alloc, blank, history, ledger);
+    let engine: Engine<D, L> = Engine::new(alloc, blank, history, writer, ledger);
     let shares = asks_shared(rt, alloc, &engine, lines);
     let closed = engine.close(shares).ok().expect(rt, "no close");
     has_accepted(rt, &closed, lines);

@@ -6,7 +6,7 @@ use super::rings::start_flusher;
 use crate::engines::{Doing, does};
 use crate::scripts::{adding, pair_steps, removing, resetting};
 use coord_disk::{Disk, MemDisk};
-use coord_engine::{Engine, Origin, Port, Share};
+use coord_engine::{Engine, Origin, Port, Reader, Share};
 use coord_types::{NodeId, Packet, Step};
 use std::alloc::Global;
 use std::process::Abort;
@@ -37,7 +37,7 @@ impl Port for Sink {
         true
     }
 
-    fn signal(&mut self, _step: u64, _node: NodeId, _epoch: u64) -> bool {
+    fn signal(&mut self, _reader: Reader, _step: u64, _node: NodeId, _epoch: u64) -> bool {
         true
     }
 

@@ -1,6 +1,6 @@
 //! Ports of a ring of nodes, which carry packets to the workers' channels.
 
-use coord_engine::Port;
+use coord_engine::{Port, Reader};
 use coord_types::{NodeId, Packet, ReceiptPacket};
 use crossbeam_channel::Sender;
 use std::alloc::Global;
@@ -211,7 +211,7 @@ impl<R: Wait> Port for &Ring<R> {
         self.carrier.lock(&self.rt).carry(&self.rt, to, packet)
     }
 
-    fn signal(&mut self, _step: u64, node: NodeId, epoch: u64) -> bool {
+    fn signal(&mut self, _reader: Reader, _step: u64, node: NodeId, epoch: u64) -> bool {
         let mut signals = self.signals.lock(&self.rt);
         signals.push(Signal { node, epoch }).is_ok()
     }

@@ -1,11 +1,9 @@
-use Rattle.std.proofs.Common.{◌≡◌, ◌∙◌, sym, ap, arith}
-use Rattle.atomic_table.specs.Seated.{TableId}
+use Rattle.std.proofs.Common.{◌∙◌, sym, ap, arith}
 use Rattle.coord_engine.proofs.Histories.{splits}
 use Rattle.coord_engine.specs.History.{Beginning}
 use Rattle.coord_engine.proofs.history.Writer.reader.Goals as goal
 
 pub split_seat-pass-requires : goal.split_seat-pass-requires
-split_seat-pass-requires g c =
+split_seat-pass-requires c =
     let pass = c.self.inside.pass in
-    let here = sym (ap (λ (b : Beginning). b.history) c.self.view_is) in
-    (omega arith, omega arith, splits pass.id pass.me.0)
+    rw c.deref.ensures (ap (λ (b : Beginning). b.history) c.self.view_is ∙ sym c.requires ∙ sym c.history.view_is, omega (arith, c.history.invariant), splits pass.id pass.me.0)

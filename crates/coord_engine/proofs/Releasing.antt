@@ -94,7 +94,7 @@ released_by base l f Good same own =
     let settled = settled_steps l.log in
     let from : f.world ≡ fold base settled = own.world ∙ ap (λ w. fold w settled) same in
     subst (λ steps. MayAskAll (GivesSignal base steps) (releases_of (outs f.world f.steps))) (sym (settled_back l.log (length f.steps) f.steps own.steps))
-      (subst (λ w. MayAskAll (GivesSignal base (settled ++ f.steps)) (releases_of (outs w f.steps))) (sym from) (last_given base settled f.steps))
+    (subst (λ w. MayAskAll (GivesSignal base (settled ++ f.steps)) (releases_of (outs w f.steps))) (sym from) (last_given base settled f.steps))
 
 -- what a flight releases, once it was taken back and the settled steps are read
 pub released_back : {D : Type 0} (history : TableId) (earlier : List Step) (base : World) (l later : LedgerState D) (f : FlightState D) (released : List Release) (read : Beginning) → l.log.base ≡ base → IsOut l f → later ≡ taken_back l (length f.steps) f.mark f.disk
