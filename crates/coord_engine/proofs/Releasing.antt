@@ -1,5 +1,5 @@
 -- Which settled steps give out what is released.
-use Rattle.std.proofs.Common.{◌≡◌, ℕ, Bool, true, false, List, [], ◌∷◌, ◌++◌, length, take, drop, map, refl, sym, ap, subst, ◌∙◌, append_assoc}
+use Rattle.std.proofs.Common.{◌≡◌, ℕ, Bool, true, false, List, [], ◌∷◌, ◌++◌, ◌+◌, ◌-◌, arith, length, take, drop, map, refl, sym, ap, subst, ◌∙◌, append_assoc}
 use Rattle.std.proofs.Math.Seq.{take-add}
 use Rattle.std.proofs.lemmas.Grind.{flat_map-append}
 use Rattle.std.specs.List.{AllByRecursion}
@@ -18,8 +18,8 @@ use Rattle.coord_ledger.specs.declared.mark.Mark.{Mark}
 use Rattle.coord_ledger.specs.declared.mark.Mark.TheVariants.{New, Good, Torn}
 use Rattle.coord_ledger.specs.declared.release.Release.{Release}
 use Rattle.coord_ledger.specs.machine.After.{release_of, releases_of, resent}
-use Rattle.coord_ledger.specs.Facade.{FlightState, IsOut, LedgerState, Log, log_back, pending, releases_in, settled_steps, taken_back}
-use Rattle.coord_engine.specs.Facade.{AreOfSettled, Beginning, GivesSignal, HasReadSettled, MayAskAll, MayHand, MayTell, StartsWith}
+use Rattle.coord_ledger.specs.Facade.{FlightState, IsOut, LedgerState, Log, log_back, pending, releases_in, settled_count, settled_steps, taken_back}
+use Rattle.coord_engine.specs.Facade.{AreOfSettled, Beginning, GivesSignal, HasReadSettled, MayAskAll, MayHand, MayTell, StartsWith, first_settled}
 
 -- ---- beginnings behind earlier steps
 
@@ -34,6 +34,11 @@ rest_of (x ∷ xs) = xs
 pub of_both : (earlier xs first : List Step) → StartsWith (earlier ++ xs) (earlier ++ first) → StartsWith xs first
 of_both [] xs first is = is
 of_both (e ∷ es) xs first is = of_both es xs first (is.0, ap rest_of is.1)
+
+-- what a pass read that was taken back are the first of the settled steps
+pub begins_behind : (history : TableId) (earlier xs first : List Step) (written back read : Beginning) → HasReadSettled history earlier xs written → back ≡ written → HasReadSettled history earlier first read → StartsWith back.steps read.steps → StartsWith xs first
+begins_behind history earlier xs first written back read is same of starts =
+    of_both earlier xs first (subst (λ (b : Beginning). StartsWith b.steps (earlier ++ first)) (same ∙ is) (subst (λ (b : Beginning). StartsWith back.steps b.steps) of starts))
 
 -- ---- what steps give out
 
@@ -76,7 +81,7 @@ last_given : (w : World) (xs ys : List Step) → MayAskAll (GivesSignal w (xs ++
 last_given w xs ys = λ before after step node epoch is. gives_behind w xs ys step node epoch (record { before = before; after = after; given = is })
 
 none_given : (may : ℕ → ℕ → ℕ → Type 0) → MayAskAll may []
-none_given may = λ before after step node epoch is. none before after (release_of step (Signalled node epoch)) is
+none_given may = λ before after step node epoch is. absurd (none before after (release_of step (Signalled node epoch)) is)
   where
     none : (before after : List Release) (r : Release) → [] ≡ before ++ r ∷ after → ⊥
     none [] after r is = cc
@@ -104,6 +109,13 @@ released_back {D} history earlier base l later f released read same own taken is
   read_them = has_read;
   given = rw is (rw taken (released_by base l f f.mark same own));
 }
+
+-- what is settled once the engine is taken apart
+pub settled_at_last : (log : Log) (base : World) (trail : List Step) (settled : ℕ) → base ≡ log.base → trail ≡ log.trail → settled ≡ settled_count log → first_settled base trail settled ≡ settled_steps log
+settled_at_last log base trail settled same all counted =
+    let count : base.count ≡ log.base.count = ap (λ (w : World). w.count) same in
+    let n : settled - base.count ≡ log.settled = omega (arith, counted, count) in
+    ap (λ k. take k trail) n ∙ ap (take log.settled) all
 
 -- ---- what is sent again
 

@@ -23,7 +23,7 @@ use Rattle.coord_engine.specs.State.{based_on}
 use Rattle.coord_engine.specs.declared.closed.Closed.{Closed}
 use Rattle.coord_server.proofs.Ends.{rests, served_at_last}
 use Rattle.coord_server.proofs.OneHistory.{Tells, leaves_all, lives_are_one, tells}
-use Rattle.coord_server.proofs.Starts.{printed_more}
+use Rattle.coord_server.proofs.Starts.{on_more, printed_more}
 use Rattle.coord_server.specs.EngineDesk.{DeskState}
 use Rattle.coord_server.specs.Ending.{IsLife, IsOneHistory}
 use Rattle.coord_server.specs.Lives.{AreOneHistory, IsLastLife, LifeSteps, all_steps, steps_in, steps_of}
@@ -172,7 +172,7 @@ module _ {D : Type 0} (m : DiskModel D) {V : Type 0} (talked : V → List Talk �
       let written = written_at_last first v life ended ends over same same_w in
       let here : IsPrinted contents (gives life.writer.steps) p ended.printer =
       subst (λ x. IsPrinted contents (gives life.writer.steps) p x) (sym same_q)
-          (printed_more contents (gives read) (gives life.writer.steps) (λ step node epoch is. subst (λ l. gives l step node epoch) (sym reads.1) (lasts read reads.0 step node epoch is)) p q printed)
+          (printed_more contents (gives read) (gives life.writer.steps) (on_more gives lasts read life.writer.steps reads) p q printed)
       in
       (along.0, along.1, subst (λ l. IsPrinted contents (gives l) p ended.printer) written here)
 

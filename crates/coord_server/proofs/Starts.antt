@@ -5,6 +5,8 @@ use Rattle.std.proofs.lemmas.Grind.{flat_map-append}
 use Rattle.std.specs.List.{AllByRecursion}
 use Rattle.std.specs.Io.KnownBytes.{Appends}
 use Rattle.std.specs.declared.net.socket_addr.SocketAddr.{SocketAddr}
+use Rattle.coord_types.specs.declared.steps.Step.{Step}
+use Rattle.coord_engine.specs.Facade.{StartsWith}
 use Rattle.coord_server.specs.Ending.{IsOfStart}
 use Rattle.coord_server.specs.Lines.{after_line, is_next}
 use Rattle.coord_server.specs.Printed.{BreaksIn, Follow, HasTold, IsOfPrinting, IsPrinted, IsTornAddress, IsTornSignal, PrinterState, Prints, PrintsEach, TellsAddress, signal_lines, listening_line, signal_line, with_lost}
@@ -16,6 +18,11 @@ use Rattle.coord_server.specs.declared.last_line.LastLine.{LastLine}
 pub printing_is_of_start : (told : ServerFault) → IsOfPrinting told → IsOfStart told
 printing_is_of_start told (inl memory) = subst IsOfStart (sym memory) tt
 printing_is_of_start told (inr write) = subst IsOfStart (sym write) tt
+
+-- what some steps give out is given out by steps that begin with them
+pub on_more : (gives : List Step → ℕ → ℕ → ℕ → Type 0) (lasts : (first more : List Step) (step node epoch : ℕ) → gives first step node epoch → gives (first ++ more) step node epoch) (first steps : List Step) → StartsWith steps first
+    → (step node epoch : ℕ) → gives first step node epoch → gives steps step node epoch
+on_more gives lasts first steps starts step node epoch is = subst (λ l. gives l step node epoch) (sym starts.1) (lasts first starts.0 step node epoch is)
 
 module _ {W : Type 0} (contents : W → Option (List ℕ)) where
   prints_last : (p m q : PrinterState W) (came : List StepSignal) (s : StepSignal) → PrintsEach contents p came m → Prints contents m s q → PrintsEach contents p (came ++ s ∷ []) q

@@ -2,6 +2,8 @@
 
 ghost use Rattle.std.specs.Prelude.{◌≡◌, IfSome};
 ghost use Rattle.coord_engine.specs.Past.{IsPastOf};
+ghost use Rattle.coord_engine.specs.Released.{MayTell};
+ghost use Rattle.coord_server.specs.Signals.{MaySignal};
 ghost use Rattle.std.specs.Thread.{IsSend, IsSync};
 
 use crate::rings::created;
@@ -9,7 +11,7 @@ use coord_admin::{Desk, Halves, serve};
 use coord_disk::{Disk, MemDisk};
 use coord_engine::{Closed, Engine, History, Origin, Share, Writer, flusher};
 use coord_ledger::{Ledger, View};
-use coord_server::{EngineDesk, LocalPort};
+use coord_server::{EngineDesk, LocalPort, Telling};
 use coord_types::{Client, Command, Group, NodeId, Refusal, Reply, Step};
 use std::alloc::Global;
 use std::marker::Brand;
@@ -130,12 +132,14 @@ fn are_replied_at_last<E: Desk>(alloc: Global, desk: &mut E, lines: &Lines<'_>) 
 }
 
 /// Flushes once a reply is waited for.
-fn flush_then<D: Disk, L: Origin, R: Wait + Clock>(
+fn flush_then<D: Disk, L: Origin, O: Telling, R: Wait + Clock>(
     rt: &R,
     engine: &Engine<D, L>,
-    port: &LocalPort<&R, Brand>,
+    port: &LocalPort<&R, O>,
     is_waiting: &AtomicBool,
-) {
+)
+    requires { MayTell L.history L.earlier L.base (MaySignal O.history O.gives) }
+{
     for _ in 0..LOOKS {
         if is_waiting.load(Ordering::SeqCst) {
             break;
@@ -173,19 +177,27 @@ fn filled<D: Disk, L: Origin, R: Wait + Abort>(
 }
 
 /// Runs a flusher behind the lines. The share of the desk, and whether they got their replies.
-fn run<D: Disk + Send, L: Origin + Send + Sync, R: Threads + Wait + Clock + Sync + Abort>(
+fn run<
+    D: Disk + Send,
+    L: Origin + Send + Sync,
+    O: Telling + Send + Sync,
+    R: Threads + Wait + Clock + Sync + Abort,
+>(
     rt: &R,
     alloc: Global,
     engine: &Engine<D, L>,
-    port: &LocalPort<&R, Brand>,
+    port: &LocalPort<&R, O>,
     lines: &Lines<'_>,
-) -> (Share<L>, bool) {
+) -> (Share<L>, bool)
+    requires { MayTell L.history L.earlier L.base (MaySignal O.history O.gives) }
+{
     let is_waiting = AtomicBool::new(false);
     thread::scope(
         thread::scope_env(),
         rt,
         |scope| -> (Share<L>, bool)
-            requires { IsSend D.row × IsSend L.row × IsSync L.row × IsSync R.row }
+            requires { IsSend D.row × IsSend L.row × IsSync L.row × IsSync R.row × IsSend O.row × IsSync O.row ×
+                MayTell L.history L.earlier L.base (MaySignal O.history O.gives) }
         {
             let own = engine.share(rt).expect(rt, "no share");
             let mut front = Front {
@@ -195,7 +207,11 @@ fn run<D: Disk + Send, L: Origin + Send + Sync, R: Threads + Wait + Clock + Sync
             };
             let told = &is_waiting;
             let flushing = scope
-                .spawn(move || flush_then(rt, engine, port, told))
+                .spawn(
+                    move ||
+                        requires { MayTell L.history L.earlier L.base (MaySignal O.history O.gives) }
+                    { flush_then(rt, engine, port, told) },
+                )
                 .ok()
                 .expect(rt, "no thread");
             let are_replied = are_replied_at_last(alloc, &mut front, lines);
@@ -208,21 +224,28 @@ fn run<D: Disk + Send, L: Origin + Send + Sync, R: Threads + Wait + Clock + Sync
 }
 
 /// A port without channels, whose signals nobody receives.
-fn silent_port<R: Wait + Abort>(rt: &R, alloc: Global) -> LocalPort<&R, Brand> {
+fn silent_port<O: Telling, R: Wait + Abort>(rt: &R, alloc: Global) -> LocalPort<&R, O> {
     let (signals, receiver) = crossbeam_channel::unbounded(alloc).expect(rt, "no channel");
     drop(receiver);
     LocalPort::new(rt, alloc, Vec::new(alloc), signals)
 }
 
 /// The lines get their replies. All shares.
-fn asks_shared<D: Disk + Send, L: Origin + Send + Sync, R: Threads + Wait + Clock + Sync + Abort>(
+fn asks_shared<
+    D: Disk + Send,
+    L: Origin + Send + Sync,
+    O: Telling + Send + Sync,
+    R: Threads + Wait + Clock + Sync + Abort,
+>(
     rt: &R,
     alloc: Global,
     engine: &Engine<D, L>,
     lines: &Lines<'_>,
-) -> Vec<Share<L>> {
+) -> Vec<Share<L>>
+    requires { MayTell L.history L.earlier L.base (MaySignal O.history O.gives) }
+{
     let other = filled(rt, engine, lines.pending);
-    let port = silent_port(rt, alloc);
+    let port = silent_port::<O, R>(rt, alloc);
     let (own, are_replied) = run(rt, alloc, engine, &port, lines);
     drop(port);
     assert!(rt; are_replied);
@@ -236,7 +259,12 @@ fn has_accepted<D: Disk, R: Abort>(rt: &R, closed: &Closed<D>, lines: &Lines<'_>
 }
 
 /// The lines get their replies, and the engine closes with what it is to accept.
-fn asks_engine<D: Disk + Send, L: Origin + Send + Sync, R: Threads + Wait + Clock + Sync + Abort>(
+fn asks_engine<
+    D: Disk + Send,
+    L: Origin + Send + Sync,
+    O: Telling + Send + Sync,
+    R: Threads + Wait + Clock + Sync + Abort,
+>(
     rt: &R,
     alloc: Global,
     blank: Blank,
@@ -252,10 +280,11 @@ fn asks_engine<D: Disk + Send, L: Origin + Send + Sync, R: Threads + Wait + Cloc
     requires base { ledger.log.base ≡ L.base }
     requires before { ledger.log.trail ≡ L.before }
     requires disk { IfSome ledger.disk (IsPastOf D.model L.disk) }
+    requires tell { MayTell L.history L.earlier L.base (MaySignal O.history O.gives) }
 {
     assert!(rt; !ledger.is_out());
     let engine: Engine<D, L> = Engine::new(alloc, blank, history, writer, ledger);
-    let shares = asks_shared(rt, alloc, &engine, lines);
+    let shares = asks_shared::<D, L, O, R>(rt, alloc, &engine, lines);
     let closed = engine.close(shares).ok().expect(rt, "no close");
     has_accepted(rt, &closed, lines);
 }
@@ -269,6 +298,7 @@ pub(crate) fn asks<R: Threads + Wait + Clock + Sync + Abort>(
     let store = created(rt, alloc);
     assert!(rt; !store.stopped());
     let ledger = Ledger::adopt(alloc, store).ok().expect(rt, "no ledger");
-    let history = NewHistory::new(alloc).expect(rt, "no memory");
-    asks_engine::<MemDisk, Brand, R>(rt, alloc, Blank::new(65536), history, ledger, lines);
+    let (history, writer) = History::new(alloc).expect(rt, "no memory");
+    let blank = Blank::new(65536);
+    asks_engine::<MemDisk, Brand, Brand, R>(rt, alloc, blank, history, writer, ledger, lines);
 }

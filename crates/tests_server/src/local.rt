@@ -2,8 +2,11 @@
 //! node, once it is to hand on what it has gathered, together with the others for that worker; and each
 //! signal to what prints; once, however great its numbers are.
 
-use coord_engine::Port;
-use coord_server::{LocalPort, Signal, WORKERS};
+ghost use Rattle.std.specs.Prelude.{◌≡◌, ℕ, List};
+ghost use Rattle.coord_types.specs.declared.steps.Step.{Step};
+
+use coord_engine::{History, Port, Writer};
+use coord_server::{LocalPort, Signal, Telling, WORKERS};
 use coord_types::{DataPacket, Msg, NodeId, Packet, ReceiptPacket};
 use crossbeam_channel::{Receiver, Sender};
 use std::alloc::Global;
@@ -78,9 +81,9 @@ fn come_together<R: Wait>(
 
 /// Whether two packets that go to one node come to its worker once they are handed on, together, and
 /// not again.
-fn both_come<R: Wait>(
+fn both_come<O: Telling, R: Wait>(
     rt: &R,
-    port: &LocalPort<&R, Brand>,
+    port: &LocalPort<&R, O>,
     inboxes: &[Receiver<Vec<Packet>>],
     packets: &[Packet; 2],
 ) -> bool {
@@ -97,9 +100,9 @@ fn both_come<R: Wait>(
 }
 
 /// Whether all packets to the node 64 and to another, between the two, come once.
-fn all_come<R: Wait + Abort>(
+fn all_come<O: Telling, R: Wait + Abort>(
     rt: &R,
-    port: &LocalPort<&R, Brand>,
+    port: &LocalPort<&R, O>,
     inboxes: &[Receiver<Vec<Packet>>],
     other: NodeId,
 ) -> bool {
@@ -117,16 +120,23 @@ fn all_come<R: Wait + Abort>(
 }
 
 /// Whether each signal of a node comes once.
-fn all_told<R: Wait>(
+fn all_told<O: Telling, R: Wait>(
     rt: &R,
-    port: &LocalPort<&R, Brand>,
-    signals: &Receiver<Signal<Brand>>,
+    port: &LocalPort<&R, O>,
+    signals: &Receiver<Signal<O>>,
+    history: &History,
+    writer: &mut Writer,
     node: NodeId,
-) -> bool {
+) -> bool
+    requires here { history.now ≡ O.history }
+    requires own { writer.old.history ≡ O.history }
+    requires any { (steps : List Step) (step node epoch : ℕ) → O.gives steps step node epoch }
+    ensures { writer.new ≡ writer.old }
+{
     let mut port = port;
     for epoch in NUMBERS {
         let step = epoch.saturating_add(1);
-        if !port.signal(step, node, epoch) {
+        if !port.signal(writer.reader(history), step, node, epoch) {
             return false;
         }
         let Ok(signal) = signals.try_recv(rt) else {
@@ -139,20 +149,38 @@ fn all_told<R: Wait>(
     signals.try_recv(rt).is_err()
 }
 
-/// Whether it is so of each node.
-fn is_so<R: Wait + Abort>(rt: &R, alloc: Global) -> bool {
+/// Whether it is so of each node, where any signal may be told.
+fn is_so_of<O: Telling, R: Wait + Abort>(
+    rt: &R,
+    alloc: Global,
+    history: &History,
+    writer: Writer,
+) -> bool
+    requires here { history.now ≡ O.history }
+    requires own { writer.history ≡ O.history }
+    requires any { (steps : List Step) (step node epoch : ℕ) → O.gives steps step node epoch }
+{
+    let mut writer = writer;
     let (to, inboxes) = channels(rt, alloc);
     let (told, signals) = crossbeam_channel::unbounded(alloc).expect(rt, "no memory");
-    let port: LocalPort<&R, Brand> = LocalPort::new(rt, alloc, to, told);
+    let port: LocalPort<&R, O> = LocalPort::new(rt, alloc, to, told);
     let mut is_so = true;
     for id in 1..=64 {
         let node = NodeId::new(id).expect(rt, "no node");
-        is_so = is_so && all_come(rt, &port, &inboxes, node) && all_told(rt, &port, &signals, node);
+        is_so = is_so
+            && all_come(rt, &port, &inboxes, node)
+            && all_told(rt, &port, &signals, history, &mut writer, node);
     }
     drop(port);
     drop(inboxes);
     drop(signals);
     is_so
+}
+
+/// Whether it is so.
+fn is_so<R: Wait + Abort>(rt: &R, alloc: Global) -> bool {
+    let (history, writer) = History::new(alloc).expect(rt, "no memory");
+    is_so_of::<Brand, R>(rt, alloc, &history, writer)
 }
 
 #[test]

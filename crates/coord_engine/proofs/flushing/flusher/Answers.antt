@@ -1,5 +1,6 @@
 use Rattle.std.proofs.Common.{suc, Some, None, Ok, Err, refl, subst, rules}
 use Rattle.coord_store.specs.declared.faults.CommitFault.TheVariants.{OutOfMemory}
+use Rattle.coord_engine.proofs.Releasing.{may_hand}
 use Rattle.coord_engine.specs.Facade.{AnswersFlush, based_on}
 use Rattle.coord_engine.proofs.flushing.flusher.Goals as goal
 
@@ -13,7 +14,7 @@ pub loop-preserved-in-Ok-Some : goal.loop-preserved-in-Ok-Some
 loop-preserved-in-Ok-Some g c =
     let b = based_on g.D.Disk.model g.L.Origin.base g.L.Origin.before in
     let answers = subst (λ o. AnswersFlush b (Ok o)) c.in-Ok-Some.field-0-is c.in-Ok-Some.ensures.flushed in
-    (tt, tt, search rules, (suc c.loop.invariant.3.0, (c.loop.port, c.loop.invariant.3.1, (c.if-not-waits_for_flight.ensures.starts refl, (Ok (Some c.in-Ok-Some.releases), answers, c.hand_over.ensures.handed)))))
+    (tt, tt, search rules, (suc c.loop.invariant.3.0, (c.loop.port, c.loop.invariant.3.1, (c.if-not-waits_for_flight.ensures.starts refl, (Ok (Some c.in-Ok-Some.released), answers, c.hand_over.ensures.handed)))))
 
 pub loop-preserved : goal.loop-preserved
 loop-preserved g c =
@@ -22,6 +23,4 @@ loop-preserved g c =
     (tt, tt, search rules, (suc c.loop.invariant.3.0, (c.loop.port, c.loop.invariant.3.1, (c.if-not-waits_for_flight.ensures.starts refl, (Err OutOfMemory, answers, refl)))))
 
 pub hand_over-requires : goal.hand_over-requires
-hand_over-requires g c =
-    let b = based_on g.D.Disk.model g.L.Origin.base g.L.Origin.before in
-    c.requires c.in-Ok-Some.releases (subst (λ o. AnswersFlush b (Ok o)) c.in-Ok-Some.field-0-is c.in-Ok-Some.ensures.flushed)
+hand_over-requires g c = may_hand g.L.Origin.history g.L.Origin.earlier g.L.Origin.base g.P.Port.may_signal c.in-Ok-Some.released c.requires

@@ -1,11 +1,10 @@
 use Rattle.std.proofs.Common.{[], ap, subst, sym}
 use Rattle.std.proofs.lemmas.Result.{IfOk-weaker}
 use Rattle.coord_engine.proofs.Past.{of_itself}
-use Rattle.coord_engine.specs.Facade.{past_in}
+use Rattle.coord_engine.specs.Facade.{MayTell, past_in}
 use Rattle.coord_ledger.specs.ledger.State.{LedgerState}
 use Rattle.coord_server.proofs.Moments.{of_life}
-use Rattle.coord_engine.specs.State.{based_on}
-use Rattle.coord_server.specs.Signals.{MayTell}
+use Rattle.coord_server.specs.Signals.{MaySignal}
 use Rattle.coord_server.proofs.life.serve_life.Goals as goal
 
 pub returns-clause-along : goal.returns-clause-along
@@ -19,6 +18,5 @@ returns-clause-along g c =
 
 pub serve_ledger-requires-clause-tell : goal.serve_ledger-requires-clause-tell
 serve_ledger-requires-clause-tell g c =
-    let m = g.D.Disk.model in
     let base = ap (λ (x : LedgerState g.row.D.Denot). x.log.base) c.in-Ok.ensures.adopted in
-    λ _ _. subst (λ w. MayTell (based_on m w []) g.O.Telling.may) (sym base) c.requires.tell
+    subst (λ w. MayTell c.args.writer.history c.args.writer.steps w (MaySignal g.O.Telling.history g.O.Telling.gives)) (sym base) c.requires.tell
