@@ -172,7 +172,7 @@ module _ {D : Type 0} (m : DiskModel D) {V : Type 0} (talked : V → List Talk �
       let written = written_at_last first v life ended ends over same same_w in
       let here : IsPrinted contents (gives life.writer.steps) p ended.printer =
       subst (λ x. IsPrinted contents (gives life.writer.steps) p x) (sym same_q)
-          (printed_more contents (gives read) (gives life.writer.steps) (on_more gives lasts read life.writer.steps reads) p q printed)
+      (printed_more contents (gives read) (gives life.writer.steps) (on_more gives lasts read life.writer.steps reads) p q printed)
       in
       (along.0, along.1, subst (λ l. IsPrinted contents (gives l) p ended.printer) written here)
 
@@ -185,10 +185,10 @@ module _ {D : Type 0} (m : DiskModel D) {V : Type 0} (talked : V → List Talk �
       let one = lives_are_one m talked failed most W first.world v ended lived in
       let first_of : StartsWith all settled = (drop (ended.closed.settled - first.world.count) all, sym (take-append-drop (ended.closed.settled - first.world.count) all)) in
       printed_more contents (GivesSignal first.world settled) (CanSignal first.world)
-          (λ step node epoch gives.
-          let on = gives_on first.world all settled step node epoch first_of gives in
-          record { steps = all; trail = one.trail; before = on.before; after = on.after; given = on.given })
-          p ended.printer tell.2
+      (λ step node epoch gives.
+      let on = gives_on first.world all settled step node epoch first_of gives in
+      record { steps = all; trail = one.trail; before = on.before; after = on.after; given = on.given })
+      p ended.printer tell.2
 
   -- the server's disk is on the way of all accepted steps
   pub on_the_way : {W : Type 0} (first : Kept D) (v : V) (ended : ServerEnd D V W) → LivesKeepAlong m talked failed most first v ended → AtEachMoment m first ended.closed

@@ -10,7 +10,7 @@ use Rattle.coord_world.specs.Facade.{fold}
 use Rattle.coord_admin.specs.Connections.{Talk}
 use Rattle.coord_admin.specs.Times.{IsUsual}
 use Rattle.coord_admin.specs.declared.patience.Patience.{Patience}
-use Rattle.coord_engine.specs.Facade.{Beginning, HasReadSettled, IsAfterSome, IsOnTheWay, first_settled}
+use Rattle.coord_engine.specs.Facade.{Beginning, GivesSignal, HasReadSettled, IsAfterSome, IsOnTheWay, first_settled}
 use Rattle.coord_engine.specs.declared.closed.Closed.{Closed}
 use Rattle.coord_server.specs.Lives.{EndsLives, HasLived, HasLivedToClose, Lives, all_steps, life_steps, steps_in, steps_of, steps_to_close}
 use Rattle.coord_server.specs.Printed.{IsPrinted, PrinterState}
@@ -72,6 +72,10 @@ module _ {D : Type 0} (m : DiskModel D) {V : Type 0} (talked : V → List Talk �
 -- the same where clients are waited for as usual, and a life has the steps of a server's
 abbrev pub ServedAlong : {D W : Type 0} → DiskModel D → Kept D → ServerEnd D Patience W → Type 0
 ServedAlong {D} {W} m first ended = (callers : Patience) × IsUsual callers × LivesKeepAlong m (λ _ _ _. ⊤) (λ _ _. ⊤) life_steps first callers ended
+
+-- `contents`: the bytes of an output, where they are known. The same; and each signal that was printed, or in whose line the output failed, is given out by the settled steps of these very lives
+abbrev pub ServedTell : {D W : Type 0} → DiskModel D → (W → Option (List ℕ)) → Kept D → PrinterState W → ServerEnd D Patience W → Type 0
+ServedTell {D} {W} m contents first printer ended = (callers : Patience) × IsUsual callers × LivesTell m (λ _ _ _. ⊤) (λ _ _. ⊤) life_steps contents (GivesSignal first.world) first callers printer ended
 
 -- the same of lives of which a line has closed the last one
 abbrev pub ClosesAlong : {D : Type 0} → DiskModel D → Kept D → Closed D → Type 0

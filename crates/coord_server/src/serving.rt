@@ -2,10 +2,11 @@
 
 ghost use Rattle.std.specs.Prelude.{◌≡◌, false, true, IfErr, IfOk};
 ghost use Rattle.coord_admin.specs.Times.{IsUsual};
+ghost use Rattle.coord_engine.specs.Released.{GivesSignal};
 ghost use Rattle.coord_store.specs.Kept.{ImagesGive, has_stopped};
 ghost use Rattle.coord_server.specs.Ending.{LeavesNothing};
 ghost use Rattle.coord_server.specs.Lives.{EndsOneHistory, HasLived, HasServed, life_steps};
-ghost use Rattle.coord_server.specs.Moments.{AtEachMoment, LivesKeepAlong, ServedAlong};
+ghost use Rattle.coord_server.specs.Moments.{AtEachMoment, LivesKeepAlong, LivesTell, ServedAlong, ServedTell};
 ghost use Rattle.coord_server.specs.Printed.{IsPrinted, new_printer};
 ghost use Rattle.coord_server.specs.Signals.{CanSignal};
 
@@ -50,6 +51,8 @@ pub fn serve_store<
     ensures moments { IfOk result (λ ended. AtEachMoment D.model store ended.closed) }
     ensures printed { IfOk result (λ ended. IsPrinted W.contents (CanSignal store.world)
         (new_printer output store.world.count) ended.printer) }
+    ensures told { IfOk result (ServedTell D.model W.contents store
+        (new_printer output store.world.count)) }
     ensures images { IfOk result (λ ended. D.model.keeps_model ended.closed.store.disk ≡ true →
         ImagesGive D.model ended.closed.store) }
     ensures nothing { IfErr result (LeavesNothing D.model) }
@@ -86,6 +89,8 @@ fn serve_accepted<
     ensures moments { IfOk result (λ ended. AtEachMoment D.model store ended.closed) }
     ensures printed { IfOk result (λ ended. IsPrinted W.contents (CanSignal store.world)
         (new_printer output store.world.count) ended.printer) }
+    ensures told { IfOk result (ServedTell D.model W.contents store
+        (new_printer output store.world.count)) }
     ensures images { IfOk result (λ ended. D.model.keeps_model ended.closed.store.disk ≡ true →
         ImagesGive D.model ended.closed.store) }
     ensures nothing { IfErr result (LeavesNothing D.model) }
@@ -116,6 +121,8 @@ pub fn serve_callers<
     ensures moments { IfOk result (λ ended. AtEachMoment D.model store ended.closed) }
     ensures printed { IfOk result (λ ended. IsPrinted W.contents (CanSignal store.world)
         (new_printer output store.world.count) ended.printer) }
+    ensures told { IfOk result (LivesTell D.model C.talked C.failed life_steps W.contents
+        (GivesSignal store.world) store callers (new_printer output store.world.count)) }
     ensures images { IfOk result (λ ended. D.model.keeps_model ended.closed.store.disk ≡ true →
         ImagesGive D.model ended.closed.store) }
     ensures nothing { IfErr result (LeavesNothing D.model) }
