@@ -108,7 +108,27 @@ fn notes_of<L: Origin, R: Abort>(rt: &R, alloc: Global, shares: &[Share<L>]) -> 
     notes
 }
 
-// What is left of an engine that closes with these shares, and not without the last one.
+// What is left of an engine that closes with these shares, and not where a later step was seen than it
+// has.
+fn closed_with<D: Disk, L: Origin, R: Abort>(
+    rt: &R,
+    engine: Engine<D, L>,
+    shares: Vec<Share<L>>,
+) -> Closed<D>
+    requires { L.parts ≡ 65536 }
+{
+    let mut seen = Seen::new();
+    seen.note(u64::MAX);
+    match engine.close(shares, &seen) {
+        Err((CloseFault::NotSettled, engine, shares)) => engine
+            .close(shares, &Seen::new())
+            .ok()
+            .expect(rt, "no close"),
+        _ => panic!(rt; "it closes though a later step was seen"),
+    }
+}
+
+// The same of one that does not close without the last share.
 fn closed<D: Disk, L: Origin, R: Abort>(
     rt: &R,
     engine: Engine<D, L>,
@@ -117,18 +137,12 @@ fn closed<D: Disk, L: Origin, R: Abort>(
     requires { L.parts ≡ 65536 }
 {
     let Some(last) = shares.pop() else {
-        return engine
-            .close(shares, &Seen::new())
-            .ok()
-            .expect(rt, "no close");
+        return closed_with(rt, engine, shares);
     };
     match engine.close(shares, &Seen::new()) {
         Err((CloseFault::SharesMissing, engine, mut shares)) => {
             shares.push(last).expect(rt, "no memory");
-            engine
-                .close(shares, &Seen::new())
-                .ok()
-                .expect(rt, "no close")
+            closed_with(rt, engine, shares)
         }
         _ => panic!(rt; "it closes without the last share"),
     }
@@ -160,7 +174,7 @@ fn done_over<D: Disk + Send, L: Origin + Send + Sync, R: Threads + Wait + Clock 
 }
 
 /// Does it with an engine over a store that is made on this device, with these steps pending. The engine
-/// then closes with all its shares, and not without the last one.
+/// then closes with all its shares, and not without the last one, nor where a later step was seen.
 pub(crate) fn does<D: Disk + Send, R: Threads + Wait + Clock + Sync + Abort>(
     rt: &R,
     alloc: Global,

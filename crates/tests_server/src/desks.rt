@@ -8,7 +8,7 @@ use crate::rings::created;
 use coord_admin::{Desk, Halves, serve};
 use coord_disk::{Disk, MemDisk};
 use coord_engine::{Closed, Engine, NewHistory, Origin, Share, flusher};
-use coord_ledger::{Ledger, View};
+use coord_ledger::{Ledger, Seen, View};
 use coord_server::{EngineDesk, LocalPort};
 use coord_types::{Client, Command, Group, NodeId, Refusal, Reply, Step};
 use std::alloc::Global;
@@ -172,19 +172,20 @@ fn filled<D: Disk, L: Origin, R: Wait + Abort>(
     share
 }
 
-/// Runs a flusher behind the lines. The share of the desk, and whether they got their replies.
+/// Runs a flusher behind the lines. The share of the desk, what it has seen, and whether they got their
+/// replies.
 fn run<D: Disk + Send, L: Origin + Send + Sync, R: Threads + Wait + Clock + Sync + Abort>(
     rt: &R,
     alloc: Global,
     engine: &Engine<D, L>,
     port: &LocalPort<&R, Brand>,
     lines: &Lines<'_>,
-) -> (Share<L>, bool) {
+) -> (Share<L>, Seen, bool) {
     let is_waiting = AtomicBool::new(false);
     thread::scope(
         thread::scope_env(),
         rt,
-        |scope| -> (Share<L>, bool)
+        |scope| -> (Share<L>, Seen, bool)
             requires { IsSend D.row × IsSend L.row × IsSync L.row × IsSync R.row }
         {
             let own = engine.share(rt).expect(rt, "no share");
@@ -202,7 +203,8 @@ fn run<D: Disk + Send, L: Origin + Send + Sync, R: Threads + Wait + Clock + Sync
             engine.finish(rt);
             flushing.join(rt);
             let Front { desk, .. } = front;
-            (desk.into_parts().0, are_replied)
+            let (own, seen) = desk.into_parts();
+            (own, seen, are_replied)
         },
     )
 }
@@ -214,19 +216,20 @@ fn silent_port<R: Wait + Abort>(rt: &R, alloc: Global) -> LocalPort<&R, Brand> {
     LocalPort::new(rt, alloc, Vec::new(alloc), signals)
 }
 
-/// The lines get their replies. All shares.
+/// The lines get their replies. All shares, and what the desk has seen.
 fn asks_shared<D: Disk + Send, L: Origin + Send + Sync, R: Threads + Wait + Clock + Sync + Abort>(
     rt: &R,
     alloc: Global,
     engine: &Engine<D, L>,
     lines: &Lines<'_>,
-) -> Vec<Share<L>> {
+) -> (Vec<Share<L>>, Seen) {
     let other = filled(rt, engine, lines.pending);
     let port = silent_port(rt, alloc);
-    let (own, are_replied) = run(rt, alloc, engine, &port, lines);
+    let (own, seen, are_replied) = run(rt, alloc, engine, &port, lines);
     drop(port);
     assert!(rt; are_replied);
-    Vec::from_array(alloc, [own, other]).expect(rt, "no memory")
+    let shares = Vec::from_array(alloc, [own, other]).expect(rt, "no memory");
+    (shares, seen)
 }
 
 /// What is left of an engine has accepted so many steps, and that one last.
@@ -253,8 +256,8 @@ fn asks_engine<D: Disk + Send, L: Origin + Send + Sync, R: Threads + Wait + Cloc
 {
     assert!(rt; !ledger.is_out());
     let engine: Engine<D, L> = Engine::new(alloc, blank, history, ledger);
-    let shares = asks_shared(rt, alloc, &engine, lines);
-    let closed = engine.close(shares).ok().expect(rt, "no close");
+    let (shares, seen) = asks_shared(rt, alloc, &engine, lines);
+    let closed = engine.close(shares, &seen).ok().expect(rt, "no close");
     has_accepted(rt, &closed, lines);
 }
 
