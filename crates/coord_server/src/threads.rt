@@ -86,7 +86,8 @@ pub fn run<
                 MayTell (based_on D.model L.base L.before) O.may }
             ensures completed { IfOk result (λ completed.
                 HasRun (based_on D.model L.base L.before) C.talked C.failed
-                setting.entry.now.life_steps callers completed.callers completed.left completed.shares.items completed.seen) }
+                setting.entry.now.life_steps callers completed.callers completed.left
+                completed.shares.items completed.seen) }
             ensures unserved { IfErr result (λ back. (back.0 ≡ callers) × (back.1 ≡ opening)) }
         { run_in(scope, setting, engine, begun, callers, opening) },
     )
