@@ -12,7 +12,7 @@ use Rattle.coord_admin.specs.declared.answer.Answer.TheVariants as answer
 use Rattle.coord_server.specs.Told.{TellsUpTo, WritesUpTo}
 use Rattle.coord_server.specs.WorkedTold.{TellUpToThird, third_line, third_reply}
 
-line_is : reply_line third_reply ≡ third_line
+line_is : third_line ≡ reply_lines (third_reply ∷ []) ++ []
 unfolding serde_json_on_literals digits
 line_is = refl
 
@@ -45,8 +45,8 @@ other_text (a ∷ told) part up broken is = other_line a up.0 (reply_lines told 
 
 pub tell_up_to_third : TellUpToThird
 tell_up_to_third = record {
-  told = (omega arith, omega arith, tt, tt);
-  written = record { told = third_reply ∷ []; up_to = (omega arith, tt); part = []; broken = inl refl; text_is = sym line_is };
+  told = (omega arith, (omega arith, (tt, tt)));
+  written = record { told = third_reply ∷ []; up_to = (omega arith, tt); part = []; broken = inl refl; text_is = line_is };
   replied_third = λ le. omega (arith, le);
   shown_third = λ le. omega (arith, le);
   written_third = λ is. other_text is.told is.part is.up_to is.broken is.text_is;
