@@ -270,11 +270,11 @@ impl<D: Disk, L: Origin> Engine<D, L> {
     }
 
     /// Takes the engine apart, where no flight is out, all shares are there, what callers have seen is
-    /// settled, and the shares' notes are what was accepted since the engine was made. What is left has the base of the ledger that
-    /// the engine was made over, and a trail that begins with that ledger's. A crash at any moment
-    /// since then left only worlds after the first steps of that trail. What writes the history comes back
-    /// too: it has written the settled steps of that trail behind those of earlier lives. It takes no
-    /// memory.
+    /// settled, and the shares' notes are what was accepted since the engine was made. What is left
+    /// has the base of the ledger that the engine was made over, and a trail that begins with that
+    /// ledger's. A crash at any moment since then left only worlds after the first steps of that
+    /// trail. What writes the history comes back too: it has written the settled steps of that trail
+    /// behind those of earlier lives. It takes no memory.
     pub fn close(
         self,
         shares: Vec<Share<L>>,

@@ -6,3 +6,4 @@ pub mod Settled
 pub mod Signals
 pub mod Starts
 pub mod Told
+pub mod WorkedTold

@@ -161,6 +161,7 @@ module _ {D : Type 0} (m : DiskModel D) {V : Type 0} (talked : V → List Talk �
   written_at_last : {W : Type 0} (first : Kept D) (v : V) (life : Life D V) (ended : ServerEnd D V W) (ends : EndsAlong m talked failed most first v life) (over : IsLastLife life.left ended.served) (same : ended.closed ≡ life.closed) (same_w : ended.callers ≡ life.callers)
       → let lived = (lives_along first v life ended ends over same same_w).0 in
       life.writer.steps ≡ first_settled first.world (all_steps (steps_of m talked most lived.0 first.world v lived.1 lived.2 lived.3 ++ steps_in ended.closed ∷ [])) ended.closed.settled
+  unfolding lives_along
   written_at_last first v life ended ((n, world, u, lives, so), along, written) over same same_w =
       subst (λ (c : Closed D). life.writer.steps ≡ first_settled first.world (all_steps (steps_of m talked most n first.world v world u lives ++ steps_in c ∷ [])) c.settled) (sym same) written
 

@@ -205,7 +205,7 @@ desk_goes {D} {P} b d e request.Close a is = subst (λ (x : Answer). Goes d.seen
 
 pub told_is_settled : (D P : Type 0) {V : Type 0} (talked : V → List Talk → V → Type 0) → ToldIsSettled D P talked
 told_is_settled D P talked b most port v w desk left history =
-    let sees = desk_goes {D} {P} b in
+    let sees = desk_goes {D = D} {P = P} b in
     let saw = λ (x : DeskState P). x.seen in (
       λ is. all_write_further desk.seen left.settled is.0 history.seen (all_served (DeskAnswers b) saw sees (DeskKeeps b) most (new_desk port) desk is.0 is.2).1,
       λ is.

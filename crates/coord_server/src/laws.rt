@@ -41,8 +41,8 @@ pub fn told_is_settled<D: Disk, C: Callers, P: Port>()
     ensures { ToldIsSettled D P C.talked }
 {}
 
-/// The reply to the third step and a world with three settled steps, told, tell of three steps, and not
-/// of two.
+/// The reply to the third step and a world with three settled steps tell of three steps, and not of
+/// two. So does the line of that reply, as a client reads it.
 pub fn tell_up_to_third()
     ensures { TellUpToThird }
 {}

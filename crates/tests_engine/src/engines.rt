@@ -108,8 +108,35 @@ fn notes_of<L: Origin, R: Abort>(rt: &R, alloc: Global, shares: &[Share<L>]) -> 
     notes
 }
 
-// What is left of an engine that closes with these shares, and not without the last one.
-fn closed<D: Disk, L: Origin, R: Abort>(
+// What callers may have seen of an engine, and the same with one more step.
+fn seen_of<D: Disk, L: Origin, R: Wait + Abort>(rt: &R, engine: &Engine<D, L>) -> (Seen, Seen) {
+    let mut seen = Seen::new();
+    let shown = engine.show(rt, &mut seen).expect(rt, "not shown");
+    let mut later = Seen::new();
+    later.note(shown.settled.saturating_add(1));
+    (seen, later)
+}
+
+// What is left of an engine that closes with these shares once all that is settled was seen, and not
+// where one more step was.
+fn closed_if_settled<D: Disk, L: Origin, R: Wait + Abort>(
+    rt: &R,
+    engine: Engine<D, L>,
+    shares: Vec<Share<L>>,
+) -> Closed<D>
+    requires { L.parts ≡ 65536 }
+{
+    let (seen, later) = seen_of(rt, &engine);
+    match engine.close(shares, &later) {
+        Err((CloseFault::NotSettled, engine, shares)) => {
+            engine.close(shares, &seen).ok().expect(rt, "no close").0
+        }
+        _ => panic!(rt; "it closes though one more step was seen"),
+    }
+}
+
+// The same of one that does not close without the last share.
+fn closed<D: Disk, L: Origin, R: Wait + Abort>(
     rt: &R,
     engine: Engine<D, L>,
     mut shares: Vec<Share<L>>,
@@ -117,20 +144,12 @@ fn closed<D: Disk, L: Origin, R: Abort>(
     requires { L.parts ≡ 65536 }
 {
     let Some(last) = shares.pop() else {
-        return engine
-            .close(shares, &Seen::new())
-            .ok()
-            .expect(rt, "no close")
-            .0;
+        return closed_if_settled(rt, engine, shares);
     };
     match engine.close(shares, &Seen::new()) {
         Err((CloseFault::SharesMissing, engine, mut shares)) => {
             shares.push(last).expect(rt, "no memory");
-            engine
-                .close(shares, &Seen::new())
-                .ok()
-                .expect(rt, "no close")
-                .0
+            closed_if_settled(rt, engine, shares)
         }
         _ => panic!(rt; "it closes without the last share"),
     }
@@ -164,7 +183,8 @@ fn done_over<D: Disk + Send, L: Origin + Send + Sync, R: Threads + Wait + Clock 
 }
 
 /// Does it with an engine over a store that is made on this device, with these steps pending. The engine
-/// then closes with all its shares, and not without the last one.
+/// then closes with all its shares and not without the last one, and where all that is settled was seen
+/// and no more.
 pub(crate) fn does<D: Disk + Send, R: Threads + Wait + Clock + Sync + Abort>(
     rt: &R,
     alloc: Global,

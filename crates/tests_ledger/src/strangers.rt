@@ -81,11 +81,13 @@ fn a_flight_and_a_ticket_of_another_ledger_come_back(rt: HostRuntime) {
     drop(anew);
 }
 
-// One step is shown to who has seen none, and to no one who has seen a second one.
+// One step is shown to who has seen none, who then has seen just that one. It is shown to no one who has
+// seen a second one.
 fn shows_one(rt: &impl Host, ledger: &Ledger<MemDisk>) {
     let mut seen = Seen::new();
     let view = ledger.show(&mut seen).expect(rt, "not shown");
     same(rt, &view.settled, &1);
+    same(rt, &(seen.is_within(0), seen.is_within(1)), &(false, true));
     seen.note(2);
     let refusal = ledger.show(&mut seen).err();
     same(rt, &refusal, &Some(Refusal::Behind { settled: 1 }));

@@ -10,7 +10,7 @@ use crate::rings::created;
 use coord_admin::{Desk, Halves, serve};
 use coord_disk::{Disk, MemDisk};
 use coord_engine::{Closed, Engine, History, Origin, Share, Writer, flusher};
-use coord_ledger::{Ledger, View};
+use coord_ledger::{Ledger, Seen, View};
 use coord_server::{EngineDesk, LocalPort, Telling};
 use coord_types::{Client, Command, Group, NodeId, Refusal, Reply, Step};
 use std::alloc::Global;
@@ -176,7 +176,8 @@ fn filled<D: Disk, L: Origin, R: Wait + Abort>(
     share
 }
 
-/// Runs a flusher behind the lines. The share of the desk, and whether they got their replies.
+/// Runs a flusher behind the lines. The share of the desk, what it has seen, and whether they got their
+/// replies.
 fn run<
     D: Disk + Send,
     L: Origin + Send + Sync,
@@ -188,14 +189,14 @@ fn run<
     engine: &Engine<D, L>,
     port: &LocalPort<&R, O>,
     lines: &Lines<'_>,
-) -> (Share<L>, bool)
+) -> (Share<L>, Seen, bool)
     requires { MayTell L.history L.earlier L.base (MaySignal O.history O.gives) }
 {
     let is_waiting = AtomicBool::new(false);
     thread::scope(
         thread::scope_env(),
         rt,
-        |scope| -> (Share<L>, bool)
+        |scope| -> (Share<L>, Seen, bool)
             requires { IsSend D.row × IsSend L.row × IsSync L.row × IsSync R.row × IsSend O.row × IsSync O.row ×
                 MayTell L.history L.earlier L.base (MaySignal O.history O.gives) }
         {
@@ -218,7 +219,8 @@ fn run<
             engine.finish(rt);
             flushing.join(rt);
             let Front { desk, .. } = front;
-            (desk.into_parts().0, are_replied)
+            let (own, seen) = desk.into_parts();
+            (own, seen, are_replied)
         },
     )
 }
@@ -230,26 +232,22 @@ fn silent_port<O: Telling, R: Wait + Abort>(rt: &R, alloc: Global) -> LocalPort<
     LocalPort::new(rt, alloc, Vec::new(alloc), signals)
 }
 
-/// The lines get their replies. All shares.
+/// The lines get their replies. All shares, and what the desk has seen.
 fn asks_shared<
     D: Disk + Send,
     L: Origin + Send + Sync,
     O: Telling + Send + Sync,
     R: Threads + Wait + Clock + Sync + Abort,
->(
-    rt: &R,
-    alloc: Global,
-    engine: &Engine<D, L>,
-    lines: &Lines<'_>,
-) -> Vec<Share<L>>
+>(rt: &R, alloc: Global, engine: &Engine<D, L>, lines: &Lines<'_>) -> (Vec<Share<L>>, Seen)
     requires { MayTell L.history L.earlier L.base (MaySignal O.history O.gives) }
 {
     let other = filled(rt, engine, lines.pending);
     let port = silent_port::<O, R>(rt, alloc);
-    let (own, are_replied) = run(rt, alloc, engine, &port, lines);
+    let (own, seen, are_replied) = run(rt, alloc, engine, &port, lines);
     drop(port);
     assert!(rt; are_replied);
-    Vec::from_array(alloc, [own, other]).expect(rt, "no memory")
+    let shares = Vec::from_array(alloc, [own, other]).expect(rt, "no memory");
+    (shares, seen)
 }
 
 /// What is left of an engine has accepted so many steps, and that one last.
@@ -284,8 +282,8 @@ fn asks_engine<
 {
     assert!(rt; !ledger.is_out());
     let engine: Engine<D, L> = Engine::new(alloc, blank, history, writer, ledger);
-    let shares = asks_shared::<D, L, O, R>(rt, alloc, &engine, lines);
-    let closed = engine.close(shares).ok().expect(rt, "no close");
+    let (shares, seen) = asks_shared::<D, L, O, R>(rt, alloc, &engine, lines);
+    let (closed, _writer) = engine.close(shares, &seen).ok().expect(rt, "no close");
     has_accepted(rt, &closed, lines);
 }
 

@@ -25,4 +25,4 @@ loop-handed-preserved g c =
 pub ask-is_in_hand-requires-clause-may : goal.ask-is_in_hand-requires-clause-may
 ask-is_in_hand-requires-clause-may g c =
     subst (λ (r : Beginning). MayAsk (g.P.Port.may_signal r) c.of-delivery.result) (sym c.loop-handed.invariant.3)
-      (may_ask_next (g.P.Port.may_signal c.args.reader) c.loop-handed.left c.in-Some.release c.of-delivery.result c.loop-handed.invariant.2 (sym c.next.ensures.first ∙ c.in-Some.is) c.of-delivery.ensures)
+    (may_ask_next (g.P.Port.may_signal c.args.reader) c.loop-handed.left c.in-Some.release c.of-delivery.result c.loop-handed.invariant.2 (sym c.next.ensures.first ∙ c.in-Some.is) c.of-delivery.ensures)

@@ -19,4 +19,4 @@ returns-clause-along g c =
 pub serve_ledger-requires-clause-tell : goal.serve_ledger-requires-clause-tell
 serve_ledger-requires-clause-tell g c =
     let base = ap (λ (x : LedgerState g.row.D.Denot). x.log.base) c.in-Ok.ensures.adopted in
-    subst (λ w. MayTell c.args.writer.history c.args.writer.steps w (MaySignal g.O.Telling.history g.O.Telling.gives)) (sym base) c.requires.tell
+    λ _ _. subst (λ w. MayTell c.args.writer.history c.args.writer.steps w (MaySignal g.O.Telling.history g.O.Telling.gives)) (sym base) c.requires.tell

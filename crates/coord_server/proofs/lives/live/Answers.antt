@@ -32,4 +32,4 @@ returns-in-Err-clause-same g c = ap (λ (l : Life g.row.D.Denot g.row.C.Denot). 
 pub serve_life-requires-clause-tell : goal.serve_life-requires-clause-tell
 serve_life-requires-clause-tell g c =
     let history = g.O.Telling.history in
-    tells_on g.D.Disk.model (MaySignal history g.O.Telling.gives) history c.loop.writer.history c.args.store c.loop.store _ c.loop.writer.steps c.requires.tell c.loop.invariant.3 c.loop.invariant.4.2 c.loop.invariant.4.3
+    λ _ _. tells_on g.D.Disk.model (MaySignal history g.O.Telling.gives) history c.loop.writer.history c.args.store c.loop.store _ c.loop.writer.steps c.requires.tell c.loop.invariant.3 c.loop.invariant.4.2 c.loop.invariant.4.3

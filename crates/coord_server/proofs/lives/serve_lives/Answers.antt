@@ -6,7 +6,7 @@ use Rattle.coord_server.specs.Printed.{new_printer}
 use Rattle.coord_server.proofs.lives.serve_lives.Goals as goal
 
 pub serve_told-requires-clause-tell : goal.serve_told-requires-clause-tell
-serve_told-requires-clause-tell g c = λ earlier. may_tell _ c.args.store.world earlier
+serve_told-requires-clause-tell g c = λ _ _ earlier. may_tell _ c.args.store.world earlier
 
 pub returns-clause-lives : goal.returns-clause-lives
 returns-clause-lives g c = IfOk-weaker c.serve_told.result _ _ (λ ended tell. tell.0) c.serve_told.ensures.told
