@@ -1,5 +1,5 @@
 -- Moments of one life after the other.
-use Rattle.std.proofs.Common.{◌≡◌, inl, inr, ⊎_elim, true, false, ℕ, suc, List, [], ◌∷◌, ◌++◌, ◌+◌, ◌-◌, ◌≤◌, length, take, drop, Option, Some, IfSome, Result, Ok, Err, IfOk, refl, sym, ap, subst, ◌∙◌, append-nil, length-append, arith}
+use Rattle.std.proofs.Common.{◌≡◌, inl, inr, ⊎_elim, true, false, ℕ, suc, List, [], ◌∷◌, ◌++◌, ◌+◌, ◌-◌, ◌≤◌, length, take, drop, Option, Some, IfSome, refl, sym, ap, subst, ◌∙◌, append-nil, length-append, arith}
 use Rattle.std.proofs.Math.Seq.{take-append-add, take-length}
 use Rattle.std.proofs.lemmas.List.{take-append-drop}
 use Rattle.atomic_table.specs.Seated.{TableId}
@@ -13,7 +13,6 @@ use Rattle.coord_store.specs.Kept.{Kept, has_stopped}
 use Rattle.coord_world.specs.laws.Trails.{IsTrail}
 use Rattle.coord_world.specs.Facade.{World, fold}
 use Rattle.coord_world.proofs.Facade.{fold-append, fold_counts}
-use Rattle.coord_ledger.specs.declared.ticket.Note.{Note}
 use Rattle.coord_admin.specs.Connections.{Talk}
 use Rattle.coord_engine.proofs.OnTheWay.{joined}
 use Rattle.coord_engine.proofs.Past.{after_some_is_on_the_way, left_only, of_more}

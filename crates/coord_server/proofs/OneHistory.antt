@@ -8,7 +8,6 @@ use Rattle.coord_types.specs.declared.steps.Step.{Step}
 use Rattle.coord_world.specs.laws.Trails.{IsSound, IsTrail}
 use Rattle.coord_world.specs.Facade.{StepOutcome, World, fold, next, outputs, outs, reply}
 use Rattle.coord_world.proofs.Facade.{EachFresh, fold-append, fold_counts, trail_each_fresh, trail_of}
-use Rattle.coord_ledger.specs.declared.ticket.Note.{Note}
 use Rattle.coord_admin.specs.Connections.{Talk}
 use Rattle.coord_engine.specs.State.{Basis, based_on}
 use Rattle.coord_engine.specs.declared.closed.Closed.{Closed}

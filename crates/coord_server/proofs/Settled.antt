@@ -1,5 +1,5 @@
 -- All that the desk of a life told or showed is settled.
-use Rattle.std.proofs.Common.{◌≡◌, ◌⊎◌, ℕ, ◌+◌, ◌≤◌, List, [], ◌∷◌, ◌++◌, Some, None, Result, Ok, Err, length, max, take, refl, sym, ap, ◌∙◌, subst, inl, inr, append-nil, arith}
+use Rattle.std.proofs.Common.{◌≡◌, ◌⊎◌, ℕ, ◌≤◌, List, [], ◌∷◌, ◌++◌, Some, None, Result, Ok, Err, length, take, refl, sym, ap, ◌∙◌, subst, inl, inr, append-nil, arith}
 use Rattle.std.specs.List.{AllByRecursion}
 use Rattle.std.proofs.lemmas.Grind.{flat_map-append}
 use Rattle.std.proofs.lemmas.List.{length-take-le}
@@ -9,13 +9,11 @@ use Rattle.coord_types.specs.declared.steps.Reply.{Reply}
 use Rattle.coord_lines.specs.Lines.{Line}
 use Rattle.coord_lines.specs.Written.{IsFirstPart}
 use Rattle.coord_view.specs.Shown.{Shown}
-use Rattle.coord_world.specs.Facade.{World}
 use Rattle.coord_world.proofs.Facade.{fold_counts}
 use Rattle.coord_ledger.specs.Facade.{Log, settled_count, settled_world}
 use Rattle.coord_engine.specs.Facade.{Basis}
 use Rattle.coord_engine.specs.Threads.{AnswersShow}
-use Rattle.coord_engine.specs.declared.closed.Closed.{Closed}
-use Rattle.coord_admin.specs.Connections.{AllServed, Connection, IsServed, Talk}
+use Rattle.coord_admin.specs.Connections.{AllServed, Connection, Talk}
 use Rattle.coord_admin.specs.Replies.{order_answer, refused, reply_line, reply_lines, resend_answer, show_answer}
 use Rattle.coord_admin.specs.Requests.{asked_by}
 use Rattle.coord_admin.specs.Stream.{AllGet, FindsNoMemory, Gets, GetsAtLast, MayAnswer, Served, last_answers}
@@ -29,7 +27,7 @@ use Rattle.coord_admin.specs.declared.request.Request.TheVariants as request
 use Rattle.coord_admin.specs.declared.session.Ended.{Ended}
 use Rattle.coord_admin.specs.declared.session.Ended.TheVariants as ended
 use Rattle.coord_server.specs.EngineDesk.{DeskAnswers, DeskKeeps, DeskState, seen_after}
-use Rattle.coord_server.specs.Ending.{IsOneHistory, new_desk}
+use Rattle.coord_server.specs.Ending.{new_desk}
 use Rattle.coord_server.specs.Told.{AllWriteUpTo, TellsUpTo, ToldIsSettled, WritesUpTo}
 
 -- ---- what an answer tells

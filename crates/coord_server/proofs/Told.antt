@@ -13,8 +13,7 @@ use Rattle.coord_ledger.specs.declared.ticket.Note.{Note}
 use Rattle.coord_ledger.specs.Facade.{Claim, IsCollectable, LedgerGives, Log, GivesSettled as LogGives, kinds_of, reply_of, settled_world}
 use Rattle.coord_engine.specs.declared.closed.Closed.{Closed}
 use Rattle.coord_engine.specs.Facade.{AnswersStep, AtSomeMoment, Basis, LedgerAndNotes, all_notes, engine_verdict, note_of, notes_of}
-use Rattle.coord_server.specs.Ending.{IsOneHistory}
-use Rattle.coord_server.specs.Told.{IsReplied, LifeGives, LivesLeaveSteps, NamesItsStep, NotesAreReplies, NotesEndALife, RepliesNameSteps}
+use Rattle.coord_server.specs.Told.{LifeGives, LivesLeaveSteps, NamesItsStep, NotesAreReplies, NotesEndALife, RepliesNameSteps}
 
 -- the note's step stands at this place behind a world, with that reply
 record IsRepliedIn (w : World) (steps : List Step) (note : Note) (place : ℕ) : Type 0 where

@@ -9,7 +9,7 @@ use Rattle.coord_lines.specs.Written.{IsFirstPart}
 use Rattle.coord_admin.specs.Replies.{reply_line, reply_lines}
 use Rattle.coord_admin.specs.declared.answer.Answer.{Answer}
 use Rattle.coord_admin.specs.declared.answer.Answer.TheVariants as answer
-use Rattle.coord_server.specs.Told.{TellsUpTo, WritesUpTo}
+use Rattle.coord_server.specs.Told.{TellsUpTo}
 use Rattle.coord_server.specs.WorkedTold.{TellUpToThird, third_line, third_reply}
 
 line_is : third_line ≡ reply_lines (third_reply ∷ []) ++ []

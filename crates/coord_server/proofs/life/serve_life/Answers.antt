@@ -1,4 +1,4 @@
-use Rattle.std.proofs.Common.{[], ap, subst, sym}
+use Rattle.std.proofs.Common.{ap, subst, sym}
 use Rattle.std.proofs.lemmas.Result.{IfOk-weaker}
 use Rattle.coord_engine.proofs.Past.{of_itself}
 use Rattle.coord_engine.specs.Facade.{MayTell, past_in}
