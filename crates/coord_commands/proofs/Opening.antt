@@ -13,7 +13,7 @@ use Rattle.coord_engine.specs.Facade.{IsAfterSome}
 use Rattle.coord_engine.specs.declared.closed.Closed.{Closed}
 use Rattle.coord_server.specs.Ending.{LeavesNothing}
 use Rattle.coord_server.specs.Lives.{ClosedLivesAreOne, all_steps, steps_had, steps_to_close}
-use Rattle.coord_server.specs.Moments.{ClosesAlong, KeepsAlong}
+use Rattle.coord_server.specs.Moments.{KeepsAlong}
 use Rattle.coord_store.specs.Facade.{Kept, Recovered}
 use Rattle.coord_store.specs.Kept.{has_stopped}
 use Rattle.coord_store.specs.Refused.{failed_in}
@@ -24,7 +24,7 @@ use Rattle.coord_commands.specs.Folders.{bytes_of, known_of, reads}
 use Rattle.coord_server.specs.declared.fault.ServerFault.{ServerFault}
 use Rattle.coord_commands.specs.Faults.{fault_of_server}
 use Rattle.coord_commands.specs.Inspection.{IsOfOpening}
-use Rattle.coord_commands.specs.Serving.{EndsAfterLives, EndsServing, GivesWorld, HeldAlong, IsNotOpened, IsOfServing, IsOpenedStore, IsPutBack, ServedWhole, ServedWithOutput}
+use Rattle.coord_commands.specs.Serving.{ClosesAndPrints, EndsAfterLives, EndsServing, GivesWorld, HeldAlong, IsNotOpened, IsOfServing, IsOpenedStore, IsPutBack, ServedWhole, ServedWithOutput}
 use Rattle.coord_commands.specs.declared.fault.Fault.{Fault}
 use Rattle.coord_commands.specs.declared.fault.Fault.TheVariants.{Socket, Store}
 use Rattle.coord_commands.proofs.Raising.{closed, if_both, unread}
@@ -81,14 +81,14 @@ module _ {D : Type 0} (model : DiskModel D) where
       λ keeps. subst (λ d. LeavesOnly model is.taken d (λ image. IsImage (model.present is.taken) image ⊎ IsAfterSome store.world steps image)) (sym same) (and_then model is.taken store.disk now.disk _ _ (is.any_moment keeps) (along.moments (is.same_model ∙ keeps)))
 
   -- a store was opened, served to a close and put back
-  pub served_whole : (before after : Option Present) (old new : Option (List ℕ)) (store : Kept D) (closed : Closed D) (back : D) → IsOpenedStore model before store → ClosesAlong model store closed → ServedWithOutput model store old new (Ok closed) → ClosedLivesAreOne model
+  pub served_whole : (before after : Option Present) (old new : Option (List ℕ)) (store : Kept D) (closed : Closed D) (back : D) → IsOpenedStore model before store → ClosesAndPrints model store old new closed → ClosedLivesAreOne model
       → IfSome (bytes_of model back) (λ known. Recovered known closed.store.world) → back ≡ closed.store.disk → IfSome after (λ known. known_of model back ≡ Some known) → ServedWhole model before after old new
-  served_whole before after old new store closed back is along served are_one gives same put =
+  served_whole before after old new store closed back is along are_one gives same put =
       let lived = along.0 in
       let steps = all_steps (steps_to_close model store.world closed lived) in (
         record { began = store.world; left = closed; opened = is.world; lived = lived; one = are_one store.world closed lived; closed = back_gives model after back closed.store.world gives put },
         record { taken = is.taken; back = back; was = is.was; put = put; any_moment = held_along before store closed.store steps back is along.1 same },
-        record { printer = served.ended.printer; whole = served.tells.2; printed = served.printed; settled = served.tells.3 },
+        record { printer = along.2.0; whole = along.2.1; printed = along.2.2; settled = along.2.3 },
       )
 
   -- a disk whose store was opened and put back, since no socket could be bound

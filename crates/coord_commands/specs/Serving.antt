@@ -8,14 +8,13 @@ use Rattle.coord_disk.specs.Model.Moments.{AddsNothing, LeavesOnly}
 use Rattle.coord_disk.specs.Model.Present.{IsImage, Present}
 use Rattle.coord_types.specs.declared.steps.Step.{Step}
 use Rattle.coord_lines.specs.Written.{WritesFirstPart}
-use Rattle.coord_engine.specs.Facade.{IsAfterSome}
+use Rattle.coord_engine.specs.Facade.{GivesSignal, IsAfterSome, first_settled}
 use Rattle.coord_engine.specs.declared.closed.Closed.{Closed}
 use Rattle.coord_admin.specs.declared.patience.Patience.{Patience}
 use Rattle.coord_server.specs.Ending.{LeavesNothing, fault_at_end}
 use Rattle.coord_server.specs.Lives.{AreOneHistory, HasLivedToClose, HasServed, all_steps, steps_had, steps_to_close}
-use Rattle.coord_server.specs.Moments.{ServedAlong}
+use Rattle.coord_server.specs.Moments.{KeepsAlong, ServedAlong}
 use Rattle.coord_server.specs.Printed.{IsPrinted, PrinterState, is_amiss, new_printer}
-use Rattle.coord_server.specs.Signals.{CanSignal}
 use Rattle.coord_server.specs.declared.fault.ServerFault.{ServerFault}
 use Rattle.coord_server.specs.declared.server_end.ServerEnd.{ServerEnd}
 use Rattle.coord_store.specs.Facade.{Kept, Recovered}
@@ -52,9 +51,9 @@ IsOfServing bytes fault = ⊥
 abbrev pub printer_to : Option (List ℕ) → PrinterState (Unit {0}) → PrinterState (Option (List ℕ))
 printer_to known p = record { output = known; is_broken = p.is_broken; lost = p.lost; last = p.last }
 
--- What a server over this world has printed to an output that held the one and then the other: nothing; or the line of an address, and behind it the lines of signals, each behind the one before it, which steps from that world give out. Where the output failed in one more such line, a first part of that one stands behind them.
-abbrev pub PrintsOnly : World → Option (List ℕ) → Option (List ℕ) → PrinterState (Unit {0}) → Type 0
-PrintsOnly began old new p = IsPrinted (λ known. known) (CanSignal began) (new_printer old began.count) (printer_to new p)
+-- What a server over this world has printed to an output that held the one and then the other: nothing; or the line of an address, and behind it the lines of signals, each behind the one before it, which these settled steps from that world give out. Where the output failed in one more such line, a first part of that one stands behind them.
+abbrev pub PrintsOnly : World → List Step → Option (List ℕ) → Option (List ℕ) → PrinterState (Unit {0}) → Type 0
+PrintsOnly began settled old new p = IsPrinted (λ known. known) (GivesSignal began settled) (new_printer old began.count) (printer_to new p)
 
 -- what is told of a server that ended so: what it left, beside the fault if there is one
 abbrev pub ToldAtEnd : {D : Type 0} → ServerEnd D Patience (Unit {0}) → Result (Closed D) (ServerFault × Closed D) → Type 0
@@ -68,8 +67,15 @@ ToldAtEnd ended (Err told) =
 pub record ServedWithOutput {D : Type 0} (model : DiskModel D) (store : Kept D) (old new : Option (List ℕ)) (told : Result (Closed D) (ServerFault × Closed D)) : Type 0 where
   pub ended : ServerEnd D Patience (Unit {0})
   pub along : ServedAlong model store ended
-  pub printed : PrintsOnly store.world old new ended.printer
+  pub printed : PrintsOnly store.world (first_settled store.world (all_steps (steps_had model (λ _ _ _. ⊤) (λ _ _. ⊤) store.world along.0 ended along.2.0)) ended.closed.settled) old new ended.printer
   pub tells : ToldAtEnd ended told
+
+-- a line has closed the last of the lives of a store that left this: the disk kept to the steps of these very lives, and an output held the one and then the other, in which no line failed
+abbrev pub ClosesAndPrints : {D : Type 0} → DiskModel D → Kept D → Option (List ℕ) → Option (List ℕ) → Closed D → Type 0
+ClosesAndPrints model store old new closed =
+    (lived : HasLivedToClose model store.world closed) × KeepsAlong model store (all_steps (steps_to_close model store.world closed lived)) closed.store
+    × ((printer : PrinterState (Unit {0})) × (printer.is_broken ≡ false)
+    × PrintsOnly store.world (first_settled store.world (all_steps (steps_to_close model store.world closed lived)) closed.settled) old new printer × (printer.last.step ≤ closed.settled))
 
 -- `model`: what the disks of a folder mean
 module _ {D : Type 0} (model : DiskModel D) where
@@ -115,7 +121,7 @@ module _ {D : Type 0} (model : DiskModel D) where
     pub tells : fault_at_end (has_stopped ended.closed.store) ended.served (is_amiss ended.printer ended.closed.settled) ≡ Some fault
     pub put : IfSome after (λ known. known_of model ended.closed.store.disk ≡ Some known)
     pub any_moment : HeldAlong taken began (all_steps (steps_had model (λ _ _ _. ⊤) (λ _ _. ⊤) began lived.0 ended lived.2)) ended.closed.store.disk
-    pub printed : PrintsOnly began old new ended.printer
+    pub printed : PrintsOnly began (first_settled began (all_steps (steps_had model (λ _ _ _. ⊤) (λ _ _. ⊤) began lived.0 ended lived.2)) ended.closed.settled) old new ended.printer
 
   -- a server over the world of the disk has ended, and tells this: nothing is left, or it ended behind lives
   pub record HasEnded (before after : Option Present) (old new : Option (List ℕ)) (told : Fault) : Type 0 where
@@ -147,11 +153,11 @@ pub record KeepsToTheWay {D : Type 0} (model : DiskModel D) (before after : Opti
   pub put : IfSome after (λ known. known_of model back ≡ Some known)
   pub any_moment : HeldAlong model taken is.began (all_steps (steps_to_close model is.began is.left is.lived)) back
 
--- An output held the one and then the other while a store was served so. No line failed: of what was printed each signal is of a step that is settled in what these lives left.
+-- An output held the one and then the other while a store was served so. No line failed: of what was printed each signal is given out by a settled step of these very lives.
 pub record PrintsToEnd {D : Type 0} (model : DiskModel D) (bytes after : Option (List ℕ)) (is : IsServedToEnd model bytes after) (old new : Option (List ℕ)) : Type 0 where
   pub printer : PrinterState (Unit {0})
   pub whole : printer.is_broken ≡ false
-  pub printed : PrintsOnly is.began old new printer
+  pub printed : PrintsOnly is.began (first_settled is.began (all_steps (steps_to_close model is.began is.left is.lived)) is.left.settled) old new printer
   pub settled : printer.last.step ≤ is.left.settled
 
 -- A store was served until a line closed it, its disk kept to the way, and this was printed: all of it of the same lives.

@@ -5,9 +5,8 @@ ghost use Rattle.std.specs.Io.KnownBytes.{Keeps};
 ghost use Rattle.std.specs.Net.Grammar.{IsSocketV4Text};
 ghost use Rattle.std.specs.declared.net.socket_addr.SocketAddrV4.{SocketAddrV4};
 ghost use Rattle.coord_commands.specs.Folders.{bytes_of, reads};
-ghost use Rattle.coord_commands.specs.Serving.{EndsServing, IsNotOpened, IsOfServing, IsOpenedStore, ServedWhole, ServedWithOutput, ServesAt};
+ghost use Rattle.coord_commands.specs.Serving.{ClosesAndPrints, EndsServing, IsNotOpened, IsOfServing, IsOpenedStore, ServedWhole, ServedWithOutput, ServesAt};
 ghost use Rattle.coord_server.specs.Ending.{LeavesNothing};
-ghost use Rattle.coord_server.specs.Moments.{ClosesAlong};
 ghost use Rattle.coord_store.specs.Kept.{has_stopped};
 ghost use Rattle.coord_store.specs.Recovered.{Recovered};
 
@@ -136,7 +135,8 @@ fn serve_open<
     ensures served { IfOk result
         (ServedWithOutput D.model store (W.contents output.old) (W.contents output.new)) }
     ensures going { IfOk result (λ told. IfOk told (λ closed. has_stopped closed.store ≡ false)) }
-    ensures along { IfOk result (λ told. IfOk told (ClosesAlong D.model store)) }
+    ensures closes { IfOk result (λ told. IfOk told (ClosesAndPrints D.model store
+        (W.contents output.old) (W.contents output.new))) }
     ensures nothing { IfErr result (LeavesNothing D.model) }
 {
     let ended = serve_store(rt, alloc, store, listener, Lent { output })?;

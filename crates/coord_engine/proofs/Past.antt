@@ -1,5 +1,5 @@
 -- What a crash may have left since an engine was made.
-use Rattle.std.proofs.Common.{◌≡◌, ◌≤◌, inl, inr, ⊎_elim, ℕ, ◌+◌, true, List, [], ◌∷◌, ◌++◌, Option, Some, None, Result, Ok, Err, length, take, drop, refl, sym, ap, subst, ◌∙◌, arith, IfSome, OnErr, OnOk, length-append, le_refl, IfOk, IsSomeAnd, is_some, ◌||◌, false, true≢false, Bool}
+use Rattle.std.proofs.Common.{◌≡◌, ◌≤◌, inl, inr, ⊎_elim, ℕ, ◌+◌, true, List, ◌++◌, Option, Some, None, Result, Ok, Err, length, take, drop, refl, sym, ap, subst, ◌∙◌, arith, IfSome, length-append, le_refl, IfOk, IsSomeAnd, is_some, ◌||◌, false, true≢false, Bool}
 use Rattle.std.proofs.Math.Seq.{take-add, take-append_seam, take-length}
 use Rattle.std.proofs.lemmas.List.{length-take-le, take-append-drop, take-append-le, take-take}
 use Rattle.coord_disk.specs.Model.DiskModel.{DiskModel, IsModel}
@@ -14,9 +14,9 @@ use Rattle.coord_store.specs.declared.faults.CommitFault.{CommitFault}
 use Rattle.coord_store.specs.declared.faults.CommitFault.TheVariants.{Again, Device, Full, OutOfMemory, Stopped}
 use Rattle.coord_ledger.specs.declared.mark.Mark.{Mark}
 use Rattle.coord_ledger.specs.declared.mark.Mark.TheVariants.{New, Good, Torn}
-use Rattle.coord_ledger.specs.Facade.{FlightState, GivesSettled, IsOut, LedgerGives, LedgerState, Log, keeps_store, log_back, next_flight, pending, settled_steps, taken_back, with_store_out, world_after}
+use Rattle.coord_ledger.specs.Facade.{FlightState, GivesSettled, IsOut, LedgerGives, LedgerState, Log, keeps_store, log_back, next_flight, pending, settled_steps, taken_back, with_store_out}
 use Rattle.coord_engine.proofs.Histories.{all_of, first_of_first}
-use Rattle.coord_engine.specs.Facade.{CommitsFlight, FliesFrom, HasLeft, IsAfterSome, IsOnTheWay, IsPastOf, LeavesFlown, Past, StartsWith, StaysAlong, flown_steps, last_steps, past_in}
+use Rattle.coord_engine.specs.Facade.{CommitsFlight, FliesFrom, HasLeft, IsAfterSome, IsPastOf, LeavesFlown, Past, StartsWith, StaysAlong, flown_steps, last_steps, past_in}
 use Rattle.coord_engine.specs.Past.{AfterSomeIsOnTheWay}
 
 -- ---- moments

@@ -1,7 +1,6 @@
 -- Moments of one life after the other.
-use Rattle.std.proofs.Common.{◌≡◌, inl, inr, ⊎_elim, true, false, ℕ, suc, List, [], ◌∷◌, ◌++◌, ◌+◌, ◌-◌, ◌≤◌, length, take, drop, Option, Some, IfSome, refl, sym, ap, subst, ◌∙◌, append-nil, length-append, arith}
+use Rattle.std.proofs.Common.{◌≡◌, inl, inr, ⊎_elim, true, false, ℕ, suc, List, [], ◌∷◌, ◌++◌, ◌+◌, ◌-◌, ◌≤◌, length, take, Option, Some, IfSome, refl, sym, ap, subst, ◌∙◌, append-nil, length-append, arith}
 use Rattle.std.proofs.Math.Seq.{take-append-add, take-length}
-use Rattle.std.proofs.lemmas.List.{take-append-drop}
 use Rattle.atomic_table.specs.Seated.{TableId}
 use Rattle.std.proofs.lemmas.Grind.{flat_map-append}
 use Rattle.coord_disk.proofs.MomentLemmas.{and_then, weaker}
@@ -16,8 +15,7 @@ use Rattle.coord_world.proofs.Facade.{fold-append, fold_counts}
 use Rattle.coord_admin.specs.Connections.{Talk}
 use Rattle.coord_engine.proofs.OnTheWay.{joined}
 use Rattle.coord_engine.proofs.Past.{after_some_is_on_the_way, left_only, of_more}
-use Rattle.coord_engine.proofs.Releasing.{gives_on}
-use Rattle.coord_engine.specs.Facade.{Beginning, GivesSignal, IsAfterSome, IsOnTheWay, IsPastOf, MayTell, Past, StartsWith, StaysAlong, first_settled}
+use Rattle.coord_engine.specs.Facade.{Beginning, IsAfterSome, IsOnTheWay, IsPastOf, MayTell, Past, StartsWith, StaysAlong, first_settled}
 use Rattle.coord_engine.specs.State.{based_on}
 use Rattle.coord_engine.specs.declared.closed.Closed.{Closed}
 use Rattle.coord_server.proofs.Ends.{rests, served_at_last}
@@ -28,7 +26,6 @@ use Rattle.coord_server.specs.Ending.{IsLife, IsOneHistory}
 use Rattle.coord_server.specs.Lives.{AreOneHistory, IsLastLife, LifeSteps, all_steps, steps_in, steps_of}
 use Rattle.coord_server.specs.Moments.{AtEachMoment, ComesFrom, EndsAlong, HasComeTo, HaveRested, KeepsAlong, LivesKeepAlong, LivesTell}
 use Rattle.coord_server.specs.Printed.{IsPrinted, PrinterState}
-use Rattle.coord_server.specs.Signals.{CanSignal}
 use Rattle.coord_server.specs.declared.life.Life.{Life}
 use Rattle.coord_server.specs.declared.life_end.LifeEnd.TheVariants.{Resting}
 use Rattle.coord_server.specs.declared.server_end.ServerEnd.{ServerEnd}
@@ -175,20 +172,6 @@ module _ {D : Type 0} (m : DiskModel D) {V : Type 0} (talked : V → List Talk �
       (printed_more contents (gives read) (gives life.writer.steps) (on_more gives lasts read life.writer.steps reads) p q printed)
       in
       (along.0, along.1, subst (λ l. IsPrinted contents (gives l) p ended.printer) written here)
-
-  -- each of them is a signal of some step of a trail
-  pub may_signal : {W : Type 0} (contents : W → Option (List ℕ)) (first : Kept D) (v : V) (ended : ServerEnd D V W) (p : PrinterState W) → LivesTell m talked failed most contents (GivesSignal first.world) first v p ended → IsPrinted contents (CanSignal first.world) p ended.printer
-  may_signal {W} contents first v ended p tell =
-      let lived = tell.0 in
-      let all = all_steps (steps_of m talked most lived.0 first.world v lived.1 lived.2 lived.3 ++ steps_in ended.closed ∷ []) in
-      let settled = first_settled first.world all ended.closed.settled in
-      let one = lives_are_one m talked failed most W first.world v ended lived in
-      let first_of : StartsWith all settled = (drop (ended.closed.settled - first.world.count) all, sym (take-append-drop (ended.closed.settled - first.world.count) all)) in
-      printed_more contents (GivesSignal first.world settled) (CanSignal first.world)
-      (λ step node epoch gives.
-      let on = gives_on first.world all settled step node epoch first_of gives in
-      record { steps = all; trail = one.trail; before = on.before; after = on.after; given = on.given })
-      p ended.printer tell.2
 
   -- the server's disk is on the way of all accepted steps
   pub on_the_way : {W : Type 0} (first : Kept D) (v : V) (ended : ServerEnd D V W) → LivesKeepAlong m talked failed most first v ended → AtEachMoment m first ended.closed

@@ -1,12 +1,7 @@
 -- The signals that a server may tell of: those that the steps of its history give out.
-use Rattle.std.specs.Prelude.{◌≡◌, ℕ, List, ◌∷◌, ◌++◌}
+use Rattle.std.specs.Prelude.{◌≡◌, ℕ, List}
 use Rattle.atomic_table.specs.Seated.{TableId}
-use Rattle.coord_types.specs.declared.outputs.Output.TheVariants.{Signalled}
 use Rattle.coord_types.specs.declared.steps.Step.{Step}
-use Rattle.coord_world.specs.laws.Trails.{IsTrail}
-use Rattle.coord_world.specs.Facade.{World, outs}
-use Rattle.coord_ledger.specs.declared.release.Release.{Release}
-use Rattle.coord_ledger.specs.machine.After.{release_of, releases_of}
 use Rattle.coord_engine.specs.Facade.{Beginning}
 
 -- a signal: the number of the step that gives it out, its node, and the epoch that begins there
@@ -14,14 +9,6 @@ pub record StepSignal : Type 0 where
   pub step : ℕ
   pub node : ℕ
   pub epoch : ℕ
-
--- a trail from this world has a step with this number, which gives out this signal
-pub record CanSignal (began : World) (step node epoch : ℕ) : Type 0 where
-  pub steps : List Step
-  pub trail : IsTrail began steps
-  pub before : List Release
-  pub after : List Release
-  pub given : releases_of (outs began steps) ≡ before ++ release_of step (Signalled node epoch) ∷ after
 
 -- who has read this beginning of a history may tell of a signal that its steps give out. `gives`: which signals some steps give out, by step, node and epoch
 abbrev pub MaySignal : TableId → (List Step → ℕ → ℕ → ℕ → Type 0) → Beginning → ℕ → ℕ → ℕ → Type 0

@@ -7,8 +7,8 @@ ghost use Rattle.coord_server.specs.Ending.{LeavesNothing};
 ghost use Rattle.coord_server.specs.declared.life_end.LifeEnd.TheVariants as LifeEndAs;
 ghost use Rattle.coord_server.specs.Lives.{EndsOneHistory, HasLived, IsLastLife};
 ghost use Rattle.coord_server.specs.Moments.{AtEachMoment, EndsAlong, LivesKeepAlong, LivesTell};
-ghost use Rattle.coord_server.specs.Printed.{IsPrinted, new_printer};
-ghost use Rattle.coord_server.specs.Signals.{CanSignal, MaySignal};
+ghost use Rattle.coord_server.specs.Printed.{new_printer};
+ghost use Rattle.coord_server.specs.Signals.{MaySignal};
 ghost use Rattle.coord_engine.specs.History.{StartsWith};
 ghost use Rattle.coord_engine.specs.Released.{GivesSignal, MayTell};
 ghost use Rattle.coord_types.specs.declared.steps.Step.{Step};
@@ -64,10 +64,8 @@ pub fn serve_lives<
     ensures whole { IfOk result (λ ended. EndsOneHistory store.world ended.closed) }
     ensures along { IfOk result (LivesKeepAlong D.model C.talked C.failed most store callers) }
     ensures moments { IfOk result (λ ended. AtEachMoment D.model store ended.closed) }
-    ensures printed { IfOk result (λ ended. IsPrinted W.contents (CanSignal store.world)
-        (new_printer output store.world.count) ended.printer) }
-    ensures told { IfOk result (LivesTell D.model C.talked C.failed most W.contents (GivesSignal store.world)
-        store callers (new_printer output store.world.count)) }
+    ensures printed { IfOk result (LivesTell D.model C.talked C.failed most W.contents
+        (GivesSignal store.world) store callers (new_printer output store.world.count)) }
     ensures nothing { IfErr result (LeavesNothing D.model) }
 {
     let written = History::new(alloc)?;
@@ -95,7 +93,7 @@ fn serve_told<
     requires new { written.1 ≡ record { history = O.history; steps = [] } }
     requires tell { (earlier : List Step) → MayTell O.history earlier (fold store.world earlier)
         (MaySignal O.history O.gives) }
-    ensures told { IfOk result (LivesTell D.model C.talked C.failed most W.contents O.gives store callers
+    ensures printed { IfOk result (LivesTell D.model C.talked C.failed most W.contents O.gives store callers
         (new_printer output store.world.count)) }
     ensures nothing { IfErr result (LeavesNothing D.model) }
 {
@@ -136,7 +134,7 @@ fn serve_and_print<
     requires new { writer ≡ record { history = O.history; steps = [] } }
     requires tell { (earlier : List Step) → MayTell O.history earlier (fold store.world earlier)
         (MaySignal O.history O.gives) }
-    ensures told { IfOk result (LivesTell D.model C.talked C.failed
+    ensures printed { IfOk result (LivesTell D.model C.talked C.failed
         setting.now.life_steps W.contents O.gives store callers printing.printer) }
     ensures nothing { IfErr result (LeavesNothing D.model) }
 {
@@ -148,7 +146,7 @@ fn serve_and_print<
                 (has_stopped store ≡ false) × (writer ≡ record { history = O.history; steps = [] }) ×
                 ((earlier : List Step) → MayTell O.history earlier (fold store.world earlier)
                 (MaySignal O.history O.gives)) }
-            ensures told { IfOk result (LivesTell D.model C.talked C.failed
+            ensures printed { IfOk result (LivesTell D.model C.talked C.failed
                 setting.entry.now.life_steps W.contents O.gives store callers printing.printer) }
             ensures nothing { IfErr result (LeavesNothing D.model) }
         {
@@ -198,7 +196,7 @@ fn print_and_live<
     requires tell { (earlier : List Step) → MayTell O.history earlier (fold store.world earlier)
         (MaySignal O.history O.gives) }
     ensures starts { OnOk result (is_some printing ≡ true) }
-    ensures told { IfOk result (λ ended. IfSome printing (λ handle.
+    ensures printed { IfOk result (λ ended. IfSome printing (λ handle.
         LivesTell D.model C.talked C.failed setting.now.life_steps W.contents O.gives store callers
         handle.promise.first.value ended)) }
     ensures nothing { IfErr result (LeavesNothing D.model) }

@@ -7,8 +7,7 @@ ghost use Rattle.coord_store.specs.Kept.{ImagesGive, has_stopped};
 ghost use Rattle.coord_server.specs.Ending.{LeavesNothing};
 ghost use Rattle.coord_server.specs.Lives.{EndsOneHistory, HasLived, HasServed, life_steps};
 ghost use Rattle.coord_server.specs.Moments.{AtEachMoment, LivesKeepAlong, LivesTell, ServedAlong, ServedTell};
-ghost use Rattle.coord_server.specs.Printed.{IsPrinted, new_printer};
-ghost use Rattle.coord_server.specs.Signals.{CanSignal};
+ghost use Rattle.coord_server.specs.Printed.{new_printer};
 
 use crate::lives::serve_lives;
 use crate::{ServerEnd, ServerFault};
@@ -49,9 +48,7 @@ pub fn serve_store<
     ensures whole { IfOk result (λ ended. EndsOneHistory store.world ended.closed) }
     ensures along { IfOk result (ServedAlong D.model store) }
     ensures moments { IfOk result (λ ended. AtEachMoment D.model store ended.closed) }
-    ensures printed { IfOk result (λ ended. IsPrinted W.contents (CanSignal store.world)
-        (new_printer output store.world.count) ended.printer) }
-    ensures told { IfOk result (ServedTell D.model W.contents store
+    ensures printed { IfOk result (ServedTell D.model W.contents store
         (new_printer output store.world.count)) }
     ensures images { IfOk result (λ ended. D.model.keeps_model ended.closed.store.disk ≡ true →
         ImagesGive D.model ended.closed.store) }
@@ -87,9 +84,7 @@ fn serve_accepted<
     ensures whole { IfOk result (λ ended. EndsOneHistory store.world ended.closed) }
     ensures along { IfOk result (ServedAlong D.model store) }
     ensures moments { IfOk result (λ ended. AtEachMoment D.model store ended.closed) }
-    ensures printed { IfOk result (λ ended. IsPrinted W.contents (CanSignal store.world)
-        (new_printer output store.world.count) ended.printer) }
-    ensures told { IfOk result (ServedTell D.model W.contents store
+    ensures printed { IfOk result (ServedTell D.model W.contents store
         (new_printer output store.world.count)) }
     ensures images { IfOk result (λ ended. D.model.keeps_model ended.closed.store.disk ≡ true →
         ImagesGive D.model ended.closed.store) }
@@ -119,9 +114,7 @@ pub fn serve_callers<
     ensures along { IfOk result
         (LivesKeepAlong D.model C.talked C.failed life_steps store callers) }
     ensures moments { IfOk result (λ ended. AtEachMoment D.model store ended.closed) }
-    ensures printed { IfOk result (λ ended. IsPrinted W.contents (CanSignal store.world)
-        (new_printer output store.world.count) ended.printer) }
-    ensures told { IfOk result (LivesTell D.model C.talked C.failed life_steps W.contents
+    ensures printed { IfOk result (LivesTell D.model C.talked C.failed life_steps W.contents
         (GivesSignal store.world) store callers (new_printer output store.world.count)) }
     ensures images { IfOk result (λ ended. D.model.keeps_model ended.closed.store.disk ≡ true →
         ImagesGive D.model ended.closed.store) }

@@ -1,11 +1,10 @@
 use Rattle.std.proofs.Common.{◌≡◌, Err, IfOk, false, inl, rules, subst, sym}
 use Rattle.std.proofs.KnownBytes.{Keeps-refl}
-use Rattle.coord_server.specs.Moments.{ClosesAlong}
 use Rattle.coord_store.specs.Kept.{has_stopped}
 use Rattle.coord_commands.proofs.Endings.{err_last}
 use Rattle.coord_commands.proofs.Opening.{ended, lost, not_bound, served_whole}
 use Rattle.coord_commands.specs.Faults.{fault_of_server}
-use Rattle.coord_commands.specs.Serving.{EndsServing, ServedWithOutput}
+use Rattle.coord_commands.specs.Serving.{ClosesAndPrints, EndsServing, ServedWithOutput}
 use Rattle.coord_commands.proofs.serving.serve_at.Goals as goal
 
 pub returns-in_err-served-in-Ok-clause-fault : goal.returns-in_err-served-in-Ok-clause-fault
@@ -40,8 +39,8 @@ returns-in-Ok-served-clause-served g c =
     let new = g.W.Write.contents c.serve_open.new.output in
     let served = c.in_ok-served-in-Ok.ensures in
     let is = c.in-Ok-served.is in
-    served_whole m (g.F.Folder.holds c.args.folder.now c.args.file.now) (g.F.Folder.holds c.close.new.self c.args.file.now) old new store c.in-Ok-served.closed c.left.result c.in_ok-store.ensures.opened (subst (λ r. IfOk r (ClosesAlong m store)) is served.along)
-    (subst (ServedWithOutput m store old new) is served.served) c.closed_lives_are_one.ensures (c.left.ensures.bytes (subst (λ r. IfOk r (λ closed. has_stopped closed.store ≡ false)) is served.going)) c.left.ensures.disk c.close.ensures
+    served_whole m (g.F.Folder.holds c.args.folder.now c.args.file.now) (g.F.Folder.holds c.close.new.self c.args.file.now) old new store c.in-Ok-served.closed c.left.result c.in_ok-store.ensures.opened (subst (λ r. IfOk r (ClosesAndPrints m store old new)) is served.closes)
+    c.closed_lives_are_one.ensures (c.left.ensures.bytes (subst (λ r. IfOk r (λ closed. has_stopped closed.store ≡ false)) is served.going)) c.left.ensures.disk c.close.ensures
 
 -- a server that has ended with a fault
 pub returns-in-Err-served-clause-fault : goal.returns-in-Err-served-clause-fault

@@ -7,17 +7,19 @@ use Rattle.coord_commands.proofs.serving.serve_open.Goals as goal
 pub returns-clause-served : goal.returns-clause-served
 returns-clause-served g c =
     let ended = c.in_ok-ended.ended in
-    let is = c.in_ok-ended.ensures in
+    let is = c.in_ok-ended.ensures.printed in
     let told = c.into_closed-served.ensures in
     record {
       ended = silent ended;
-      along = is.along;
-      printed = printed_back _ g.W.Write.contents c.args.store.world _ c.into_output-back.result ended.printer _ _ _ _ _ _ is.printed told.printer c.into_output-back.ensures refl refl (λ same. search rules);
+      along = (is.0, is.1, (is.2.0, is.2.1));
+      printed = printed_back _ g.W.Write.contents c.args.store.world _ _ c.into_output-back.result ended.printer _ _ _ _ _ _ is.2.2 told.printer c.into_output-back.ensures refl refl (λ same. search rules);
       tells = told_of ended c.into_closed-served.result.0 told.closed told.fault told.whole;
     }
 
-pub returns-clause-along : goal.returns-clause-along
-returns-clause-along g c =
-    let along = c.in_ok-ended.ensures.along in
+pub returns-clause-closes : goal.returns-clause-closes
+returns-clause-closes g c =
+    let ended = c.in_ok-ended.ended in
+    let is = c.in_ok-ended.ensures.printed in
     let told = c.into_closed-served.ensures in
-    closes_along g.D.Disk.model (λ _ _ _. ⊤) (λ _ _. ⊤) c.args.store along.0 c.in_ok-ended.ended c.into_closed-served.result.0 along.2 _ told.closed (told.lives c.args.store.world along.0 along.2.0)
+    let printed = printed_back _ g.W.Write.contents c.args.store.world _ _ c.into_output-back.result ended.printer _ _ _ _ _ _ is.2.2 told.printer c.into_output-back.ensures refl refl (λ same. search rules) in
+    closes_along g.D.Disk.model (λ _ _ _. ⊤) (λ _ _. ⊤) c.args.store is.0 ended c.into_closed-served.result.0 (is.2.0, is.2.1) _ _ _ printed _ told.closed told.whole (told.lives c.args.store.world is.0 is.2.0)

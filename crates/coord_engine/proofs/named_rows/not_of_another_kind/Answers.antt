@@ -1,4 +1,4 @@
-use Rattle.std.proofs.Common.{[], ◌∷◌, ap, arith, sym, refl, Contains}
+use Rattle.std.proofs.Common.{[], ◌∷◌, arith, refl, Contains}
 use Rattle.std.proofs.lemmas.List.Sorted.{Contains-permutation}
 use Rattle.coord_types.specs.declared.steps.Kind.TheVariants.{Joined, Started}
 use Rattle.coord_ledger.specs.declared.ticket.Note.{Note}

@@ -3,8 +3,8 @@ use Rattle.coord_server.proofs.Moments.{lives_tell}
 use Rattle.coord_server.specs.Moments.{LivesTell}
 use Rattle.coord_server.proofs.lives.print_and_live.Goals as goal
 
-pub returns-clause-told : goal.returns-clause-told
-returns-clause-told g c =
+pub returns-clause-printed : goal.returns-clause-printed
+returns-clause-printed g c =
     let m = g.D.Disk.model in
     let talked = g.C.Callers.talked in
     let failed = g.C.Callers.failed in

@@ -1,5 +1,5 @@
 use Rattle.std.proofs.Common.{Ok, ap, length, subst, sym, take, ◌∙◌, IfSome}
-use Rattle.coord_ledger.specs.Facade.{LedgerState, Log, settled_steps}
+use Rattle.coord_ledger.specs.Facade.{Log, settled_steps}
 use Rattle.coord_engine.proofs.Past.{has_left, leaves_from}
 use Rattle.coord_engine.specs.Facade.{FliesFrom, GuardedState, HasReadSettled, StaysAlong, last_steps}
 use Rattle.coord_engine.proofs.guarded.Guarded.begin.Goals as goal

@@ -1,4 +1,4 @@
-use Rattle.std.proofs.Common.{◌≡◌, ◌++◌, length, subst, sym, take, ap, ◌∙◌}
+use Rattle.std.proofs.Common.{◌++◌, length, subst, sym, take, ap, ◌∙◌}
 use Rattle.coord_engine.proofs.Histories.{all_of}
 use Rattle.coord_engine.proofs.Past.{ended}
 use Rattle.coord_engine.proofs.Releasing.{begins_behind, behind_both, released_back}
