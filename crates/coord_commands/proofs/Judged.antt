@@ -6,7 +6,7 @@ use Rattle.coord_config.specs.declared.fault.ConfigFault.{ConfigFault}
 use Rattle.coord_config.specs.declared.fault.ConfigFault.TheVariants as of_topology
 use Rattle.coord_config.specs.declared.topology.Topology.{Topology as Given}
 use Rattle.coord_commands.specs.Ending.{IsOfWriting}
-use Rattle.coord_commands.specs.Making.{IsFounded, IsOfMaking, LeavesWithoutMemory, RefusesFile, RefusesStore, Says, StaysKnown, begun}
+use Rattle.coord_commands.specs.Making.{IsFounded, IsOfMaking, RefusesFile, RefusesStore, Says, StaysKnown, begun}
 use Rattle.coord_commands.specs.declared.topology.TheConstants.{MOST_BYTES}
 use Rattle.coord_commands.specs.Topology.{IsOfText, said_by}
 use Rattle.coord_commands.specs.declared.fault.Fault.{Fault}

@@ -6,7 +6,7 @@ use Rattle.coord_disk.specs.Model.DiskModel.{DiskModel}
 use Rattle.coord_disk.specs.Model.Moments.{IsUntouched}
 use Rattle.coord_disk.specs.Model.Present.{Present}
 use Rattle.coord_journal.specs.Facade.{IsHalfSize, half_front}
-use Rattle.coord_store.specs.Facade.{HasHalves, IsJustMade, Recovered}
+use Rattle.coord_store.specs.Facade.{HasHalves, IsJustMade}
 use Rattle.coord_store.specs.Kept.{made}
 use Rattle.coord_store.specs.declared.faults.CommitFault.{CommitFault}
 use Rattle.coord_store.specs.declared.faults.CommitFault.TheVariants as of_commit

@@ -1,6 +1,6 @@
-use Rattle.std.proofs.Common.{◌≡◌, ◌≢◌, true, None, inr, arith, ap, sym, ◌∙◌, subst}
+use Rattle.std.proofs.Common.{inr, arith, ap, sym, ◌∙◌, subst}
 use Rattle.coord_config.specs.Topology.{content}
-use Rattle.coord_store.specs.Facade.{HasHalves, IsJustMade, Recovered}
+use Rattle.coord_store.specs.Facade.{HasHalves, Recovered}
 use Rattle.coord_commands.proofs.Made.{in_commit, in_creation, made_halves, no_step}
 use Rattle.coord_commands.proofs.OneClient.{each_numbered}
 use Rattle.coord_commands.specs.Founding.{commands}
