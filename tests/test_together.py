@@ -1,6 +1,7 @@
 """Orders that are sent together share flights, counted by the syncs of the file, of which a flight has two."""
 
 import contextlib
+import functools
 import json
 import socket
 import subprocess
@@ -61,10 +62,15 @@ class Together(Served):
                 self.assertEqual(connection.reply(), answered(FINISHED, 16 + number))
 
     def test_ten_orders_in_one_packet(self) -> None:
+        """They share a flight. A flusher that has not come to rest may take up the first ones by themselves: on a busy
+        machine that happens, but not with each of three packets."""
         with self.serving(ALONE) as server:
             self.resets(server, range(1, 2))
-            self.assertEqual(self.flights(server, lambda: self.resets(server, range(2, 12))), 1)
-            self.expect_closed(server, 11)
+            packets = [range(first, first + 10) for first in (2, 12, 22)]
+            flights = [self.flights(server, functools.partial(self.resets, server, numbers)) for numbers in packets]
+            self.assertEqual(min(flights), 1, flights)
+            self.assertLessEqual(max(flights), 2, flights)
+            self.expect_closed(server, 31)
 
     def test_as_many_as_a_flight_takes(self) -> None:
         """The packets come in several reads. One packet may be taken up while it still comes in, so two more are let pass."""
