@@ -3,6 +3,7 @@
 
 ghost use Rattle.std.specs.Prelude.{ℕ};
 ghost use Rattle.std.specs.Thread.{IsSend, IsSync};
+ghost use Rattle.coord_engine.specs.History.{Beginning};
 
 use super::full::is_met_full;
 use super::ports::{Manner, Ring};
@@ -146,7 +147,8 @@ pub(super) fn start_flusher<
     P: Port + Send + Drop + 'p,
     R: Wait + Clock + Sync + Abort,
 >(scope: &Scope<'s, E>, rt: &'r R, engine: &'e Engine<D, L>, port: P) -> JoinHandle<()>
-    requires any_signal { (step node epoch : ℕ) → P.may_signal step node epoch }
+    requires any_signal { (read : Beginning) (step node epoch : ℕ) →
+        P.may_signal read step node epoch }
 {
     scope
         .spawn(move || {

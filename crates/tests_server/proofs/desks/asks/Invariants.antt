@@ -1,5 +1,5 @@
 use Rattle.coord_disk.specs.Disks.Memory.{in_memory}
-use Rattle.std.proofs.Common.{⊤}
+use Rattle.std.specs.Prelude.{⊤}
 use Rattle.coord_engine.specs.Facade.{past_in}
 use Rattle.tests_server.proofs.desks.asks.Given as goal
 

@@ -1,4 +1,4 @@
-use Rattle.std.proofs.Common.{⊤}
+use Rattle.std.specs.Prelude.{⊤}
 use Rattle.tests_server.proofs.local.is_so.Given as goal
 
 -- any signal may be told
