@@ -31,14 +31,16 @@ pub trait Callers {
     /// yet. Which connections have ended by then is known only once it is told that this one has.
     ghost called: { Self → Self.Line → Self → Type 0 };
 
-    /// The callers were asked for the next client, and no client will come any more.
+    /// The callers were asked for the next client, or at which address they call, and could not say: no client
+    /// will come any more.
     ghost failed: { Self → Self → Type 0 } = { λ _ _. ⊤ };
 
     /// The callers were told that this connection was served, and how that ended.
     ghost ended: { Self → Self.Line → Result Ended ServeFault → Self → Type 0 } = { λ _ _ _ _. ⊤ };
 
     /// At which address they call.
-    fn address(&self) -> io::Result<SocketAddr>;
+    fn address(&self) -> io::Result<SocketAddr>
+        ensures unknown { OnErr result (failed self.now self.now) };
 
     /// Waits for the next one. After an error no one comes any more.
     fn next(&mut self) -> io::Result<Self::Line>

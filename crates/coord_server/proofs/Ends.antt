@@ -13,13 +13,13 @@ use Rattle.coord_world.specs.protocol.NumberedWorld.{World}
 use Rattle.coord_admin.specs.Connections.{Talk}
 use Rattle.coord_server.specs.EngineDesk.{DeskState}
 use Rattle.coord_server.specs.Ending.{AddsWorkers, HasRun, IsLife, IsNotClosed, IsOneHistory, IsServedToClose, LeavesNothing, Local, Serves, ServesLife, fault_at_end}
-use Rattle.coord_server.specs.Lives.{AreClosed, EndsLives, HasLived, IsLastLife, LifeSteps, Lives, Rests, life_steps, steps_in, steps_of, talked_any}
+use Rattle.coord_server.specs.Lives.{AreClosed, EndsLives, GoesOn, HasCause, HasLived, IsLastLife, LifeSteps, Lives, Rests, life_steps, steps_in, steps_of, talked_any}
 use Rattle.coord_server.specs.Printed.{is_amiss}
 use Rattle.coord_server.specs.declared.fault.ServerFault.{ServerFault}
 use Rattle.coord_server.specs.declared.fault.ServerFault.TheVariants as fault
 use Rattle.coord_server.specs.declared.life.Life.{Life}
 use Rattle.coord_server.specs.declared.life_end.LifeEnd.{LifeEnd}
-use Rattle.coord_server.specs.declared.life_end.LifeEnd.TheVariants.{Resting, Ended}
+use Rattle.coord_server.specs.declared.life_end.LifeEnd.TheVariants.{Resting, Unprinted, Ended}
 use Rattle.coord_server.specs.declared.server_end.ServerEnd.{ServerEnd}
 
 pub adds_worker : (first all later : List (List Note)) (notes : List Note) → AddsWorkers first all → later ≡ all ++ notes ∷ [] → All IsOfPacket notes → AddsWorkers first later
@@ -66,8 +66,15 @@ module _ {D : Type 0} (b : Basis D) {V : Type 0} (talked : V → List Talk → V
   served_so : (port : Local) (v w : V) (desk : DeskState Local) (served : Option ServerFault) → ServesLife b talked failed most port v w desk (Ended served) → Serves b talked failed most port v w desk served
   served_so port v w desk served h1 = grind arith
 
+  -- the fault that is told of it has a cause. `on`: that a next life may begin
+  told_for : (on : Type 0) (port : Local) (v w : V) (desk : DeskState Local) (left : LifeEnd) (served : Option ServerFault) (is_broken : Bool) → ServesLife b talked failed most port v w desk left → IsLastLife left served
+      → (left ≡ Unprinted → served ≡ Some fault.Write → is_broken ≡ true) → (left ≡ Resting → ¬ on) → (served ≡ Some fault.Write → is_broken ≡ true) × (served ≡ Some fault.Device → ¬ on)
+  told_for on port v w desk left served is_broken h1 h2 h3 h4 = grind arith
+
   pub served_at_last : (port : Local) (v w : V) (desk : DeskState Local) (left : LifeEnd) (served : Option ServerFault) → ServesLife b talked failed most port v w desk left → IsLastLife left served → Serves b talked failed most port v w desk served
   served_at_last port v w desk Resting served s over = subst (Serves b talked failed most port v w desk) (sym over) s
+  served_at_last port v w desk Unprinted served s (inl memory) = subst (Serves b talked failed most port v w desk) (sym memory) s
+  served_at_last port v w desk Unprinted served s (inr write) = subst (Serves b talked failed most port v w desk) (sym write) s
   served_at_last port v w desk (Ended why) served s over = subst (Serves b talked failed most port v w desk) (sym over) (served_so port v w desk why s)
 
 -- ---- lives
@@ -92,21 +99,12 @@ module _ {D : Type 0} (m : DiskModel D) {V : Type 0} (talked : V → List Talk �
         rw same going,
       )
 
-  -- the last life has ended
-  pub lives_end : {W : Type 0} (began : World) (v : V) (life : Life D V) (ended : ServerEnd D V W) → EndsLives m talked failed most began v life
-      → IsLastLife life.left ended.served → ended.closed ≡ life.closed → ended.callers ≡ life.callers → HasLived m talked failed most began v ended
-  lives_end began v life ended (n, world, u, lives, so) over same same_w = (
-    n,
-    world,
-    u,
-    lives,
-    (
-      so.port,
-      so.desk,
-      rw same_w (served_at_last (b world) talked failed most so.port u life.callers so.desk life.left ended.served so.served over),
-      subst (IsOneHistory (b world) so.desk) (sym same) so.history,
-    ),
-  )
+  -- why a fault is told of a server whose last life was left so
+  pub has_cause : {W : Type 0} (began : World) (v : V) (life : Life D V) (ended : ServerEnd D V W) → EndsLives m talked failed most began v life → IsLastLife life.left ended.served → ended.closed ≡ life.closed
+      → (life.left ≡ Unprinted → ended.served ≡ Some fault.Write → ended.printer.is_broken ≡ true) → (life.left ≡ Resting → ¬ GoesOn most life.closed) → HasCause most ended
+  has_cause began v life ended (n, world, u, lives, so) over same write rests =
+      let told = told_for (b world) talked failed most (GoesOn most life.closed) so.port u life.callers so.desk life.left ended.served ended.printer.is_broken so.served over write rests in
+      (told.0, λ device. subst (λ (c : Closed D). ¬ GoesOn most c) (sym same) (told.1 device))
 
 module _ {D : Type 0} (m : DiskModel D) {V : Type 0} (talked : V → List Talk → V → Type 0) (most : ℕ) where
   -- whoever called

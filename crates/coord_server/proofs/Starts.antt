@@ -7,17 +7,10 @@ use Rattle.std.specs.Io.KnownBytes.{Appends}
 use Rattle.std.specs.declared.net.socket_addr.SocketAddr.{SocketAddr}
 use Rattle.coord_types.specs.declared.steps.Step.{Step}
 use Rattle.coord_engine.specs.Facade.{StartsWith}
-use Rattle.coord_server.specs.Ending.{IsOfStart}
 use Rattle.coord_server.specs.Lines.{after_line, is_next}
-use Rattle.coord_server.specs.Printed.{BreaksIn, Follow, HasTold, IsOfPrinting, IsPrinted, IsTornAddress, IsTornSignal, PrinterState, Prints, PrintsEach, TellsAddress, signal_lines, listening_line, signal_line, with_lost}
+use Rattle.coord_server.specs.Printed.{BreaksIn, Follow, HasTold, IsPrinted, IsTornAddress, IsTornSignal, PrinterState, Prints, PrintsEach, TellsAddress, signal_lines, listening_line, signal_line, with_lost}
 use Rattle.coord_server.specs.Signals.{StepSignal}
-use Rattle.coord_server.specs.declared.fault.ServerFault.{ServerFault}
 use Rattle.coord_server.specs.declared.last_line.LastLine.{LastLine}
-
--- a first line that was not printed
-pub printing_is_of_start : (told : ServerFault) → IsOfPrinting told → IsOfStart told
-printing_is_of_start told (inl memory) = subst IsOfStart (sym memory) tt
-printing_is_of_start told (inr write) = subst IsOfStart (sym write) tt
 
 -- where a thread prints, it printed from what it was given
 pub told_from : {H E F S : Type 0} (printing : Option H) (result : Result E F) (of : H → S) (p : S) (P : S → E → Type 0) → OnOk result (is_some printing ≡ true) → IfSome printing (λ h. of h ≡ p) → IfOk result (λ e. IfSome printing (λ h. P (of h) e)) → IfOk result (λ e. P p e)

@@ -49,18 +49,19 @@ module _ {D : Type 0} (b : Basis D) {V : Type 0} (talked : V → List Talk → V
 
   -- `failed v w`: those who call were v, and have failed
   module _ (failed : V → V → Type 0) (most : ℕ) where
-    -- How the desk went on in a life of so many steps, from this port. It rests only once it keeps them; and it ends by a close, by a fault before anyone was served, or because those who call have failed.
+    -- How the desk went on in a life of so many steps, from this port. It rests only once it keeps them; and it ends by a close, by want of memory or of a first line before anyone was served, or because those who call have failed.
     abbrev pub ServesLife : {P : Type 0} → P → V → V → DeskState P → LifeEnd → Type 0
     ServesLife port v w desk end.Resting = ServedWhileOpen most port v w desk × HasKept (DeskKeeps b) desk most
+    ServesLife port v w desk end.Unprinted = talked v [] w × (desk ≡ new_desk port)
     ServesLife port v w desk (end.Ended None) = IsClosed most port v w desk
     ServesLife port v w desk (end.Ended (Some fault.OutOfMemory)) = talked v [] w × (desk ≡ new_desk port)
-    ServesLife port v w desk (end.Ended (Some fault.Write)) = talked v [] w × (desk ≡ new_desk port)
-    ServesLife port v w desk (end.Ended (Some fault.Socket)) = (talked v [] w × (desk ≡ new_desk port)) ⊎ ((last : V) × ServedWhileOpen most port v last desk × failed last w)
+    ServesLife port v w desk (end.Ended (Some fault.Socket)) = (last : V) × ServedWhileOpen most port v last desk × failed last w
     ServesLife port v w desk (end.Ended (Some other)) = ⊥
 
-    -- how the desk went on in the last life of a server that ends so: a store that has stopped is met where a life rests
+    -- how the desk went on in the last life of a server that ends so: a store that has stopped is met where a life rests, an output that fails before the first life serves
     abbrev pub Serves : {P : Type 0} → P → V → V → DeskState P → Option ServerFault → Type 0
     Serves port v w desk (Some fault.Device) = ServesLife port v w desk end.Resting
+    Serves port v w desk (Some fault.Write) = ServesLife port v w desk end.Unprinted
     Serves port v w desk served = ServesLife port v w desk (end.Ended served)
 
     -- the threads of a life have run: the desk served until this end and saw that much, and with its share all nine are back, the desk's and those of eight workers
@@ -83,12 +84,11 @@ module _ {D : Type 0} (b : Basis D) {V : Type 0} (talked : V → List Talk → V
 abbrev pub IsServedToClose : {D P : Type 0} → Basis D → ℕ → P → DeskState P → Type 0
 IsServedToClose b most port desk = ServedToClose (DeskAnswers b) (DeskKeeps b) most (λ (v : Unit {0}) (talks : List Talk) (w : Unit {0}). Unit {0}) tt (new_desk port) tt desk
 
--- what may be met before anyone is served
-abbrev pub IsOfStart : ServerFault → Type 0
-IsOfStart fault.OutOfMemory = Unit {0}
-IsOfStart fault.Socket = Unit {0}
-IsOfStart fault.Write = Unit {0}
-IsOfStart other = ⊥
+-- how a life ends whose output was not opened: those who call have failed, or the first line was not printed. `failed v w`: those who call were v, and have failed
+abbrev pub IsNotOpened : {V : Type 0} → (V → V → Type 0) → V → LifeEnd → Type 0
+IsNotOpened failed v end.Unprinted = Unit {0}
+IsNotOpened failed v (end.Ended (Some fault.Socket)) = failed v v
+IsNotOpened failed v other = ⊥
 
 -- an engine was not taken apart with these shares, where its desk had seen that much, and that is why
 abbrev pub IsNotClosed : {D : Type 0} → Basis D → List (List Note) → ℕ → ServerFault → Type 0

@@ -1,6 +1,6 @@
 -- The lives of a server, one after the other: each is one history of its own over the store that the one before left.
 use Rattle.std.specs.List.{range_with_len}
-use Rattle.std.specs.Prelude.{◌≡◌, ⊤, ℕ, zero, suc, ◌+◌, ◌-◌, ◌≤◌, List, [], ◌∷◌, ◌++◌, false, Option, Some, flat_map, length, map, take}
+use Rattle.std.specs.Prelude.{◌≡◌, ◌⊎◌, ⊤, ℕ, zero, suc, ◌+◌, ◌-◌, ◌≤◌, List, [], ◌∷◌, ◌++◌, false, true, Option, Some, flat_map, length, map, take}
 use Rattle.coord_disk.specs.Model.DiskModel.{DiskModel}
 use Rattle.coord_types.specs.declared.steps.Step.{Step}
 use Rattle.coord_store.specs.Kept.{Kept, has_stopped}
@@ -20,10 +20,19 @@ use Rattle.coord_server.specs.declared.life_end.LifeEnd.{LifeEnd}
 use Rattle.coord_server.specs.declared.life_end.LifeEnd.TheVariants as end
 use Rattle.coord_server.specs.declared.server_end.ServerEnd.{ServerEnd}
 
--- how a server ends whose last life was left so: one that rests over a store that has stopped ends it too
+-- how a server ends whose last life was left so: one that rests and can't go on ends it too, and so does one without a first line
 abbrev pub IsLastLife : LifeEnd → Option ServerFault → Type 0
 IsLastLife end.Resting served = served ≡ Some fault.Device
+IsLastLife end.Unprinted served = (served ≡ Some fault.OutOfMemory) ⊎ (served ≡ Some fault.Write)
 IsLastLife (end.Ended why) served = served ≡ why
+
+-- The next life may begin over what one that rests has left: its store has not stopped, all that was accepted is settled, and it has the steps of a life.
+abbrev pub GoesOn : {D : Type 0} → ℕ → Closed D → Type 0
+GoesOn most left = (has_stopped left.store ≡ false) × (left.settled ≡ left.base.count + length left.trail.items) × (most ≤ length left.trail.items)
+
+-- Why a fault is told of a server that has ended so, whose lives have so many steps: that its output could not be written only where that has failed, and one of the device only where no next life could begin.
+abbrev pub HasCause : {D V W : Type 0} → ℕ → ServerEnd D V W → Type 0
+HasCause most ended = (ended.served ≡ Some fault.Write → ended.printer.is_broken ≡ true) × (ended.served ≡ Some fault.Device → ¬ GoesOn most ended.closed)
 
 -- nobody is told apart from anybody
 abbrev pub talked_any : Unit {0} → List Talk → Unit {0} → Type 0
@@ -67,6 +76,7 @@ abbrev pub HasLived : {D W : Type 0} → DiskModel D → {V : Type 0} → (V →
 HasLived {D} {W} m {V} talked failed most began v ended =
     (n : ℕ) × (world : World) × (u : V) × Lives m talked most n began v world u
     × ((port : Local) × (desk : DeskState Local) × Serves (based_on m world []) talked failed most port u ended.callers desk ended.served × IsOneHistory (based_on m world []) desk ended.closed)
+    × HasCause most ended
 
 -- the same where a line has closed the last one, and each life has the steps of a server's
 abbrev pub HasLivedToClose : {D : Type 0} → DiskModel D → World → Closed D → Type 0

@@ -7,6 +7,8 @@ use crate::ServerFault;
 pub enum LifeEnd {
     /// The life is old; the server goes on with the next one.
     Resting,
+    /// The first line was not printed, so nobody was served. What prints tells why.
+    Unprinted,
     /// The server ends, by a close or by this fault.
     Ended(Option<ServerFault>),
 }

@@ -1,11 +1,11 @@
 //! The lives of a server, one after the other.
 
-ghost use Rattle.std.specs.Prelude.{◌≡◌, ◌+◌, ◌≤◌, List, [], false, true, is_some, length, IfErr, IfOk, IfSome, OnOk};
+ghost use Rattle.std.specs.Prelude.{◌≡◌, List, [], false, true, is_some, IfErr, IfOk, IfSome, OnOk, Some};
 ghost use Rattle.std.specs.Thread.{IsSend, IsSync};
 ghost use Rattle.coord_store.specs.Kept.{has_stopped};
 ghost use Rattle.coord_server.specs.Ending.{LeavesNothing};
 ghost use Rattle.coord_server.specs.declared.life_end.LifeEnd.TheVariants as LifeEndAs;
-ghost use Rattle.coord_server.specs.Lives.{EndsOneHistory, HasLived, IsLastLife};
+ghost use Rattle.coord_server.specs.Lives.{EndsOneHistory, GoesOn, HasLived, IsLastLife};
 ghost use Rattle.coord_server.specs.Moments.{AtEachMoment, EndsAlong, LivesKeepAlong, LivesTell};
 ghost use Rattle.coord_server.specs.Printed.{new_printer};
 ghost use Rattle.coord_server.specs.Signals.{MaySignal};
@@ -231,6 +231,8 @@ fn live<
     ensures lived { IfOk result
         (EndsAlong D.model C.talked C.failed setting.now.life_steps store callers) }
     ensures same { IfOk result (λ life. life.writer.history ≡ O.history) }
+    ensures last { IfOk result (λ life. life.left ≡ LifeEndAs.Resting →
+        ¬ GoesOn setting.now.life_steps life.closed) }
     ensures nothing { IfErr result (LeavesNothing D.model) }
 {
     let mut store = store;
@@ -251,31 +253,29 @@ fn live<
     unreachable!()
 }
 
-/// Whether the store has not stopped and all that was accepted is settled.
-fn is_settled<D: Disk>(closed: &Closed<D>) -> bool
-    ensures { result ≡ true → (has_stopped closed.now.store ≡ false) ×
-        (closed.now.settled ≡ closed.now.base.count + length closed.now.trail.items) }
+/// Whether the store has not stopped, all that was accepted is settled, and that are `most` steps.
+fn goes_on<D: Disk>(most: usize, closed: &Closed<D>) -> bool
+    ensures on { result ≡ true → GoesOn most closed.now }
+    ensures ends { result ≡ false → ¬ GoesOn most closed.now }
 {
     let base = closed.base.count();
-    if closed.settled < base {
+    if closed.settled < base || closed.store.stopped() || closed.trail.len() < most {
         return false;
     }
-    !closed.store.stopped() && closed.settled - base == closed.trail.len() as u64
+    closed.settled - base == closed.trail.len() as u64
 }
 
 /// The store, what writes the history, and the callers with which the next life begins, or the last life:
-/// one that was ended, or rests over a store that has stopped. One that rests has kept `most` steps.
+/// one that was ended, or rests and can't go on, as over a store that has stopped.
 fn next_of<D: Disk, C>(most: usize, life: Life<D, C>) -> Result<(Store<D>, Writer, C), Life<D, C>>
-    ensures kept { IfOk result (λ next. most ≤ length life.closed.trail.items) }
+    ensures goes_on { IfOk result (λ next. GoesOn most life.closed) }
     ensures next { IfOk result (λ next. (life.left ≡ LifeEndAs.Resting) ×
         (next.0 ≡ life.closed.store) × (next.2 ≡ life.callers)) }
     ensures writer { IfOk result (λ next. next.1 ≡ life.writer) }
-    ensures settled { IfOk result (λ next. (has_stopped life.closed.store ≡ false) ×
-        (life.closed.settled ≡ life.closed.base.count + length life.closed.trail.items)) }
-    ensures last { IfErr result (λ last. last ≡ life) }
+    ensures last { IfErr result (λ last. (last ≡ life) ×
+        (life.left ≡ LifeEndAs.Resting → ¬ GoesOn most life.closed)) }
 {
-    let closed = &life.closed;
-    if life.left != LifeEnd::Resting || !is_settled(closed) || closed.trail.len() < most {
+    if life.left != LifeEnd::Resting || !goes_on(most, &life.closed) {
         return Err(life);
     }
     let Life {
@@ -287,8 +287,9 @@ fn next_of<D: Disk, C>(most: usize, life: Life<D, C>) -> Result<(Store<D>, Write
     Ok((closed.store, writer, callers))
 }
 
-/// How a server ended, by its last life. One that rests is the last only where its store has stopped. The
-/// steps of all signals that were printed are among those that all lives have written.
+/// How a server ended, by its last life. One that rests is the last only where it can't go on, as over a
+/// store that has stopped. Where the first line was not printed, what printed tells why. The steps of all
+/// signals that were printed are among those that all lives have written.
 fn end_of<D: Disk, C, W: Write>(
     history: &History,
     life: Life<D, C>,
@@ -298,6 +299,8 @@ fn end_of<D: Disk, C, W: Write>(
     requires same { printed.reader.history ≡ life.writer.history }
     ensures last { IsLastLife life.left result.served × (result.closed ≡ life.closed) ×
         (result.callers ≡ life.callers) × (result.printer ≡ printed.printer) }
+    ensures write { life.left ≡ LifeEndAs.Unprinted → result.served ≡ Some ServerFault.Write →
+        result.printer.is_broken ≡ true }
     ensures read { StartsWith life.writer.steps printed.reader.steps }
 {
     let Life {
@@ -306,10 +309,15 @@ fn end_of<D: Disk, C, W: Write>(
         callers,
         left,
     } = life;
-    let Printed { printer, reader } = printed;
+    let Printed {
+        printer,
+        reader,
+        unprinted,
+    } = printed;
     writer.take_back(history, reader);
     let served = match left {
         LifeEnd::Resting => Some(ServerFault::Device),
+        LifeEnd::Unprinted => Some(unprinted.unwrap_or(ServerFault::OutOfMemory)),
         LifeEnd::Ended(served) => served,
     };
     ServerEnd {

@@ -1,18 +1,19 @@
 //! The thread that prints: first where the server listens, then each signal.
 
-ghost use Rattle.std.specs.Prelude.{◌≡◌, ◌⊎◌, List, Err, IfErr, IfOk, OnOk, true};
+ghost use Rattle.std.specs.Prelude.{◌≡◌, ◌⊎◌, List, Err, IfErr, IfOk, IfSome, OnOk, Some, true};
 ghost use Rattle.std.specs.Iterator.{Drains, IsFinite};
-ghost use Rattle.coord_server.specs.Ending.{IsOfStart};
-ghost use Rattle.coord_server.specs.Printed.{BreaksIn, HasTold, IsPrinted, PrintsEach, TellsAddress, listening_line, new_printer};
+ghost use Rattle.coord_server.specs.Ending.{IsNotOpened};
+ghost use Rattle.coord_server.specs.Printed.{BreaksIn, HasTold, IsOfPrinting, IsPrinted, PrintsEach, TellsAddress, listening_line, new_printer};
 ghost use Rattle.coord_server.specs.Signals.{StepSignal};
 
+use crate::life_end::LifeEnd;
 use crate::{LocalPort, Printer, ServerFault, Signal, Telling};
 use coord_admin::Callers;
 use coord_engine::{History, Reader};
 use crossbeam_channel::{Receiver, Sender};
 use std::alloc::{AllocError, Global};
 use std::io::Write;
-use std::marker::{Model, PhantomData};
+use std::marker::PhantomData;
 use std::net::SocketAddr;
 use std::snapshot::Snapshot;
 use std::sync::Wait;
@@ -23,6 +24,10 @@ use std::thread::Promise;
 pub struct Printed<W: Write> {
     pub printer: Printer<W>,
     pub reader: Reader,
+    /// Why the first line was not printed, where it was to be printed and was not.
+    pub unprinted: Option<ServerFault>,
+    pub ghost of_printing: { IfSome unprinted IsOfPrinting },
+    pub ghost write: { unprinted ≡ Some ServerFault.Write → printer.is_broken ≡ true },
 }
 
 /// Prints the signals that come, in their order, up to the last one or to a line that could not be
@@ -50,58 +55,47 @@ pub fn print_signals<W: Write, O: Telling, I: Iterator<Item = Signal<O>>>(
         printer.print_signal(signal.step(), signal.node(), signal.epoch());
         reader.join(history, signal.into_reader());
         if printer.is_broken() {
-            return Printed { printer, reader };
+            return Printed {
+                printer,
+                reader,
+                unprinted: None,
+            };
         }
     }
-    Printed { printer, reader }
+    Printed {
+        printer,
+        reader,
+        unprinted: None,
+    }
 }
 
-/// What became of the first line: it was printed, or it met one of the faults of a start.
-#[derive(Drop)]
-pub struct Opened {
-    result: Result<(), ServerFault>,
-}
-
-impl Model for Opened {
-    ghost use Rattle.std.specs.Prelude.{IfErr, Result};
-    ghost use Rattle.coord_server.specs.Ending.{IsOfStart};
-    ghost use Rattle.coord_server.specs.declared.fault.ServerFault.{ServerFault as Told};
-
-    ghost Value = { Result (Unit {0}) Told };
-
-    ghost view = { λ o. o.result };
-
-    ghost invariant = { λ o. IfErr o.result IsOfStart };
-}
-
-/// Asks the thread that prints for the first line.
+/// Asks the thread that prints for the first line, and hears once that is printed.
 #[derive(Drop)]
 pub struct Opening {
     to: Sender<SocketAddr>,
-    told: Receiver<Opened>,
+    printed: Receiver<()>,
 }
 
 impl Opening {
-    /// Has the address printed at which the server listens, and signals behind it; or says why that
-    /// line was not printed.
-    pub fn open<C: Callers, R: Wait>(self, rt: &R, callers: &C) -> Result<(), ServerFault>
-        ensures { IfErr result IsOfStart }
+    /// Has the address printed at which the server listens, and signals behind it; or says how the life
+    /// ends where that line was not printed.
+    pub fn open<C: Callers, R: Wait>(self, rt: &R, callers: &C) -> Result<(), LifeEnd>
+        ensures { IfErr result (IsNotOpened C.failed callers.now) }
     {
         let Ok(address) = callers.address() else {
-            return Err(ServerFault::Socket);
+            return Err(LifeEnd::Ended(Some(ServerFault::Socket)));
         };
         let Ok(()) = self.to.send(rt, address) else {
-            return Err(ServerFault::OutOfMemory);
+            return Err(LifeEnd::Unprinted);
         };
-        match self.told.recv(rt) {
-            Ok(opened) => opened.result,
-            Err(_) => Err(ServerFault::OutOfMemory),
+        match self.printed.recv(rt) {
+            Ok(()) => Ok(()),
+            Err(_) => Err(LifeEnd::Unprinted),
         }
     }
 }
 
 /// Prints the address at which the server listens; or says why it was not printed.
-#[tactic(auto, using(crate::proofs::Starts::printing_is_of_start))]
 fn print_listening<W: Write>(
     address: SocketAddr,
     printer: &mut Printer<W>,
@@ -109,7 +103,7 @@ fn print_listening<W: Write>(
     ensures printed { OnOk result (TellsAddress W.contents printer.old printer.new) }
     ensures failed { IfErr result (λ _. (printer.new ≡ printer.old) ⊎
         BreaksIn W.contents printer.old (listening_line address) printer.new) }
-    ensures start { IfErr result IsOfStart }
+    ensures fault { IfErr result IsOfPrinting }
     ensures write { result ≡ Err ServerFault.Write → printer.new.is_broken ≡ true }
 {
     printer.print_address(address)
@@ -122,7 +116,7 @@ pub struct Printing<W: Write + Drop, O: Telling> {
     history: History,
     reader: Reader,
     addresses: Receiver<SocketAddr>,
-    told: Sender<Opened>,
+    printed: Sender<()>,
     signals: Receiver<Signal<O>>,
     ghost here: { history ≡ O.history },
     ghost own: { reader.history ≡ O.history },
@@ -142,22 +136,27 @@ impl<W: Write + Drop, O: Telling> Printing<W, O> {
             history,
             reader,
             addresses,
-            told,
+            printed,
             signals,
         } = self;
         let mut printer = printer;
         let Ok(address) = addresses.recv(rt) else {
-            return Printed { printer, reader };
+            return Printed {
+                printer,
+                reader,
+                unprinted: None,
+            };
         };
         match print_listening(address, &mut printer) {
             Ok(()) => {
-                let _heard = told.send(rt, Opened { result: Ok(()) });
+                let _heard = printed.send(rt, ());
                 print_signals(&history, signals.iter(rt), printer, reader)
             }
-            Err(fault) => {
-                let _heard = told.send(rt, Opened { result: Err(fault) });
-                Printed { printer, reader }
-            }
+            Err(fault) => Printed {
+                printer,
+                reader,
+                unprinted: Some(fault),
+            },
         }
     }
 }
@@ -214,17 +213,20 @@ impl<R: Wait + Drop, W: Write + Drop, O: Telling> Outlet<R, W, O> {
         ensures { IfOk result (λ outlet. outlet.printing.printer ≡ new_printer output since) }
     {
         let (to, addresses) = crossbeam_channel::bounded(alloc, 1)?;
-        let (told, opened) = crossbeam_channel::bounded(alloc, 1)?;
+        let (printed, opened) = crossbeam_channel::bounded(alloc, 1)?;
         let (signalled, signals) = crossbeam_channel::unbounded(alloc)?;
         Ok(Outlet {
             port: LocalPort::new(rt, alloc, Vec::new(alloc), signalled),
-            opening: Opening { to, told: opened },
+            opening: Opening {
+                to,
+                printed: opened,
+            },
             printing: Printing {
                 printer: Printer::new(alloc, output, since),
                 history,
                 reader,
                 addresses,
-                told,
+                printed,
                 signals,
             },
         })

@@ -5,7 +5,7 @@ ghost use Rattle.std.specs.Thread.{IsSend, IsSync};
 ghost use Rattle.coord_engine.specs.Released.{MayTell};
 ghost use Rattle.coord_engine.specs.State.{based_on};
 ghost use Rattle.coord_server.specs.EngineDesk.{HandsAgain};
-ghost use Rattle.coord_server.specs.Ending.{AddsWorkers, HasRun, IsOfStart, Local, ServesLife, new_desk};
+ghost use Rattle.coord_server.specs.Ending.{AddsWorkers, HasRun, IsNotOpened, Local, ServesLife, new_desk};
 ghost use Rattle.coord_server.specs.Signals.{MaySignal};
 
 use crate::life_end::LifeEnd;
@@ -249,13 +249,13 @@ fn serve_over<D: Disk, L: Origin, C: Callers, O: Telling, R: Wait>(
     (own, seen, left)
 }
 
-/// Opens the output, where that was not done before; or says why it can't be opened.
+/// Opens the output, where that was not done before; or says how the life ends where it can't be opened.
 fn open<C: Callers, R: Wait>(
     rt: &R,
     callers: &C,
     opening: Option<Opening>,
-) -> Result<(), ServerFault>
-    ensures { IfErr result IsOfStart }
+) -> Result<(), LifeEnd>
+    ensures { IfErr result (IsNotOpened C.failed callers.now) }
 {
     match opening {
         Some(opening) => opening.open(rt, callers),
@@ -264,16 +264,16 @@ fn open<C: Callers, R: Wait>(
 }
 
 /// Once the output is open, sends again what may have been lost, and serves those who call until
-/// the life is old. What ended it: where the output could not be opened, why.
+/// the life is old. What ended it: where the output could not be opened, that.
 fn serve_clients<D: Disk, L: Origin, C: Callers, P: Port, O: Telling, R: Wait>(
     setting: &Setting<'_, R, O>,
-    opened: Result<(), ServerFault>,
+    opened: Result<(), LifeEnd>,
     callers: &mut C,
     desk: &mut EngineDesk<'_, D, L, P, R>,
 ) -> LifeEnd
-    requires start { IfErr opened IsOfStart }
+    requires start { IfErr opened (IsNotOpened C.failed callers.old) }
     requires new { desk.old ≡ new_desk desk.old.port }
-    ensures told { IfErr opened (λ fault. result ≡ LifeEnd.Ended (Some fault)) }
+    ensures told { IfErr opened (λ end. result ≡ end) }
     ensures resent { IfOk opened (λ _.
         (result ≡ LifeEnd.Ended (Some ServerFault.OutOfMemory)) ⊎ ((count : ℕ) × (later : P) ×
         HandsAgain (based_on D.model L.base L.before) P.carried P.signalled
@@ -283,8 +283,8 @@ fn serve_clients<D: Disk, L: Origin, C: Callers, P: Port, O: Telling, R: Wait>(
         (based_on D.model L.base L.before) C.talked C.failed setting.now.life_steps port
         callers.old callers.new desk.new result }
 {
-    if let Err(fault) = opened {
-        return LifeEnd::Ended(Some(fault));
+    if let Err(end) = opened {
+        return end;
     }
     let Ok(_) = desk.resend() else {
         return LifeEnd::Ended(Some(ServerFault::OutOfMemory));

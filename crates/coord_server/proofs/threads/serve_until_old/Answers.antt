@@ -1,4 +1,4 @@
-use Rattle.std.proofs.Common.{inr, rules, subst}
+use Rattle.std.proofs.Common.{rules, subst}
 use Rattle.coord_admin.specs.Connections.{ServedOpen, ServedToClose}
 use Rattle.coord_engine.specs.State.{based_on}
 use Rattle.coord_server.specs.EngineDesk.{DeskAnswers, DeskKeeps}
@@ -22,4 +22,4 @@ returns-in-Err g c =
     let b = based_on g.D.Disk.model g.L.Origin.base g.L.Origin.before in
     let after = c.serve_connections.new in
     let failed = c.in-Err.ensures.failed in
-    inr (failed.0, subst (λ d. ServedOpen (DeskAnswers b) (DeskKeeps b) c.args.setting.now.life_steps g.C.Callers.talked c.args.callers.now d failed.0 after.desk) c.requires failed.1, failed.2)
+    (failed.0, subst (λ d. ServedOpen (DeskAnswers b) (DeskKeeps b) c.args.setting.now.life_steps g.C.Callers.talked c.args.callers.now d failed.0 after.desk) c.requires failed.1, failed.2)
