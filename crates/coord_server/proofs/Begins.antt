@@ -3,7 +3,7 @@ use Rattle.std.proofs.Common.{◌≡◌, ℕ, List, [], None, Some, refl}
 use Rattle.coord_admin.specs.Connections.{Talk}
 use Rattle.coord_engine.specs.Facade.{Basis}
 use Rattle.coord_server.specs.EngineDesk.{DeskState}
-use Rattle.coord_server.specs.Ending.{IsNotOpened, ServesLife, new_desk}
+use Rattle.coord_server.specs.Ending.{EndsUnopened, ServesLife, new_desk}
 use Rattle.coord_server.specs.declared.fault.ServerFault.TheVariants as fault
 use Rattle.coord_server.specs.declared.life_end.LifeEnd.{LifeEnd}
 use Rattle.coord_server.specs.declared.life_end.LifeEnd.TheVariants.{Resting, Unprinted, Ended}
@@ -13,7 +13,7 @@ pub begins : {P : Type 0} (d : DeskState P) → d.notes ≡ [] → d.seen ≡ 0 
 begins d notes seen = λ i. record { notes = notes i; seen = seen i; port = d.port }
 
 -- an output that was not opened ends a life in which nobody was served
-pub ends_unopened : {D : Type 0} (b : Basis D) {V : Type 0} (talked : V → List Talk → V → Type 0) (failed : V → V → Type 0) (most : ℕ) {P : Type 0} (v : V) (desk : DeskState P) (left : LifeEnd) → IsNotOpened failed v left → talked v [] v → desk ≡ new_desk desk.port
+pub ends_unopened : {D : Type 0} (b : Basis D) {V : Type 0} (talked : V → List Talk → V → Type 0) (failed : V → V → Type 0) (most : ℕ) {P : Type 0} (v : V) (desk : DeskState P) (left : LifeEnd) → EndsUnopened failed v left → talked v [] v → desk ≡ new_desk desk.port
     → ServesLife b talked failed most desk.port v v desk left
 ends_unopened b talked failed most v desk Resting is nobody new = absurd is
 ends_unopened b talked failed most v desk Unprinted is nobody new = (nobody, new)

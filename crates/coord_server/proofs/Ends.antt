@@ -13,7 +13,7 @@ use Rattle.coord_world.specs.protocol.NumberedWorld.{World}
 use Rattle.coord_admin.specs.Connections.{Talk}
 use Rattle.coord_server.specs.EngineDesk.{DeskState}
 use Rattle.coord_server.specs.Ending.{AddsWorkers, HasRun, IsLife, IsNotClosed, IsOneHistory, IsServedToClose, LeavesNothing, Local, Serves, ServesLife, fault_at_end}
-use Rattle.coord_server.specs.Lives.{AreClosed, EndsLives, GoesOn, HasCause, HasLived, IsLastLife, LifeSteps, Lives, Rests, life_steps, steps_in, steps_of, talked_any}
+use Rattle.coord_server.specs.Lives.{AreClosed, EndsLives, MayGoOn, IsToldForCause, HasLived, IsLastLife, LifeSteps, Lives, Rests, life_steps, steps_in, steps_of, talked_any}
 use Rattle.coord_server.specs.Printed.{is_amiss}
 use Rattle.coord_server.specs.declared.fault.ServerFault.{ServerFault}
 use Rattle.coord_server.specs.declared.fault.ServerFault.TheVariants as fault
@@ -101,10 +101,10 @@ module _ {D : Type 0} (m : DiskModel D) {V : Type 0} (talked : V → List Talk �
 
   -- why a fault is told of a server whose last life was left so
   pub has_cause : {W : Type 0} (began : World) (v : V) (life : Life D V) (ended : ServerEnd D V W) → EndsLives m talked failed most began v life → IsLastLife life.left ended.served → ended.closed ≡ life.closed
-      → (life.left ≡ Unprinted → ended.served ≡ Some fault.Write → ended.printer.is_broken ≡ true) → (life.left ≡ Resting → ¬ GoesOn most life.closed) → HasCause most ended
+      → (life.left ≡ Unprinted → ended.served ≡ Some fault.Write → ended.printer.is_broken ≡ true) → (life.left ≡ Resting → ¬ MayGoOn most life.closed) → IsToldForCause most ended
   has_cause began v life ended (n, world, u, lives, so) over same write rests =
-      let told = told_for (b world) talked failed most (GoesOn most life.closed) so.port u life.callers so.desk life.left ended.served ended.printer.is_broken so.served over write rests in
-      (told.0, λ device. subst (λ (c : Closed D). ¬ GoesOn most c) (sym same) (told.1 device))
+      let told = told_for (b world) talked failed most (MayGoOn most life.closed) so.port u life.callers so.desk life.left ended.served ended.printer.is_broken so.served over write rests in
+      (told.0, λ device. subst (λ (c : Closed D). ¬ MayGoOn most c) (sym same) (told.1 device))
 
 module _ {D : Type 0} (m : DiskModel D) {V : Type 0} (talked : V → List Talk → V → Type 0) (most : ℕ) where
   -- whoever called

@@ -23,7 +23,7 @@ use Rattle.coord_server.proofs.OneHistory.{Tells, leaves_all, lives_are_one, tel
 use Rattle.coord_server.proofs.Starts.{on_more, printed_more}
 use Rattle.coord_server.specs.EngineDesk.{DeskState}
 use Rattle.coord_server.specs.Ending.{IsLife, IsOneHistory}
-use Rattle.coord_server.specs.Lives.{AreOneHistory, HasCause, IsLastLife, LifeSteps, all_steps, steps_in, steps_of}
+use Rattle.coord_server.specs.Lives.{AreOneHistory, IsToldForCause, IsLastLife, LifeSteps, all_steps, steps_in, steps_of}
 use Rattle.coord_server.specs.Moments.{AtEachMoment, ComesFrom, EndsAlong, HasComeTo, HaveRested, KeepsAlong, LivesKeepAlong, LivesTell}
 use Rattle.coord_server.specs.Printed.{IsPrinted, PrinterState}
 use Rattle.coord_server.specs.declared.life.Life.{Life}
@@ -136,7 +136,7 @@ module _ {D : Type 0} (m : DiskModel D) {V : Type 0} (talked : V → List Talk �
       )
 
   -- and so has the server
-  pub lives_along : {W : Type 0} (first : Kept D) (v : V) (life : Life D V) (ended : ServerEnd D V W) → EndsAlong m talked failed most first v life → IsLastLife life.left ended.served → ended.closed ≡ life.closed → ended.callers ≡ life.callers → HasCause most ended → LivesKeepAlong m talked failed most first v ended
+  pub lives_along : {W : Type 0} (first : Kept D) (v : V) (life : Life D V) (ended : ServerEnd D V W) → EndsAlong m talked failed most first v life → IsLastLife life.left ended.served → ended.closed ≡ life.closed → ended.callers ≡ life.callers → IsToldForCause most ended → LivesKeepAlong m talked failed most first v ended
   lives_along first v life ended ((n, world, u, lives, so), along, written) over same same_w cause = (
     (
       n,
@@ -155,7 +155,7 @@ module _ {D : Type 0} (m : DiskModel D) {V : Type 0} (talked : V → List Talk �
   )
 
   -- what the last life has written are the settled steps of all of them
-  written_at_last : {W : Type 0} (first : Kept D) (v : V) (life : Life D V) (ended : ServerEnd D V W) (ends : EndsAlong m talked failed most first v life) (over : IsLastLife life.left ended.served) (same : ended.closed ≡ life.closed) (same_w : ended.callers ≡ life.callers) (cause : HasCause most ended)
+  written_at_last : {W : Type 0} (first : Kept D) (v : V) (life : Life D V) (ended : ServerEnd D V W) (ends : EndsAlong m talked failed most first v life) (over : IsLastLife life.left ended.served) (same : ended.closed ≡ life.closed) (same_w : ended.callers ≡ life.callers) (cause : IsToldForCause most ended)
       → let lived = (lives_along first v life ended ends over same same_w cause).0 in
       life.writer.steps ≡ first_settled first.world (all_steps (steps_of m talked most lived.0 first.world v lived.1 lived.2 lived.3 ++ steps_in ended.closed ∷ [])) ended.closed.settled
   unfolding lives_along
@@ -163,7 +163,7 @@ module _ {D : Type 0} (m : DiskModel D) {V : Type 0} (talked : V → List Talk �
       subst (λ (c : Closed D). life.writer.steps ≡ first_settled first.world (all_steps (steps_of m talked most n first.world v world u lives ++ steps_in c ∷ [])) c.settled) (sym same) written
 
   -- and what it printed are signals of these steps
-  pub lives_tell : {W : Type 0} (contents : W → Option (List ℕ)) (first : Kept D) (v : V) (life : Life D V) (ended : ServerEnd D V W) (gives : List Step → ℕ → ℕ → ℕ → Type 0) (lasts : (first more : List Step) (step node epoch : ℕ) → gives first step node epoch → gives (first ++ more) step node epoch) (p q : PrinterState W) (read : List Step) → EndsAlong m talked failed most first v life → IsLastLife life.left ended.served → ended.closed ≡ life.closed → ended.callers ≡ life.callers → HasCause most ended
+  pub lives_tell : {W : Type 0} (contents : W → Option (List ℕ)) (first : Kept D) (v : V) (life : Life D V) (ended : ServerEnd D V W) (gives : List Step → ℕ → ℕ → ℕ → Type 0) (lasts : (first more : List Step) (step node epoch : ℕ) → gives first step node epoch → gives (first ++ more) step node epoch) (p q : PrinterState W) (read : List Step) → EndsAlong m talked failed most first v life → IsLastLife life.left ended.served → ended.closed ≡ life.closed → ended.callers ≡ life.callers → IsToldForCause most ended
       → ended.printer ≡ q → StartsWith life.writer.steps read → IsPrinted contents (gives read) p q → LivesTell m talked failed most contents gives first v p ended
   lives_tell contents first v life ended gives lasts p q read ends over same same_w cause same_q reads printed =
       let along = lives_along first v life ended ends over same same_w cause in

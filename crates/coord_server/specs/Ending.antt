@@ -85,10 +85,10 @@ abbrev pub IsServedToClose : {D P : Type 0} → Basis D → ℕ → P → DeskSt
 IsServedToClose b most port desk = ServedToClose (DeskAnswers b) (DeskKeeps b) most (λ (v : Unit {0}) (talks : List Talk) (w : Unit {0}). Unit {0}) tt (new_desk port) tt desk
 
 -- how a life ends whose output was not opened: those who call have failed, or the first line was not printed. `failed v w`: those who call were v, and have failed
-abbrev pub IsNotOpened : {V : Type 0} → (V → V → Type 0) → V → LifeEnd → Type 0
-IsNotOpened failed v end.Unprinted = Unit {0}
-IsNotOpened failed v (end.Ended (Some fault.Socket)) = failed v v
-IsNotOpened failed v other = ⊥
+abbrev pub EndsUnopened : {V : Type 0} → (V → V → Type 0) → V → LifeEnd → Type 0
+EndsUnopened failed v end.Unprinted = Unit {0}
+EndsUnopened failed v (end.Ended (Some fault.Socket)) = failed v v
+EndsUnopened failed v other = ⊥
 
 -- an engine was not taken apart with these shares, where its desk had seen that much, and that is why
 abbrev pub IsNotClosed : {D : Type 0} → Basis D → List (List Note) → ℕ → ServerFault → Type 0

@@ -27,12 +27,12 @@ IsLastLife end.Unprinted served = (served ≡ Some fault.OutOfMemory) ⊎ (serve
 IsLastLife (end.Ended why) served = served ≡ why
 
 -- The next life may begin over what one that rests has left: its store has not stopped, all that was accepted is settled, and it has the steps of a life.
-abbrev pub GoesOn : {D : Type 0} → ℕ → Closed D → Type 0
-GoesOn most left = (has_stopped left.store ≡ false) × (left.settled ≡ left.base.count + length left.trail.items) × (most ≤ length left.trail.items)
+abbrev pub MayGoOn : {D : Type 0} → ℕ → Closed D → Type 0
+MayGoOn most left = (has_stopped left.store ≡ false) × (left.settled ≡ left.base.count + length left.trail.items) × (most ≤ length left.trail.items)
 
 -- Why a fault is told of a server that has ended so, whose lives have so many steps: that its output could not be written only where that has failed, and one of the device only where no next life could begin.
-abbrev pub HasCause : {D V W : Type 0} → ℕ → ServerEnd D V W → Type 0
-HasCause most ended = (ended.served ≡ Some fault.Write → ended.printer.is_broken ≡ true) × (ended.served ≡ Some fault.Device → ¬ GoesOn most ended.closed)
+abbrev pub IsToldForCause : {D V W : Type 0} → ℕ → ServerEnd D V W → Type 0
+IsToldForCause most ended = (ended.served ≡ Some fault.Write → ended.printer.is_broken ≡ true) × (ended.served ≡ Some fault.Device → ¬ MayGoOn most ended.closed)
 
 -- nobody is told apart from anybody
 abbrev pub talked_any : Unit {0} → List Talk → Unit {0} → Type 0
@@ -76,7 +76,7 @@ abbrev pub HasLived : {D W : Type 0} → DiskModel D → {V : Type 0} → (V →
 HasLived {D} {W} m {V} talked failed most began v ended =
     (n : ℕ) × (world : World) × (u : V) × Lives m talked most n began v world u
     × ((port : Local) × (desk : DeskState Local) × Serves (based_on m world []) talked failed most port u ended.callers desk ended.served × IsOneHistory (based_on m world []) desk ended.closed)
-    × HasCause most ended
+    × IsToldForCause most ended
 
 -- the same where a line has closed the last one, and each life has the steps of a server's
 abbrev pub HasLivedToClose : {D : Type 0} → DiskModel D → World → Closed D → Type 0

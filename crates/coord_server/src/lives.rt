@@ -5,7 +5,7 @@ ghost use Rattle.std.specs.Thread.{IsSend, IsSync};
 ghost use Rattle.coord_store.specs.Kept.{has_stopped};
 ghost use Rattle.coord_server.specs.Ending.{LeavesNothing};
 ghost use Rattle.coord_server.specs.declared.life_end.LifeEnd.TheVariants as LifeEndAs;
-ghost use Rattle.coord_server.specs.Lives.{EndsOneHistory, GoesOn, HasLived, IsLastLife};
+ghost use Rattle.coord_server.specs.Lives.{EndsOneHistory, MayGoOn, HasLived, IsLastLife};
 ghost use Rattle.coord_server.specs.Moments.{AtEachMoment, EndsAlong, LivesKeepAlong, LivesTell};
 ghost use Rattle.coord_server.specs.Printed.{new_printer};
 ghost use Rattle.coord_server.specs.Signals.{MaySignal};
@@ -232,7 +232,7 @@ fn live<
         (EndsAlong D.model C.talked C.failed setting.now.life_steps store callers) }
     ensures same { IfOk result (λ life. life.writer.history ≡ O.history) }
     ensures last { IfOk result (λ life. life.left ≡ LifeEndAs.Resting →
-        ¬ GoesOn setting.now.life_steps life.closed) }
+        ¬ MayGoOn setting.now.life_steps life.closed) }
     ensures nothing { IfErr result (LeavesNothing D.model) }
 {
     let mut store = store;
@@ -255,8 +255,8 @@ fn live<
 
 /// Whether the store has not stopped, all that was accepted is settled, and that are `most` steps.
 fn goes_on<D: Disk>(most: usize, closed: &Closed<D>) -> bool
-    ensures on { result ≡ true → GoesOn most closed.now }
-    ensures ends { result ≡ false → ¬ GoesOn most closed.now }
+    ensures on { result ≡ true → MayGoOn most closed.now }
+    ensures ends { result ≡ false → ¬ MayGoOn most closed.now }
 {
     let base = closed.base.count();
     if closed.settled < base || closed.store.stopped() || closed.trail.len() < most {
@@ -268,12 +268,12 @@ fn goes_on<D: Disk>(most: usize, closed: &Closed<D>) -> bool
 /// The store, what writes the history, and the callers with which the next life begins, or the last life:
 /// one that was ended, or rests and can't go on, as over a store that has stopped.
 fn next_of<D: Disk, C>(most: usize, life: Life<D, C>) -> Result<(Store<D>, Writer, C), Life<D, C>>
-    ensures goes_on { IfOk result (λ next. GoesOn most life.closed) }
+    ensures goes_on { IfOk result (λ next. MayGoOn most life.closed) }
     ensures next { IfOk result (λ next. (life.left ≡ LifeEndAs.Resting) ×
         (next.0 ≡ life.closed.store) × (next.2 ≡ life.callers)) }
     ensures writer { IfOk result (λ next. next.1 ≡ life.writer) }
     ensures last { IfErr result (λ last. (last ≡ life) ×
-        (life.left ≡ LifeEndAs.Resting → ¬ GoesOn most life.closed)) }
+        (life.left ≡ LifeEndAs.Resting → ¬ MayGoOn most life.closed)) }
 {
     if life.left != LifeEnd::Resting || !goes_on(most, &life.closed) {
         return Err(life);

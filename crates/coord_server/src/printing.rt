@@ -2,7 +2,7 @@
 
 ghost use Rattle.std.specs.Prelude.{◌≡◌, ◌⊎◌, List, Err, IfErr, IfOk, IfSome, OnOk, Some, true};
 ghost use Rattle.std.specs.Iterator.{Drains, IsFinite};
-ghost use Rattle.coord_server.specs.Ending.{IsNotOpened};
+ghost use Rattle.coord_server.specs.Ending.{EndsUnopened};
 ghost use Rattle.coord_server.specs.Printed.{BreaksIn, HasTold, IsOfPrinting, IsPrinted, PrintsEach, TellsAddress, listening_line, new_printer};
 ghost use Rattle.coord_server.specs.Signals.{StepSignal};
 
@@ -80,7 +80,7 @@ impl Opening {
     /// Has the address printed at which the server listens, and signals behind it; or says how the life
     /// ends where that line was not printed.
     pub fn open<C: Callers, R: Wait>(self, rt: &R, callers: &C) -> Result<(), LifeEnd>
-        ensures { IfErr result (IsNotOpened C.failed callers.now) }
+        ensures { IfErr result (EndsUnopened C.failed callers.now) }
     {
         let Ok(address) = callers.address() else {
             return Err(LifeEnd::Ended(Some(ServerFault::Socket)));

@@ -5,7 +5,7 @@ ghost use Rattle.std.specs.Thread.{IsSend, IsSync};
 ghost use Rattle.coord_engine.specs.Released.{MayTell};
 ghost use Rattle.coord_engine.specs.State.{based_on};
 ghost use Rattle.coord_server.specs.EngineDesk.{HandsAgain};
-ghost use Rattle.coord_server.specs.Ending.{AddsWorkers, HasRun, IsNotOpened, Local, ServesLife, new_desk};
+ghost use Rattle.coord_server.specs.Ending.{AddsWorkers, HasRun, EndsUnopened, Local, ServesLife, new_desk};
 ghost use Rattle.coord_server.specs.Signals.{MaySignal};
 
 use crate::life_end::LifeEnd;
@@ -255,7 +255,7 @@ fn open<C: Callers, R: Wait>(
     callers: &C,
     opening: Option<Opening>,
 ) -> Result<(), LifeEnd>
-    ensures { IfErr result (IsNotOpened C.failed callers.now) }
+    ensures { IfErr result (EndsUnopened C.failed callers.now) }
 {
     match opening {
         Some(opening) => opening.open(rt, callers),
@@ -271,7 +271,7 @@ fn serve_clients<D: Disk, L: Origin, C: Callers, P: Port, O: Telling, R: Wait>(
     callers: &mut C,
     desk: &mut EngineDesk<'_, D, L, P, R>,
 ) -> LifeEnd
-    requires start { IfErr opened (IsNotOpened C.failed callers.old) }
+    requires start { IfErr opened (EndsUnopened C.failed callers.old) }
     requires new { desk.old ≡ new_desk desk.old.port }
     ensures told { IfErr opened (λ end. result ≡ end) }
     ensures resent { IfOk opened (λ _.

@@ -3,7 +3,7 @@ use Rattle.coord_engine.specs.Facade.{Beginning}
 use Rattle.coord_store.specs.Kept.{Kept, has_stopped}
 use Rattle.coord_server.specs.Moments.{EndsAlong}
 use Rattle.coord_server.specs.Signals.{MaySignal}
-use Rattle.coord_server.specs.Lives.{GoesOn}
+use Rattle.coord_server.specs.Lives.{MayGoOn}
 use Rattle.coord_server.specs.declared.life.Life.{Life}
 use Rattle.coord_server.specs.declared.life_end.LifeEnd.TheVariants.{Resting}
 use Rattle.coord_server.proofs.Moments.{ends_along, rested_on, tells_on}
@@ -39,4 +39,4 @@ serve_life-requires-clause-tell g c =
 pub returns-in-Err-clause-last : goal.returns-in-Err-clause-last
 returns-in-Err-clause-last g c =
     let last = c.in-Err.ensures.last in
-    subst (λ (l : Life g.row.D.Denot g.row.C.Denot). l.left ≡ Resting → ¬ GoesOn c.args.setting.now.life_steps l.closed) (sym last.0) last.1
+    subst (λ (l : Life g.row.D.Denot g.row.C.Denot). l.left ≡ Resting → ¬ MayGoOn c.args.setting.now.life_steps l.closed) (sym last.0) last.1

@@ -1,6 +1,6 @@
 use Rattle.std.proofs.Common.{IfErr, ap, ◌∙◌, subst}
 use Rattle.coord_engine.specs.State.{based_on}
-use Rattle.coord_server.specs.Ending.{IsNotOpened}
+use Rattle.coord_server.specs.Ending.{EndsUnopened}
 use Rattle.coord_server.proofs.Begins.{begins, ends_unopened}
 use Rattle.coord_server.proofs.threads.serve_clients.Goals as goal
 
@@ -14,7 +14,7 @@ pub returns-in-Err-clause-served : goal.returns-in-Err-clause-served
 returns-in-Err-clause-served g c =
     let b = based_on g.D.Disk.model g.L.Origin.base g.L.Origin.before in
     let v = c.args.callers.now in
-    let unopened : IsNotOpened g.C.Callers.failed v c.in-Err.end = subst (λ r. IfErr r (IsNotOpened g.C.Callers.failed v)) c.in-Err.is c.requires.start in
+    let unopened : EndsUnopened g.C.Callers.failed v c.in-Err.end = subst (λ r. IfErr r (EndsUnopened g.C.Callers.failed v)) c.in-Err.is c.requires.start in
     (c.args.desk.now.port, ends_unopened b g.C.Callers.talked g.C.Callers.failed c.args.setting.now.life_steps v c.args.desk.now c.in-Err.end unopened (g.met.C.Callers.at_rest v) c.requires.new)
 
 -- what may have been lost was not sent again
