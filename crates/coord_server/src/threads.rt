@@ -250,11 +250,7 @@ fn serve_over<D: Disk, L: Origin, C: Callers, O: Telling, R: Wait>(
 }
 
 /// Opens the output, where that was not done before; or says how the life ends where it can't be opened.
-fn open<C: Callers, R: Wait>(
-    rt: &R,
-    callers: &C,
-    opening: Option<Opening>,
-) -> Result<(), LifeEnd>
+fn open<C: Callers, R: Wait>(rt: &R, callers: &C, opening: Option<Opening>) -> Result<(), LifeEnd>
     ensures { IfErr result (EndsUnopened C.failed callers.now) }
 {
     match opening {
