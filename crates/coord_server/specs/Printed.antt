@@ -1,6 +1,6 @@
 -- The lines that a server prints, and what prints them.
 use Rattle.std.specs.List.{AllByRecursion}
-use Rattle.std.specs.Prelude.{◌≡◌, ◌⊎◌, ℕ, Bool, false, true, List, [], ◌∷◌, ◌++◌, Option, ◌||◌, codes, decimal, flat_map, nat_le, not}
+use Rattle.std.specs.Prelude.{◌≡◌, ◌⊎◌, ℕ, Bool, false, true, List, [], ◌∷◌, ◌++◌, Option, None, Some, ◌||◌, codes, decimal, flat_map, nat_le, not}
 use Rattle.std.specs.Io.KnownBytes.{Appends}
 use Rattle.std.specs.Net.Text.{socket_text}
 use Rattle.std.specs.declared.net.socket_addr.SocketAddr.{SocketAddr}
@@ -65,6 +65,13 @@ pub record IsTornSignal {W : Type 0} (may : ℕ → ℕ → ℕ → Type 0) (q :
   pub may_be_told : may signal.step signal.node signal.epoch
   pub next : is_next q.last signal.step signal.node ≡ true
   pub part : IsFirstPart torn (signal_line signal.node signal.epoch)
+
+-- Why the first line was not printed, where it was to be printed and was not: there was no memory, or the output has failed.
+abbrev pub IsUnprintedFor : {W : Type 0} → PrinterState W → Option ServerFault → Type 0
+IsUnprintedFor p None = Unit {0}
+IsUnprintedFor p (Some fault.OutOfMemory) = Unit {0}
+IsUnprintedFor p (Some fault.Write) = p.is_broken ≡ true
+IsUnprintedFor p (Some other) = ⊥
 
 -- `contents` are the bytes of an output, where they are known
 module _ {W : Type 0} (contents : W → Option (List ℕ)) where

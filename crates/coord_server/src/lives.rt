@@ -7,7 +7,7 @@ ghost use Rattle.coord_server.specs.Ending.{LeavesNothing};
 ghost use Rattle.coord_server.specs.declared.life_end.LifeEnd.TheVariants as LifeEndAs;
 ghost use Rattle.coord_server.specs.Lives.{EndsOneHistory, MayGoOn, HasLived, IsLastLife};
 ghost use Rattle.coord_server.specs.Moments.{AtEachMoment, EndsAlong, LivesKeepAlong, LivesTell};
-ghost use Rattle.coord_server.specs.Printed.{new_printer};
+ghost use Rattle.coord_server.specs.Printed.{IsUnprintedFor, new_printer};
 ghost use Rattle.coord_server.specs.Signals.{MaySignal};
 ghost use Rattle.coord_engine.specs.History.{StartsWith};
 ghost use Rattle.coord_engine.specs.Released.{GivesSignal, MayTell};
@@ -297,6 +297,7 @@ fn end_of<D: Disk, C, W: Write>(
 ) -> ServerEnd<D, C, W>
     requires here { history.now ≡ life.writer.history }
     requires same { printed.reader.history ≡ life.writer.history }
+    requires unprinted { IsUnprintedFor printed.printer printed.unprinted }
     ensures last { IsLastLife life.left result.served × (result.closed ≡ life.closed) ×
         (result.callers ≡ life.callers) × (result.printer ≡ printed.printer) }
     ensures write { life.left ≡ LifeEndAs.Unprinted → result.served ≡ Some ServerFault.Write →

@@ -1,9 +1,9 @@
 //! The thread that prints: first where the server listens, then each signal.
 
-ghost use Rattle.std.specs.Prelude.{◌≡◌, ◌⊎◌, List, Err, IfErr, IfOk, IfSome, OnOk, Some, true};
+ghost use Rattle.std.specs.Prelude.{◌≡◌, ◌⊎◌, List, Err, IfErr, IfOk, None, OnOk, true};
 ghost use Rattle.std.specs.Iterator.{Drains, IsFinite};
 ghost use Rattle.coord_server.specs.Ending.{EndsUnopened};
-ghost use Rattle.coord_server.specs.Printed.{BreaksIn, HasTold, IsOfPrinting, IsPrinted, PrintsEach, TellsAddress, listening_line, new_printer};
+ghost use Rattle.coord_server.specs.Printed.{BreaksIn, HasTold, IsOfPrinting, IsPrinted, IsUnprintedFor, PrintsEach, TellsAddress, listening_line, new_printer};
 ghost use Rattle.coord_server.specs.Signals.{StepSignal};
 
 use crate::life_end::LifeEnd;
@@ -26,8 +26,6 @@ pub struct Printed<W: Write> {
     pub reader: Reader,
     /// Why the first line was not printed, where it was to be printed and was not.
     pub unprinted: Option<ServerFault>,
-    pub ghost of_printing: { IfSome unprinted IsOfPrinting },
-    pub ghost write: { unprinted ≡ Some ServerFault.Write → printer.is_broken ≡ true },
 }
 
 /// Prints the signals that come, in their order, up to the last one or to a line that could not be
@@ -48,6 +46,7 @@ pub fn print_signals<W: Write, O: Telling, I: Iterator<Item = Signal<O>>>(
         PrintsEach W.contents printer came result.printer) }
     ensures told { HasTold W.contents (O.gives result.reader.steps) printer result.printer }
     ensures own { result.reader.history ≡ O.history }
+    ensures opened { result.unprinted ≡ None }
 {
     let mut printer = printer;
     let mut reader = reader;
@@ -130,6 +129,7 @@ impl<W: Write + Drop, O: Telling> Printing<W, O> {
         ensures printed { IsPrinted W.contents (O.gives result.reader.steps)
             self.printer result.printer }
         ensures own { result.reader.history ≡ O.history }
+        ensures unprinted { IsUnprintedFor result.printer result.unprinted }
     {
         let Printing {
             printer,
@@ -183,10 +183,11 @@ impl<W: Write + Drop, O: Telling> PrintsFrom<W, O> {
 
 impl<W: Write + Drop, O: Telling> Promise<Printed<W>> for PrintsFrom<W, O> {
     ghost use Rattle.std.specs.Prelude.{◌≡◌};
-    ghost use Rattle.coord_server.specs.Printed.{IsPrinted};
+    ghost use Rattle.coord_server.specs.Printed.{IsPrinted, IsUnprintedFor};
 
     ghost kept_by = { λ p r. (r.reader.history ≡ O.history) ×
-        IsPrinted W.contents (O.gives r.reader.steps) p.first.value r.printer };
+        IsPrinted W.contents (O.gives r.reader.steps) p.first.value r.printer ×
+        IsUnprintedFor r.printer r.unprinted };
 }
 
 /// The two sides of an output: the port that signals come to and what opens it, and its thread's.
