@@ -1,5 +1,5 @@
 -- With what a desk begins to serve.
-use Rattle.std.proofs.Common.{◌≡◌, ℕ, List, [], None, Some, refl}
+use Rattle.std.proofs.Common.{◌≡◌, ℕ, List, [], None, Some}
 use Rattle.coord_admin.specs.Connections.{Talk}
 use Rattle.coord_engine.specs.Facade.{Basis}
 use Rattle.coord_server.specs.EngineDesk.{DeskState}

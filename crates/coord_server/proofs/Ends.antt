@@ -1,5 +1,5 @@
 -- A server of which no fault is told was closed by a line.
-use Rattle.std.proofs.Common.{◌≡◌, ℕ, zero, suc, ◌+◌, ◌≤◌, ◌||◌, not, nat_le, List, [], ◌∷◌, ◌++◌, All, length, Bool, true, false, Option, None, refl, sym, ap, ◌∙◌, subst, append_assoc, arith, drop}
+use Rattle.std.proofs.Common.{◌≡◌, ℕ, zero, suc, ◌+◌, ◌≤◌, ◌||◌, not, nat_le, List, [], ◌∷◌, ◌++◌, All, length, Bool, true, false, Option, None, Some, inl, inr, refl, sym, ap, ◌∙◌, subst, append_assoc, arith, drop}
 use Rattle.std.proofs.lemmas.List.Elements.{All-push}
 use Rattle.std.proofs.lemmas.Bool.Decides.{nat_tests}
 use Rattle.coord_engine.specs.Facade.{AtSomeMoment, Basis, Closes, IsNamed, IsOfPacket, IsSince, based_on}

@@ -1,6 +1,6 @@
 -- How a server ends, and what it leaves of its engine.
 use Rattle.std.specs.Borrow.{Bor}
-use Rattle.std.specs.Prelude.{◌≡◌, ◌⊎◌, ℕ, ◌≤◌, List, [], ◌∷◌, ◌++◌, All, Bool, true, false, Option, Some, None, length}
+use Rattle.std.specs.Prelude.{◌≡◌, ℕ, ◌≤◌, List, [], ◌∷◌, ◌++◌, All, Bool, true, false, Option, Some, None, length}
 use Rattle.coord_ledger.specs.declared.ticket.Note.{Note}
 use Rattle.coord_ledger.specs.machine.Log.{kinds_of}
 use Rattle.coord_disk.specs.Model.DiskModel.{DiskModel}
