@@ -5,7 +5,7 @@ ghost use Rattle.std.specs.Thread.{IsSend, IsSync};
 ghost use Rattle.coord_store.specs.Kept.{has_stopped};
 ghost use Rattle.coord_server.specs.Ending.{LeavesNothing};
 ghost use Rattle.coord_server.specs.declared.life_end.LifeEnd.TheVariants as LifeEndAs;
-ghost use Rattle.coord_server.specs.Lives.{EndsOneHistory, MayGoOn, HasLived, IsLastLife};
+ghost use Rattle.coord_server.specs.Lives.{EndsOneHistory, HasLived, IsLastLife, MayGoOn};
 ghost use Rattle.coord_server.specs.Moments.{AtEachMoment, EndsAlong, LivesKeepAlong, LivesTell};
 ghost use Rattle.coord_server.specs.Printed.{IsUnprintedFor, new_printer};
 ghost use Rattle.coord_server.specs.Signals.{MaySignal};
@@ -253,7 +253,8 @@ fn live<
     unreachable!()
 }
 
-/// Whether the store has not stopped, all that was accepted is settled, and that are `most` steps.
+/// Whether the next life may begin: the store has not stopped, all that was accepted is settled, and the
+/// life has kept `most` steps.
 fn goes_on<D: Disk>(most: usize, closed: &Closed<D>) -> bool
     ensures on { result ≡ true → MayGoOn most closed.now }
     ensures ends { result ≡ false → ¬ MayGoOn most closed.now }

@@ -5,7 +5,7 @@ ghost use Rattle.std.specs.Thread.{IsSend, IsSync};
 ghost use Rattle.coord_engine.specs.Released.{MayTell};
 ghost use Rattle.coord_engine.specs.State.{based_on};
 ghost use Rattle.coord_server.specs.EngineDesk.{HandsAgain};
-ghost use Rattle.coord_server.specs.Ending.{AddsWorkers, HasRun, EndsUnopened, Local, ServesLife, new_desk};
+ghost use Rattle.coord_server.specs.Ending.{AddsWorkers, EndsUnopened, HasRun, Local, ServesLife, new_desk};
 ghost use Rattle.coord_server.specs.Signals.{MaySignal};
 
 use crate::life_end::LifeEnd;
