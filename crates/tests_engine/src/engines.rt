@@ -11,6 +11,7 @@ use crate::retried::settles_one;
 use crate::threads::callers::{call_twice, is_history};
 use crate::threads::gates::accepts_in_sync;
 use crate::threads::in_hand::keeps_in_hand;
+use crate::threads::lost::loses_in_hand;
 use crate::threads::patience::waits_once;
 use crate::threads::ports::Manner;
 use crate::threads::rings::{is_legal, resets_ring};
@@ -48,6 +49,7 @@ pub(crate) enum Doing<'a> {
     AcceptsInSync(&'a AtomicBool, &'a AtomicBool),
     WaitsOnce,
     KeepsInHand,
+    LosesInHand(&'a AtomicBool),
     ResetsRing(Manner),
 }
 
@@ -71,6 +73,7 @@ fn done<D: Disk + Send, L: Origin + Send + Sync, R: Threads + Wait + Clock + Syn
         }
         Doing::WaitsOnce => waits_once(rt, alloc, engine),
         Doing::KeepsInHand => keeps_in_hand(rt, alloc, engine),
+        Doing::LosesInHand(synced) => loses_in_hand(rt, alloc, engine, synced),
         Doing::ResetsRing(manner) => resets_ring(rt, alloc, engine, manner),
     }
 }

@@ -21,13 +21,13 @@ use std::time::{Clock, Duration};
 const FULL: u64 = 256;
 
 /// How many steps a first flight has settled, which released a packet.
-const FIRST: u64 = 4;
+pub(super) const FIRST: u64 = 4;
 
 /// How often it is looked whether a flight has started that has to wait, a millisecond apart.
 const LOOKS: u64 = 100;
 
-// An order is accepted.
-fn order<D: Disk, L: Origin, R: Wait + Abort>(
+/// An order is accepted.
+pub(super) fn order<D: Disk, L: Origin, R: Wait + Abort>(
     rt: &R,
     engine: &Engine<D, L>,
     share: &mut Share<L>,
@@ -37,10 +37,22 @@ fn order<D: Disk, L: Origin, R: Wait + Abort>(
     engine.submit(rt, step, share).expect(rt, "refused")
 }
 
-// How many steps are settled.
-fn settled<D: Disk, L: Origin, R: Wait + Abort>(rt: &R, engine: &Engine<D, L>) -> u64 {
+/// How many steps are settled.
+pub(super) fn settled<D: Disk, L: Origin, R: Wait + Abort>(rt: &R, engine: &Engine<D, L>) -> u64 {
     let view = engine.show(rt, &mut Seen::new()).expect(rt, "not shown");
     view.settled
+}
+
+/// So many steps are settled and no more, as long as it is looked.
+pub(super) fn stays_at<D: Disk, L: Origin, R: Wait + Clock + Abort>(
+    rt: &R,
+    engine: &Engine<D, L>,
+    count: u64,
+) {
+    for _ in 0..LOOKS {
+        same(rt, &settled(rt, engine), &count);
+        thread::sleep(rt, Duration::from_millis(1));
+    }
 }
 
 // A full flight settles this ticket's step. The order behind it is not settled as long as it is looked.
@@ -52,10 +64,7 @@ fn is_waited_for<D: Disk, L: Origin, R: Wait + Clock + Abort>(
     if let Err((refusal, _ticket)) = engine.collect(rt, last) {
         panic!(rt; "not settled: {refusal:?}")
     }
-    for _ in 0..LOOKS {
-        same(rt, &settled(rt, engine), &(FIRST + FULL));
-        thread::sleep(rt, Duration::from_millis(1));
-    }
+    stays_at(rt, engine, FIRST + FULL);
 }
 
 // Accepts as many orders as fill a flight, and one more. The ticket is of the last one that the
@@ -117,7 +126,7 @@ fn a_packet_in_hand_is_waited_for_behind_a_full_flight(rt: HostRuntime) {
     let [first, second, link] = pair_steps().expect(&rt, "no step");
     let reset = resetting(1, 3, 1).expect(&rt, "no step");
     does(
-        &Still { rt: &rt },
+        &Still::new(&rt),
         rt.alloc(),
         MemDisk::new(rt.alloc()),
         &[first, second, link, reset],

@@ -210,6 +210,6 @@ fn all_nodes_of_a_full_ring_signal(rt: HostRuntime) {
 // finishes.
 #[test]
 fn packets_that_came_are_waited_for_no_more(rt: HostRuntime) {
-    let still = Still { rt: &rt };
+    let still = Still::new(&rt);
     ring_signals(&still, rt.alloc(), Manner::Faithful);
 }
