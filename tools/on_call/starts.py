@@ -13,7 +13,7 @@ from support.serving import Serving
 
 from .desk import LEFT_OUT, LONG, Desk, NotSeen, row, see
 
-LEFT_OUT["`FlightOut`, `SharesMissing`, `NotNamed`, `NotSettled`"] = "the program is at fault then: no run is known that has one"
+LEFT_OUT["`SharesMissing`, `NotNamed`, `NotSettled`"] = "the program is at fault then: no run is known that has one"
 
 
 def expect(ended: object, wanted: object) -> None:

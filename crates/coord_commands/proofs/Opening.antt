@@ -10,7 +10,6 @@ use Rattle.coord_disk.specs.Model.Present.{IsImage, Present, whole}
 use Rattle.coord_types.specs.declared.steps.Step.{Step}
 use Rattle.coord_engine.specs.Facade.{IsAfterSome}
 use Rattle.coord_engine.specs.declared.closed.Closed.{Closed}
-use Rattle.coord_server.specs.Ending.{LeavesNothing}
 use Rattle.coord_server.specs.Lives.{ClosedLivesAreOne, all_steps, steps_had, steps_to_close}
 use Rattle.coord_server.specs.Moments.{KeepsAlong}
 use Rattle.coord_store.specs.Facade.{Kept, Recovered}
@@ -24,7 +23,7 @@ use Rattle.coord_commands.specs.Faults.{fault_of_server}
 use Rattle.coord_commands.specs.Inspection.{IsOfOpening}
 use Rattle.coord_commands.specs.Serving.{ClosesAndPrints, EndsAfterLives, EndsServing, GivesWorld, HeldAlong, IsNotOpened, IsOfServing, IsOpenedStore, IsPutBack, ServedWhole, ServedWithOutput}
 use Rattle.coord_commands.specs.declared.fault.Fault.{Fault}
-use Rattle.coord_commands.specs.declared.fault.Fault.TheVariants.{Socket, Store}
+use Rattle.coord_commands.specs.declared.fault.Fault.TheVariants.{OutOfMemory, Socket, Store}
 use Rattle.coord_commands.proofs.Raising.{closed, if_both, unread}
 
 -- what holds of the bytes of a disk that keeps the model, holds of them where they are known
@@ -89,15 +88,19 @@ module _ {D : Type 0} (model : DiskModel D) where
         record { printer = along.2.0; whole = along.2.1; printed = along.2.2; settled = along.2.3 },
       )
 
-  -- a disk whose store was opened and put back, since no socket could be bound
-  pub not_bound : (before after : Option Present) (old : Option (List ℕ)) (store : Kept D) (back : D) → IsOpenedStore model before store → back ≡ store.disk → IfSome after (λ known. known_of model back ≡ Some known) → EndsServing model before after old old Socket
-  not_bound before after old store back is same put =
+  -- a disk whose store was opened, and then put back
+  as_it_was : (before after : Option Present) (store : Kept D) (back : D) → IsOpenedStore model before store → back ≡ store.disk → IfSome after (λ known. known_of model back ≡ Some known) → GivesWorld (reads before) × IsPutBack model 0 before after
+  as_it_was before after store back is same put =
       let failures : model.failures back ≡ model.failures is.taken + 0 = omega (arith, ap model.failures same, is.failures) in
-      inr (inl ((refl, gives_some (reads before) store.world is.world, put_back 0 before after is.taken back is.was put failures (λ _ keeps. ap (λ d. (model.present d).read) same ∙ is.same keeps)), Keeps-refl old))
+      (gives_some (reads before) store.world is.world, put_back 0 before after is.taken back is.was put failures (λ _ keeps. ap (λ d. (model.present d).read) same ∙ is.same keeps))
 
-  -- a server over it has ended, and nothing is left
-  pub lost : (before after : Option Present) (old new : Option (List ℕ)) (store : Kept D) (fault : ServerFault) → IsOpenedStore model before store → LeavesNothing model fault → EndsServing model before after old new (fault_of_server fault)
-  lost before after old new store fault is nothing = inr (inr (record { began = store.world; opened = is.world; fault = fault; ends = inl nothing; named = refl }))
+  -- since no socket could be bound
+  pub not_bound : (before after : Option Present) (old : Option (List ℕ)) (store : Kept D) (back : D) → IsOpenedStore model before store → back ≡ store.disk → IfSome after (λ known. known_of model back ≡ Some known) → EndsServing model before after old old Socket
+  not_bound before after old store back is same put = inr (inl ((refl, as_it_was before after store back is same put), Keeps-refl old))
+
+  -- since a server had nothing to begin with
+  pub not_begun : (before after : Option Present) (old new : Option (List ℕ)) (store left : Kept D) (back : D) → IsOpenedStore model before store → left ≡ store → back ≡ left.disk → IfSome after (λ known. known_of model back ≡ Some known) → EndsServing model before after old new OutOfMemory
+  not_begun before after old new store left back is same home put = inr (inr (inl (refl, as_it_was before after store back is (home ∙ ap (λ (k : Kept D). k.disk) same) put)))
 
   -- a server over it has ended, and its disk is put back
   pub ended : (before after : Option Present) (old new : Option (List ℕ)) (store : Kept D) (told : ServerFault × Closed D) (back : D) → IsOpenedStore model before store → ServedWithOutput model store old new (Err told)
@@ -119,7 +122,7 @@ module _ {D : Type 0} (model : DiskModel D) where
         printed = served.printed;
       }
       in
-      inr (inr (record { began = store.world; opened = is.world; fault = told.0; ends = inr ends; named = refl }))
+      inr (inr (inr (record { began = store.world; opened = is.world; fault = told.0; ends = ends; named = refl })))
 
   of_unopened : (before after : Option Present) (fault : StoreFault) → ((fault ≡ Device) × (after ≡ before)) ⊎ (IsOfOpening (reads before) (Store fault) × IsPutBack model (failed_in fault) before after) → IsOfServing (reads before) (Store fault)
   of_unopened before after fault (inl none) = inl none.0

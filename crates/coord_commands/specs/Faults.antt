@@ -61,6 +61,7 @@ fault_of_drill of_drill.OutOfMemory = OutOfMemory
 
 abbrev pub fault_of_server : ServerFault → Fault
 fault_of_server of_server.OutOfMemory = OutOfMemory
+fault_of_server of_server.NotBegun = OutOfMemory
 fault_of_server of_server.Socket = Socket
 fault_of_server of_server.Device = Store of_store.Device
 fault_of_server of_server.Write = Write

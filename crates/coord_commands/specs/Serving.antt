@@ -11,7 +11,7 @@ use Rattle.coord_lines.specs.Written.{WritesFirstPart}
 use Rattle.coord_engine.specs.Facade.{GivesSignal, IsAfterSome, first_settled}
 use Rattle.coord_engine.specs.declared.closed.Closed.{Closed}
 use Rattle.coord_admin.specs.declared.patience.Patience.{Patience}
-use Rattle.coord_server.specs.Ending.{LeavesNothing, fault_at_end}
+use Rattle.coord_server.specs.Ending.{fault_at_end}
 use Rattle.coord_server.specs.Lives.{AreOneHistory, HasLivedToClose, HasServed, all_steps, steps_had, steps_to_close}
 use Rattle.coord_server.specs.Moments.{KeepsAlong, ServedAlong}
 use Rattle.coord_server.specs.Printed.{IsPrinted, PrinterState, is_amiss, new_printer}
@@ -123,18 +123,22 @@ module _ {D : Type 0} (model : DiskModel D) where
     pub any_moment : HeldAlong taken began (all_steps (steps_had model (λ _ _ _. ⊤) (λ _ _. ⊤) began lived.0 ended lived.2)) ended.closed.store.disk
     pub printed : PrintsOnly began (first_settled began (all_steps (steps_had model (λ _ _ _. ⊤) (λ _ _. ⊤) began lived.0 ended lived.2)) ended.closed.settled) old new ended.printer
 
-  -- a server over the world of the disk has ended, and tells this: nothing is left, or it ended behind lives
+  -- there was no memory, or no thread that prints, for a server to begin with: the store of the disk was opened, nobody was served, and the disk put back
+  abbrev pub IsNotBegun : Option Present → Option Present → Fault → Type 0
+  IsNotBegun before after told = (told ≡ OutOfMemory) × GivesWorld (reads before) × IsPutBack 0 before after
+
+  -- a server over the world of the disk has ended behind lives, and tells this
   pub record HasEnded (before after : Option Present) (old new : Option (List ℕ)) (told : Fault) : Type 0 where
     pub began : World
     pub opened : IfSome (reads before) (λ known. Recovered known began)
     pub fault : ServerFault
-    pub ends : LeavesNothing model fault ⊎ EndsAfterLives began fault before after old new
+    pub ends : EndsAfterLives began fault before after old new
     pub named : told ≡ fault_of_server fault
 
   -- the faults of `serve` at an address, and what then became of its output: nothing was printed before the store was open and the socket bound
   abbrev pub EndsServing : Option Present → Option Present → Option (List ℕ) → Option (List ℕ) → Fault → Type 0
   EndsServing before after old new told =
-      (IsNotOpened before after told × Keeps old new) ⊎ ((IsNotBound before after told × Keeps old new) ⊎ HasEnded before after old new told)
+      (IsNotOpened before after told × Keeps old new) ⊎ ((IsNotBound before after told × Keeps old new) ⊎ (IsNotBegun before after told ⊎ HasEnded before after old new told))
 
 -- A store on a disk was served until a line closed it: these bytes gave its world, from which there were lives one behind the other, of which a line closed the last. They are one history, and the bytes that are put back give the world that they left.
 pub record IsServedToEnd {D : Type 0} (model : DiskModel D) (bytes after : Option (List ℕ)) : Type 0 where

@@ -160,7 +160,7 @@ impl From<ServerFault> for Fault {
 
     fn from(fault: ServerFault) -> Fault {
         match fault {
-            ServerFault::OutOfMemory => Fault::OutOfMemory,
+            ServerFault::OutOfMemory | ServerFault::NotBegun => Fault::OutOfMemory,
             ServerFault::Socket => Fault::Socket,
             ServerFault::Device => Fault::Store(StoreFault::Device),
             ServerFault::Write => Fault::Write,

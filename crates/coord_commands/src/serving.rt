@@ -6,7 +6,6 @@ ghost use Rattle.std.specs.Net.Grammar.{IsSocketV4Text};
 ghost use Rattle.std.specs.declared.net.socket_addr.SocketAddrV4.{SocketAddrV4};
 ghost use Rattle.coord_commands.specs.Folders.{bytes_of, reads};
 ghost use Rattle.coord_commands.specs.Serving.{ClosesAndPrints, EndsServing, IsNotOpened, IsOfServing, IsOpenedStore, ServedWhole, ServedWithOutput, ServesAt};
-ghost use Rattle.coord_server.specs.Ending.{LeavesNothing};
 ghost use Rattle.coord_store.specs.Kept.{has_stopped};
 ghost use Rattle.coord_store.specs.Recovered.{Recovered};
 
@@ -50,9 +49,9 @@ pub fn serve<
 
 /// Serves the store on the disk of a name to the connections that come to an address, until one of
 /// them closes it, and answers the exit status. The address is judged before the disk is opened,
-/// and the socket is bound once the store is open. Where a server has ended, the disk is put back; so
-/// is one that is refused, or whose socket can't be bound. What the server prints goes to the output,
-/// and nothing else does.
+/// and the socket is bound once the store is open. The disk is put back in any case: as a server has left
+/// it; or as it was, where it is refused, no socket can be bound, or there is nothing to begin with. What
+/// the server prints goes to the output, and nothing else does.
 pub fn serve_in<
     S: Net + Threads + Wait + Clock + Sync + AllocGlobal,
     F: Folder,
@@ -95,17 +94,21 @@ fn serve_at<S: Net + Threads + Wait + Clock + Sync + AllocGlobal, F: Folder, W: 
     let store = opened(rt.alloc(), folder, file)?;
     match listening(rt, address) {
         Ok(listener) => {
-            let served = serve_open(rt, rt.alloc(), store, &listener, output)?;
+            let served = serve_open(rt, rt.alloc(), store, &listener, output);
             drop(listener);
             match served {
-                Ok(closed) => {
+                Ok(Ok(closed)) => {
                     closed_lives_are_one::<F::Disk>();
                     folder.close(file, left(closed));
                     Ok(())
                 }
-                Err((fault, closed)) => {
+                Ok(Err((fault, closed))) => {
                     folder.close(file, left(closed));
                     Err(fault.into())
+                }
+                Err(store) => {
+                    folder.close(file, store.into_disk());
+                    Err(Fault::OutOfMemory)
                 }
             }
         }
@@ -117,7 +120,8 @@ fn serve_at<S: Net + Threads + Wait + Clock + Sync + AllocGlobal, F: Folder, W: 
 }
 
 /// Serves an opened store to the connections of a listener, until a line closes it, and gives back what
-/// is left of its last engine, beside the fault if one is told. What it prints goes to the output.
+/// is left of its last engine, beside the fault if one is told; or the store as it was, where there was
+/// nothing to begin with. What it prints goes to the output.
 fn serve_open<
     D: Disk + Send,
     S: Read + Write + OpenStream + Drop,
@@ -130,14 +134,14 @@ fn serve_open<
     store: Store<D>,
     listener: &A,
     output: &mut W,
-) -> Result<Result<Closed<D>, (ServerFault, Closed<D>)>, ServerFault>
+) -> Result<Result<Closed<D>, (ServerFault, Closed<D>)>, Store<D>>
     requires { has_stopped store ≡ false }
     ensures served { IfOk result
         (ServedWithOutput D.model store (W.contents output.old) (W.contents output.new)) }
     ensures going { IfOk result (λ told. IfOk told (λ closed. has_stopped closed.store ≡ false)) }
     ensures closes { IfOk result (λ told. IfOk told (ClosesAndPrints D.model store
         (W.contents output.old) (W.contents output.new))) }
-    ensures nothing { IfErr result (LeavesNothing D.model) }
+    ensures unserved { IfErr result (λ back. back ≡ store) }
 {
     let ended = serve_store(rt, alloc, store, listener, Lent { output })?;
     let (served, printer) = ended.into_closed();

@@ -1,5 +1,5 @@
 -- What an engine's calls answer while other threads call too. Nothing is known of what a lock holds when it is taken but what its type keeps, so a call answers as the value under the lock does in some state that it can have.
-use Rattle.std.specs.Prelude.{◌≡◌, ℕ, ◌≤◌, ◌<◌, false, true, List, is_some, take, Result, Ok, Err, Some}
+use Rattle.std.specs.Prelude.{◌≡◌, ℕ, ◌≤◌, ◌<◌, false, true, List, is_some, take, Option, Result, Ok, Err, Some, IfNone, IfSome}
 use Rattle.coord_types.specs.declared.limits.TheConstants.{MAX_BATCH_STEPS}
 use Rattle.coord_types.specs.declared.refusals.Refusal.{Refusal}
 use Rattle.coord_types.specs.declared.refusals.Refusal.TheVariants.{Behind, OutOfMemory, Stopped}
@@ -12,8 +12,9 @@ use Rattle.coord_ledger.specs.declared.ticket.Note.{Note}
 use Rattle.coord_ledger.specs.Facade.{Claim, FlightState, LedgerState, accepted_count, keeps_store, next_flight, pending, releases_of, resent, settled_count, settled_world}
 use Rattle.coord_view.specs.Shown.{Shown, shown}
 use Rattle.coord_engine.specs.Calls.{AnswersStep, IsToldTicket, engine_verdict}
-use Rattle.coord_engine.specs.Closing.{MayClose}
+use Rattle.coord_engine.specs.Closing.{MayClose, RefusesClosing}
 use Rattle.coord_engine.specs.State.{Basis, CanHold, GuardedState}
+use Rattle.coord_engine.specs.declared.closed.CloseFault.{CloseFault}
 
 -- this holds in some state that the value under the lock can have
 pub record AtSomeMoment {D : Type 0} (b : Basis D) (P : GuardedState D → Type 0) : Type 0 where
@@ -57,9 +58,17 @@ Flushes released g = (keeps_store g.ledger ≡ false) × (released ≡ releases_
 abbrev pub SendsAgain : {D : Type 0} → List Release → GuardedState D → Type 0
 SendsAgain released g = released ≡ resent (settled_world g.ledger.log)
 
+-- what is left of an engine is what its ledger had: the base, the steps, how many are settled, and the store
+abbrev pub IsLeftOf : {D : Type 0} → Kept D → World → List Step → ℕ → GuardedState D → Type 0
+IsLeftOf store base trail settled g =
+    (base ≡ g.ledger.log.base) × (trail ≡ g.ledger.log.trail) × (settled ≡ settled_count g.ledger.log)
+    × (g.ledger.disk ≡ Some store.disk) × (store.world ≡ settled_world g.ledger.log) × (has_stopped store ≡ is_some g.ledger.log.doubt)
+
 -- the engine was taken apart into these
 abbrev pub Closes : {D : Type 0} → Kept D → World → List Step → ℕ → List (List Note) → GuardedState D → Type 0
-Closes store base trail settled shares g =
-    MayClose g shares
-    × (base ≡ g.ledger.log.base) × (trail ≡ g.ledger.log.trail) × (settled ≡ settled_count g.ledger.log)
-    × (g.ledger.disk ≡ Some store.disk) × (store.world ≡ settled_world g.ledger.log) × (has_stopped store ≡ is_some g.ledger.log.doubt)
+Closes store base trail settled shares g = MayClose g shares × IsLeftOf store base trail settled g
+
+-- it was taken apart into these in any case: with its shares; or for this reason without them, of which a caller had seen so much
+abbrev pub Retires : {D : Type 0} → Kept D → World → List Step → ℕ → Option CloseFault → List (List Note) → ℕ → GuardedState D → Type 0
+Retires store base trail settled refused shares seen g =
+    IsLeftOf store base trail settled g × IfNone refused (MayClose g shares) × IfSome refused (RefusesClosing g shares seen)

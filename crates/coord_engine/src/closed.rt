@@ -4,6 +4,7 @@ ghost use Rattle.std.specs.Prelude.{◌≡◌, ◌↔◌, IsTrue, Some};
 ghost use Rattle.coord_engine.specs.Closing.{fault_name, fault_number};
 ghost use Rattle.coord_engine.specs.Named.{IsAmong};
 
+use crate::Writer;
 use coord_disk::Disk;
 use coord_ledger::{Note, is_same_step};
 use coord_store::Store;
@@ -57,6 +58,15 @@ pub struct Closed<D: Disk> {
     pub base: World,
     pub trail: Vec<Step>,
     pub settled: u64,
+}
+
+/// What is left of an engine in any case, with what writes its history; and why the engine was not
+/// closed, if so: then nothing is known of whose its steps are.
+#[derive(Drop)]
+pub struct Retired<D: Disk> {
+    pub closed: Closed<D>,
+    pub writer: Writer,
+    pub refused: Option<CloseFault>,
 }
 
 /// Whether the steps behind the first `base` have the note's step at its number.

@@ -9,11 +9,12 @@ ghost use Rattle.coord_engine.specs.Flights.{AnswersBegin, AnswersFlush, ComesBa
 ghost use Rattle.coord_engine.specs.Past.{IsPastOf, StaysAlong};
 ghost use Rattle.coord_engine.specs.Released.{HasReadSettled, first_settled};
 ghost use Rattle.coord_engine.specs.State.{based_on, most_shares};
-ghost use Rattle.coord_engine.specs.Threads.{AnswersShow, AnswersTicket, AtSomeMoment, Closes, SendsAgain, Submits};
+ghost use Rattle.coord_engine.specs.Threads.{AnswersShow, AnswersTicket, AtSomeMoment, Closes, Retires, SendsAgain, Submits};
 
 use crate::flushing::rest;
 use crate::{
-    CloseFault, Closed, Collected, Guarded, History, Origin, OwnFlight, Released, Share, Writer,
+    CloseFault, Closed, Collected, Guarded, History, Origin, OwnFlight, Released, Retired, Share,
+    Writer,
 };
 use coord_disk::Disk;
 use coord_ledger::{Ledger, Seen, Ticket};
@@ -316,5 +317,46 @@ impl<D: Disk, L: Origin> Engine<D, L> {
                 shares,
             )),
         }
+    }
+
+    /// Takes the engine apart in any case: as `close` does; or, where `close` refuses these shares,
+    /// whatever they noted, and says why. All that `close` says of the disk and of what writes the
+    /// history is so in either case; only whose the steps are is then not known. A flight that is out
+    /// would be waited for without end; no call of this crate keeps one. It takes no memory.
+    pub fn retire<R: Wait + Clock>(self, rt: &R, shares: Vec<Share<L>>, seen: &Seen) -> Retired<D>
+        requires { L.parts ≡ 65536 }
+        ensures left { AtSomeMoment (based_on D.model L.base L.before)
+            (Retires result.closed.store result.closed.base result.closed.trail.items
+            result.closed.settled result.refused shares.items seen.now) }
+        ensures since { IfNone result.refused
+            (IsSince L.base L.before shares.items result.closed.base result.closed.trail.items) }
+        ensures seen { IfNone result.refused (seen.now ≤ result.closed.settled) }
+        ensures along { StaysAlong D.model L.disk L.base
+            result.closed.trail.items result.closed.store.disk }
+        ensures written { HasReadSettled L.history L.earlier
+            (first_settled result.closed.base result.closed.trail.items result.closed.settled)
+            result.writer }
+    {
+        let Engine {
+            guarded,
+            history,
+            changed: _,
+            work: _,
+        } = self;
+        drop(history);
+        let mut guarded = guarded.into_inner();
+        let mut shares = shares;
+        for _ in rt.forever() {
+            guarded.keeps();
+            match guarded.retire(shares, seen) {
+                Ok(left) => return left,
+                Err((back, all)) => {
+                    guarded = back;
+                    shares = all;
+                }
+            }
+            rest(rt);
+        }
+        unreachable!()
     }
 }

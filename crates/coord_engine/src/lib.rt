@@ -39,7 +39,7 @@ mod share;
 mod waiting;
 mod working;
 
-pub use closed::{CloseFault, Closed};
+pub use closed::{CloseFault, Closed, Retired};
 pub use collected::Collected;
 pub use engine::Engine;
 pub use flushing::{flusher, hand_over};

@@ -6,7 +6,7 @@ use Rattle.coord_server.specs.EngineDesk.{DeskState}
 use Rattle.coord_server.specs.Ending.{EndsUnopened, ServesLife, new_desk}
 use Rattle.coord_server.specs.declared.fault.ServerFault.TheVariants as fault
 use Rattle.coord_server.specs.declared.life_end.LifeEnd.{LifeEnd}
-use Rattle.coord_server.specs.declared.life_end.LifeEnd.TheVariants.{Resting, Unprinted, Ended}
+use Rattle.coord_server.specs.declared.life_end.LifeEnd.TheVariants.{Resting, Unfollowed, Unprinted, Ended}
 
 -- a desk without notes, which has seen nothing, is a new one
 pub begins : {P : Type 0} (d : DeskState P) → d.notes ≡ [] → d.seen ≡ 0 → d ≡ new_desk d.port
@@ -16,9 +16,11 @@ begins d notes seen = λ i. record { notes = notes i; seen = seen i; port = d.po
 pub ends_unopened : {D : Type 0} (b : Basis D) {V : Type 0} (talked : V → List Talk → V → Type 0) (failed : V → V → Type 0) (most : ℕ) {P : Type 0} (v : V) (desk : DeskState P) (left : LifeEnd) → EndsUnopened failed v left → talked v [] v → desk ≡ new_desk desk.port
     → ServesLife b talked failed most desk.port v v desk left
 ends_unopened b talked failed most v desk Resting is nobody new = absurd is
+ends_unopened b talked failed most v desk Unfollowed is nobody new = absurd is
 ends_unopened b talked failed most v desk Unprinted is nobody new = (nobody, new)
 ends_unopened b talked failed most v desk (Ended None) is nobody new = absurd is
 ends_unopened b talked failed most v desk (Ended (Some fault.OutOfMemory)) is nobody new = absurd is
+ends_unopened b talked failed most v desk (Ended (Some fault.NotBegun)) is nobody new = absurd is
 ends_unopened b talked failed most v desk (Ended (Some fault.Socket)) is nobody new = (v, ([], nobody, new), is)
 ends_unopened b talked failed most v desk (Ended (Some fault.Device)) is nobody new = absurd is
 ends_unopened b talked failed most v desk (Ended (Some fault.Write)) is nobody new = absurd is

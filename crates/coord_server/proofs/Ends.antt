@@ -2,7 +2,8 @@
 use Rattle.std.proofs.Common.{◌≡◌, ℕ, zero, suc, ◌+◌, ◌≤◌, ◌||◌, not, nat_le, List, [], ◌∷◌, ◌++◌, All, length, Bool, true, false, Option, None, Some, inl, inr, refl, sym, ap, ◌∙◌, subst, append_assoc, arith, drop}
 use Rattle.std.proofs.lemmas.List.Elements.{All-push}
 use Rattle.std.proofs.lemmas.Bool.Decides.{nat_tests}
-use Rattle.coord_engine.specs.Facade.{AtSomeMoment, Basis, Closes, IsNamed, IsOfPacket, IsSince, based_on}
+use Rattle.coord_engine.specs.Facade.{AtSomeMoment, Basis, Closes, IsLeftOf, IsNamed, IsOfPacket, IsSince, RefusesClosing, based_on}
+use Rattle.coord_engine.specs.declared.closed.CloseFault.{CloseFault}
 use Rattle.coord_engine.specs.declared.closed.Closed.{Closed}
 use Rattle.coord_types.specs.declared.steps.Kind.{Kind}
 use Rattle.coord_types.specs.declared.steps.Step.{Step}
@@ -12,14 +13,14 @@ use Rattle.coord_disk.specs.Model.DiskModel.{DiskModel}
 use Rattle.coord_world.specs.protocol.NumberedWorld.{World}
 use Rattle.coord_admin.specs.Connections.{Talk}
 use Rattle.coord_server.specs.EngineDesk.{DeskState}
-use Rattle.coord_server.specs.Ending.{AddsWorkers, HasRun, IsLife, IsNotClosed, IsOneHistory, IsServedToClose, LeavesNothing, Local, Serves, ServesLife, fault_at_end}
+use Rattle.coord_server.specs.Ending.{AddsWorkers, HasRun, IsLeftAs, IsLife, IsOneHistory, RefusesShares, IsServedToClose, LeavesLife, LeavesShares, Local, Serves, ServesLife, end_fault, fault_at_end, new_desk}
 use Rattle.coord_server.specs.Lives.{AreClosed, EndsLives, MayGoOn, IsToldForCause, HasLived, IsLastLife, LifeSteps, Lives, Rests, life_steps, steps_in, steps_of, talked_any}
 use Rattle.coord_server.specs.Printed.{is_amiss}
 use Rattle.coord_server.specs.declared.fault.ServerFault.{ServerFault}
 use Rattle.coord_server.specs.declared.fault.ServerFault.TheVariants as fault
 use Rattle.coord_server.specs.declared.life.Life.{Life}
 use Rattle.coord_server.specs.declared.life_end.LifeEnd.{LifeEnd}
-use Rattle.coord_server.specs.declared.life_end.LifeEnd.TheVariants.{Resting, Unprinted, Ended}
+use Rattle.coord_server.specs.declared.life_end.LifeEnd.TheVariants.{Resting, Unfollowed, Unprinted, Ended}
 use Rattle.coord_server.specs.declared.server_end.ServerEnd.{ServerEnd}
 
 pub adds_worker : (first all later : List (List Note)) (notes : List Note) → AddsWorkers first all → later ≡ all ++ notes ∷ [] → All IsOfPacket notes → AddsWorkers first later
@@ -33,18 +34,17 @@ one_history : {D P : Type 0} (b : Basis D) (desk : DeskState P) (shares : List (
     → IsSince b.base b.before shares left.base left.trail.items → AtSomeMoment b (Closes {D = D} left.store left.base left.trail.items left.settled shares) → desk.seen ≤ left.settled → IsOneHistory b desk left
 one_history b desk shares left h1 h2 h3 h4 h5 = grind (arith, named_of)
 
--- of an engine that was not taken apart nothing is left
-pub nothing_left : {D : Type 0} (m : DiskModel D) (world : World) (before : List Step) (shares : List (List Note)) (seen : ℕ) (told : ServerFault) → before ≡ [] → length shares ≡ 9
-    → IsNotClosed (based_on m world before) shares seen told → LeavesNothing m told
-nothing_left m world before shares seen fault.OutOfMemory none all is = tt
-nothing_left m world before shares seen fault.Socket none all is = absurd is
-nothing_left m world before shares seen fault.Device none all is = absurd is
-nothing_left m world before shares seen fault.Write none all is = absurd is
-nothing_left m world before shares seen (fault.NotClosed why) none all is = (world, shares, seen, all, rw (sym none) is)
-
 module _ {D : Type 0} (b : Basis D) {V : Type 0} (talked : V → List Talk → V → Type 0) (failed : V → V → Type 0) (most : ℕ) where
   closed_if_none : (stopped : Bool) (served : Option ServerFault) (is_broken : Bool) (port : Local) (v w : V) (desk : DeskState Local) → fault_at_end stopped served is_broken ≡ None → Serves b talked failed most port v w desk served → IsServedToClose b most port desk
   closed_if_none stopped served is_broken port v w desk h1 h2 = grind arith
+
+  -- a life is left as its serving ended
+  leaves_as : (port : Local) (v w : V) (desk : DeskState Local) (left : LifeEnd) → ServesLife b talked failed most port v w desk left → LeavesLife b talked failed most port v w desk left
+  leaves_as port v w desk left h1 = grind arith
+
+  -- and then it is one history that is left
+  left_as : (port : Local) (v w : V) (desk : DeskState Local) (left : LifeEnd) (closed : Closed D) → ServesLife b talked failed most port v w desk left → IsOneHistory b desk closed → IsLeftAs b desk closed (end_fault left)
+  left_as port v w desk left closed h1 h2 = grind arith
 
   -- the desk's notes, in the share that it gave back
   pub serves_with : (v w : V) (desk : DeskState Local) (left : LifeEnd) (notes : List Note) (seen : ℕ) → (port : Local) × ServesLife b talked failed most port v w desk left → notes ≡ desk.notes → seen ≡ desk.seen
@@ -56,26 +56,86 @@ module _ {D : Type 0} (b : Basis D) {V : Type 0} (talked : V → List Talk → V
       → AddsWorkers (own ∷ []) shares → length shares ≡ 9 → HasRun b talked failed most v w left shares seen
   has_run v w left own seen shares s added all = record { port = s.0; desk = record { notes = own; seen = seen; port = s.1 }; served = s.2; saw = refl; added = added; all = all }
 
-  -- one life: how the desk went on, and what is left of the engine, which was taken apart with all shares
-  pub lived : (v u : V) (ran : LifeEnd) (shares : List (List Note)) (seen : ℕ) (life : Life D V) → b.before ≡ [] → HasRun b talked failed most v u ran shares seen
-      → IsSince b.base b.before shares life.closed.base life.closed.trail.items → AtSomeMoment b (Closes {D = D} life.closed.store life.closed.base life.closed.trail.items life.closed.settled shares)
-      → life.callers ≡ u → life.left ≡ ran → seen ≤ life.closed.settled → IsLife b talked failed most v life
-  lived v u ran shares seen life none is since closed same_w same settled = grind (arith, one_history)
+  -- one life: how the desk went on, and what is left of the engine, which was taken apart with all shares or refused them
+  pub lived : (v u : V) (ran : LifeEnd) (shares : List (List Note)) (seen : ℕ) (life : Life D V) → b.before ≡ [] → HasRun b talked failed most v u ran shares seen → LeavesShares b shares seen ran life → life.callers ≡ u → IsLife b talked failed most v life
+  lived v u ran shares seen life none is (inl (left, since, closed, settled)) same_w =
+      let history : IsOneHistory b is.desk life.closed = one_history b is.desk shares life.closed none is.added since closed (subst (λ n. n ≤ life.closed.settled) (sym is.saw) settled) in
+      record {
+        port = is.port;
+        desk = is.desk;
+        served = subst (LeavesLife b talked failed most is.port v life.callers is.desk) (sym left) (subst (λ w. LeavesLife b talked failed most is.port v w is.desk ran) (sym same_w) (leaves_as is.port v u is.desk ran is.served));
+        left = subst (λ e. IsLeftAs b is.desk life.closed (end_fault e)) (sym left) (left_as is.port v u is.desk ran life.closed is.served history);
+      }
+  lived v u ran shares seen life none is (inr (why, left, so)) same_w =
+      let refuses : AtSomeMoment b (λ g. IsLeftOf {D = D} life.closed.store life.closed.base life.closed.trail.items life.closed.settled g × RefusesClosing {D = D} g (is.desk.notes ∷ is.added.0) is.desk.seen why) =
+      subst (λ s. AtSomeMoment b (λ g. IsLeftOf {D = D} life.closed.store life.closed.base life.closed.trail.items life.closed.settled g × RefusesClosing {D = D} g s is.desk.seen why)) is.added.1
+      (subst (λ n. AtSomeMoment b (λ g. IsLeftOf {D = D} life.closed.store life.closed.base life.closed.trail.items life.closed.settled g × RefusesClosing {D = D} g shares n why)) (sym is.saw) so)
+      in
+      let refused : RefusesShares b is.desk life.closed why = record { workers = is.added.0; of_packets = is.added.2; all = subst (λ s. length s ≡ 9) is.added.1 is.all; so = refuses } in
+      record {
+        port = is.port;
+        desk = is.desk;
+        served = subst (LeavesLife b talked failed most is.port v life.callers is.desk) (sym left) (ran, subst (λ w. ServesLife b talked failed most is.port v w is.desk ran) (sym same_w) is.served);
+        left = subst (λ e. IsLeftAs b is.desk life.closed (end_fault e)) (sym left) refused;
+      }
+
+  -- a life that did not begin. Its desk would have begun over this port
+  pub unbegun : (port : Local) (v : V) (life : Life D V) → talked v [] v → life.callers ≡ v → life.left ≡ Ended (Some fault.NotBegun) → AtSomeMoment b (IsLeftOf {D = D} life.closed.store life.closed.base life.closed.trail.items life.closed.settled) → IsLife b talked failed most v life
+  unbegun port v life nobody same left so = record {
+    port = port;
+    desk = new_desk port;
+    served = subst (LeavesLife b talked failed most port v life.callers (new_desk port)) (sym left) (subst (λ w. talked v [] w) (sym same) nobody, refl);
+    left = subst (λ e. IsLeftAs b (new_desk port) life.closed (end_fault e)) (sym left) so;
+  }
+
+  -- the last life: as it was left, or one that rests and that no other follows
+  pub last_life : (v : V) (life last : Life D V) (Why : Type 0) → IsLife b talked failed most v life → last.closed ≡ life.closed → last.callers ≡ life.callers → ((last.left ≡ life.left) × Why) ⊎ ((last.left ≡ Unfollowed) × (life.left ≡ Resting)) → IsLife b talked failed most v last
+  last_life v life last Why is same same_w (inl (left, why)) = record {
+    port = is.port;
+    desk = is.desk;
+    served = subst (LeavesLife b talked failed most is.port v last.callers is.desk) (sym left) (subst (λ w. LeavesLife b talked failed most is.port v w is.desk life.left) (sym same_w) is.served);
+    left = subst (λ e. IsLeftAs b is.desk last.closed (end_fault e)) (sym left) (subst (λ c. IsLeftAs b is.desk c (end_fault life.left)) (sym same) is.left);
+  }
+  last_life v life last Why is same same_w (inr (left, rests)) = record {
+    port = is.port;
+    desk = is.desk;
+    served = subst (LeavesLife b talked failed most is.port v last.callers is.desk) (sym left)
+        (subst (LeavesLife b talked failed most is.port v last.callers is.desk) rests (subst (λ w. LeavesLife b talked failed most is.port v w is.desk life.left) (sym same_w) is.served));
+    left = subst (λ e. IsLeftAs b is.desk last.closed (end_fault e)) (sym left) (subst (λ e. IsLeftAs b is.desk last.closed (end_fault e)) rests (subst (λ c. IsLeftAs b is.desk c (end_fault life.left)) (sym same) is.left));
+  }
 
   -- a last life that ended so
-  served_so : (port : Local) (v w : V) (desk : DeskState Local) (served : Option ServerFault) → ServesLife b talked failed most port v w desk (Ended served) → Serves b talked failed most port v w desk served
+  served_so : (port : Local) (v w : V) (desk : DeskState Local) (served : Option ServerFault) → LeavesLife b talked failed most port v w desk (Ended served) → Serves b talked failed most port v w desk served
   served_so port v w desk served h1 = grind arith
 
   -- the fault that is told of it has a cause. `on`: that a next life may begin
-  told_for : (on : Type 0) (port : Local) (v w : V) (desk : DeskState Local) (left : LifeEnd) (served : Option ServerFault) (is_broken : Bool) → ServesLife b talked failed most port v w desk left → IsLastLife left served
+  told_for : (on : Type 0) (port : Local) (v w : V) (desk : DeskState Local) (left : LifeEnd) (served : Option ServerFault) (is_broken : Bool) → LeavesLife b talked failed most port v w desk left → IsLastLife left served
       → (left ≡ Unprinted → served ≡ Some fault.Write → is_broken ≡ true) → (left ≡ Resting → ¬ on) → (served ≡ Some fault.Write → is_broken ≡ true) × (served ≡ Some fault.Device → ¬ on)
   told_for on port v w desk left served is_broken h1 h2 h3 h4 = grind arith
 
-  pub served_at_last : (port : Local) (v w : V) (desk : DeskState Local) (left : LifeEnd) (served : Option ServerFault) → ServesLife b talked failed most port v w desk left → IsLastLife left served → Serves b talked failed most port v w desk served
+  pub served_at_last : (port : Local) (v w : V) (desk : DeskState Local) (left : LifeEnd) (served : Option ServerFault) → LeavesLife b talked failed most port v w desk left → IsLastLife left served → Serves b talked failed most port v w desk served
   served_at_last port v w desk Resting served s over = subst (Serves b talked failed most port v w desk) (sym over) s
-  served_at_last port v w desk Unprinted served s (inl memory) = subst (Serves b talked failed most port v w desk) (sym memory) s
+  served_at_last port v w desk Unfollowed served s over = subst (Serves b talked failed most port v w desk) (sym over) (inr s)
+  served_at_last port v w desk Unprinted served s (inl memory) = subst (Serves b talked failed most port v w desk) (sym memory) (inl s)
   served_at_last port v w desk Unprinted served s (inr write) = subst (Serves b talked failed most port v w desk) (sym write) s
   served_at_last port v w desk (Ended why) served s over = subst (Serves b talked failed most port v w desk) (sym over) (served_so port v w desk why s)
+
+-- what is left of the last life is left of the server
+pub left_at_last : {D P : Type 0} (b : Basis D) (desk : DeskState P) (closed : Closed D) (left : LifeEnd) (served : Option ServerFault) → IsLeftAs b desk closed (end_fault left) → IsLastLife left served → IsLeftAs b desk closed served
+left_at_last b desk closed Resting served is over = subst (IsLeftAs b desk closed) (sym over) is
+left_at_last b desk closed Unfollowed served is over = subst (IsLeftAs b desk closed) (sym over) is
+left_at_last b desk closed Unprinted served is (inl memory) = subst (IsLeftAs b desk closed) (sym memory) is
+left_at_last b desk closed Unprinted served is (inr write) = subst (IsLeftAs b desk closed) (sym write) is
+left_at_last b desk closed (Ended why) served is over = subst (IsLeftAs b desk closed) (sym over) is
+
+-- why it is the last where it rests
+pub cause_at_last : (left last : LifeEnd) (Why : Type 0) → ((last ≡ left) × (left ≡ Resting → Why)) ⊎ ((last ≡ Unfollowed) × (left ≡ Resting)) → last ≡ Resting → Why
+cause_at_last left last Why (inl (same, why)) rests = why (sym same ∙ rests)
+cause_at_last left last Why (inr (other, rested)) rests = absurd cc
+
+-- a life that rests has left one history
+pub rested_history : {D P : Type 0} (b : Basis D) (desk : DeskState P) (closed : Closed D) (left : LifeEnd) → left ≡ Resting → IsLeftAs b desk closed (end_fault left) → IsOneHistory b desk closed
+rested_history b desk closed left rests is = subst (λ e. IsLeftAs b desk closed (end_fault e)) rests is
 
 -- ---- lives
 
@@ -86,8 +146,8 @@ module _ {D : Type 0} (m : DiskModel D) {V : Type 0} (talked : V → List Talk �
   unfoldable pub rests : (world : World) (v : V) (life : Life D V) → life.left ≡ Resting → IsLife (b world) talked failed most v life → most ≤ length life.closed.trail.items → has_stopped life.closed.store ≡ false → life.closed.settled ≡ life.closed.base.count + length life.closed.trail.items
       → Rests m talked most world v life.callers life.closed.store.world
   rests world v life is so kept going all =
-      let rested = subst (ServesLife (b world) talked failed most so.port v life.callers so.desk) is so.served in
-      record { port = so.port; desk = so.desk; left = life.closed; served = rested.0; old = kept; history = so.history; all_settled = all; going = going; goes_on = refl }
+      let rested = subst (LeavesLife (b world) talked failed most so.port v life.callers so.desk) is so.served in
+      record { port = so.port; desk = so.desk; left = life.closed; served = rested.0; old = kept; history = rested_history (b world) so.desk life.closed life.left is so.left; all_settled = all; going = going; goes_on = refl }
 
   -- one more life has rested, and the next one begins with this
   pub lives_next : (began world : World) (v u others : V) (life : Life D V) (next : Kept D) → (n : ℕ) × Lives m talked most n began v world u → IsLife (b world) talked failed most u life
@@ -131,6 +191,10 @@ module _ {D : Type 0} (m : DiskModel D) {V : Type 0} (talked : V → List Talk �
   same_steps zero began next v w is = refl
   same_steps (suc n) began next v w is = ap (λ (ls : List LifeSteps). ls ++ steps_in is.3.left ∷ []) (same_steps n began is.0 v is.1 is.2)
 
+-- nothing ended the serving of a server of which no fault is told
+served_none : (stopped : Bool) (served : Option ServerFault) (is_broken : Bool) → fault_at_end stopped served is_broken ≡ None → served ≡ None
+served_none stopped served is_broken none = grind arith
+
 -- of a server whose lives have the steps that its own have
 pub closed_lives : {D W : Type 0} (m : DiskModel D) {V : Type 0} (talked : V → List Talk → V → Type 0) (failed : V → V → Type 0) (began : World) (v : V) (ended : ServerEnd D V W)
     → fault_at_end (has_stopped ended.closed.store) ended.served (is_amiss ended.printer ended.closed.settled) ≡ None → (is : HasLived m talked failed life_steps began v ended) → AreClosed m talked failed began v ended is ended.closed
@@ -140,7 +204,7 @@ closed_lives m talked failed began v ended none is =
         is.0,
         is.1,
         lives_any m talked life_steps is.0 began is.1 v is.2 is.3,
-        (is.4.0, is.4.1, closed_if_none b talked failed life_steps (has_stopped ended.closed.store) ended.served (is_amiss ended.printer ended.closed.settled) is.4.0 is.2 ended.callers is.4.1 none is.4.2, is.4.3),
+        (is.4.0, is.4.1, closed_if_none b talked failed life_steps (has_stopped ended.closed.store) ended.served (is_amiss ended.printer ended.closed.settled) is.4.0 is.2 ended.callers is.4.1 none is.4.2, subst (IsLeftAs b is.4.1 ended.closed) (served_none (has_stopped ended.closed.store) ended.served (is_amiss ended.printer ended.closed.settled) none) is.4.3),
       ),
       ap (λ (ls : List LifeSteps). ls ++ steps_in ended.closed ∷ []) (same_steps m talked life_steps is.0 began is.1 v is.2 is.3),
     )

@@ -18,11 +18,11 @@ use Rattle.coord_engine.proofs.Past.{after_some_is_on_the_way, left_only, of_mor
 use Rattle.coord_engine.specs.Facade.{Beginning, IsAfterSome, IsOnTheWay, IsPastOf, MayTell, Past, StartsWith, StaysAlong, first_settled}
 use Rattle.coord_engine.specs.State.{based_on}
 use Rattle.coord_engine.specs.declared.closed.Closed.{Closed}
-use Rattle.coord_server.proofs.Ends.{rests, served_at_last}
-use Rattle.coord_server.proofs.OneHistory.{Tells, leaves_all, lives_are_one, tells}
+use Rattle.coord_server.proofs.Ends.{left_at_last, rested_history, rests, served_at_last}
+use Rattle.coord_server.proofs.OneHistory.{Tells, is_left, leaves_all, left_of, lives_are_one, tells}
 use Rattle.coord_server.proofs.Starts.{on_more, printed_more}
 use Rattle.coord_server.specs.EngineDesk.{DeskState}
-use Rattle.coord_server.specs.Ending.{IsLife, IsOneHistory}
+use Rattle.coord_server.specs.Ending.{IsLeftAs, IsLife, IsOneHistory, end_fault}
 use Rattle.coord_server.specs.Lives.{AreOneHistory, IsToldForCause, IsLastLife, LifeSteps, all_steps, steps_in, steps_of}
 use Rattle.coord_server.specs.Moments.{AtEachMoment, ComesFrom, EndsAlong, HasComeTo, HaveRested, KeepsAlong, LivesKeepAlong, LivesTell}
 use Rattle.coord_server.specs.Printed.{IsPrinted, PrinterState}
@@ -70,7 +70,7 @@ module _ {D : Type 0} (m : DiskModel D) where
   pub next_from : (first now : Kept D) (steps : List Step) (left : Closed D) {P : Type 0} (desk : DeskState P) → ComesFrom m first steps now → IsOneHistory (based_on m now.world []) desk left → KeepsAlong m now left.trail.items left.store
       → left.settled ≡ left.base.count + length left.trail.items → ComesFrom m first (steps ++ left.trail.items) left.store
   next_from first now steps left desk come history along all =
-      let t = tells (based_on m now.world []) desk left history in
+      let t = tells (based_on m now.world []) left (left_of (based_on m now.world []) desk left history) in
       let world : left.store.world ≡ fold now.world left.trail.items = leaves_all now.world left t all in
       let path = path_of come left.trail.items t.steps in
       inr (record { trail = path.0; leads = path.1 ∙ sym world; along = after_life first now steps left come along })
@@ -116,7 +116,7 @@ module _ {D : Type 0} (m : DiskModel D) {V : Type 0} (talked : V → List Talk �
   unfolding rests
   rested_on first now next v u others life written later rested adds so along kept is same same_w going all =
       let lives = steps_of m talked most rested.0 first.world v now.world u rested.1 in
-      let come : ComesFrom m first (all_steps lives ++ life.closed.trail.items) life.closed.store = next_from m first now (all_steps lives) life.closed so.desk rested.2 so.history along all in
+      let come : ComesFrom m first (all_steps lives ++ life.closed.trail.items) life.closed.store = next_from m first now (all_steps lives) life.closed so.desk rested.2 (rested_history (based_on m now.world []) so.desk life.closed life.left is so.left) along all in
       let here : later ≡ all_steps lives ++ life.closed.trail.items = adds ∙ ap (λ l. written ++ l) (all_of_settled m life.closed all) ∙ ap (λ l. l ++ life.closed.trail.items) rested.3 in
       let more = subst (λ l. ComesFrom m first l life.closed.store) (sym (and_steps lives (steps_in life.closed))) come in
       let whole : HaveRested m talked most first v life.closed.store life.callers later = (suc rested.0, (now.world, u, rested.1, rests m talked failed most now.world u life is so kept going all), more, here ∙ sym (and_steps lives (steps_in life.closed))) in
@@ -128,7 +128,7 @@ module _ {D : Type 0} (m : DiskModel D) {V : Type 0} (talked : V → List Talk �
       let lives = steps_of m talked most rested.0 first.world v now.world u rested.1 in
       let whole = after_life m first now (all_steps lives) life.closed rested.2 along in
       let steps = and_steps lives (steps_in life.closed) in
-      let settled = settled_behind m first.world (all_steps lives) now.world life.closed (leads_of m first now (all_steps lives) rested.2) (tells (based_on m now.world []) so.desk life.closed so.history) in
+      let settled = settled_behind m first.world (all_steps lives) now.world life.closed (leads_of m first now (all_steps lives) rested.2) (tells (based_on m now.world []) life.closed (is_left (based_on m now.world []) so.desk life.closed (end_fault life.left) so.left)) in
       let here : life.writer.steps ≡ first_settled first.world (all_steps lives ++ life.closed.trail.items) life.closed.settled = adds ∙ ap (λ l. l ++ first_settled life.closed.base life.closed.trail.items life.closed.settled) rested.3 ∙ sym settled in (
         (rested.0, now.world, u, rested.1, so),
         subst (λ l. KeepsAlong m first l life.closed.store) (sym steps) whole,
@@ -147,7 +147,7 @@ module _ {D : Type 0} (m : DiskModel D) {V : Type 0} (talked : V → List Talk �
         so.port,
         so.desk,
         rw same_w (served_at_last (based_on m world []) talked failed most so.port u life.callers so.desk life.left ended.served so.served over),
-        subst (IsOneHistory (based_on m world []) so.desk) (sym same) so.history,
+        subst (λ c. IsLeftAs (based_on m world []) so.desk c ended.served) (sym same) (left_at_last (based_on m world []) so.desk life.closed life.left ended.served so.left over),
       ),
       cause,
     ),

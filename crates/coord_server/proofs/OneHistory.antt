@@ -1,5 +1,5 @@
 -- All lives of a server are one history.
-use Rattle.std.proofs.Common.{◌≡◌, ℕ, zero, suc, ◌+◌, ◌-◌, ◌≤◌, List, [], ◌∷◌, ◌++◌, length, take, refl, sym, ap, ◌∙◌, append-nil, length-append, arith, map}
+use Rattle.std.proofs.Common.{◌≡◌, ℕ, zero, suc, ◌+◌, ◌-◌, ◌≤◌, List, [], ◌∷◌, ◌++◌, length, take, refl, sym, ap, ◌∙◌, append-nil, length-append, arith, map, Option, None, Some}
 use Rattle.std.proofs.Math.Seq.{take-append-add, take-length}
 use Rattle.std.proofs.lemmas.Grind.{flat_map-append}
 use Rattle.std.specs.List.{range_with_len}
@@ -12,8 +12,10 @@ use Rattle.coord_admin.specs.Connections.{Talk}
 use Rattle.coord_engine.specs.State.{Basis, based_on}
 use Rattle.coord_engine.specs.declared.closed.Closed.{Closed}
 use Rattle.coord_server.specs.EngineDesk.{DeskState}
-use Rattle.coord_server.specs.Ending.{IsOneHistory}
+use Rattle.coord_server.specs.Ending.{LeavesLedger, IsLeftAs, IsOneHistory}
 use Rattle.coord_server.specs.Lives.{AreOneHistory, ClosedLivesAreOne, EndsOneHistory, HasLived, LifeSteps, Lives, LivesAreOne, Rests, all_given, all_steps, life_steps, talked_any, steps_in, steps_of}
+use Rattle.coord_server.specs.declared.fault.ServerFault.{ServerFault}
+use Rattle.coord_server.specs.declared.fault.ServerFault.TheVariants as fault
 use Rattle.coord_server.specs.declared.server_end.ServerEnd.{ServerEnd}
 
 -- ---- one life
@@ -27,9 +29,23 @@ pub record Tells {D : Type 0} (world : World) (left : Closed D) : Type 0 where
   pub counted : left.settled ≡ world.count + done
   pub kept : left.store.world ≡ fold world (take done left.trail.items)
 
--- a history tells so: the log under the lock was consistent, and its settled world is the store's
-pub tells : {D P : Type 0} (b : Basis D) (desk : DeskState P) (left : Closed D) → IsOneHistory b desk left → Tells b.base left
-tells b desk left h1 = grind arith
+-- of one history too it is left
+pub left_of : {D P : Type 0} (b : Basis D) (desk : DeskState P) (left : Closed D) → IsOneHistory b desk left → LeavesLedger b left
+left_of b desk left history = record { state = history.closed.state; held = history.closed.held; so = history.closed.so.1 }
+
+-- and in any case
+pub is_left : {D P : Type 0} (b : Basis D) (desk : DeskState P) (left : Closed D) (served : Option ServerFault) → IsLeftAs b desk left served → LeavesLedger b left
+is_left b desk left None is = left_of b desk left is
+is_left b desk left (Some fault.OutOfMemory) is = left_of b desk left is
+is_left b desk left (Some fault.NotBegun) is = is
+is_left b desk left (Some fault.Socket) is = left_of b desk left is
+is_left b desk left (Some fault.Device) is = left_of b desk left is
+is_left b desk left (Some fault.Write) is = left_of b desk left is
+is_left b desk left (Some (fault.NotClosed why)) is = record { state = is.so.state; held = is.so.held; so = is.so.so.0 }
+
+-- what is left tells so: the log under the lock was consistent, and its settled world is the store's
+pub tells : {D : Type 0} (b : Basis D) (left : Closed D) → LeavesLedger b left → Tells b.base left
+tells b left h1 = grind arith
 
 -- a life of which all is settled leaves the world after its trail
 pub leaves_all : {D : Type 0} (world : World) (left : Closed D) → Tells world left → left.settled ≡ left.base.count + length left.trail.items → left.store.world ≡ fold world left.trail.items
@@ -128,7 +144,7 @@ one_history {D} began world ls left here t =
 module _ {D : Type 0} (m : DiskModel D) {V : Type 0} (talked : V → List Talk → V → Type 0) (most : ℕ) where
   -- a life that rests goes on to the next one
   rest_goes_on : (began world next : World) (ls : List LifeSteps) (v w : V) (r : Rests m talked most world v w next) → GoOn began ls world → GoOn began (ls ++ steps_in r.left ∷ []) next
-  rest_goes_on began world next ls v w r here = grind (arith, tells, goes_on, leaves_all)
+  rest_goes_on began world next ls v w r here = grind (arith, tells, left_of, goes_on, leaves_all)
 
   lives_go_on : (n : ℕ) (began next : World) (v w : V) (lives : Lives m talked most n began v next w) → GoOn began (steps_of m talked most n began v next w lives) next
   lives_go_on zero began next v w lives = lives.0
@@ -137,7 +153,7 @@ module _ {D : Type 0} (m : DiskModel D) {V : Type 0} (talked : V → List Talk �
 module _ {D : Type 0} (m : DiskModel D) {V : Type 0} (talked : V → List Talk → V → Type 0) (failed : V → V → Type 0) (most : ℕ) where
   pub lives_are_one : (W : Type 0) → LivesAreOne W m talked failed most
   lives_are_one W began v ended lived =
-      one_history began lived.1 (steps_of m talked most lived.0 began v lived.1 lived.2 lived.3) ended.closed (lives_go_on m talked most lived.0 began lived.1 v lived.2 lived.3) (tells (based_on m lived.1 []) lived.4.1 ended.closed lived.4.3)
+      one_history began lived.1 (steps_of m talked most lived.0 began v lived.1 lived.2 lived.3) ended.closed (lives_go_on m talked most lived.0 began lived.1 v lived.2 lived.3) (tells (based_on m lived.1 []) ended.closed (is_left (based_on m lived.1 []) lived.4.1 ended.closed ended.served lived.4.3))
 
   -- what the last life leaves ends one history
   pub ends : {W : Type 0} (began : World) (v : V) (ended : ServerEnd D V W) → HasLived m talked failed most began v ended → EndsOneHistory began ended.closed
@@ -145,4 +161,4 @@ module _ {D : Type 0} (m : DiskModel D) {V : Type 0} (talked : V → List Talk �
 
 pub closed_lives_are_one : {D : Type 0} (m : DiskModel D) → ClosedLivesAreOne m
 closed_lives_are_one {D} m began left lived =
-    one_history began lived.1 (steps_of m talked_any life_steps lived.0 began tt lived.1 tt lived.2) left (lives_go_on m talked_any life_steps lived.0 began lived.1 tt tt lived.2) (tells (based_on m lived.1 []) lived.3.1 left lived.3.3)
+    one_history began lived.1 (steps_of m talked_any life_steps lived.0 began tt lived.1 tt lived.2) left (lives_go_on m talked_any life_steps lived.0 began lived.1 tt tt lived.2) (tells (based_on m lived.1 []) left (left_of (based_on m lived.1 []) lived.3.1 left lived.3.3))

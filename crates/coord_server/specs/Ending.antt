@@ -1,11 +1,10 @@
 -- How a server ends, and what it leaves of its engine.
 use Rattle.std.specs.Borrow.{Bor}
-use Rattle.std.specs.Prelude.{◌≡◌, ℕ, ◌≤◌, List, [], ◌∷◌, ◌++◌, All, Bool, true, false, Option, Some, None, length}
+use Rattle.std.specs.Prelude.{◌≡◌, ◌⊎◌, ℕ, ◌≤◌, List, [], ◌∷◌, ◌++◌, All, Bool, true, false, Option, Some, None, length}
 use Rattle.coord_ledger.specs.declared.ticket.Note.{Note}
 use Rattle.coord_ledger.specs.machine.Log.{kinds_of}
-use Rattle.coord_disk.specs.Model.DiskModel.{DiskModel}
-use Rattle.coord_world.specs.Facade.{World}
-use Rattle.coord_engine.specs.Facade.{AtSomeMoment, Basis, Closes, IsNamed, IsOfPacket, RefusesClosing, based_on}
+use Rattle.coord_engine.specs.Facade.{AtSomeMoment, Basis, Closes, IsLeftOf, IsNamed, IsOfPacket, IsSince, RefusesClosing}
+use Rattle.coord_engine.specs.declared.closed.CloseFault.{CloseFault}
 use Rattle.coord_engine.specs.declared.closed.Closed.{Closed}
 use Rattle.coord_admin.specs.Connections.{Talk, ServedOpen, ServedToClose}
 use Rattle.coord_admin.specs.LifeLimit.{HasKept}
@@ -33,9 +32,31 @@ pub record IsOneHistory {D P : Type 0} (b : Basis D) (desk : DeskState P) (left 
   pub closed : AtSomeMoment b (Closes {D = D} left.store left.base left.trail.items left.settled (desk.notes ∷ workers))
   pub seen : desk.seen ≤ left.settled
 
+-- What is left of a life's engine is what its ledger had, in a state that it can have: also where nothing is known of whose its steps are.
+abbrev pub LeavesLedger : {D : Type 0} → Basis D → Closed D → Type 0
+LeavesLedger {D} b left = AtSomeMoment b (IsLeftOf {D = D} left.store left.base left.trail.items left.settled)
+
+-- An engine refused for this reason to be taken apart with all nine shares, the desk's and those of eight workers; and this is what it had then.
+pub record RefusesShares {D P : Type 0} (b : Basis D) (desk : DeskState P) (left : Closed D) (why : CloseFault) : Type 0 where
+  pub workers : List (List Note)
+  pub of_packets : All (All IsOfPacket) workers
+  pub all : length (desk.notes ∷ workers) ≡ 9
+  pub so : AtSomeMoment b (λ g. IsLeftOf {D = D} left.store left.base left.trail.items left.settled g × RefusesClosing {D = D} g (desk.notes ∷ workers) desk.seen why)
+
+-- what is known of what a life leaves that ends so: it is one history, unless the life did not begin, or its engine refused to be taken apart
+abbrev pub IsLeftAs : {D P : Type 0} → Basis D → DeskState P → Closed D → Option ServerFault → Type 0
+IsLeftAs b desk left (Some fault.NotBegun) = LeavesLedger b left
+IsLeftAs b desk left (Some (fault.NotClosed why)) = RefusesShares b desk left why
+IsLeftAs b desk left other = IsOneHistory b desk left
+
 -- behind these shares those of workers were put, whose notes are all of packets
 abbrev pub AddsWorkers : List (List Note) → List (List Note) → Type 0
 AddsWorkers first all = (workers : List (List Note)) × (all ≡ first ++ workers) × All (All IsOfPacket) workers
+
+-- why a life ended that was left so, if something ended it
+abbrev pub end_fault : LifeEnd → Option ServerFault
+end_fault (end.Ended served) = served
+end_fault left = None
 
 -- `talked v talks w`: those who call were v, had these talks, and then are w
 module _ {D : Type 0} (b : Basis D) {V : Type 0} (talked : V → List Talk → V → Type 0) where
@@ -52,17 +73,26 @@ module _ {D : Type 0} (b : Basis D) {V : Type 0} (talked : V → List Talk → V
     -- How the desk went on in a life of so many steps, from this port. It rests only once it keeps them; and it ends by a close, by want of memory or of a first line before anyone was served, or because those who call have failed.
     abbrev pub ServesLife : {P : Type 0} → P → V → V → DeskState P → LifeEnd → Type 0
     ServesLife port v w desk end.Resting = ServedWhileOpen most port v w desk × HasKept (DeskKeeps b) desk most
+    ServesLife port v w desk end.Unfollowed = ⊥
     ServesLife port v w desk end.Unprinted = talked v [] w × (desk ≡ new_desk port)
     ServesLife port v w desk (end.Ended None) = IsClosed most port v w desk
     ServesLife port v w desk (end.Ended (Some fault.OutOfMemory)) = talked v [] w × (desk ≡ new_desk port)
     ServesLife port v w desk (end.Ended (Some fault.Socket)) = (last : V) × ServedWhileOpen most port v last desk × failed last w
     ServesLife port v w desk (end.Ended (Some other)) = ⊥
 
-    -- how the desk went on in the last life of a server that ends so: a store that has stopped is met where a life rests, an output that fails before the first life serves
+    -- How the desk went on in a life that was left so. Where there was no memory for the next one it rested; where it did not begin nobody was served; where its engine refused to be taken apart the desk had served until some end.
+    abbrev pub LeavesLife : {P : Type 0} → P → V → V → DeskState P → LifeEnd → Type 0
+    LeavesLife port v w desk end.Unfollowed = ServesLife port v w desk end.Resting
+    LeavesLife port v w desk (end.Ended (Some fault.NotBegun)) = talked v [] w × (desk ≡ new_desk port)
+    LeavesLife port v w desk (end.Ended (Some (fault.NotClosed why))) = (served : LifeEnd) × ServesLife port v w desk served
+    LeavesLife port v w desk left = ServesLife port v w desk left
+
+    -- how the desk went on in the last life of a server that ends so: a store that has stopped, or want of memory for the next life, is met where a life rests, an output that fails before the first life serves
     abbrev pub Serves : {P : Type 0} → P → V → V → DeskState P → Option ServerFault → Type 0
     Serves port v w desk (Some fault.Device) = ServesLife port v w desk end.Resting
     Serves port v w desk (Some fault.Write) = ServesLife port v w desk end.Unprinted
-    Serves port v w desk served = ServesLife port v w desk (end.Ended served)
+    Serves port v w desk (Some fault.OutOfMemory) = ServesLife port v w desk (end.Ended (Some fault.OutOfMemory)) ⊎ ServesLife port v w desk end.Resting
+    Serves port v w desk served = LeavesLife port v w desk (end.Ended served)
 
     -- the threads of a life have run: the desk served until this end and saw that much, and with its share all nine are back, the desk's and those of eight workers
     pub record HasRun (v w : V) (left : LifeEnd) (shares : List (List Note)) (seen : ℕ) : Type 0 where
@@ -73,12 +103,20 @@ module _ {D : Type 0} (b : Basis D) {V : Type 0} (talked : V → List Talk → V
       pub added : AddsWorkers (desk.notes ∷ []) shares
       pub all : length shares ≡ 9
 
-    -- one life: the desk served until this end, and what is left is one history
+    -- one life: the desk served until it was left so, and what is left
     pub record IsLife (v : V) (life : Life D V) : Type 0 where
       pub port : Local
       pub desk : DeskState Local
-      pub served : ServesLife port v life.callers desk life.left
-      pub history : IsOneHistory b desk life.closed
+      pub served : LeavesLife port v life.callers desk life.left
+      pub left : IsLeftAs b desk life.closed (end_fault life.left)
+
+-- An engine was taken apart into what a life has left. Either with these shares, which noted all that was accepted: then the life is left as its serving ended. Or it refused them, and the life is left for that reason.
+abbrev pub LeavesShares : {D V : Type 0} → Basis D → List (List Note) → ℕ → LifeEnd → Life D V → Type 0
+LeavesShares {D} {V} b shares seen served life =
+    ((life.left ≡ served) × IsSince b.base b.before shares life.closed.base life.closed.trail.items
+    × AtSomeMoment b (Closes {D = D} life.closed.store life.closed.base life.closed.trail.items life.closed.settled shares) × (seen ≤ life.closed.settled))
+    ⊎ ((why : CloseFault) × (life.left ≡ end.Ended (Some (fault.NotClosed why)))
+    × AtSomeMoment b (λ g. IsLeftOf {D = D} life.closed.store life.closed.base life.closed.trail.items life.closed.settled g × RefusesClosing {D = D} g shares seen why))
 
 -- a desk that began with nothing was served over some connections, the last of which closed it
 abbrev pub IsServedToClose : {D P : Type 0} → Basis D → ℕ → P → DeskState P → Type 0
@@ -89,17 +127,6 @@ abbrev pub EndsUnopened : {V : Type 0} → (V → V → Type 0) → V → LifeEn
 EndsUnopened failed v end.Unprinted = Unit {0}
 EndsUnopened failed v (end.Ended (Some fault.Socket)) = failed v v
 EndsUnopened failed v other = ⊥
-
--- an engine was not taken apart with these shares, where its desk had seen that much, and that is why
-abbrev pub IsNotClosed : {D : Type 0} → Basis D → List (List Note) → ℕ → ServerFault → Type 0
-IsNotClosed {D} b shares seen (fault.NotClosed why) = AtSomeMoment b (λ g. RefusesClosing {D = D} g shares seen why)
-IsNotClosed b shares seen other = ⊥
-
--- what is told where nothing is left to give back: no memory or no thread could be had to begin a life, or the engine of a life was not taken apart with all nine shares
-abbrev pub LeavesNothing : {D : Type 0} → DiskModel D → ServerFault → Type 0
-LeavesNothing m fault.OutOfMemory = Unit {0}
-LeavesNothing m (fault.NotClosed why) = (world : World) × (shares : List (List Note)) × (seen : ℕ) × (length shares ≡ 9) × IsNotClosed (based_on m world []) shares seen (fault.NotClosed why)
-LeavesNothing m other = ⊥
 
 -- what a server that has ended tells: a store that has stopped first, then what ended the serving, then an output that is amiss
 abbrev pub fault_at_end : Bool → Option ServerFault → Bool → Option ServerFault

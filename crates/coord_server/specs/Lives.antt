@@ -12,7 +12,7 @@ use Rattle.coord_admin.specs.declared.patience.Patience.{Patience}
 use Rattle.coord_engine.specs.State.{Basis, based_on}
 use Rattle.coord_engine.specs.declared.closed.Closed.{Closed}
 use Rattle.coord_server.specs.EngineDesk.{DeskState}
-use Rattle.coord_server.specs.Ending.{IsLife, IsOneHistory, IsServedToClose, Local, ServedWhileOpen, Serves}
+use Rattle.coord_server.specs.Ending.{IsLeftAs, IsLife, IsOneHistory, IsServedToClose, Local, ServedWhileOpen, Serves}
 use Rattle.coord_server.specs.declared.fault.ServerFault.{ServerFault}
 use Rattle.coord_server.specs.declared.fault.ServerFault.TheVariants as fault
 use Rattle.coord_server.specs.declared.life.Life.{Life}
@@ -20,9 +20,10 @@ use Rattle.coord_server.specs.declared.life_end.LifeEnd.{LifeEnd}
 use Rattle.coord_server.specs.declared.life_end.LifeEnd.TheVariants as end
 use Rattle.coord_server.specs.declared.server_end.ServerEnd.{ServerEnd}
 
--- how a server ends whose last life was left so: one that rests and can't go on ends it too, and so does one without a first line
+-- how a server ends whose last life was left so: one that rests and can't go on ends it too, and so does one without memory for the next, or without a first line
 abbrev pub IsLastLife : LifeEnd → Option ServerFault → Type 0
 IsLastLife end.Resting served = served ≡ Some fault.Device
+IsLastLife end.Unfollowed served = served ≡ Some fault.OutOfMemory
 IsLastLife end.Unprinted served = (served ≡ Some fault.OutOfMemory) ⊎ (served ≡ Some fault.Write)
 IsLastLife (end.Ended why) served = served ≡ why
 
@@ -75,7 +76,7 @@ EndsLives {D} m {V} talked failed most began v last =
 abbrev pub HasLived : {D W : Type 0} → DiskModel D → {V : Type 0} → (V → List Talk → V → Type 0) → (V → V → Type 0) → ℕ → World → V → ServerEnd D V W → Type 0
 HasLived {D} {W} m {V} talked failed most began v ended =
     (n : ℕ) × (world : World) × (u : V) × Lives m talked most n began v world u
-    × ((port : Local) × (desk : DeskState Local) × Serves (based_on m world []) talked failed most port u ended.callers desk ended.served × IsOneHistory (based_on m world []) desk ended.closed)
+    × ((port : Local) × (desk : DeskState Local) × Serves (based_on m world []) talked failed most port u ended.callers desk ended.served × IsLeftAs (based_on m world []) desk ended.closed ended.served)
     × IsToldForCause most ended
 
 -- the same where a line has closed the last one, and each life has the steps of a server's

@@ -1,15 +1,16 @@
 //! Why a server ends otherwise than by a close.
 
 use coord_engine::CloseFault;
-use std::alloc::AllocError;
 use std::error::Error;
 use std::fmt;
 
 /// What ended a server, or was met while it ended.
 #[derive(Clone, Copy, Debug, PartialEq, Eq, Drop)]
 pub enum ServerFault {
-    /// There was not enough memory, or no thread could be had, to begin.
+    /// There was not enough memory to serve, or to begin the next life.
     OutOfMemory,
+    /// There was not enough memory, or no thread could be had, to begin a life: nobody was served in it.
+    NotBegun,
     /// The listener failed.
     Socket,
     /// The device failed, and the store has stopped.
@@ -24,7 +25,7 @@ pub enum ServerFault {
 impl fmt::Display for ServerFault {
     fn fmt<W: fmt::Write>(&self, f: &mut fmt::Formatter<W>) -> fmt::Result {
         match self {
-            ServerFault::OutOfMemory => f.write_str("OutOfMemory"),
+            ServerFault::OutOfMemory | ServerFault::NotBegun => f.write_str("OutOfMemory"),
             ServerFault::Socket => f.write_str("Socket"),
             ServerFault::Device => f.write_str("Device"),
             ServerFault::Write => f.write_str("Write"),
@@ -34,14 +35,3 @@ impl fmt::Display for ServerFault {
 }
 
 impl Error for ServerFault {}
-
-impl From<AllocError> for ServerFault {
-    ghost use Rattle.std.specs.Prelude.{◌≡◌};
-    ghost use Rattle.coord_server.specs.declared.fault.ServerFault.TheVariants.{OutOfMemory};
-
-    ghost from_gives = { λ _ fault. fault ≡ OutOfMemory };
-
-    fn from(_: AllocError) -> ServerFault {
-        ServerFault::OutOfMemory
-    }
-}

@@ -1,15 +1,15 @@
 //! One life of a server: an engine with its threads, from a store to what is left of it.
 
-ghost use Rattle.std.specs.Prelude.{◌≡◌, ◌≤◌, [], false, length, IfErr, IfOk, IfSome, None};
+ghost use Rattle.std.specs.Prelude.{◌≡◌, ◌≤◌, [], false, length, IfErr, IfOk, IfSome, None, Some};
 ghost use Rattle.coord_engine.specs.Past.{IsPastOf, StaysAlong};
 ghost use Rattle.coord_engine.specs.Released.{MayTell};
 ghost use Rattle.coord_engine.specs.State.{based_on};
-ghost use Rattle.coord_store.specs.Kept.{has_stopped};
-ghost use Rattle.coord_engine.specs.Closing.{IsSince};
-ghost use Rattle.coord_engine.specs.Threads.{AtSomeMoment, Closes};
-ghost use Rattle.coord_server.specs.Ending.{IsLife, IsNotClosed, LeavesNothing};
+ghost use Rattle.coord_ledger.specs.ledger.State.{ledger_over};
+ghost use Rattle.coord_store.specs.Kept.{Kept, has_stopped};
+ghost use Rattle.coord_server.specs.Ending.{LeavesLedger, IsLife, LeavesShares};
 ghost use Rattle.coord_server.specs.Moments.{HasWritten, KeepsAlong};
 ghost use Rattle.coord_server.specs.Signals.{MaySignal};
+ghost use Rattle.coord_server.specs.declared.life_end.LifeEnd.TheVariants as LifeEndAs;
 
 use crate::life_end::LifeEnd;
 use crate::printing::Opening;
@@ -18,8 +18,8 @@ use crate::threads::{Begun, JoinedThreads, run};
 use crate::{ServerFault, Telling, WORKERS};
 use coord_admin::Callers;
 use coord_disk::Disk;
-use coord_engine::{Closed, Engine, Origin, Writer};
-use coord_ledger::Ledger;
+use coord_engine::{CloseFault, Closed, Engine, History, Origin, Retired, Writer};
+use coord_ledger::{Ledger, Seen};
 use coord_store::Store;
 use coord_types::Packet;
 use crossbeam_channel::{Receiver, Sender};
@@ -35,6 +35,35 @@ use std::time::Clock;
 /// gives it back when the life ends: smaller blocks stay with the thread that took them.
 const NOTES_ROOM: usize = 600_000;
 
+/// What a life begins with: a store's ledger, in which nothing is accepted yet, and a handle on the
+/// server's history.
+#[derive(Drop)]
+pub struct LifeStart<D: Disk> {
+    pub history: History,
+    pub ledger: Ledger<D>,
+}
+
+impl<D: Disk> LifeStart<D> {
+    /// Over a store, which comes back where there is no memory.
+    pub fn new<R: Wait, O: Telling>(
+        setting: &Setting<'_, R, O>,
+        store: Store<D>,
+    ) -> Result<Self, Store<D>>
+        requires { has_stopped store ≡ false }
+        ensures history { IfOk result (λ start. start.history ≡ O.history) }
+        ensures ledger { IfOk result (λ start. start.ledger ≡ ledger_over store.world store.disk) }
+        ensures back { IfErr result (λ back. back ≡ store) }
+    {
+        let Ok(history) = setting.history.another() else {
+            return Err(store);
+        };
+        match Ledger::adopt(setting.alloc, store) {
+            Ok(ledger) => Ok(LifeStart { history, ledger }),
+            Err((_, store)) => Err(store),
+        }
+    }
+}
+
 /// What is left of a life, and of the callers, and what writes the history, which has its settled steps
 /// now.
 #[derive(Drop)]
@@ -45,10 +74,12 @@ pub struct Life<D: Disk, C> {
     pub left: LifeEnd,
 }
 
-/// Serves a store to those who call, until a line closes it or the life is old, and gives back what
-/// is left of the engine. What was accepted is settled first. The first life opens the output.
+/// Serves a ledger's store to those who call, until a line closes it or the life is old, and gives back
+/// what is left of the engine, in any case. What was accepted is settled first. The first life opens the
+/// output.
 ///
-/// An error is `OutOfMemory`, where the life did not begin, or that the engine was not taken apart.
+/// A life for which there is no memory or no thread leaves its engine as nobody was served; `left` says
+/// so, and whether the engine refused to be taken apart with all shares.
 pub fn serve_life<
     D: Disk + Send,
     C: Callers + Drop,
@@ -56,27 +87,26 @@ pub fn serve_life<
     R: Threads + Wait + Clock + Sync,
 >(
     setting: &Setting<'_, R, O>,
-    store: Store<D>,
+    start: LifeStart<D>,
     writer: Writer,
     callers: C,
     opening: Option<Opening>,
-) -> Result<Life<D, C>, ServerFault>
-    requires going { has_stopped store ≡ false }
+) -> Life<D, C>
     requires here { writer.history ≡ O.history }
-    requires tell { MayTell writer.history writer.steps store.world (MaySignal O.history O.gives) }
-    ensures life { IfOk result
-        (IsLife (based_on D.model store.world []) C.talked C.failed setting.now.life_steps callers) }
-    ensures along { IfOk result (λ life.
-        KeepsAlong D.model store life.closed.trail.items life.closed.store) }
-    ensures written { IfOk result (λ life.
-        HasWritten writer.history writer.steps life.closed life.writer) }
-    ensures nothing { IfErr result (LeavesNothing D.model) }
+    requires history { start.history ≡ O.history }
+    requires home { start.ledger.out ≡ None }
+    requires new { start.ledger.log.trail ≡ [] }
+    requires tell { MayTell writer.history writer.steps start.ledger.log.base
+        (MaySignal O.history O.gives) }
+    ensures life { IsLife (based_on D.model start.ledger.log.base []) C.talked C.failed
+        setting.now.life_steps callers result }
+    ensures along { (store : Kept D) → start.ledger ≡ ledger_over store.world store.disk →
+        KeepsAlong D.model store result.closed.trail.items result.closed.store }
+    ensures written { HasWritten writer.history writer.steps result.closed result.writer }
 {
-    let Ok(ledger) = Ledger::adopt(setting.alloc, store) else {
-        return Err(ServerFault::OutOfMemory);
-    };
+    let LifeStart { history, ledger } = start;
     let blank = Blank::new(65536);
-    serve_ledger::<D, Brand, C, O, R>(setting, blank, writer, ledger, callers, opening)
+    serve_ledger::<D, Brand, C, O, R>(setting, blank, history, writer, ledger, callers, opening)
 }
 
 /// Runs the threads of a life over an engine, and takes the engine apart. `L` names the history and the
@@ -90,13 +120,15 @@ fn serve_ledger<
 >(
     setting: &Setting<'_, R, O>,
     blank: Blank,
+    history: History,
     writer: Writer,
     ledger: Ledger<D>,
     callers: C,
     opening: Option<Opening>,
-) -> Result<Life<D, C>, ServerFault>
+) -> Life<D, C>
     requires name { blank.name ≡ L.name }
     requires parts { (blank.parts ≡ L.parts) × (L.parts ≡ 65536) }
+    requires history { history ≡ L.history }
     requires earlier { writer ≡ record { history = L.history; steps = L.earlier } }
     requires home { ledger.out ≡ None }
     requires base { ledger.log.base ≡ L.base }
@@ -104,64 +136,82 @@ fn serve_ledger<
     requires disk { IfSome ledger.disk (IsPastOf D.model L.disk) }
     requires here { O.history ≡ L.history }
     requires tell { MayTell L.history L.earlier L.base (MaySignal O.history O.gives) }
-    ensures life { IfOk result
-        (IsLife (based_on D.model L.base L.before) C.talked C.failed setting.now.life_steps callers) }
-    ensures along { IfOk result (λ life.
-        StaysAlong D.model L.disk L.base life.closed.trail.items life.closed.store.disk) }
-    ensures written { IfOk result (λ life.
-        HasWritten L.history L.earlier life.closed life.writer) }
-    ensures nothing { IfErr result (LeavesNothing D.model) }
+    ensures life { IsLife (based_on D.model L.base L.before) C.talked C.failed
+        setting.now.life_steps callers result }
+    ensures along { StaysAlong D.model L.disk L.base
+        result.closed.trail.items result.closed.store.disk }
+    ensures written { HasWritten L.history L.earlier result.closed result.writer }
 {
-    let history = setting.history.another()?;
     let engine: Engine<D, L> = Engine::new(setting.alloc, blank, history, writer, ledger);
-    let begun = begin(setting, &engine)?;
+    let Some(begun) = begin(setting, &engine) else {
+        return unbegun(setting, engine, callers);
+    };
     match run(setting, &engine, begun, callers, opening) {
-        Ok(completed) => closed_life(engine, completed),
-        Err(unserved) => {
-            drop(unserved);
-            drop(engine);
-            Err(ServerFault::OutOfMemory)
+        Ok(completed) => retired(setting.rt, engine, completed),
+        Err((callers, opening)) => {
+            drop(opening);
+            unbegun(setting, engine, callers)
         }
     }
 }
 
 /// Gives out the desk's share, makes room for all that a life may not lose, and connects the port to
-/// a channel for each worker.
+/// a channel for each worker. None where there is no memory.
 fn begin<D: Disk, L: Origin, O: Telling, R: Wait>(
     setting: &Setting<'_, R, O>,
     engine: &Engine<D, L>,
-) -> Result<Begun<L>, ServerFault>
-    ensures { IfErr result (λ fault. fault ≡ ServerFault.OutOfMemory) }
-{
-    let Some(mut own) = engine.share(setting.rt) else {
-        return Err(ServerFault::OutOfMemory);
-    };
-    own.reserve(NOTES_ROOM)?;
-    let room = Vec::with_capacity(setting.alloc, usize::from(WORKERS) + 1)?;
-    let (to, packets) = channels(setting.alloc)?;
+) -> Option<Begun<L>> {
+    let mut own = engine.share(setting.rt)?;
+    own.reserve(NOTES_ROOM).ok()?;
+    let room = Vec::with_capacity(setting.alloc, usize::from(WORKERS) + 1).ok()?;
+    let (to, packets) = channels(setting.alloc).ok()?;
     setting.port.connect(to);
-    Ok(Begun { own, room, packets })
+    Some(Begun { own, room, packets })
 }
 
-/// What is left of a life, once its engine is taken apart with all shares.
-fn closed_life<D: Disk, L: Origin, C: Drop>(
+/// What is left of a life that did not begin, of those who call, whom nobody served, and of its engine.
+fn unbegun<D: Disk, L: Origin, C, O: Telling, R: Wait + Clock>(
+    setting: &Setting<'_, R, O>,
+    engine: Engine<D, L>,
+    callers: C,
+) -> Life<D, C>
+    requires parts { L.parts ≡ 65536 }
+    ensures unserved { (result.callers ≡ callers) ×
+        (result.left ≡ LifeEndAs.Ended (Some ServerFault.NotBegun)) }
+    ensures left { LeavesLedger (based_on D.model L.base L.before) result.closed }
+    ensures along { StaysAlong D.model L.disk L.base
+        result.closed.trail.items result.closed.store.disk }
+    ensures written { HasWritten L.history L.earlier result.closed result.writer }
+{
+    let nothing = Seen::new();
+    let Retired {
+        closed,
+        writer,
+        refused: _,
+    } = engine.retire(setting.rt, Vec::new(setting.alloc), &nothing);
+    Life {
+        closed,
+        writer,
+        callers,
+        left: LifeEnd::Ended(Some(ServerFault::NotBegun)),
+    }
+}
+
+/// What is left of a life whose threads have run, once its engine is taken apart with all shares; or,
+/// where the engine refuses them, whatever they noted.
+fn retired<D: Disk, L: Origin, C: Callers, R: Wait + Clock>(
+    rt: &R,
     engine: Engine<D, L>,
     completed: JoinedThreads<L, C>,
-) -> Result<Life<D, C>, ServerFault>
+) -> Life<D, C>
     requires parts { L.parts ≡ 65536 }
     requires all { length completed.shares.items ≡ 9 }
-    ensures closed { IfOk result (λ life.
-        IsSince L.base L.before completed.shares.items life.closed.base life.closed.trail.items ×
-        AtSomeMoment (based_on D.model L.base L.before)
-        (Closes life.closed.store life.closed.base life.closed.trail.items life.closed.settled
-        completed.shares.items) × (life.callers ≡ completed.callers) × (life.left ≡ completed.left) ×
-        (completed.seen ≤ life.closed.settled)) }
-    ensures along { IfOk result (λ life.
-        StaysAlong D.model L.disk L.base life.closed.trail.items life.closed.store.disk) }
-    ensures written { IfOk result (λ life.
-        HasWritten L.history L.earlier life.closed life.writer) }
-    ensures nothing { IfErr result
-        (IsNotClosed (based_on D.model L.base L.before) completed.shares.items completed.seen) }
+    ensures callers { result.callers ≡ completed.callers }
+    ensures left { LeavesShares (based_on D.model L.base L.before) completed.shares.items
+        completed.seen completed.left result }
+    ensures along { StaysAlong D.model L.disk L.base
+        result.closed.trail.items result.closed.store.disk }
+    ensures written { HasWritten L.history L.earlier result.closed result.writer }
 {
     let JoinedThreads {
         shares,
@@ -169,14 +219,28 @@ fn closed_life<D: Disk, L: Origin, C: Drop>(
         callers,
         left,
     } = completed;
-    match engine.close(shares, &seen) {
-        Ok((closed, writer)) => Ok(Life {
-            closed,
-            writer,
-            callers,
-            left,
-        }),
-        Err((fault, _engine, _shares)) => Err(ServerFault::NotClosed(fault)),
+    let Retired {
+        closed,
+        writer,
+        refused,
+    } = engine.retire(rt, shares, &seen);
+    Life {
+        closed,
+        writer,
+        callers,
+        left: left_with(left, refused),
+    }
+}
+
+/// How a life was left whose serving ended so, and whose engine was taken apart or refused it.
+fn left_with(served: LifeEnd, refused: Option<CloseFault>) -> LifeEnd
+    ensures named { refused ≡ None → result ≡ served }
+    ensures refused { IfSome refused (λ why.
+        result ≡ LifeEndAs.Ended (Some (ServerFault.NotClosed why))) }
+{
+    match refused {
+        None => served,
+        Some(why) => LifeEnd::Ended(Some(ServerFault::NotClosed(why))),
     }
 }
 

@@ -7,6 +7,8 @@ use crate::ServerFault;
 pub enum LifeEnd {
     /// The life is old; the server goes on with the next one.
     Resting,
+    /// The life is old, and there was no memory to begin the next one.
+    Unfollowed,
     /// The first line was not printed, so nobody was served. What prints tells why.
     Unprinted,
     /// The server ends, by a close or by this fault.

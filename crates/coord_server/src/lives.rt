@@ -1,9 +1,9 @@
 //! The lives of a server, one after the other.
 
-ghost use Rattle.std.specs.Prelude.{◌≡◌, List, [], false, true, is_some, IfErr, IfOk, IfSome, OnOk, Some};
+ghost use Rattle.std.specs.Prelude.{◌≡◌, ◌⊎◌, List, [], false, true, is_some, IfErr, IfOk, IfSome, OnOk, Some};
 ghost use Rattle.std.specs.Thread.{IsSend, IsSync};
+ghost use Rattle.coord_ledger.specs.ledger.State.{ledger_over};
 ghost use Rattle.coord_store.specs.Kept.{has_stopped};
-ghost use Rattle.coord_server.specs.Ending.{LeavesNothing};
 ghost use Rattle.coord_server.specs.declared.life_end.LifeEnd.TheVariants as LifeEndAs;
 ghost use Rattle.coord_server.specs.Lives.{EndsOneHistory, HasLived, IsLastLife, MayGoOn};
 ghost use Rattle.coord_server.specs.Moments.{AtEachMoment, EndsAlong, LivesKeepAlong, LivesTell};
@@ -14,7 +14,7 @@ ghost use Rattle.coord_engine.specs.Released.{GivesSignal, MayTell};
 ghost use Rattle.coord_types.specs.declared.steps.Step.{Step};
 ghost use Rattle.coord_world.specs.Facade.{fold};
 
-use crate::life::{Life, serve_life};
+use crate::life::{Life, LifeStart, serve_life};
 use crate::life_end::LifeEnd;
 use crate::printing::{Opening, Outlet, Printed, Printing, PrintsFrom};
 use crate::setting::Setting;
@@ -44,8 +44,9 @@ use std::time::Clock;
 /// after a fault, all that was accepted is settled, the flusher ends, then the workers, and at the
 /// last end what is left is printed, however long the output takes it.
 ///
-/// An error is `OutOfMemory`, where a life did not begin, or that an engine was not taken apart, to
-/// which no call of it leads.
+/// The server's end tells what ended it, want of memory for a life too. Only where there was no memory,
+/// or no thread that prints, to begin with, there is no end: then the store comes back as it was, and
+/// nobody was served.
 pub fn serve_lives<
     D: Disk + Send,
     C: Callers + Drop,
@@ -58,7 +59,7 @@ pub fn serve_lives<
     store: Store<D>,
     callers: C,
     output: W,
-) -> Result<ServerEnd<D, C, W>, ServerFault>
+) -> Result<ServerEnd<D, C, W>, Store<D>>
     requires { has_stopped store ≡ false }
     ensures lives { IfOk result (HasLived D.model C.talked C.failed most store.world callers) }
     ensures whole { IfOk result (λ ended. EndsOneHistory store.world ended.closed) }
@@ -66,9 +67,11 @@ pub fn serve_lives<
     ensures moments { IfOk result (λ ended. AtEachMoment D.model store ended.closed) }
     ensures printed { IfOk result (LivesTell D.model C.talked C.failed most W.contents
         (GivesSignal store.world) store callers (new_printer output store.world.count)) }
-    ensures nothing { IfErr result (LeavesNothing D.model) }
+    ensures unserved { IfErr result (λ back. back ≡ store) }
 {
-    let written = History::new(alloc)?;
+    let Ok(written) = History::new(alloc) else {
+        return Err(store);
+    };
     serve_told::<D, C, W, Brand, R>(rt, alloc, most, store, callers, output, written)
 }
 
@@ -87,7 +90,7 @@ fn serve_told<
     callers: C,
     output: W,
     written: (History, Writer),
-) -> Result<ServerEnd<D, C, W>, ServerFault>
+) -> Result<ServerEnd<D, C, W>, Store<D>>
     requires going { has_stopped store ≡ false }
     requires here { written.0 ≡ O.history }
     requires new { written.1 ≡ record { history = O.history; steps = [] } }
@@ -95,16 +98,22 @@ fn serve_told<
         (MaySignal O.history O.gives) }
     ensures printed { IfOk result (LivesTell D.model C.talked C.failed most W.contents O.gives store callers
         (new_printer output store.world.count)) }
-    ensures nothing { IfErr result (LeavesNothing D.model) }
+    ensures unserved { IfErr result (λ back. back ≡ store) }
 {
     let (history, mut writer) = written;
     let since = store.world().count();
     let reader = writer.reader(&history);
-    let Outlet {
+    let Ok(own) = history.another() else {
+        return Err(store);
+    };
+    let Ok(Outlet {
         port,
         opening,
         printing,
-    } = Outlet::<&R, W, O>::new(rt, alloc, output, since, history.another()?, reader)?;
+    }) = Outlet::<&R, W, O>::new(rt, alloc, output, since, own, reader)
+    else {
+        return Err(store);
+    };
     let setting = Setting {
         rt,
         alloc,
@@ -129,26 +138,26 @@ fn serve_and_print<
     callers: C,
     opening: Opening,
     printing: Printing<W, O>,
-) -> Result<ServerEnd<D, C, W>, ServerFault>
+) -> Result<ServerEnd<D, C, W>, Store<D>>
     requires going { has_stopped store ≡ false }
     requires new { writer ≡ record { history = O.history; steps = [] } }
     requires tell { (earlier : List Step) → MayTell O.history earlier (fold store.world earlier)
         (MaySignal O.history O.gives) }
     ensures printed { IfOk result (LivesTell D.model C.talked C.failed
         setting.now.life_steps W.contents O.gives store callers printing.printer) }
-    ensures nothing { IfErr result (LeavesNothing D.model) }
+    ensures unserved { IfErr result (λ back. back ≡ store) }
 {
     thread::scope(
         thread::scope_env(),
         setting.rt,
-        |scope| -> Result<ServerEnd<D, C, W>, ServerFault>
+        |scope| -> Result<ServerEnd<D, C, W>, Store<D>>
             requires { IsSend D.row × IsSend W.row × IsSend O.row × IsSync O.row × IsSync R.row ×
                 (has_stopped store ≡ false) × (writer ≡ record { history = O.history; steps = [] }) ×
                 ((earlier : List Step) → MayTell O.history earlier (fold store.world earlier)
                 (MaySignal O.history O.gives)) }
             ensures printed { IfOk result (LivesTell D.model C.talked C.failed
                 setting.entry.now.life_steps W.contents O.gives store callers printing.printer) }
-            ensures nothing { IfErr result (LeavesNothing D.model) }
+            ensures unserved { IfErr result (λ back. back ≡ store) }
         {
             let printing = start_printing(scope, setting.rt, printing);
             print_and_live(setting, store, writer, callers, opening, printing)
@@ -190,7 +199,7 @@ fn print_and_live<
     callers: C,
     opening: Opening,
     printing: Option<PromisedHandle<Printed<W>, PrintsFrom<W, O>>>,
-) -> Result<ServerEnd<D, C, W>, ServerFault>
+) -> Result<ServerEnd<D, C, W>, Store<D>>
     requires going { has_stopped store ≡ false }
     requires new { writer ≡ record { history = O.history; steps = [] } }
     requires tell { (earlier : List Step) → MayTell O.history earlier (fold store.world earlier)
@@ -199,10 +208,10 @@ fn print_and_live<
     ensures printed { IfOk result (λ ended. IfSome printing (λ handle.
         LivesTell D.model C.talked C.failed setting.now.life_steps W.contents O.gives store callers
         handle.promise.first.value ended)) }
-    ensures nothing { IfErr result (LeavesNothing D.model) }
+    ensures unserved { IfErr result (λ back. back ≡ store) }
 {
     let Some(printing) = printing else {
-        return Err(ServerFault::OutOfMemory);
+        return Err(store);
     };
     let lived = live(setting, store, writer, callers, opening);
     setting.port.fall_silent();
@@ -223,7 +232,7 @@ fn live<
     writer: Writer,
     callers: C,
     opening: Opening,
-) -> Result<Life<D, C>, ServerFault>
+) -> Result<Life<D, C>, Store<D>>
     requires going { has_stopped store ≡ false }
     requires new { writer ≡ record { history = O.history; steps = [] } }
     requires tell { (earlier : List Step) → MayTell O.history earlier (fold store.world earlier)
@@ -233,17 +242,17 @@ fn live<
     ensures same { IfOk result (λ life. life.writer.history ≡ O.history) }
     ensures last { IfOk result (λ life. life.left ≡ LifeEndAs.Resting →
         ¬ MayGoOn setting.now.life_steps life.closed) }
-    ensures nothing { IfErr result (LeavesNothing D.model) }
+    ensures unserved { IfErr result (λ back. back ≡ store) }
 {
-    let mut store = store;
+    let mut start = LifeStart::new(setting, store)?;
     let mut writer = writer;
     let mut callers = callers;
     let mut opening = Some(opening);
     for _ in setting.rt.forever() {
-        let life = serve_life(setting, store, writer, callers, opening.take())?;
-        match next_of(setting.life_steps, life) {
-            Ok((left, written, others)) => {
-                store = left;
+        let life = serve_life(setting, start, writer, callers, opening.take());
+        match next_of(setting, life) {
+            Ok((next, written, others)) => {
+                start = next;
                 writer = written;
                 callers = others;
             }
@@ -266,17 +275,54 @@ fn goes_on<D: Disk>(most: usize, closed: &Closed<D>) -> bool
     closed.settled - base == closed.trail.len() as u64
 }
 
-/// The store, what writes the history, and the callers with which the next life begins, or the last life:
-/// one that was ended, or rests and can't go on, as over a store that has stopped.
-fn next_of<D: Disk, C>(most: usize, life: Life<D, C>) -> Result<(Store<D>, Writer, C), Life<D, C>>
-    ensures goes_on { IfOk result (λ next. MayGoOn most life.closed) }
-    ensures next { IfOk result (λ next. (life.left ≡ LifeEndAs.Resting) ×
-        (next.0 ≡ life.closed.store) × (next.2 ≡ life.callers)) }
-    ensures writer { IfOk result (λ next. next.1 ≡ life.writer) }
-    ensures last { IfErr result (λ last. (last ≡ life) ×
-        (life.left ≡ LifeEndAs.Resting → ¬ MayGoOn most life.closed)) }
+/// What the next life begins with over what is left of one, which comes back where there is no memory.
+fn start_over<D: Disk, O: Telling, R: Wait>(
+    setting: &Setting<'_, R, O>,
+    closed: Closed<D>,
+) -> Result<LifeStart<D>, Closed<D>>
+    requires { has_stopped closed.store ≡ false }
+    ensures history { IfOk result (λ start. start.history ≡ O.history) }
+    ensures ledger { IfOk result (λ start.
+        start.ledger ≡ ledger_over closed.store.world closed.store.disk) }
+    ensures back { IfErr result (λ back. back ≡ closed) }
 {
-    if life.left != LifeEnd::Resting || !goes_on(most, &life.closed) {
+    let Closed {
+        store,
+        base,
+        trail,
+        settled,
+    } = closed;
+    match LifeStart::new(setting, store) {
+        Ok(start) => Ok(start),
+        Err(store) => Err(Closed {
+            store,
+            base,
+            trail,
+            settled,
+        }),
+    }
+}
+
+/// What the next life begins with, what writes the history, and the callers; or the last life: one that
+/// was ended, or rests and can't go on, as over a store that has stopped, or rests and there is no memory
+/// for the next one.
+fn next_of<D: Disk, C, O: Telling, R: Wait>(
+    setting: &Setting<'_, R, O>,
+    life: Life<D, C>,
+) -> Result<(LifeStart<D>, Writer, C), Life<D, C>>
+    ensures goes_on { IfOk result (λ next. MayGoOn setting.now.life_steps life.closed) }
+    ensures next { IfOk result (λ next. (life.left ≡ LifeEndAs.Resting) ×
+        (next.0.history ≡ O.history) ×
+        (next.0.ledger ≡ ledger_over life.closed.store.world life.closed.store.disk) ×
+        (next.2 ≡ life.callers)) }
+    ensures writer { IfOk result (λ next. next.1 ≡ life.writer) }
+    ensures last { IfErr result (λ last. (last.closed ≡ life.closed) × (last.writer ≡ life.writer) ×
+        (last.callers ≡ life.callers) ×
+        (((last.left ≡ life.left) × (life.left ≡ LifeEndAs.Resting →
+        ¬ MayGoOn setting.now.life_steps life.closed)) ⊎
+        ((last.left ≡ LifeEndAs.Unfollowed) × (life.left ≡ LifeEndAs.Resting)))) }
+{
+    if life.left != LifeEnd::Resting || !goes_on(setting.life_steps, &life.closed) {
         return Err(life);
     }
     let Life {
@@ -285,7 +331,15 @@ fn next_of<D: Disk, C>(most: usize, life: Life<D, C>) -> Result<(Store<D>, Write
         callers,
         left: _,
     } = life;
-    Ok((closed.store, writer, callers))
+    match start_over(setting, closed) {
+        Ok(start) => Ok((start, writer, callers)),
+        Err(closed) => Err(Life {
+            closed,
+            writer,
+            callers,
+            left: LifeEnd::Unfollowed,
+        }),
+    }
 }
 
 /// How a server ended, by its last life. One that rests is the last only where it can't go on, as over a
@@ -319,6 +373,7 @@ fn end_of<D: Disk, C, W: Write>(
     writer.take_back(history, reader);
     let served = match left {
         LifeEnd::Resting => Some(ServerFault::Device),
+        LifeEnd::Unfollowed => Some(ServerFault::OutOfMemory),
         LifeEnd::Unprinted => Some(unprinted.unwrap_or(ServerFault::OutOfMemory)),
         LifeEnd::Ended(served) => served,
     };

@@ -1,12 +1,16 @@
-//! All the shares of an engine.
+//! All the shares of an engine, and one that is lost.
 
-use crate::engines::{Doing, does};
+ghost use Rattle.std.specs.Prelude.{◌≡◌};
+
+use crate::engines::{Doing, does, same};
 use crate::scripts::adding;
 use coord_disk::{Disk, MemDisk};
-use coord_engine::{Engine, Origin, Share};
+use coord_engine::{CloseFault, Closed, Engine, Origin, Retired, Share};
+use coord_ledger::Seen;
 use std::alloc::Global;
 use std::process::Abort;
 use std::sync::Wait;
+use std::time::Clock;
 
 /// How many shares an engine gives out.
 const MOST: usize = 65_535;
@@ -36,5 +40,52 @@ fn the_last_share_alone_is_refused(rt: HostRuntime) {
         MemDisk::new(rt.alloc()),
         &[step],
         Doing::GivesAll,
+    );
+}
+
+/// A caller has a step accepted, and loses its share once that is settled.
+pub(crate) fn loses_its_share<D: Disk, L: Origin, R: Wait + Clock + Abort>(
+    rt: &R,
+    alloc: Global,
+    engine: &Engine<D, L>,
+) -> Vec<Share<L>> {
+    let mut share = engine.share(rt).expect(rt, "no share");
+    let step = adding(2, 1, 2).expect(rt, "no step");
+    let ticket = engine.submit(rt, step, &mut share).expect(rt, "no ticket");
+    ticket.forget();
+    let flight = engine.flush_once(rt).expect(rt, "no flight");
+    flight.expect(rt, "no releases").lose_rest();
+    drop(share);
+    Vec::new(alloc)
+}
+
+/// What is left of an engine all the same: both its steps, and they are settled.
+pub(crate) fn retired<D: Disk, L: Origin, R: Wait + Clock + Abort>(
+    rt: &R,
+    engine: Engine<D, L>,
+    shares: Vec<Share<L>>,
+) -> Closed<D>
+    requires { L.parts ≡ 65536 }
+{
+    let Retired {
+        closed,
+        writer,
+        refused,
+    } = engine.retire(rt, shares, &Seen::new());
+    drop(writer);
+    same(rt, &refused, &Some(CloseFault::SharesMissing));
+    same(rt, &(closed.trail.len(), closed.settled), &(2, 2));
+    closed
+}
+
+#[test]
+fn an_engine_leaves_its_ledger_without_a_share(rt: HostRuntime) {
+    let step = adding(1, 1, 1).expect(&rt, "no step");
+    does(
+        &rt,
+        rt.alloc(),
+        MemDisk::new(rt.alloc()),
+        &[step],
+        Doing::LosesItsShare,
     );
 }

@@ -80,7 +80,9 @@ fn ends_last<R: Threads + Wait + Clock + Sync + Abort>(
 ) -> bool {
     assert!(rt; !store.stopped());
     let callers = Accepted::new(rt, listener, Patience::usual());
-    let ended = serve_lives(rt, alloc, MOST, store, callers, output).expect(rt, "no end");
+    let ended = serve_lives(rt, alloc, MOST, store, callers, output)
+        .ok()
+        .expect(rt, "no end");
     let (served, printer) = ended.into_closed();
     drop(printer);
     match served {

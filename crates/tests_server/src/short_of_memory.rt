@@ -42,7 +42,9 @@ fn told_at<R: Threads + Wait + Clock + Sync + Abort>(
         .expect(rt, "no store");
     assert!(rt; !store.stopped());
     let callers = Accepted::new(rt, listener, Patience::usual());
-    let ended = serve_callers(rt, alloc, store, callers, Refusing { kind }).expect(rt, "no end");
+    let ended = serve_callers(rt, alloc, store, callers, Refusing { kind })
+        .ok()
+        .expect(rt, "no end");
     let fault = ended.fault();
     drop(ended);
     fault

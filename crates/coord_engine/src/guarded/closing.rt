@@ -1,18 +1,19 @@
 //! The value under the lock taken apart.
 
-ghost use Rattle.std.specs.Prelude.{◌≡◌, ◌↔◌, ◌+◌, ◌≤◌, drop, length, is_some, sum_by, IfErr, IfOk, IsTrue, Some};
+ghost use Rattle.std.specs.Prelude.{◌≡◌, ◌↔◌, ◌+◌, ◌≤◌, drop, false, true, length, is_none, is_some, sum_by, IfErr, IfNone, IfOk, IfSome, IsTrue, Some};
 ghost use Rattle.coord_engine.specs.Closing.{IsSince, MayClose, RefusesClosing};
 ghost use Rattle.coord_engine.specs.Named.{AreNoted};
 ghost use Rattle.coord_engine.specs.Past.{StaysAlong};
 ghost use Rattle.coord_engine.specs.Released.{HasReadSettled};
 ghost use Rattle.coord_ledger.specs.machine.Log.{kinds_of, settled_count, settled_steps, settled_world};
+ghost use Rattle.coord_engine.specs.Threads.{IsLeftOf};
 ghost use Rattle.coord_store.specs.Kept.{has_stopped};
 
 use super::Guarded;
 use super::comparing::{all_ascending, all_noted};
-use crate::{CloseFault, Closed, Origin, Share, Writer};
+use crate::{CloseFault, Closed, Origin, Retired, Share, Writer};
 use coord_disk::Disk;
-use coord_ledger::Seen;
+use coord_ledger::{Ledger, Seen};
 use coord_types::{Kind, Step};
 use std::sync::ledger::{Book, Ledger as Count, Share as Part};
 
@@ -47,6 +48,26 @@ pub fn steps_from(trail: &[Step], start: usize) -> &[Step]
     ensures { result.now ≡ drop start trail.now }
 {
     &trail[start..]
+}
+
+/// What is left of a ledger whose store is at home. It takes no memory.
+fn left_of<D: Disk>(ledger: Ledger<D>) -> Closed<D>
+    requires home { is_none ledger.disk ≡ false }
+    ensures store { (ledger.disk ≡ Some result.store.disk) ×
+        (result.store.world ≡ settled_world ledger.log) ×
+        (has_stopped result.store ≡ is_some ledger.log.doubt) }
+    ensures log { (result.base ≡ ledger.log.base) × (result.trail.items ≡ ledger.log.trail) ×
+        (result.settled ≡ settled_count ledger.log) }
+{
+    match ledger.into_parts() {
+        Ok((store, base, trail, settled)) => Closed {
+            store,
+            base,
+            trail,
+            settled,
+        },
+        Err(_) => unreachable!(),
+    }
 }
 
 impl<D: Disk, L: Origin> Guarded<D, L> {
@@ -122,17 +143,79 @@ impl<D: Disk, L: Origin> Guarded<D, L> {
         } = self;
         gather(book, rest, shares);
         ledger.lemma_log_is_consistent();
-        match ledger.into_parts() {
-            Ok((store, base, trail, settled)) => {
-                let closed = Closed {
-                    store,
-                    base,
-                    trail,
-                    settled,
-                };
-                Ok((closed, writer))
+        Ok((left_of(ledger), writer))
+    }
+
+    /// Takes the ledger apart whatever the shares noted. What writes the history comes back too. It takes
+    /// no memory.
+    fn abandon(self) -> (Closed<D>, Writer)
+        requires home { is_none self.ledger.disk ≡ false }
+        ensures store { (self.ledger.disk ≡ Some result.0.store.disk) ×
+            (result.0.store.world ≡ settled_world self.ledger.log) ×
+            (has_stopped result.0.store ≡ is_some self.ledger.log.doubt) }
+        ensures log { (result.0.base ≡ self.ledger.log.base) ×
+            (result.0.trail.items ≡ self.ledger.log.trail) ×
+            (result.0.settled ≡ settled_count self.ledger.log) }
+        ensures along { StaysAlong D.model L.disk L.base result.0.trail.items result.0.store.disk }
+        ensures written { HasReadSettled L.history L.earlier (settled_steps self.ledger.log) result.1 }
+    {
+        let Guarded {
+            alloc: _,
+            ledger,
+            book: _,
+            writer,
+            rest: _,
+            given: _,
+            start: _,
+            finishing: _,
+            in_hand: _,
+            awaited: _,
+        } = self;
+        ledger.lemma_log_is_consistent();
+        (left_of(ledger), writer)
+    }
+
+    /// Takes the ledger apart in any case, unless a flight is out: as `close` does; or, where `close`
+    /// refuses these shares, whatever they noted, and says why. It takes no memory.
+    pub fn retire(
+        self,
+        shares: Vec<Share<L>>,
+        seen: &Seen,
+    ) -> Result<Retired<D>, (Self, Vec<Share<L>>)>
+        requires { L.parts ≡ 65536 }
+        ensures left { IfOk result (λ left. IsLeftOf left.closed.store left.closed.base
+            left.closed.trail.items left.closed.settled self) }
+        ensures closed { IfOk result (λ left. IfNone left.refused (MayClose self shares.items)) }
+        ensures refused { IfOk result (λ left.
+            IfSome left.refused (RefusesClosing self shares.items seen.now)) }
+        ensures since { IfOk result (λ left. IfNone left.refused
+            (IsSince L.base L.before shares.items left.closed.base left.closed.trail.items)) }
+        ensures seen { IfOk result (λ left. IfNone left.refused (seen.now ≤ left.closed.settled)) }
+        ensures along { IfOk result (λ left.
+            StaysAlong D.model L.disk L.base left.closed.trail.items left.closed.store.disk) }
+        ensures written { IfOk result (λ left.
+            HasReadSettled L.history L.earlier (settled_steps self.ledger.log) left.writer) }
+        ensures out { IfErr result (λ back. (back.0 ≡ self) × (back.1.items ≡ shares.items) ×
+            (is_none self.ledger.disk ≡ true)) }
+    {
+        if self.ledger.is_out() {
+            return Err((self, shares));
+        }
+        match self.close(shares, seen) {
+            Ok((closed, writer)) => Ok(Retired {
+                closed,
+                writer,
+                refused: None,
+            }),
+            Err((fault, guarded, shares)) => {
+                drop(shares);
+                let (closed, writer) = guarded.abandon();
+                Ok(Retired {
+                    closed,
+                    writer,
+                    refused: Some(fault),
+                })
             }
-            Err(_) => unreachable!(),
         }
     }
 }

@@ -2,20 +2,17 @@ use Rattle.std.proofs.Common.{◌≡◌, Err, IfOk, false, inl, rules, subst, sy
 use Rattle.std.proofs.KnownBytes.{Keeps-refl}
 use Rattle.coord_store.specs.Kept.{has_stopped}
 use Rattle.coord_commands.proofs.Endings.{err_last}
-use Rattle.coord_commands.proofs.Opening.{ended, lost, not_bound, served_whole}
+use Rattle.coord_commands.proofs.Opening.{ended, not_begun, not_bound, served_whole}
 use Rattle.coord_commands.specs.Faults.{fault_of_server}
 use Rattle.coord_commands.specs.Serving.{ClosesAndPrints, EndsServing, ServedWithOutput}
 use Rattle.coord_commands.proofs.serving.serve_at.Goals as goal
 
-pub returns-in_err-served-in-Ok-clause-fault : goal.returns-in_err-served-in-Ok-clause-fault
-returns-in_err-served-in-Ok-clause-fault g c =
-    let before = g.F.Folder.holds c.args.folder.now c.args.file.now in
-    let after = g.F.Folder.holds c.opened.new.folder c.args.file.now in
+-- a server had nothing to begin with
+pub returns-in-Err-served-clause-fault : goal.returns-in-Err-served-clause-fault
+returns-in-Err-served-clause-fault g c =
     let old = g.W.Write.contents c.args.output.now in
-    let new = g.W.Write.contents c.serve_open.new.output in
-    let fault = c.in_err-served-in-Ok.field-0.0 in
-    let told : c.from_residual-in_err-served-in-Ok.result ≡ Err (fault_of_server fault) = search rules in
-    err_last (EndsServing g.F.Disk.Disk.model before after old new) c.from_residual-in_err-served-in-Ok.result (fault_of_server fault) told (lost g.F.Disk.Disk.model before after old new c.in_ok-store.store fault c.in_ok-store.ensures.opened c.in_err-served-in-Ok.ensures.nothing)
+    let new = g.W.Write.contents c.serve_open-served.new.output in
+    not_begun g.F.Disk.Disk.model (g.F.Folder.holds c.args.folder.now c.args.file.now) (g.F.Folder.holds c.close-in-Err-served.new.self c.args.file.now) old new c.in_ok-store.store c.in-Err-served.store c.into_disk-in-Err-served.result c.in_ok-store.ensures.opened c.in-Err-served.ensures.unserved c.into_disk-in-Err-served.ensures.disk c.close-in-Err-served.ensures
 
 pub returns-in_err-store-clause-fault : goal.returns-in_err-store-clause-fault
 returns-in_err-store-clause-fault g c =

@@ -44,10 +44,10 @@ returns-clause-since g c =
     let count : sum_by (λ notes. length notes) shares ≡ length steps = omega (arith, c.gather.ensures, c.self.invariant.3, start, trail, length-drop c.args.self.start c.args.self.ledger.log.trail) in
     let is = subst (λ (x : GuardedState g.row.D.Denot). IsNamed shares (x.ledger.log.base.count + x.start) (drop x.start x.ledger.log.trail) (drop x.start (kinds_of x.ledger.log.base x.ledger.log.trail))) (sym c.self.view_is) (named shares n steps kinds (as_many_kinds c.args.self.ledger.log.base c.args.self.ledger.log.trail c.args.self.start) are count) in
     let inv = c.self.invariant in
-    since g.L.Origin.base g.L.Origin.before shares c.self.inside.ledger.log c.self.inside.start c.in-Ok.base c.in-Ok.trail.items inv.4 inv.5 inv.6 is c.in-Ok.ensures.base c.in-Ok.ensures.trail
+    since g.L.Origin.base g.L.Origin.before shares c.self.inside.ledger.log c.self.inside.start c.left_of.result.base c.left_of.result.trail.items inv.4 inv.5 inv.6 is c.left_of.ensures.log.0 c.left_of.ensures.log.1
 
 pub returns-clause-along : goal.returns-clause-along
 returns-clause-along g c =
     let inv = c.self.invariant in
-    let is = c.in-Ok.ensures in
-    closed_along g.D.Disk.model g.L.Origin.disk g.L.Origin.base c.in-Ok.trail.items c.self.inside.ledger c.in-Ok.store.disk is.home is.trail inv.4 inv.8
+    let is = c.left_of.ensures in
+    closed_along g.D.Disk.model g.L.Origin.disk g.L.Origin.base c.left_of.result.trail.items c.self.inside.ledger c.left_of.result.store.disk is.store.0 is.log.1 inv.4 inv.8

@@ -9,5 +9,5 @@ returns g c =
       printed = told_from c.start_printing-printing.result c.print_and_live.result (λ handle. handle.promise.first.value) c.captures.printing.printer
           (λ printer ended. LivesTell g.D.Disk.model g.C.Callers.talked g.C.Callers.failed setting.life_steps g.W.Write.contents g.O.Telling.gives c.captures.store c.captures.callers printer ended)
           c.print_and_live.ensures.starts c.start_printing-printing.ensures c.print_and_live.ensures.printed;
-      nothing = c.print_and_live.ensures.nothing;
+      unserved = c.print_and_live.ensures.unserved;
     }
