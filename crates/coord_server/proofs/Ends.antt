@@ -1,8 +1,8 @@
 -- A server of which no fault is told was closed by a line.
-use Rattle.std.proofs.Common.{◌≡◌, ℕ, zero, suc, ◌+◌, ◌≤◌, ◌||◌, not, nat_le, List, [], ◌∷◌, ◌++◌, All, length, Bool, true, false, Option, None, Some, inl, inr, refl, sym, ap, ◌∙◌, subst, append_assoc, arith, drop}
+use Rattle.std.proofs.Common.{◌≡◌, ◌⊎◌, ℕ, zero, suc, ◌+◌, ◌≤◌, ◌||◌, not, nat_le, List, [], ◌∷◌, ◌++◌, All, length, Bool, true, false, Option, None, Some, IfNone, IfSome, inl, inr, refl, sym, ap, ◌∙◌, subst, append_assoc, arith, drop}
 use Rattle.std.proofs.lemmas.List.Elements.{All-push}
 use Rattle.std.proofs.lemmas.Bool.Decides.{nat_tests}
-use Rattle.coord_engine.specs.Facade.{AtSomeMoment, Basis, Closes, IsLeftOf, IsNamed, IsOfPacket, IsSince, RefusesClosing, based_on}
+use Rattle.coord_engine.specs.Facade.{AtSomeMoment, Basis, Closes, IsLeftOf, IsNamed, IsOfPacket, IsSince, RefusesClosing, Retires, based_on}
 use Rattle.coord_engine.specs.declared.closed.CloseFault.{CloseFault}
 use Rattle.coord_engine.specs.declared.closed.Closed.{Closed}
 use Rattle.coord_types.specs.declared.steps.Kind.{Kind}
@@ -33,6 +33,12 @@ named_of shares count before trail kinds none named = grind arith
 one_history : {D P : Type 0} (b : Basis D) (desk : DeskState P) (shares : List (List Note)) (left : Closed D) → b.before ≡ [] → AddsWorkers (desk.notes ∷ []) shares
     → IsSince b.base b.before shares left.base left.trail.items → AtSomeMoment b (Closes {D = D} left.store left.base left.trail.items left.settled shares) → desk.seen ≤ left.settled → IsOneHistory b desk left
 one_history b desk shares left h1 h2 h3 h4 h5 = grind (arith, named_of)
+
+-- what an engine leaves in any case is what a life leaves with its shares
+pub leaves_shares : {D V : Type 0} (b : Basis D) (shares : List (List Note)) (seen : ℕ) (served : LifeEnd) (life : Life D V) (refused : Option CloseFault) → (refused ≡ None → life.left ≡ served) → IfSome refused (λ why. life.left ≡ Ended (Some (fault.NotClosed why)))
+    → AtSomeMoment b (Retires {D = D} life.closed.store life.closed.base life.closed.trail.items life.closed.settled refused shares seen) → IfNone refused (IsSince b.base b.before shares life.closed.base life.closed.trail.items) → IfNone refused (seen ≤ life.closed.settled) → LeavesShares b shares seen served life
+leaves_shares b shares seen served life None named told at since settled = inl (named refl, since, record { state = at.state; held = at.held; so = (at.so.1, at.so.0) }, settled)
+leaves_shares b shares seen served life (Some why) named told at since settled = inr (why, told, record { state = at.state; held = at.held; so = (at.so.0, at.so.2) })
 
 module _ {D : Type 0} (b : Basis D) {V : Type 0} (talked : V → List Talk → V → Type 0) (failed : V → V → Type 0) (most : ℕ) where
   closed_if_none : (stopped : Bool) (served : Option ServerFault) (is_broken : Bool) (port : Local) (v w : V) (desk : DeskState Local) → fault_at_end stopped served is_broken ≡ None → Serves b talked failed most port v w desk served → IsServedToClose b most port desk

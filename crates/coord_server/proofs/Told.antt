@@ -100,10 +100,10 @@ fits_of log (Some size) P is = is.1
 pub lives_leave_steps : (D P : Type 0) → LivesLeaveSteps D P
 lives_leave_steps D P b desk left history keeps image is =
     let g = history.closed.state in
-    let so = history.closed.so in
+    let so = history.closed.so.1 in
     let held = history.closed.held in
-    let images : LedgerGives b.present g.ledger left.store.disk = of_disk g.ledger.disk left.store.disk (λ disk. b.keeps_model disk ≡ true → LedgerGives b.present g.ledger disk) so.4 held.images keeps in
-    gives left g.ledger.log g.ledger.log.doubt image refl so.1 so.2 so.3 so.5 so.6 (fits_of g.ledger.log g.ledger.log.doubt (λ _. g.ledger.out ≡ None) held.doubt) (images image is)
+    let images : LedgerGives b.present g.ledger left.store.disk = of_disk g.ledger.disk left.store.disk (λ disk. b.keeps_model disk ≡ true → LedgerGives b.present g.ledger disk) so.3 held.images keeps in
+    gives left g.ledger.log g.ledger.log.doubt image refl so.0 so.1 so.2 so.4 so.5 (fits_of g.ledger.log g.ledger.log.doubt (λ _. g.ledger.out ≡ None) held.doubt) (images image is)
 
 -- ---- how long a life is
 

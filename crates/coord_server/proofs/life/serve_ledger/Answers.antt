@@ -1,3 +1,4 @@
+use Rattle.std.proofs.Common.{◌∙◌}
 use Rattle.coord_engine.specs.State.{based_on}
 use Rattle.coord_server.proofs.Ends.{lived, unbegun}
 use Rattle.coord_server.proofs.life.serve_ledger.Goals as goal
@@ -8,14 +9,14 @@ returns-in-Ok-clause-life g c =
     let completed = c.in-Ok.completed in
     lived b g.C.Callers.talked g.C.Callers.failed c.args.setting.now.life_steps c.args.callers completed.callers completed.left completed.shares.items completed.seen c.retired.result c.requires.before.1 c.in-Ok.ensures.completed c.retired.ensures.left c.retired.ensures.callers
 
-pub returns-in-None-clause-life : goal.returns-in-None-clause-life
-returns-in-None-clause-life g c =
+pub returns-in_default-clause-life : goal.returns-in_default-clause-life
+returns-in_default-clause-life g c =
     let b = based_on g.D.Disk.model g.L.Origin.base g.L.Origin.before in
-    let is = c.unbegun-in-None.ensures in
-    unbegun b g.C.Callers.talked g.C.Callers.failed c.args.setting.now.life_steps _ c.args.callers c.unbegun-in-None.result (g.met.C.Callers.at_rest c.args.callers) is.unserved.0 is.unserved.1 is.left
+    let is = c.unbegun.ensures in
+    unbegun b g.C.Callers.talked g.C.Callers.failed c.args.setting.now.life_steps c.args.setting.now.port c.args.callers c.unbegun.result (g.met.C.Callers.at_rest c.args.callers) is.unserved.0 is.unserved.1 is.left
 
 pub returns-in-Err-clause-life : goal.returns-in-Err-clause-life
 returns-in-Err-clause-life g c =
     let b = based_on g.D.Disk.model g.L.Origin.base g.L.Origin.before in
-    let is = c.unbegun.ensures in
-    unbegun b g.C.Callers.talked g.C.Callers.failed c.args.setting.now.life_steps _ c.args.callers c.unbegun.result (g.met.C.Callers.at_rest c.args.callers) (is.unserved.0 ∙ c.in-Err.ensures.unserved.0) is.unserved.1 is.left
+    let is = c.unbegun-in-Err.ensures in
+    unbegun b g.C.Callers.talked g.C.Callers.failed c.args.setting.now.life_steps c.args.setting.now.port c.args.callers c.unbegun-in-Err.result (g.met.C.Callers.at_rest c.args.callers) (is.unserved.0 ∙ c.in-Err.ensures.unserved.0) is.unserved.1 is.left

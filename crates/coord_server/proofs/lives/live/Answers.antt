@@ -1,4 +1,4 @@
-use Rattle.std.proofs.Common.{◌≡◌, ap, inl, refl, subst, sym, ◌∙◌}
+use Rattle.std.proofs.Common.{◌≡◌, [], ◌++◌, ap, inl, refl, subst, sym, ◌∙◌}
 use Rattle.coord_engine.specs.Facade.{Beginning, MayTell, first_settled}
 use Rattle.coord_engine.specs.declared.closed.Closed.{Closed}
 use Rattle.coord_engine.specs.State.{based_on}
@@ -50,8 +50,8 @@ returns-in-Err-clause-lived g c =
 pub returns-in-Err-clause-same : goal.returns-in-Err-clause-same
 returns-in-Err-clause-same g c = ap (λ (b : Beginning). b.history) (c.in-Err.ensures.last.1 ∙ c.serve_life-life.ensures.written) ∙ c.loop.invariant.3
 
-pub serve_life-requires-clause-tell : goal.serve_life-requires-clause-tell
-serve_life-requires-clause-tell g c =
+pub serve_life-life-requires-clause-tell : goal.serve_life-life-requires-clause-tell
+serve_life-life-requires-clause-tell g c =
     let history = g.O.Telling.history in
     let over = c.loop.invariant.4 in
     let base = ap (λ (l : LedgerState g.row.D.Denot). l.log.base) over.1 in
