@@ -96,11 +96,15 @@ module _ {D : Type 0} (model : DiskModel D) where
 
   -- since no socket could be bound
   pub not_bound : (before after : Option Present) (old : Option (List ℕ)) (store : Kept D) (back : D) → IsOpenedStore model before store → back ≡ store.disk → IfSome after (λ known. known_of model back ≡ Some known) → EndsServing model before after old old Socket
-  not_bound before after old store back is same put = inr (inl ((refl, as_it_was before after store back is same put), Keeps-refl old))
+  not_bound before after old store back is same put =
+      let was = as_it_was before after store back is same put in
+      inr (inl ((refl, was.0, was.1), Keeps-refl old))
 
   -- since a server had nothing to begin with
   pub not_begun : (before after : Option Present) (old new : Option (List ℕ)) (store left : Kept D) (back : D) → IsOpenedStore model before store → left ≡ store → back ≡ left.disk → IfSome after (λ known. known_of model back ≡ Some known) → EndsServing model before after old new OutOfMemory
-  not_begun before after old new store left back is same home put = inr (inr (inl (refl, as_it_was before after store back is (home ∙ ap (λ (k : Kept D). k.disk) same) put)))
+  not_begun before after old new store left back is same home put =
+      let was = as_it_was before after store back is (home ∙ ap (λ (k : Kept D). k.disk) same) put in
+      inr (inr (inl (refl, was.0, was.1)))
 
   -- a server over it has ended, and its disk is put back
   pub ended : (before after : Option Present) (old new : Option (List ℕ)) (store : Kept D) (told : ServerFault × Closed D) (back : D) → IsOpenedStore model before store → ServedWithOutput model store old new (Err told)

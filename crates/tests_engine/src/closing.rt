@@ -43,11 +43,15 @@ fn the_last_share_alone_is_refused(rt: HostRuntime) {
     );
 }
 
-/// A caller has a step accepted, and loses its share once that is settled.
-pub(crate) fn loses_its_share<D: Disk, L: Origin, R: Wait + Clock + Abort>(
+/// How many steps are settled where an engine is retired here.
+const SETTLED: u64 = 2;
+
+/// A caller has a step accepted and settled. Its share is given back, or lost.
+pub(crate) fn settles_its_step<D: Disk, L: Origin, R: Wait + Clock + Abort>(
     rt: &R,
     alloc: Global,
     engine: &Engine<D, L>,
+    is_lost: bool,
 ) -> Vec<Share<L>> {
     let mut share = engine.share(rt).expect(rt, "no share");
     let step = adding(2, 1, 2).expect(rt, "no step");
@@ -55,37 +59,58 @@ pub(crate) fn loses_its_share<D: Disk, L: Origin, R: Wait + Clock + Abort>(
     ticket.forget();
     let flight = engine.flush_once(rt).expect(rt, "no flight");
     flight.expect(rt, "no releases").lose_rest();
-    drop(share);
-    Vec::new(alloc)
+    let mut shares = Vec::new(alloc);
+    if is_lost {
+        drop(share);
+    } else {
+        shares.push(share).expect(rt, "no memory");
+    }
+    shares
 }
 
-/// What is left of an engine all the same: both its steps, and they are settled.
+/// What is left of an engine that is retired where this step was seen, for this reason if for one: both
+/// its steps, and they are settled.
 pub(crate) fn retired<D: Disk, L: Origin, R: Wait + Clock + Abort>(
     rt: &R,
     engine: Engine<D, L>,
     shares: Vec<Share<L>>,
+    saw: u64,
+    why: Option<CloseFault>,
 ) -> Closed<D>
     requires { L.parts ≡ 65536 }
 {
+    let mut seen = Seen::new();
+    seen.note(saw);
     let Retired {
         closed,
         writer,
         refused,
-    } = engine.retire(rt, shares, &Seen::new());
+    } = engine.retire(rt, shares, &seen);
     drop(writer);
-    same(rt, &refused, &Some(CloseFault::SharesMissing));
-    same(rt, &(closed.trail.len(), closed.settled), &(2, 2));
+    same(rt, &refused, &why);
+    same(
+        rt,
+        &(closed.trail.len() as u64, closed.settled),
+        &(SETTLED, SETTLED),
+    );
     closed
 }
 
+/// With its share and without, and where one more step was seen than is settled.
 #[test]
-fn an_engine_leaves_its_ledger_without_a_share(rt: HostRuntime) {
+fn an_engine_leaves_its_ledger_in_any_case(rt: HostRuntime) {
     let step = adding(1, 1, 1).expect(&rt, "no step");
-    does(
-        &rt,
-        rt.alloc(),
-        MemDisk::new(rt.alloc()),
-        &[step],
-        Doing::LosesItsShare,
-    );
+    for (is_lost, saw, why) in [
+        (false, SETTLED, None),
+        (true, SETTLED, Some(CloseFault::SharesMissing)),
+        (false, SETTLED + 1, Some(CloseFault::NotSettled)),
+    ] {
+        does(
+            &rt,
+            rt.alloc(),
+            MemDisk::new(rt.alloc()),
+            &[step],
+            Doing::Retires(is_lost, saw, why),
+        );
+    }
 }

@@ -3,7 +3,7 @@
 ghost use Rattle.std.specs.Prelude.{◌≡◌, IfSome};
 ghost use Rattle.coord_engine.specs.Past.{IsPastOf};
 
-use crate::closing::{gives_all, loses_its_share, retired};
+use crate::closing::{gives_all, retired, settles_its_step};
 use crate::handed::{flushes_all, hands_each};
 use crate::kept::takes_new_first;
 use crate::long_life::{has_kept_all, keeps_all};
@@ -40,7 +40,7 @@ pub(crate) fn same<T: PartialEq + Debug>(rt: &impl Abort, found: &T, wanted: &T)
 #[derive(Clone, Copy)]
 pub(crate) enum Doing<'a> {
     GivesAll,
-    LosesItsShare,
+    Retires(bool, u64, Option<CloseFault>),
     HandsEach,
     FlushesAll,
     KeepsAll,
@@ -63,7 +63,7 @@ fn done<D: Disk + Send, L: Origin + Send + Sync, R: Threads + Wait + Clock + Syn
 ) -> Vec<Share<L>> {
     match doing {
         Doing::GivesAll => gives_all(rt, alloc, engine),
-        Doing::LosesItsShare => loses_its_share(rt, alloc, engine),
+        Doing::Retires(is_lost, ..) => settles_its_step(rt, alloc, engine, is_lost),
         Doing::HandsEach => hands_each(rt, alloc, engine),
         Doing::FlushesAll => flushes_all(rt, alloc, engine),
         Doing::KeepsAll => keeps_all(rt, alloc, engine),
@@ -182,7 +182,7 @@ fn done_over<D: Disk + Send, L: Origin + Send + Sync, R: Threads + Wait + Clock 
     let shares = done(rt, alloc, &engine, doing);
     let notes = notes_of(rt, alloc, &shares);
     let closed = match doing {
-        Doing::LosesItsShare => retired(rt, engine, shares),
+        Doing::Retires(_, saw, why) => retired(rt, engine, shares, saw, why),
         _ => closed(rt, engine, shares),
     };
     is_left(rt, doing, &notes, &closed);

@@ -1,4 +1,4 @@
-use Rattle.std.proofs.Common.{◌≡◌, Err, IfOk, false, inl, rules, subst, sym}
+use Rattle.std.proofs.Common.{◌≡◌, Err, IfOk, Ok, ap, false, inl, rules, subst, sym, ◌∙◌}
 use Rattle.std.proofs.KnownBytes.{Keeps-refl}
 use Rattle.coord_store.specs.Kept.{has_stopped}
 use Rattle.coord_commands.proofs.Endings.{err_last}
@@ -12,7 +12,7 @@ pub returns-in-Err-served-clause-fault : goal.returns-in-Err-served-clause-fault
 returns-in-Err-served-clause-fault g c =
     let old = g.W.Write.contents c.args.output.now in
     let new = g.W.Write.contents c.serve_open-served.new.output in
-    not_begun g.F.Disk.Disk.model (g.F.Folder.holds c.args.folder.now c.args.file.now) (g.F.Folder.holds c.close-in-Err-served.new.self c.args.file.now) old new c.in_ok-store.store c.in-Err-served.store c.into_disk-in-Err-served.result c.in_ok-store.ensures.opened c.in-Err-served.ensures.unserved c.into_disk-in-Err-served.ensures.disk c.close-in-Err-served.ensures
+    not_begun g.F.Disk.Disk.model (g.F.Folder.holds c.args.folder.now c.args.file.now) (g.F.Folder.holds c.close-in-Err-served.new.self c.args.file.now) old new c.in_ok-store.store c.in-Err-served.store c.into_disk.result c.in_ok-store.ensures.opened c.in-Err-served.ensures.unserved c.into_disk.ensures.disk c.close-in-Err-served.ensures
 
 pub returns-in_err-store-clause-fault : goal.returns-in_err-store-clause-fault
 returns-in_err-store-clause-fault g c =
@@ -25,31 +25,31 @@ returns-in_err-store-clause-fault g c =
 
 pub returns-in-Err-clause-fault : goal.returns-in-Err-clause-fault
 returns-in-Err-clause-fault g c =
-    not_bound g.F.Disk.Disk.model (g.F.Folder.holds c.args.folder.now c.args.file.now) (g.F.Folder.holds c.close-in-Err.new.self c.args.file.now) (g.W.Write.contents c.args.output.now) c.in_ok-store.store c.into_disk.result c.in_ok-store.ensures.opened c.into_disk.ensures.disk c.close-in-Err.ensures
+    not_bound g.F.Disk.Disk.model (g.F.Folder.holds c.args.folder.now c.args.file.now) (g.F.Folder.holds c.close-in-Err.new.self c.args.file.now) (g.W.Write.contents c.args.output.now) c.in_ok-store.store c.into_disk-in-Err.result c.in_ok-store.ensures.opened c.into_disk-in-Err.ensures.disk c.close-in-Err.ensures
 
 -- a line has closed it
-pub returns-in-Ok-served-clause-served : goal.returns-in-Ok-served-clause-served
-returns-in-Ok-served-clause-served g c =
+pub returns-in-Ok-Ok-clause-served : goal.returns-in-Ok-Ok-clause-served
+returns-in-Ok-Ok-clause-served g c =
     let m = g.F.Disk.Disk.model in
     let store = c.in_ok-store.store in
     let old = g.W.Write.contents c.args.output.now in
-    let new = g.W.Write.contents c.serve_open.new.output in
-    let served = c.in_ok-served-in-Ok.ensures in
-    let is = c.in-Ok-served.is in
-    served_whole m (g.F.Folder.holds c.args.folder.now c.args.file.now) (g.F.Folder.holds c.close.new.self c.args.file.now) old new store c.in-Ok-served.closed c.left.result c.in_ok-store.ensures.opened (subst (λ r. IfOk r (ClosesAndPrints m store old new)) is served.closes)
-    c.closed_lives_are_one.ensures (c.left.ensures.bytes (subst (λ r. IfOk r (λ closed. has_stopped closed.store ≡ false)) is served.going)) c.left.ensures.disk c.close.ensures
+    let new = g.W.Write.contents c.serve_open-served.new.output in
+    let served = c.serve_open-served.ensures in
+    let is = c.in-Ok-Ok.is ∙ ap (λ v. Ok v) c.in-Ok-Ok.field-0-is in
+    served_whole m (g.F.Folder.holds c.args.folder.now c.args.file.now) (g.F.Folder.holds c.close.new.self c.args.file.now) old new store c.in-Ok-Ok.closed c.left.result c.in_ok-store.ensures.opened (subst (λ r. IfOk r (λ told. IfOk told (ClosesAndPrints m store old new))) is served.closes)
+    c.closed_lives_are_one.ensures (c.left.ensures.bytes (subst (λ r. IfOk r (λ told. IfOk told (λ closed. has_stopped closed.store ≡ false))) is served.going)) c.left.ensures.disk c.close.ensures
 
 -- a server that has ended with a fault
-pub returns-in-Err-served-clause-fault : goal.returns-in-Err-served-clause-fault
-returns-in-Err-served-clause-fault g c =
+pub returns-in-Ok-Err-clause-fault : goal.returns-in-Ok-Err-clause-fault
+returns-in-Ok-Err-clause-fault g c =
     let m = g.F.Disk.Disk.model in
     let store = c.in_ok-store.store in
     let before = g.F.Folder.holds c.args.folder.now c.args.file.now in
-    let after = g.F.Folder.holds c.close-in-Err-served.new.self c.args.file.now in
+    let after = g.F.Folder.holds c.close-in-Ok-Err.new.self c.args.file.now in
     let old = g.W.Write.contents c.args.output.now in
-    let new = g.W.Write.contents c.serve_open.new.output in
-    let fault = c.in-Err-served.fault in
-    let left = c.left-in-Err-served in
+    let new = g.W.Write.contents c.serve_open-served.new.output in
+    let fault = c.in-Ok-Err.fault in
+    let left = c.left-in-Ok-Err in
     let told : c.into.result ≡ fault_of_server fault = search rules in
     subst (EndsServing m before after old new) (sym told)
-    (ended m before after old new store (fault, c.in-Err-served.closed) left.result c.in_ok-store.ensures.opened (subst (ServedWithOutput m store old new) c.in-Err-served.is c.in_ok-served-in-Ok.ensures.served) left.ensures.disk c.close-in-Err-served.ensures)
+    (ended m before after old new store (fault, c.in-Ok-Err.closed) left.result c.in_ok-store.ensures.opened (subst (λ r. IfOk r (ServedWithOutput m store old new)) (c.in-Ok-Err.is ∙ ap (λ v. Ok v) c.in-Ok-Err.field-0-is) c.serve_open-served.ensures.served) left.ensures.disk c.close-in-Ok-Err.ensures)
