@@ -10,6 +10,7 @@ use coord_ledger::Seen;
 use std::alloc::Global;
 use std::process::Abort;
 use std::sync::Wait;
+use std::thread::Threads;
 use std::time::Clock;
 
 /// How many shares an engine gives out.
@@ -96,21 +97,35 @@ pub(crate) fn retired<D: Disk, L: Origin, R: Wait + Clock + Abort>(
     closed
 }
 
+// An engine is retired so.
+fn retires<R: Threads + Wait + Clock + Sync + Abort>(
+    rt: &R,
+    alloc: Global,
+    is_lost: bool,
+    saw: u64,
+    why: Option<CloseFault>,
+) {
+    let step = adding(1, 1, 1).expect(rt, "no step");
+    let doing = Doing::Retires(is_lost, saw, why);
+    does(rt, alloc, MemDisk::new(alloc), &[step], doing);
+}
+
 /// With its share and without, and where one more step was seen than is settled.
 #[test]
 fn an_engine_leaves_its_ledger_in_any_case(rt: HostRuntime) {
-    let step = adding(1, 1, 1).expect(&rt, "no step");
-    for (is_lost, saw, why) in [
-        (false, SETTLED, None),
-        (true, SETTLED, Some(CloseFault::SharesMissing)),
-        (false, SETTLED + 1, Some(CloseFault::NotSettled)),
-    ] {
-        does(
-            &rt,
-            rt.alloc(),
-            MemDisk::new(rt.alloc()),
-            &[step],
-            Doing::Retires(is_lost, saw, why),
-        );
-    }
+    retires(&rt, rt.alloc(), false, SETTLED, None);
+    retires(
+        &rt,
+        rt.alloc(),
+        true,
+        SETTLED,
+        Some(CloseFault::SharesMissing),
+    );
+    retires(
+        &rt,
+        rt.alloc(),
+        false,
+        SETTLED + 1,
+        Some(CloseFault::NotSettled),
+    );
 }
