@@ -56,7 +56,8 @@ fn a_torn_flight_stops_the_ledger(rt: HostRuntime) {
     }
 }
 
-// 1,024 steps that are pending hide all but a repeat, until 256 of them are settled.
+// 1,024 steps that are pending hide all but a repeat, until 256 of them are settled. A run may end with
+// as many.
 #[test]
 fn a_full_ledger_refuses_all_but_a_repeat(rt: HostRuntime) {
     let mut events = Vec::new(rt.alloc());
@@ -72,6 +73,11 @@ fn a_full_ledger_refuses_all_but_a_repeat(rt: HostRuntime) {
         Event::Submit(reset(1_025)),
     ];
     events.extend_from_slice(&last).expect(&rt, "no place");
+    let (trace, disk) = ran(&rt, made(&rt), &events);
+    drop(disk);
+    let refused = "[Refused(PendingFull), Refused(PendingFull), Repeated(1025)]";
+    tells(&rt, &trace, 1_028, refused);
+    drop(trace);
     push(&rt, &mut events, &[]);
     events
         .push(Event::Submit(reset(1_026)))

@@ -81,6 +81,27 @@ fn a_flight_and_a_ticket_of_another_ledger_come_back(rt: HostRuntime) {
     drop(anew);
 }
 
+// A ledger that has settled this step, and has accepted another one behind it.
+fn behind(rt: &impl Host, first: Step, second: Step) -> Ledger<MemDisk> {
+    let mut ledger = opened(rt, made(rt));
+    accept(rt, &mut ledger, first);
+    let mut ledger = settled(rt, ledger);
+    accept(rt, &mut ledger, second);
+    ledger
+}
+
+// The same step, of the same number, goes out of two worlds.
+#[test]
+fn a_flight_of_another_world_comes_back(rt: HostRuntime) {
+    let mut own = behind(&rt, add(1, 1), add(2, 3));
+    let mut other = behind(&rt, add(1, 2), add(2, 3));
+    let flight = out(&rt, &mut other);
+    refuses(&rt, &mut own, &mut other);
+    take_back(&rt, &mut other, flight);
+    drop(own);
+    drop(other);
+}
+
 // One step is shown to who has seen none, who then has seen just that one. It is shown to no one who has
 // seen a second one.
 fn shows_one(rt: &impl Host, ledger: &Ledger<MemDisk>) {
