@@ -106,11 +106,13 @@ fn serve_told<
     let Ok(own) = history.another() else {
         return Err(store);
     };
-    let Ok(Outlet {
-        port,
-        opening,
-        printing,
-    }) = Outlet::<&R, W, O>::new(rt, alloc, output, since, own, reader)
+    let Ok(
+        Outlet {
+            port,
+            opening,
+            printing,
+        },
+    ) = Outlet::<&R, W, O>::new(rt, alloc, output, since, own, reader)
     else {
         return Err(store);
     };

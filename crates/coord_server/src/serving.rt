@@ -8,8 +8,8 @@ ghost use Rattle.coord_server.specs.Lives.{EndsOneHistory, HasLived, HasServed, 
 ghost use Rattle.coord_server.specs.Moments.{AtEachMoment, LivesKeepAlong, LivesTell, ServedAlong, ServedTell};
 ghost use Rattle.coord_server.specs.Printed.{new_printer};
 
-use crate::lives::serve_lives;
 use crate::ServerEnd;
+use crate::lives::serve_lives;
 use coord_admin::{Accepted, Callers, Patience};
 use coord_disk::Disk;
 use coord_store::Store;
