@@ -11,7 +11,7 @@ from support import preloaded, stores
 from support.case import Case, until
 from support.program import PROGRAM, SHORT, SHORT_STEPS, Ended, faulted, ran
 from support.piped import Piped
-from support.refusing import WORKERS, Refusing
+from support.refusing import FIRST_THREAD, WORKERS, Refusing
 from support.runs import worked_runs
 from support.served import FINISHED, STARTED, answered
 from support.serving import Answer, Request, Serving
@@ -29,6 +29,16 @@ LACKS = re.compile(r"^(no 2 OutOfMemory|commit 1 OutOfMemory|commit 2 Device)$",
 AFTER_A_WAVE = {"accepted": 10, "links": [[1, 2, 3]], "nodes": [[1, 1, "ready", 0, 1, 0], [2, 1, "ready", 0, 1, 0]],
                 "settled": 10}
 VIOLATED = world(4, [node(64, ABORT)])
+
+
+def unchanged(count: Callable[[], int]) -> int:
+    """What is counted once it has stayed the same for half a second."""
+    now, same = count(), 0
+    while same < 10:
+        time.sleep(0.05)
+        before, now = now, count()
+        same = same + 1 if now == before else 0
+    return now
 
 
 class Memory(Case):
@@ -146,6 +156,54 @@ class Start(Case):
             return NO_MEMORY
 
 
+class Later(Case):
+    """A life behind the first one."""
+
+    takes = 30
+    programs = ("RESETD_SHORT",)
+
+    def test_each_allocation_of_its_start(self) -> None:
+        """Each one is refused in turn: the server goes on, or it says so and ends with all that was answered."""
+        self.needs("a C compiler", preloaded.has_compiler())
+        refusing, told = Refusing(SHORT, self.folder), 0
+        with self.serving(refusing, 0) as server:
+            before = self.live(server, refusing, 0)
+            count = unchanged(refusing.count) - before
+        for first in range(1, count + 1):
+            with self.subTest(first=first, of=count), self.serving(refusing, first) as server:
+                self.live(server, refusing, first)
+                ended = self.end(server)
+                signals = "".join(f"signal 1 {epoch}\n" for epoch in range(1, SHORT_STEPS + 1))
+                self.assertEqual(ended.printed, f"listening {server.address}\n{signals}")
+                self.assertIn((ended.status, ended.told), ((0, ""), (NO_MEMORY.status, NO_MEMORY.told)))
+                self.assertEqual(ran("check", server.store).printed, f"legal {1 + SHORT_STEPS}\n")
+                told += ended.status != 0
+        self.assertGreater(told, 5)
+
+    def serving(self, refusing: Refusing, first: int) -> Serving:
+        store = self.made(topology([(1, 1)]), f"store{first}")
+        return Serving(store, program=SHORT, env=refusing.environment(threads=FIRST_THREAD))
+
+    def live(self, server: Serving, refusing: Refusing, first: int) -> int:
+        """Makes a life old, behind which this allocation is refused. How many there were by then."""
+        with server.connect() as connection:
+            numbers = range(1, SHORT_STEPS + 1)
+            connection.send(*({"op": "reset", "client": 1, "number": each, "node": 1} for each in numbers))
+            self.assertEqual([connection.reply()["step"] for _ in numbers], [1 + each for each in numbers])
+            count = unchanged(refusing.count)
+            refusing.refuse(count + first, int(first > 0))
+        return count
+
+    @staticmethod
+    def end(server: Serving) -> Ended:
+        """Closes it, unless it ends."""
+        try:
+            until("a close", lambda: server.ask({"op": "close"}) == {"kind": "closed"})
+        except ConnectionError:
+            pass
+        return server.ended()
+
+
 class Wave(Case):
     takes = 5
 
@@ -223,14 +281,9 @@ class Kept(Case):
 
     @staticmethod
     def count_kept(server: Serving, count: Callable[[], int]) -> int:
-        """What is kept once a server waits for the next client: once it has stayed the same for half a second."""
+        """What is kept once a server waits for the next client."""
         server.ask({"op": "resend"})
-        now, same = count(), 0
-        while same < 10:
-            time.sleep(0.05)
-            before, now = now, count()
-            same = same + 1 if now == before else 0
-        return now
+        return unchanged(count)
 
     def test_of_a_command(self) -> None:
         """All of it is given back at the end, however many lines a drill had."""

@@ -2,6 +2,7 @@
 use Rattle.std.proofs.Common.{◌≡◌, ◌≢◌, ◌⊎◌, ℕ, ◌+◌, Bool, true, false, List, Option, Some, None, Err, IfSome, inl, inr, refl, sym, ap, ◌∙◌, subst, arith, if◌then◌else◌}
 use Rattle.std.specs.Prelude.{⊤}
 use Rattle.std.proofs.KnownBytes.{Keeps-refl}
+use Rattle.std.specs.Io.KnownBytes.{Keeps}
 use Rattle.std.proofs.lemmas.Bool.Decides.{nat_tests}
 use Rattle.coord_disk.specs.Model.DiskModel.{DiskModel}
 use Rattle.coord_disk.proofs.MomentLemmas.{and_then}
@@ -98,13 +99,13 @@ module _ {D : Type 0} (model : DiskModel D) where
   pub not_bound : (before after : Option Present) (old : Option (List ℕ)) (store : Kept D) (back : D) → IsOpenedStore model before store → back ≡ store.disk → IfSome after (λ known. known_of model back ≡ Some known) → EndsServing model before after old old Socket
   not_bound before after old store back is same put =
       let was = as_it_was before after store back is same put in
-      inr (inl ((refl, was.0, was.1), Keeps-refl old))
+      inl (inr (inl (refl, was.0, was.1)), Keeps-refl old)
 
-  -- since a server had nothing to begin with
-  pub not_begun : (before after : Option Present) (old new : Option (List ℕ)) (store left : Kept D) (back : D) → IsOpenedStore model before store → left ≡ store → back ≡ left.disk → IfSome after (λ known. known_of model back ≡ Some known) → EndsServing model before after old new OutOfMemory
-  not_begun before after old new store left back is same home put =
+  -- since there was no memory for a server to begin with
+  pub not_begun : (before after : Option Present) (old new : Option (List ℕ)) (store left : Kept D) (back : D) → IsOpenedStore model before store → left ≡ store → Keeps old new → back ≡ left.disk → IfSome after (λ known. known_of model back ≡ Some known) → EndsServing model before after old new OutOfMemory
+  not_begun before after old new store left back is same kept home put =
       let was = as_it_was before after store back is (home ∙ ap (λ (k : Kept D). k.disk) same) put in
-      inr (inr (inl (refl, was.0, was.1)))
+      inl (inr (inr (refl, was.0, was.1)), kept)
 
   -- a server over it has ended, and its disk is put back
   pub ended : (before after : Option Present) (old new : Option (List ℕ)) (store : Kept D) (told : ServerFault × Closed D) (back : D) → IsOpenedStore model before store → ServedWithOutput model store old new (Err told)
@@ -126,7 +127,7 @@ module _ {D : Type 0} (model : DiskModel D) where
         printed = served.printed;
       }
       in
-      inr (inr (inr (record { began = store.world; opened = is.world; fault = told.0; ends = ends; named = refl })))
+      inr (record { began = store.world; opened = is.world; fault = told.0; ends = ends; named = refl })
 
   of_unopened : (before after : Option Present) (fault : StoreFault) → ((fault ≡ Device) × (after ≡ before)) ⊎ (IsOfOpening (reads before) (Store fault) × IsPutBack model (failed_in fault) before after) → IsOfServing (reads before) (Store fault)
   of_unopened before after fault (inl none) = inl none.0

@@ -123,7 +123,7 @@ module _ {D : Type 0} (model : DiskModel D) where
     pub any_moment : HeldAlong taken began (all_steps (steps_had model (λ _ _ _. ⊤) (λ _ _. ⊤) began lived.0 ended lived.2)) ended.closed.store.disk
     pub printed : PrintsOnly began (first_settled began (all_steps (steps_had model (λ _ _ _. ⊤) (λ _ _. ⊤) began lived.0 ended lived.2)) ended.closed.settled) old new ended.printer
 
-  -- there was no memory, or no thread that prints, for a server to begin with: the store of the disk was opened, nobody was served, and the disk put back
+  -- there was no memory for a server to begin with: the store of the disk was opened, nobody was served, and the disk put back
   abbrev pub IsNotBegun : Option Present → Option Present → Fault → Type 0
   IsNotBegun before after told = (told ≡ OutOfMemory) × GivesWorld (reads before) × IsPutBack 0 before after
 
@@ -135,10 +135,10 @@ module _ {D : Type 0} (model : DiskModel D) where
     pub ends : EndsAfterLives began fault before after old new
     pub named : told ≡ fault_of_server fault
 
-  -- the faults of `serve` at an address, and what then became of its output: nothing was printed before the store was open and the socket bound
+  -- the faults of `serve` at an address, and what then became of its output: nothing was printed before a server began, over an open store and a bound socket
   abbrev pub EndsServing : Option Present → Option Present → Option (List ℕ) → Option (List ℕ) → Fault → Type 0
   EndsServing before after old new told =
-      (IsNotOpened before after told × Keeps old new) ⊎ ((IsNotBound before after told × Keeps old new) ⊎ (IsNotBegun before after told ⊎ HasEnded before after old new told))
+      ((IsNotOpened before after told ⊎ (IsNotBound before after told ⊎ IsNotBegun before after told)) × Keeps old new) ⊎ HasEnded before after old new told
 
 -- A store on a disk was served until a line closed it: these bytes gave its world, from which there were lives one behind the other, of which a line closed the last. They are one history, and the bytes that are put back give the world that they left.
 pub record IsServedToEnd {D : Type 0} (model : DiskModel D) (bytes after : Option (List ℕ)) : Type 0 where

@@ -50,7 +50,7 @@ pub fn serve<
 /// Serves the store on the disk of a name to the connections that come to an address, until one of
 /// them closes it, and answers the exit status. The address is judged before the disk is opened,
 /// and the socket is bound once the store is open. The disk is put back in any case: as a server has left
-/// it; or as it was, where it is refused, no socket can be bound, or there is nothing to begin with. What
+/// it; or as it was, where it is refused, no socket can be bound, or there is no memory to begin with. What
 /// the server prints goes to the output, and nothing else does.
 pub fn serve_in<
     S: Net + Threads + Wait + Clock + Sync + AllocGlobal,
@@ -120,8 +120,8 @@ fn serve_at<S: Net + Threads + Wait + Clock + Sync + AllocGlobal, F: Folder, W: 
 }
 
 /// Serves an opened store to the connections of a listener, until a line closes it, and gives back what
-/// is left of its last engine, beside the fault if one is told; or the store as it was, where there was
-/// nothing to begin with. What it prints goes to the output.
+/// is left of its last engine, beside the fault if one is told; or the store as it was, and nothing more
+/// in the output, where there was no memory to begin with. What it prints goes to the output.
 fn serve_open<
     D: Disk + Send,
     S: Read + Write + OpenStream + Drop,
@@ -141,12 +141,17 @@ fn serve_open<
     ensures going { IfOk result (λ told. IfOk told (λ closed. has_stopped closed.store ≡ false)) }
     ensures closes { IfOk result (λ told. IfOk told (ClosesAndPrints D.model store
         (W.contents output.old) (W.contents output.new))) }
-    ensures unserved { IfErr result (λ back. back ≡ store) }
+    ensures unserved { IfErr result (λ back. (back ≡ store) ×
+        Keeps (W.contents output.old) (W.contents output.new)) }
 {
-    let ended = serve_store(rt, alloc, store, listener, Lent { output })?;
-    let (served, printer) = ended.into_closed();
-    let Lent { output: _back } = printer.into_output();
-    Ok(served)
+    match serve_store(rt, alloc, store, listener, Lent { output }) {
+        Ok(ended) => {
+            let (served, printer) = ended.into_closed();
+            let Lent { output: _back } = printer.into_output();
+            Ok(served)
+        }
+        Err((store, Lent { output: _back })) => Err(store),
+    }
 }
 
 /// A listener at an address, where a descriptor is left for a connection: without one the server

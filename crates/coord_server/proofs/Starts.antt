@@ -1,5 +1,5 @@
 -- What is printed first, and behind it.
-use Rattle.std.proofs.Common.{◌≡◌, ◌⊎◌, ℕ, Bool, true, false, List, [], ◌∷◌, ◌++◌, Option, None, Some, Result, Ok, Err, IfOk, IfSome, OnOk, is_some, inl, inr, refl, sym, ap, ◌∙◌, subst, append-nil, append_assoc}
+use Rattle.std.proofs.Common.{◌≡◌, ◌⊎◌, ℕ, Bool, true, false, List, [], ◌∷◌, ◌++◌, Option, None, Some, inl, inr, refl, sym, ap, ◌∙◌, subst, append-nil, append_assoc}
 use Rattle.std.proofs.lemmas.Bool.{false≢true}
 use Rattle.std.proofs.lemmas.Grind.{flat_map-append}
 use Rattle.std.specs.List.{AllByRecursion}
@@ -11,13 +11,6 @@ use Rattle.coord_server.specs.Lines.{after_line, is_next}
 use Rattle.coord_server.specs.Printed.{BreaksIn, Follow, HasTold, IsPrinted, IsTornAddress, IsTornSignal, PrinterState, Prints, PrintsEach, TellsAddress, signal_lines, listening_line, signal_line, with_lost}
 use Rattle.coord_server.specs.Signals.{StepSignal}
 use Rattle.coord_server.specs.declared.last_line.LastLine.{LastLine}
-
--- where a thread prints, it printed from what it was given
-pub told_from : {H E F S : Type 0} (printing : Option H) (result : Result E F) (of : H → S) (p : S) (P : S → E → Type 0) → OnOk result (is_some printing ≡ true) → IfSome printing (λ h. of h ≡ p) → IfOk result (λ e. IfSome printing (λ h. P (of h) e)) → IfOk result (λ e. P p e)
-told_from None (Ok e) of p P some from is = absurd (false≢true some)
-told_from (Some h) (Ok e) of p P some from is = subst (λ s. P s e) from is
-told_from None (Err f) of p P some from is = tt
-told_from (Some h) (Err f) of p P some from is = tt
 
 -- what some steps give out is given out by steps that begin with them
 pub on_more : (gives : List Step → ℕ → ℕ → ℕ → Type 0) (lasts : (first more : List Step) (step node epoch : ℕ) → gives first step node epoch → gives (first ++ more) step node epoch) (first steps : List Step) → StartsWith steps first

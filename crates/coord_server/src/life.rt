@@ -5,7 +5,7 @@ ghost use Rattle.coord_engine.specs.Past.{IsPastOf, StaysAlong};
 ghost use Rattle.coord_engine.specs.Released.{MayTell};
 ghost use Rattle.coord_engine.specs.State.{based_on};
 ghost use Rattle.coord_ledger.specs.ledger.State.{ledger_over};
-ghost use Rattle.coord_store.specs.Kept.{Kept, has_stopped};
+ghost use Rattle.coord_store.specs.Kept.{has_stopped};
 ghost use Rattle.coord_server.specs.Ending.{LeavesLedger, IsLife, LeavesShares};
 ghost use Rattle.coord_server.specs.Moments.{HasWritten, KeepsAlong};
 ghost use Rattle.coord_server.specs.Signals.{MaySignal};
@@ -25,6 +25,7 @@ use coord_types::Packet;
 use crossbeam_channel::{Receiver, Sender};
 use std::alloc::{AllocError, Global};
 use std::marker::Brand;
+use std::snapshot::Snapshot;
 use std::sync::Wait;
 use std::sync::ledger::Blank;
 use std::thread::Threads;
@@ -41,24 +42,29 @@ const NOTES_ROOM: usize = 600_000;
 pub struct LifeStart<D: Disk> {
     pub history: History,
     pub ledger: Ledger<D>,
+    /// The store as it was.
+    pub over: Snapshot<Store<D>>,
+    pub ghost adopted: { ledger ≡ ledger_over over.value.world over.value.disk },
 }
 
 impl<D: Disk> LifeStart<D> {
     /// Over a store, which comes back where there is no memory.
-    pub fn new<R: Wait, O: Telling>(
-        setting: &Setting<'_, R, O>,
-        store: Store<D>,
-    ) -> Result<Self, Store<D>>
+    pub fn new(alloc: Global, history: &History, store: Store<D>) -> Result<Self, Store<D>>
         requires { has_stopped store ≡ false }
-        ensures history { IfOk result (λ start. start.history ≡ O.history) }
-        ensures ledger { IfOk result (λ start. start.ledger ≡ ledger_over store.world store.disk) }
+        ensures history { IfOk result (λ start. start.history ≡ history.now) }
+        ensures over { IfOk result (λ start. start.over.value ≡ store) }
         ensures back { IfErr result (λ back. back ≡ store) }
     {
-        let Ok(history) = setting.history.another() else {
+        let over = Snapshot::of(&store);
+        let Ok(history) = history.another() else {
             return Err(store);
         };
-        match Ledger::adopt(setting.alloc, store) {
-            Ok(ledger) => Ok(LifeStart { history, ledger }),
+        match Ledger::adopt(alloc, store) {
+            Ok(ledger) => Ok(LifeStart {
+                history,
+                ledger,
+                over,
+            }),
             Err((_, store)) => Err(store),
         }
     }
@@ -94,17 +100,19 @@ pub fn serve_life<
 ) -> Life<D, C>
     requires here { writer.history ≡ O.history }
     requires history { start.history ≡ O.history }
-    requires home { start.ledger.out ≡ None }
-    requires new { start.ledger.log.trail ≡ [] }
-    requires tell { MayTell writer.history writer.steps start.ledger.log.base
+    requires tell { MayTell writer.history writer.steps start.over.value.world
         (MaySignal O.history O.gives) }
-    ensures life { IsLife (based_on D.model start.ledger.log.base []) C.talked C.failed
+    ensures life { IsLife (based_on D.model start.over.value.world []) C.talked C.failed
         setting.now.life_steps callers result }
-    ensures along { (store : Kept D) → start.ledger ≡ ledger_over store.world store.disk →
-        KeepsAlong D.model store result.closed.trail.items result.closed.store }
+    ensures along { KeepsAlong D.model start.over.value
+        result.closed.trail.items result.closed.store }
     ensures written { HasWritten writer.history writer.steps result.closed result.writer }
 {
-    let LifeStart { history, ledger } = start;
+    let LifeStart {
+        history,
+        ledger,
+        over: _,
+    } = start;
     let blank = Blank::new(65536);
     serve_ledger::<D, Brand, C, O, R>(setting, blank, history, writer, ledger, callers, opening)
 }

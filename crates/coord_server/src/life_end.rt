@@ -1,8 +1,8 @@
-//! How a life of the server ends.
+//! How a life of the server is left.
 
 use crate::ServerFault;
 
-/// What ended the serving in one life.
+/// How a life was left: what ended its serving, or why no life follows it.
 #[derive(Clone, Copy, Debug, PartialEq, Eq, Drop)]
 pub enum LifeEnd {
     /// The life is old; the server goes on with the next one.

@@ -1,13 +1,12 @@
 //! The lives of a server, one after the other.
 
-ghost use Rattle.std.specs.Prelude.{◌≡◌, ◌⊎◌, List, [], false, true, is_some, IfErr, IfOk, IfSome, OnOk, Some};
+ghost use Rattle.std.specs.Prelude.{◌≡◌, ◌⊎◌, List, [], false, true, IfErr, IfOk, None, Some};
 ghost use Rattle.std.specs.Thread.{IsSend, IsSync};
-ghost use Rattle.coord_ledger.specs.ledger.State.{ledger_over};
 ghost use Rattle.coord_store.specs.Kept.{has_stopped};
 ghost use Rattle.coord_server.specs.declared.life_end.LifeEnd.TheVariants as LifeEndAs;
 ghost use Rattle.coord_server.specs.Lives.{EndsOneHistory, HasLived, IsLastLife, MayGoOn};
 ghost use Rattle.coord_server.specs.Moments.{AtEachMoment, EndsAlong, LivesKeepAlong, LivesTell};
-ghost use Rattle.coord_server.specs.Printed.{IsUnprintedFor, new_printer};
+ghost use Rattle.coord_server.specs.Printed.{IsPrinted, IsUnprintedFor, new_printer};
 ghost use Rattle.coord_server.specs.Signals.{MaySignal};
 ghost use Rattle.coord_engine.specs.History.{StartsWith};
 ghost use Rattle.coord_engine.specs.Released.{GivesSignal, MayTell};
@@ -16,7 +15,7 @@ ghost use Rattle.coord_world.specs.Facade.{fold};
 
 use crate::life::{Life, LifeStart, serve_life};
 use crate::life_end::LifeEnd;
-use crate::printing::{Opening, Outlet, Printed, Printing, PrintsFrom};
+use crate::printing::{Channels, Opening, Outlet, Printed, Printing, PrintsFrom};
 use crate::setting::Setting;
 use crate::{ServerEnd, ServerFault, Telling};
 use coord_admin::Callers;
@@ -44,9 +43,9 @@ use std::time::Clock;
 /// after a fault, all that was accepted is settled, the flusher ends, then the workers, and at the
 /// last end what is left is printed, however long the output takes it.
 ///
-/// The server's end tells what ended it, want of memory for a life too. Only where there was no memory,
-/// or no thread that prints, to begin with, there is no end: then the store comes back as it was, and
-/// nobody was served.
+/// The server's end tells what ended it, want of memory or of a thread for a life too, or of the thread
+/// that prints. Only where there was no memory to begin with there is no end: then the store and the
+/// output come back as they were, and nobody was served.
 pub fn serve_lives<
     D: Disk + Send,
     C: Callers + Drop,
@@ -59,7 +58,7 @@ pub fn serve_lives<
     store: Store<D>,
     callers: C,
     output: W,
-) -> Result<ServerEnd<D, C, W>, Store<D>>
+) -> Result<ServerEnd<D, C, W>, (Store<D>, W)>
     requires { has_stopped store ≡ false }
     ensures lives { IfOk result (HasLived D.model C.talked C.failed most store.world callers) }
     ensures whole { IfOk result (λ ended. EndsOneHistory store.world ended.closed) }
@@ -67,10 +66,10 @@ pub fn serve_lives<
     ensures moments { IfOk result (λ ended. AtEachMoment D.model store ended.closed) }
     ensures printed { IfOk result (LivesTell D.model C.talked C.failed most W.contents
         (GivesSignal store.world) store callers (new_printer output store.world.count)) }
-    ensures unserved { IfErr result (λ back. back ≡ store) }
+    ensures unserved { IfErr result (λ back. (back.0 ≡ store) × (back.1 ≡ output)) }
 {
     let Ok(written) = History::new(alloc) else {
-        return Err(store);
+        return Err((store, output));
     };
     serve_told::<D, C, W, Brand, R>(rt, alloc, most, store, callers, output, written)
 }
@@ -90,7 +89,7 @@ fn serve_told<
     callers: C,
     output: W,
     written: (History, Writer),
-) -> Result<ServerEnd<D, C, W>, Store<D>>
+) -> Result<ServerEnd<D, C, W>, (Store<D>, W)>
     requires going { has_stopped store ≡ false }
     requires here { written.0 ≡ O.history }
     requires new { written.1 ≡ record { history = O.history; steps = [] } }
@@ -98,24 +97,23 @@ fn serve_told<
         (MaySignal O.history O.gives) }
     ensures printed { IfOk result (LivesTell D.model C.talked C.failed most W.contents O.gives store callers
         (new_printer output store.world.count)) }
-    ensures unserved { IfErr result (λ back. back ≡ store) }
+    ensures unserved { IfErr result (λ back. (back.0 ≡ store) × (back.1 ≡ output)) }
 {
     let (history, mut writer) = written;
     let since = store.world().count();
     let reader = writer.reader(&history);
-    let Ok(own) = history.another() else {
-        return Err(store);
+    let (Ok(own), Ok(channels)) = (history.another(), Channels::new(alloc)) else {
+        return Err((store, output));
     };
-    let Ok(
-        Outlet {
-            port,
-            opening,
-            printing,
-        },
-    ) = Outlet::<&R, W, O>::new(rt, alloc, output, since, own, reader)
-    else {
-        return Err(store);
+    let start = match LifeStart::new(alloc, &history, store) {
+        Ok(start) => start,
+        Err(store) => return Err((store, output)),
     };
+    let Outlet {
+        port,
+        opening,
+        printing,
+    } = Outlet::<&R, W, O>::new(rt, alloc, channels, output, since, own, reader);
     let setting = Setting {
         rt,
         alloc,
@@ -123,7 +121,7 @@ fn serve_told<
         history: &history,
         life_steps: most,
     };
-    serve_and_print(&setting, store, writer, callers, opening, printing)
+    Ok(serve_and_print(&setting, start, writer, callers, opening, printing))
 }
 
 /// Lives in a scope with what prints the port's signals.
@@ -135,39 +133,44 @@ fn serve_and_print<
     R: Threads + Wait + Clock + Sync,
 >(
     setting: &Setting<'_, R, O>,
-    store: Store<D>,
+    start: LifeStart<D>,
     writer: Writer,
     callers: C,
     opening: Opening,
     printing: Printing<W, O>,
-) -> Result<ServerEnd<D, C, W>, Store<D>>
-    requires going { has_stopped store ≡ false }
+) -> ServerEnd<D, C, W>
+    requires history { start.history ≡ O.history }
     requires new { writer ≡ record { history = O.history; steps = [] } }
-    requires tell { (earlier : List Step) → MayTell O.history earlier (fold store.world earlier)
-        (MaySignal O.history O.gives) }
-    ensures printed { IfOk result (LivesTell D.model C.talked C.failed
-        setting.now.life_steps W.contents O.gives store callers printing.printer) }
-    ensures unserved { IfErr result (λ back. back ≡ store) }
+    requires tell { (earlier : List Step) → MayTell O.history earlier
+        (fold start.over.value.world earlier) (MaySignal O.history O.gives) }
+    ensures { LivesTell D.model C.talked C.failed setting.now.life_steps W.contents O.gives
+        start.over.value callers printing.printer result }
 {
     thread::scope(
         thread::scope_env(),
         setting.rt,
-        |scope| -> Result<ServerEnd<D, C, W>, Store<D>>
+        |scope| -> ServerEnd<D, C, W>
             requires { IsSend D.row × IsSend W.row × IsSend O.row × IsSync O.row × IsSync R.row ×
-                (has_stopped store ≡ false) × (writer ≡ record { history = O.history; steps = [] }) ×
-                ((earlier : List Step) → MayTell O.history earlier (fold store.world earlier)
-                (MaySignal O.history O.gives)) }
-            ensures printed { IfOk result (LivesTell D.model C.talked C.failed
-                setting.entry.now.life_steps W.contents O.gives store callers printing.printer) }
-            ensures unserved { IfErr result (λ back. back ≡ store) }
+                (start.history ≡ O.history) × (writer ≡ record { history = O.history; steps = [] }) ×
+                ((earlier : List Step) → MayTell O.history earlier
+                (fold start.over.value.world earlier) (MaySignal O.history O.gives)) }
+            ensures { LivesTell D.model C.talked C.failed setting.entry.now.life_steps W.contents
+                O.gives start.over.value callers printing.printer result }
         {
-            let printing = start_printing(scope, setting.rt, printing);
-            print_and_live(setting, store, writer, callers, opening, printing)
+            let mut opening = opening;
+            match start_printing(scope, setting.rt, &mut opening, printing) {
+                Ok(printing) => print_and_live(setting, start, writer, callers, opening, printing),
+                Err(printed) => {
+                    let life = live(setting, start, writer, callers, opening);
+                    end_of(setting.history, life, printed)
+                }
+            }
         },
     )
 }
 
-/// Starts the thread that prints signals, if the system has one to give.
+/// Starts the thread that prints signals. Where the system has none to give, nobody asks for the first
+/// line any more, and what would have printed it comes back.
 fn start_printing<
     's,
     'r: 's,
@@ -178,16 +181,26 @@ fn start_printing<
 >(
     scope: &Scope<'s, E>,
     rt: &'r R,
+    opening: &mut Opening,
     printing: Printing<W, O>,
-) -> Option<PromisedHandle<Printed<W>, PrintsFrom<W, O>>>
-    ensures { IfSome result (λ handle. handle.promise.first.value ≡ printing.printer) }
+) -> Result<PromisedHandle<Printed<W>, PrintsFrom<W, O>>, Printed<W>>
+    ensures started { IfOk result (λ handle. handle.promise.first.value ≡ printing.printer) }
+    ensures given_up { IfErr result (λ _. opening.new.to ≡ None) }
+    ensures refused { IfErr result (λ printed. (printed.reader.history ≡ O.history) ×
+        IsPrinted W.contents (O.gives printed.reader.steps) printing.printer printed.printer ×
+        IsUnprintedFor printed.printer printed.unprinted) }
 {
     let promise = PrintsFrom::new(&printing.printer);
-    scope.spawn_with(promise, move || printing.print(rt)).ok()
+    match scope.spawn_with(promise, move || printing.print(rt)) {
+        Ok(handle) => Ok(handle),
+        Err(refused) => {
+            opening.give_up();
+            Err((refused.value)())
+        }
+    }
 }
 
-/// Lives while a thread prints, which ends behind the last signal. Without that thread nobody is
-/// served.
+/// Lives while a thread prints, which ends behind the last signal.
 fn print_and_live<
     D: Disk + Send,
     C: Callers + Drop,
@@ -196,33 +209,27 @@ fn print_and_live<
     R: Threads + Wait + Clock + Sync,
 >(
     setting: &Setting<'_, R, O>,
-    store: Store<D>,
+    start: LifeStart<D>,
     writer: Writer,
     callers: C,
     opening: Opening,
-    printing: Option<PromisedHandle<Printed<W>, PrintsFrom<W, O>>>,
-) -> Result<ServerEnd<D, C, W>, Store<D>>
-    requires going { has_stopped store ≡ false }
+    printing: PromisedHandle<Printed<W>, PrintsFrom<W, O>>,
+) -> ServerEnd<D, C, W>
+    requires history { start.history ≡ O.history }
     requires new { writer ≡ record { history = O.history; steps = [] } }
-    requires tell { (earlier : List Step) → MayTell O.history earlier (fold store.world earlier)
-        (MaySignal O.history O.gives) }
-    ensures starts { OnOk result (is_some printing ≡ true) }
-    ensures printed { IfOk result (λ ended. IfSome printing (λ handle.
-        LivesTell D.model C.talked C.failed setting.now.life_steps W.contents O.gives store callers
-        handle.promise.first.value ended)) }
-    ensures unserved { IfErr result (λ back. back ≡ store) }
+    requires tell { (earlier : List Step) → MayTell O.history earlier
+        (fold start.over.value.world earlier) (MaySignal O.history O.gives) }
+    ensures { LivesTell D.model C.talked C.failed setting.now.life_steps W.contents O.gives
+        start.over.value callers printing.promise.first.value result }
 {
-    let Some(printing) = printing else {
-        return Err(store);
-    };
-    let lived = live(setting, store, writer, callers, opening);
+    let life = live(setting, start, writer, callers, opening);
     setting.port.fall_silent();
     let printed = printing.join(setting.rt);
-    Ok(end_of(setting.history, lived?, printed))
+    end_of(setting.history, life, printed)
 }
 
 /// Runs one life after the other, each with the store and the callers that the one before left, and
-/// gives back the last. The first one opens the output.
+/// gives back the last. The first one opens the output: where no thread prints, it ends by that.
 fn live<
     D: Disk + Send,
     C: Callers + Drop,
@@ -230,23 +237,22 @@ fn live<
     R: Threads + Wait + Clock + Sync,
 >(
     setting: &Setting<'_, R, O>,
-    store: Store<D>,
+    start: LifeStart<D>,
     writer: Writer,
     callers: C,
     opening: Opening,
-) -> Result<Life<D, C>, Store<D>>
-    requires going { has_stopped store ≡ false }
+) -> Life<D, C>
+    requires history { start.history ≡ O.history }
     requires new { writer ≡ record { history = O.history; steps = [] } }
-    requires tell { (earlier : List Step) → MayTell O.history earlier (fold store.world earlier)
-        (MaySignal O.history O.gives) }
-    ensures lived { IfOk result
-        (EndsAlong D.model C.talked C.failed setting.now.life_steps store callers) }
-    ensures same { IfOk result (λ life. life.writer.history ≡ O.history) }
-    ensures last { IfOk result (λ life. life.left ≡ LifeEndAs.Resting →
-        ¬ MayGoOn setting.now.life_steps life.closed) }
-    ensures unserved { IfErr result (λ back. back ≡ store) }
+    requires tell { (earlier : List Step) → MayTell O.history earlier
+        (fold start.over.value.world earlier) (MaySignal O.history O.gives) }
+    ensures lived { EndsAlong D.model C.talked C.failed setting.now.life_steps
+        start.over.value callers result }
+    ensures same { result.writer.history ≡ O.history }
+    ensures last { result.left ≡ LifeEndAs.Resting →
+        ¬ MayGoOn setting.now.life_steps result.closed }
 {
-    let mut start = LifeStart::new(setting, store)?;
+    let mut start = start;
     let mut writer = writer;
     let mut callers = callers;
     let mut opening = Some(opening);
@@ -258,7 +264,7 @@ fn live<
                 writer = written;
                 callers = others;
             }
-            Err(last) => return Ok(last),
+            Err(last) => return last,
         }
     }
     unreachable!()
@@ -284,8 +290,7 @@ fn start_over<D: Disk, O: Telling, R: Wait>(
 ) -> Result<LifeStart<D>, Closed<D>>
     requires { has_stopped closed.store ≡ false }
     ensures history { IfOk result (λ start. start.history ≡ O.history) }
-    ensures ledger { IfOk result (λ start.
-        start.ledger ≡ ledger_over closed.store.world closed.store.disk) }
+    ensures over { IfOk result (λ start. start.over.value ≡ closed.store) }
     ensures back { IfErr result (λ back. back ≡ closed) }
 {
     let Closed {
@@ -294,7 +299,7 @@ fn start_over<D: Disk, O: Telling, R: Wait>(
         trail,
         settled,
     } = closed;
-    match LifeStart::new(setting, store) {
+    match LifeStart::new(setting.alloc, setting.history, store) {
         Ok(start) => Ok(start),
         Err(store) => Err(Closed {
             store,
@@ -314,8 +319,7 @@ fn next_of<D: Disk, C, O: Telling, R: Wait>(
 ) -> Result<(LifeStart<D>, Writer, C), Life<D, C>>
     ensures goes_on { IfOk result (λ next. MayGoOn setting.now.life_steps life.closed) }
     ensures next { IfOk result (λ next. (life.left ≡ LifeEndAs.Resting) ×
-        (next.0.history ≡ O.history) ×
-        (next.0.ledger ≡ ledger_over life.closed.store.world life.closed.store.disk) ×
+        (next.0.history ≡ O.history) × (next.0.over.value ≡ life.closed.store) ×
         (next.2 ≡ life.callers)) }
     ensures writer { IfOk result (λ next. next.1 ≡ life.writer) }
     ensures last { IfErr result (λ last. (last.closed ≡ life.closed) × (last.writer ≡ life.writer) ×

@@ -1,6 +1,6 @@
 //! The thread that prints: first where the server listens, then each signal.
 
-ghost use Rattle.std.specs.Prelude.{◌≡◌, ◌⊎◌, List, Err, IfErr, IfOk, None, OnOk, true};
+ghost use Rattle.std.specs.Prelude.{◌≡◌, ◌⊎◌, List, Err, IfErr, IsErr, None, OnOk, true};
 ghost use Rattle.std.specs.Iterator.{Drains, IsFinite};
 ghost use Rattle.coord_server.specs.Ending.{EndsUnopened};
 ghost use Rattle.coord_server.specs.Printed.{BreaksIn, HasTold, IsOfPrinting, IsPrinted, IsUnprintedFor, PrintsEach, TellsAddress, listening_line, new_printer};
@@ -71,23 +71,38 @@ pub fn print_signals<W: Write, O: Telling, I: Iterator<Item = Signal<O>>>(
 /// Asks the thread that prints for the first line, and hears once that is printed.
 #[derive(Drop)]
 pub struct Opening {
-    to: Sender<SocketAddr>,
+    to: Option<Sender<SocketAddr>>,
     printed: Receiver<()>,
 }
 
 impl Opening {
+    /// Asks nobody for the first line any more: what waits to be asked for it goes on without.
+    pub fn give_up(&mut self)
+        ensures { self.new.to ≡ None }
+    {
+        self.to = None;
+    }
+
     /// Has the address printed at which the server listens, and signals behind it; or says how the life
-    /// ends where that line was not printed.
+    /// ends where that line was not printed, as where nobody is asked for it.
     pub fn open<C: Callers, R: Wait>(self, rt: &R, callers: &C) -> Result<(), LifeEnd>
-        ensures { IfErr result (EndsUnopened C.failed callers.now) }
+        ensures unopened { IfErr result (EndsUnopened C.failed callers.now) }
+        ensures given_up { self.to ≡ None → IsErr result }
     {
         let Ok(address) = callers.address() else {
             return Err(LifeEnd::Ended(Some(ServerFault::Socket)));
         };
-        let Ok(()) = self.to.send(rt, address) else {
+        let Opening {
+            to: Some(to),
+            printed,
+        } = self
+        else {
             return Err(LifeEnd::Unprinted);
         };
-        match self.printed.recv(rt) {
+        let Ok(()) = to.send(rt, address) else {
+            return Err(LifeEnd::Unprinted);
+        };
+        match printed.recv(rt) {
             Ok(()) => Ok(()),
             Err(_) => Err(LifeEnd::Unprinted),
         }
@@ -190,6 +205,26 @@ impl<W: Write + Drop, O: Telling> Promise<Printed<W>> for PrintsFrom<W, O> {
         IsUnprintedFor r.printer r.unprinted };
 }
 
+/// The channels between the two sides of an output: for the address of the first line, for that this line
+/// was printed, and for signals.
+#[derive(Drop)]
+pub struct Channels<O: Telling> {
+    addresses: (Sender<SocketAddr>, Receiver<SocketAddr>),
+    printed: (Sender<()>, Receiver<()>),
+    signals: (Sender<Signal<O>>, Receiver<Signal<O>>),
+}
+
+impl<O: Telling> Channels<O> {
+    /// New ones, if there is memory for them. That of signals has no bound.
+    pub fn new(alloc: Global) -> Result<Self, AllocError> {
+        Ok(Channels {
+            addresses: crossbeam_channel::bounded(alloc, 1)?,
+            printed: crossbeam_channel::bounded(alloc, 1)?,
+            signals: crossbeam_channel::unbounded(alloc)?,
+        })
+    }
+}
+
 /// The two sides of an output: the port that signals come to and what opens it, and its thread's.
 #[derive(Drop)]
 pub struct Outlet<R: Wait, W: Write + Drop, O: Telling> {
@@ -204,22 +239,25 @@ impl<R: Wait + Drop, W: Write + Drop, O: Telling> Outlet<R, W, O> {
     pub fn new(
         rt: R,
         alloc: Global,
+        channels: Channels<O>,
         output: W,
         since: u64,
         history: History,
         reader: Reader,
-    ) -> Result<Self, AllocError>
+    ) -> Self
         requires here { history ≡ O.history }
         requires own { reader.history ≡ O.history }
-        ensures { IfOk result (λ outlet. outlet.printing.printer ≡ new_printer output since) }
+        ensures { result.printing.printer ≡ new_printer output since }
     {
-        let (to, addresses) = crossbeam_channel::bounded(alloc, 1)?;
-        let (printed, opened) = crossbeam_channel::bounded(alloc, 1)?;
-        let (signalled, signals) = crossbeam_channel::unbounded(alloc)?;
-        Ok(Outlet {
+        let Channels {
+            addresses: (to, addresses),
+            printed: (printed, opened),
+            signals: (signalled, signals),
+        } = channels;
+        Outlet {
             port: LocalPort::new(rt, alloc, Vec::new(alloc), signalled),
             opening: Opening {
-                to,
+                to: Some(to),
                 printed: opened,
             },
             printing: Printing {
@@ -230,6 +268,6 @@ impl<R: Wait + Drop, W: Write + Drop, O: Telling> Outlet<R, W, O> {
                 printed,
                 signals,
             },
-        })
+        }
     }
 }

@@ -27,8 +27,8 @@ pub const LIFE_STEPS: usize = 262_144;
 
 /// Serves a store to the connections of a listener, one after the other, until a line closes it, and
 /// gives back what is left of the engine of its last life. It is `serve_callers` over these
-/// connections, with the usual patience. Where there is nothing to begin with, the store comes back as it
-/// was.
+/// connections, with the usual patience. Where there is no memory to begin with, the store and the output
+/// come back as they were.
 pub fn serve_store<
     'a,
     D: Disk + Send,
@@ -42,7 +42,7 @@ pub fn serve_store<
     store: Store<D>,
     listener: &'a A,
     output: W,
-) -> Result<ServerEnd<D, Accepted<'a, A, R>, W>, Store<D>>
+) -> Result<ServerEnd<D, Accepted<'a, A, R>, W>, (Store<D>, W)>
     requires { has_stopped store ≡ false }
     ensures lives { IfOk result (HasServed D.model store.world) }
     ensures whole { IfOk result (λ ended. EndsOneHistory store.world ended.closed) }
@@ -52,7 +52,7 @@ pub fn serve_store<
         (new_printer output store.world.count)) }
     ensures images { IfOk result (λ ended. D.model.keeps_model ended.closed.store.disk ≡ true →
         ImagesGive D.model ended.closed.store) }
-    ensures unserved { IfErr result (λ back. back ≡ store) }
+    ensures unserved { IfErr result (λ back. (back.0 ≡ store) × (back.1 ≡ output)) }
 {
     serve_accepted(
         rt,
@@ -77,7 +77,7 @@ fn serve_accepted<
     store: Store<D>,
     callers: Accepted<'a, A, R>,
     output: W,
-) -> Result<ServerEnd<D, Accepted<'a, A, R>, W>, Store<D>>
+) -> Result<ServerEnd<D, Accepted<'a, A, R>, W>, (Store<D>, W)>
     requires going { has_stopped store ≡ false }
     requires patience { IsUsual callers }
     ensures lives { IfOk result (HasServed D.model store.world) }
@@ -88,14 +88,14 @@ fn serve_accepted<
         (new_printer output store.world.count)) }
     ensures images { IfOk result (λ ended. D.model.keeps_model ended.closed.store.disk ≡ true →
         ImagesGive D.model ended.closed.store) }
-    ensures unserved { IfErr result (λ back. back ≡ store) }
+    ensures unserved { IfErr result (λ back. (back.0 ≡ store) × (back.1 ≡ output)) }
 {
     serve_callers(rt, alloc, store, callers, output)
 }
 
 /// Serves a store to those who call, one after the other, until a line closes it, and gives back
-/// what is left of the engine of its last life. It is `serve_lives` with `LIFE_STEPS`. Where there is
-/// nothing to begin with, the store comes back as it was.
+/// what is left of the engine of its last life. It is `serve_lives` with `LIFE_STEPS`. Where there is no
+/// memory to begin with, the store and the output come back as they were.
 pub fn serve_callers<
     D: Disk + Send,
     C: Callers + Drop,
@@ -107,7 +107,7 @@ pub fn serve_callers<
     store: Store<D>,
     callers: C,
     output: W,
-) -> Result<ServerEnd<D, C, W>, Store<D>>
+) -> Result<ServerEnd<D, C, W>, (Store<D>, W)>
     requires { has_stopped store ≡ false }
     ensures lives { IfOk result
         (HasLived D.model C.talked C.failed life_steps store.world callers) }
@@ -119,7 +119,7 @@ pub fn serve_callers<
         (GivesSignal store.world) store callers (new_printer output store.world.count)) }
     ensures images { IfOk result (λ ended. D.model.keeps_model ended.closed.store.disk ≡ true →
         ImagesGive D.model ended.closed.store) }
-    ensures unserved { IfErr result (λ back. back ≡ store) }
+    ensures unserved { IfErr result (λ back. (back.0 ≡ store) × (back.1 ≡ output)) }
 {
     let ended = serve_lives(rt, alloc, LIFE_STEPS, store, callers, output)?;
     ended.closed.store.lemma_images_give_world();

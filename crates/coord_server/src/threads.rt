@@ -1,6 +1,6 @@
 //! The threads of one life of a server, while connections are served.
 
-ghost use Rattle.std.specs.Prelude.{◌≡◌, ◌⊎◌, ◌+◌, ◌≤◌, [], ◌∷◌, ℕ, IfErr, IfOk, IfSome, Some, length, vec_capacity, vec_len};
+ghost use Rattle.std.specs.Prelude.{◌≡◌, ◌⊎◌, ◌+◌, ◌≤◌, [], ◌∷◌, ℕ, IfErr, IfOk, IfSome, IsErr, None, Some, length, vec_capacity, vec_len};
 ghost use Rattle.std.specs.Thread.{IsSend, IsSync};
 ghost use Rattle.coord_engine.specs.Released.{MayTell};
 ghost use Rattle.coord_engine.specs.State.{based_on};
@@ -251,7 +251,8 @@ fn serve_over<D: Disk, L: Origin, C: Callers, O: Telling, R: Wait>(
 
 /// Opens the output, where that was not done before; or says how the life ends where it can't be opened.
 fn open<C: Callers, R: Wait>(rt: &R, callers: &C, opening: Option<Opening>) -> Result<(), LifeEnd>
-    ensures { IfErr result (EndsUnopened C.failed callers.now) }
+    ensures unopened { IfErr result (EndsUnopened C.failed callers.now) }
+    ensures given_up { IfSome opening (λ first. first.to ≡ None → IsErr result) }
 {
     match opening {
         Some(opening) => opening.open(rt, callers),

@@ -2,10 +2,11 @@
 
 use crate::calls::{PAIR, SHOWN_PAIR};
 use crate::program::{Host, ended, room, same, streams_of, told, words_of};
-use coord_commands::{MemFolder, Named, Streams, run_in};
+use coord_commands::{MemFolder, Named, Streams, run_in, serve_in};
 use coord_disk::MemDisk;
 use std::io;
 use std::io::{ErrorKind, Write};
+use std::str;
 
 /// Words, and what a run with them ends with: its exit status, what it prints, and its fault line.
 type Run = (&'static str, u8, &'static str, &'static str);
@@ -155,4 +156,19 @@ fn a_line_that_is_not_printed(rt: HostRuntime) {
     let bytes = bytes_in(&folder);
     let second_half = (bytes.first().copied(), bytes.get(17 + 32_768).copied());
     same(&rt, &second_half, &(Some(1), Some(2)));
+}
+
+/// A server whose output takes no line ends before it serves anyone, and one that lacks memory does not begin.
+/// The disk is put back as it was.
+#[test]
+fn a_disk_that_was_served_is_put_back(rt: HostRuntime) {
+    let disk = MemDisk::from_bytes(rt.alloc(), EMPTY).expect(&rt, "no disk");
+    let mut folder = folder_of(&rt, disk);
+    let mut streams = streams_of(&rt, b"".as_slice(), Closed);
+    let status = serve_in(&rt, &mut folder, "store", "127.0.0.1:0", &mut streams);
+    let line = str::from_utf8(&streams.errors).unwrap_or("no text");
+    let ending = (status, line);
+    assert!(rt; ending == (3, "resetd: Write\n") || ending == (4, "resetd: OutOfMemory\n"));
+    drop(streams);
+    same(&rt, &bytes_in(&folder), &EMPTY);
 }

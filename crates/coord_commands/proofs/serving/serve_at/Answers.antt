@@ -7,12 +7,12 @@ use Rattle.coord_commands.specs.Faults.{fault_of_server}
 use Rattle.coord_commands.specs.Serving.{ClosesAndPrints, EndsServing, ServedWithOutput}
 use Rattle.coord_commands.proofs.serving.serve_at.Goals as goal
 
--- a server had nothing to begin with
+-- there was no memory for a server to begin with
 pub returns-in-Err-served-clause-fault : goal.returns-in-Err-served-clause-fault
 returns-in-Err-served-clause-fault g c =
     let old = g.W.Write.contents c.args.output.now in
     let new = g.W.Write.contents c.serve_open-served.new.output in
-    not_begun g.F.Disk.Disk.model (g.F.Folder.holds c.args.folder.now c.args.file.now) (g.F.Folder.holds c.close-in-Err-served.new.self c.args.file.now) old new c.in_ok-store.store c.in-Err-served.store c.into_disk.result c.in_ok-store.ensures.opened c.in-Err-served.ensures.unserved c.into_disk.ensures.disk c.close-in-Err-served.ensures
+    not_begun g.F.Disk.Disk.model (g.F.Folder.holds c.args.folder.now c.args.file.now) (g.F.Folder.holds c.close-in-Err-served.new.self c.args.file.now) old new c.in_ok-store.store c.in-Err-served.store c.into_disk.result c.in_ok-store.ensures.opened c.in-Err-served.ensures.unserved.0 c.in-Err-served.ensures.unserved.1 c.into_disk.ensures.disk c.close-in-Err-served.ensures
 
 pub returns-in_err-store-clause-fault : goal.returns-in_err-store-clause-fault
 returns-in_err-store-clause-fault g c =
@@ -21,7 +21,7 @@ returns-in_err-store-clause-fault g c =
     let old = g.W.Write.contents c.args.output.now in
     let fault = c.in_err-store.field-0.0 in
     let told : c.from_residual.result ≡ Err fault = search rules in
-    err_last (EndsServing g.F.Disk.Disk.model before after old old) c.from_residual.result fault told (inl (c.in_err-store.ensures.fault, Keeps-refl old))
+    err_last (EndsServing g.F.Disk.Disk.model before after old old) c.from_residual.result fault told (inl (inl c.in_err-store.ensures.fault, Keeps-refl old))
 
 pub returns-in-Err-clause-fault : goal.returns-in-Err-clause-fault
 returns-in-Err-clause-fault g c =

@@ -1,25 +1,16 @@
-use Rattle.std.proofs.Common.{◌≡◌, [], ◌++◌, ap, inl, refl, subst, sym, ◌∙◌}
-use Rattle.coord_engine.specs.Facade.{Beginning, MayTell, first_settled}
+use Rattle.std.proofs.Common.{◌≡◌, ◌++◌, ap, inl, refl, subst, sym, ◌∙◌}
+use Rattle.coord_engine.specs.Facade.{Beginning, first_settled}
 use Rattle.coord_engine.specs.declared.closed.Closed.{Closed}
 use Rattle.coord_engine.specs.State.{based_on}
-use Rattle.coord_ledger.specs.ledger.State.{LedgerState}
-use Rattle.coord_server.specs.Ending.{IsLife}
 use Rattle.coord_server.specs.Moments.{KeepsAlong}
 use Rattle.coord_server.specs.Signals.{MaySignal}
 use Rattle.coord_server.specs.Lives.{MayGoOn}
-use Rattle.coord_server.specs.declared.life_end.LifeEnd.TheVariants.{Resting}
 use Rattle.coord_server.proofs.Ends.{cause_at_last, last_life}
 use Rattle.coord_server.proofs.Moments.{ends_along, rested_on, tells_on}
 use Rattle.coord_server.proofs.lives.live.Goals as goal
 
 pub loop-init : goal.loop-init
-loop-init g c = (
-  tt,
-  tt,
-  c.in_ok-start.ensures.history,
-  ap (λ (b : Beginning). b.history) c.requires.new,
-  (c.args.store, c.in_ok-start.ensures.ledger, (0, (refl, refl), inl (refl, refl), ap (λ (b : Beginning). b.steps) c.requires.new)),
-)
+loop-init g c = (tt, tt, c.requires.history, ap (λ (b : Beginning). b.history) c.requires.new, (0, (refl, refl), inl (refl, refl), ap (λ (b : Beginning). b.steps) c.requires.new))
 
 pub loop-preserved : goal.loop-preserved
 loop-preserved g c =
@@ -27,25 +18,20 @@ loop-preserved g c =
     let next = c.in-Ok.ensures.next in
     let on = c.in-Ok.ensures.goes_on in
     let life = c.serve_life-life in
-    let over = c.loop.invariant.4 in
     let written = c.in-Ok.ensures.writer ∙ life.ensures.written in
-    let base = ap (λ (l : LedgerState g.row.D.Denot). l.log.base) over.1 in
-    let is = subst (λ w. IsLife (based_on m w []) g.C.Callers.talked g.C.Callers.failed c.args.setting.now.life_steps c.loop.callers life.result) base life.ensures.life in
-    let rested = rested_on m g.C.Callers.talked g.C.Callers.failed c.args.setting.now.life_steps c.args.store over.0 _ c.args.callers c.loop.callers _ life.result c.loop.writer.steps _ over.2 (ap (λ (b : Beginning). b.steps) written) is (life.ensures.along over.0 over.1) on.2 next.0 refl next.3 on.0 on.1 in
-    (tt, tt, next.1, ap (λ (b : Beginning). b.history) written ∙ c.loop.invariant.3, (life.result.closed.store, next.2, rested))
+    let rested = rested_on m g.C.Callers.talked g.C.Callers.failed c.args.setting.now.life_steps c.args.start.over.value c.loop.start.over.value _ c.args.callers c.loop.callers _ life.result c.loop.writer.steps _ c.loop.invariant.4 (ap (λ (b : Beginning). b.steps) written) life.ensures.life life.ensures.along on.2 next.0 next.2 next.3 on.0 on.1 in
+    (tt, tt, next.1, ap (λ (b : Beginning). b.history) written ∙ c.loop.invariant.3, rested)
 
 pub returns-in-Err-clause-lived : goal.returns-in-Err-clause-lived
 returns-in-Err-clause-lived g c =
     let m = g.D.Disk.model in
     let life = c.serve_life-life in
     let last = c.in-Err.ensures.last in
-    let over = c.loop.invariant.4 in
-    let base = ap (λ (l : LedgerState g.row.D.Denot). l.log.base) over.1 in
-    let is = subst (λ w. IsLife (based_on m w []) g.C.Callers.talked g.C.Callers.failed c.args.setting.now.life_steps c.loop.callers life.result) base life.ensures.life in
-    let ended = last_life (based_on m over.0.world []) g.C.Callers.talked g.C.Callers.failed c.args.setting.now.life_steps c.loop.callers life.result c.in-Err.last _ is last.0 last.2 last.3 in
-    let along = subst (λ (k : Closed g.row.D.Denot). KeepsAlong m over.0 k.trail.items k.store) (sym last.0) (life.ensures.along over.0 over.1) in
+    let over = c.loop.start.over.value in
+    let ended = last_life (based_on m over.world []) g.C.Callers.talked g.C.Callers.failed c.args.setting.now.life_steps c.loop.callers life.result c.in-Err.last _ life.ensures.life last.0 last.2 last.3 in
+    let along = subst (λ (k : Closed g.row.D.Denot). KeepsAlong m over k.trail.items k.store) (sym last.0) life.ensures.along in
     let written = ap (λ (b : Beginning). b.steps) (last.1 ∙ life.ensures.written) ∙ ap (λ (k : Closed g.row.D.Denot). c.loop.writer.steps ++ first_settled k.base k.trail.items k.settled) (sym last.0) in
-    ends_along m g.C.Callers.talked g.C.Callers.failed c.args.setting.now.life_steps c.args.store over.0 c.args.callers c.loop.callers c.in-Err.last c.loop.writer.steps over.2 written ended along
+    ends_along m g.C.Callers.talked g.C.Callers.failed c.args.setting.now.life_steps c.args.start.over.value over c.args.callers c.loop.callers c.in-Err.last c.loop.writer.steps c.loop.invariant.4 written ended along
 
 pub returns-in-Err-clause-same : goal.returns-in-Err-clause-same
 returns-in-Err-clause-same g c = ap (λ (b : Beginning). b.history) (c.in-Err.ensures.last.1 ∙ c.serve_life-life.ensures.written) ∙ c.loop.invariant.3
@@ -53,10 +39,9 @@ returns-in-Err-clause-same g c = ap (λ (b : Beginning). b.history) (c.in-Err.en
 pub serve_life-life-requires-clause-tell : goal.serve_life-life-requires-clause-tell
 serve_life-life-requires-clause-tell g c =
     let history = g.O.Telling.history in
-    let over = c.loop.invariant.4 in
-    let base = ap (λ (l : LedgerState g.row.D.Denot). l.log.base) over.1 in
-    let tell = tells_on g.D.Disk.model (MaySignal history g.O.Telling.gives) history c.loop.writer.history c.args.store over.0 _ c.loop.writer.steps c.requires.tell c.loop.invariant.3 over.2.2 over.2.3 in
-    λ _ _. subst (λ w. MayTell c.loop.writer.history c.loop.writer.steps w (MaySignal history g.O.Telling.gives)) (sym base) tell
+    let rested = c.loop.invariant.4 in
+    let tell = tells_on g.D.Disk.model (MaySignal history g.O.Telling.gives) history c.loop.writer.history c.args.start.over.value c.loop.start.over.value _ c.loop.writer.steps c.requires.tell c.loop.invariant.3 rested.2 rested.3 in
+    λ _ _. tell
 
 pub returns-in-Err-clause-last : goal.returns-in-Err-clause-last
 returns-in-Err-clause-last g c =

@@ -1,6 +1,4 @@
 use Rattle.std.proofs.Common.{◌≡◌}
-use Rattle.coord_ledger.specs.ledger.State.{ledger_over}
-use Rattle.coord_store.specs.Kept.{Kept}
 use Rattle.coord_server.specs.Moments.{HaveRested}
 use Rattle.coord_server.proofs.lives.live.Given as goal
 
@@ -9,4 +7,4 @@ abbrev pub invariant-loop : goal.invariant-loop
 invariant-loop g l =
     (goal.iterator-loop g).can_next l.iterator' × (goal.iterator-loop g).is_finite l.iterator'
     × (l.start.history ≡ g.O.Telling.history) × (l.writer.history ≡ g.O.Telling.history)
-    × ((store : Kept g.row.D.Denot) × (l.start.ledger ≡ ledger_over store.world store.disk) × HaveRested g.D.Disk.model g.C.Callers.talked l.fn.setting.life_steps l.fn.store l.fn.callers store l.callers l.writer.steps)
+    × HaveRested g.D.Disk.model g.C.Callers.talked l.fn.setting.life_steps l.fn.start.over.value l.fn.callers l.start.over.value l.callers l.writer.steps

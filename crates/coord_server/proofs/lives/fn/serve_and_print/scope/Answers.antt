@@ -1,13 +1,28 @@
-use Rattle.coord_server.proofs.Starts.{told_from}
+use Rattle.std.proofs.Common.{subst}
+use Rattle.coord_server.proofs.Ends.{has_cause}
+use Rattle.coord_server.proofs.Moments.{lives_tell}
 use Rattle.coord_server.specs.Moments.{LivesTell}
 use Rattle.coord_server.proofs.lives.fn.serve_and_print.scope.Goals as goal
 
-pub returns : goal.returns
-returns g c =
-    let setting = c.captures.setting.now in
-    record {
-      printed = told_from c.start_printing-printing.result c.print_and_live.result (λ handle. handle.promise.first.value) c.captures.printing.printer
-          (λ printer ended. LivesTell g.D.Disk.model g.C.Callers.talked g.C.Callers.failed setting.life_steps g.W.Write.contents g.O.Telling.gives c.captures.store c.captures.callers printer ended)
-          c.print_and_live.ensures.starts c.start_printing-printing.ensures c.print_and_live.ensures.printed;
-      unserved = c.print_and_live.ensures.unserved;
-    }
+-- a thread prints
+pub returns-in-Ok : goal.returns-in-Ok
+returns-in-Ok g c =
+    let m = g.D.Disk.model in
+    let most = c.captures.setting.now.life_steps in
+    subst (λ printer. LivesTell m g.C.Callers.talked g.C.Callers.failed most g.W.Write.contents g.O.Telling.gives c.captures.start.over.value c.captures.callers printer c.print_and_live.result)
+    c.in-Ok.ensures.started c.print_and_live.ensures
+
+-- none does
+pub returns-in-Err : goal.returns-in-Err
+returns-in-Err g c =
+    let m = g.D.Disk.model in
+    let talked = g.C.Callers.talked in
+    let failed = g.C.Callers.failed in
+    let most = c.captures.setting.now.life_steps in
+    let over = c.captures.start.over.value in
+    let life = c.live-life in
+    let ended = c.end_of.result in
+    let last = c.end_of.ensures.last in
+    let printed = c.in-Err.printed in
+    let cause = has_cause m talked failed most over.world c.captures.callers life.result ended life.ensures.lived.0 last.0 last.1 c.end_of.ensures.write life.ensures.last in
+    lives_tell m talked failed most g.W.Write.contents over c.captures.callers life.result ended g.O.Telling.gives g.O.Telling.lasts c.captures.printing.printer printed.printer printed.reader.steps life.ensures.lived last.0 last.1 last.2 cause last.3 c.end_of.ensures.read c.in-Err.ensures.refused.1
