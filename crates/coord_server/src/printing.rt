@@ -92,11 +92,8 @@ impl Opening {
         let Ok(address) = callers.address() else {
             return Err(LifeEnd::Ended(Some(ServerFault::Socket)));
         };
-        let Opening {
-            to: Some(to),
-            printed,
-        } = self
-        else {
+        let Opening { to, printed } = self;
+        let Some(to) = to else {
             return Err(LifeEnd::Unprinted);
         };
         let Ok(()) = to.send(rt, address) else {
