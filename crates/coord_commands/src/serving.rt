@@ -123,16 +123,17 @@ fn serve_at<S: Net + Threads + Wait + Clock + Sync + AllocGlobal, F: Folder, W: 
 /// is left of its last engine, beside the fault if one is told; or the store as it was, and nothing more
 /// in the output, where there was no memory to begin with. What it prints goes to the output.
 fn serve_open<
+    'a,
     D: Disk + Send,
     S: Read + Write + OpenStream + Drop,
     A: OpenListener<Stream = S>,
     W: Write + Send,
     R: Threads + Wait + Clock + Sync,
 >(
-    rt: &R,
+    rt: &'a R,
     alloc: Global,
     store: Store<D>,
-    listener: &A,
+    listener: &'a A,
     output: &mut W,
 ) -> Result<Result<Closed<D>, (ServerFault, Closed<D>)>, Store<D>>
     requires { has_stopped store ≡ false }
@@ -150,7 +151,11 @@ fn serve_open<
             let Lent { output: _back } = printer.into_output();
             Ok(served)
         }
-        Err((store, Lent { output: _back })) => Err(store),
+        Err(unserved) => {
+            let (store, lent) = unserved;
+            let Lent { output: _back } = lent;
+            Err(store)
+        }
     }
 }
 

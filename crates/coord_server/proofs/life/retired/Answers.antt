@@ -1,3 +1,4 @@
+use Rattle.std.proofs.Common.{rules}
 use Rattle.coord_engine.specs.State.{based_on}
 use Rattle.coord_server.specs.declared.life.Life.{Life}
 use Rattle.coord_server.proofs.Ends.{leaves_shares}
@@ -8,4 +9,4 @@ returns-clause-left g c =
     let completed = c.args.completed in
     let left = c.retire-closed in
     let life : Life g.row.D.Denot g.row.C.Denot = record { closed = left.result.closed; writer = left.result.writer; callers = completed.callers; left = c.left_with.result } in
-    leaves_shares (based_on g.D.Disk.model g.L.Origin.base g.L.Origin.before) completed.shares.items completed.seen completed.left life left.result.refused c.left_with.ensures.named c.left_with.ensures.refused left.ensures.left left.ensures.since left.ensures.seen
+    leaves_shares (based_on g.D.Disk.model g.L.Origin.base g.L.Origin.before) completed.shares.items completed.seen completed.left life left.result.refused (search rules) (search rules) (search rules) (search rules) (search rules)

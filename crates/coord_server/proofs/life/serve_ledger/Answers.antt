@@ -1,4 +1,4 @@
-use Rattle.std.proofs.Common.{◌∙◌}
+use Rattle.std.proofs.Common.{rules}
 use Rattle.coord_engine.specs.State.{based_on}
 use Rattle.coord_server.proofs.Ends.{lived, unbegun}
 use Rattle.coord_server.proofs.life.serve_ledger.Goals as goal
@@ -7,16 +7,14 @@ pub returns-in-Ok-clause-life : goal.returns-in-Ok-clause-life
 returns-in-Ok-clause-life g c =
     let b = based_on g.D.Disk.model g.L.Origin.base g.L.Origin.before in
     let completed = c.in-Ok.completed in
-    lived b g.C.Callers.talked g.C.Callers.failed c.args.setting.now.life_steps c.args.callers completed.callers completed.left completed.shares.items completed.seen c.retired.result c.requires.before.1 c.in-Ok.ensures.completed c.retired.ensures.left c.retired.ensures.callers
+    lived b g.C.Callers.talked g.C.Callers.failed c.args.setting.now.life_steps c.args.callers completed.callers completed.left completed.shares.items completed.seen _ c.requires.before.1 c.in-Ok.ensures.completed (search rules) (search rules)
 
 pub returns-in_default-clause-life : goal.returns-in_default-clause-life
 returns-in_default-clause-life g c =
     let b = based_on g.D.Disk.model g.L.Origin.base g.L.Origin.before in
-    let is = c.unbegun.ensures in
-    unbegun b g.C.Callers.talked g.C.Callers.failed c.args.setting.now.life_steps c.args.setting.now.port c.args.callers c.unbegun.result (g.met.C.Callers.at_rest c.args.callers) is.unserved.0 is.unserved.1 is.left
+    unbegun b g.C.Callers.talked g.C.Callers.failed c.args.setting.now.life_steps c.args.setting.now.port c.args.callers _ (g.met.C.Callers.at_rest c.args.callers) (search rules) (search rules) (search rules)
 
 pub returns-in-Err-clause-life : goal.returns-in-Err-clause-life
 returns-in-Err-clause-life g c =
     let b = based_on g.D.Disk.model g.L.Origin.base g.L.Origin.before in
-    let is = c.unbegun-in-Err.ensures in
-    unbegun b g.C.Callers.talked g.C.Callers.failed c.args.setting.now.life_steps c.args.setting.now.port c.args.callers c.unbegun-in-Err.result (g.met.C.Callers.at_rest c.args.callers) (is.unserved.0 ∙ c.in-Err.ensures.unserved.0) is.unserved.1 is.left
+    unbegun b g.C.Callers.talked g.C.Callers.failed c.args.setting.now.life_steps c.args.setting.now.port c.args.callers _ (g.met.C.Callers.at_rest c.args.callers) (search rules) (search rules) (search rules)
