@@ -12,7 +12,7 @@ pub returns-in-Err-served-clause-fault : goal.returns-in-Err-served-clause-fault
 returns-in-Err-served-clause-fault g c =
     let old = g.W.Write.contents c.args.output.now in
     let new = g.W.Write.contents c.serve_open-served.new.output in
-    not_begun g.F.Disk.Disk.model (g.F.Folder.holds c.args.folder.now c.args.file.now) (g.F.Folder.holds c.close-in-Err-served.new.self c.args.file.now) old new c.in_ok-store.store c.in-Err-served.store c.into_disk.result c.in_ok-store.ensures.opened c.in-Err-served.ensures.unserved.0 c.in-Err-served.ensures.unserved.1 c.into_disk.ensures.disk c.close-in-Err-served.ensures
+    not_begun g.F.Disk.Disk.model (g.F.Folder.holds c.args.folder.now c.args.file.now) (g.F.Folder.holds c.close-in-Err-served.new.self c.args.file.now) old new c.in_ok-store.store c.in-Err-served.store c.into_disk.result c.in_ok-store.ensures.opened (search rules) (search rules) (search rules) (search rules)
 
 pub returns-in_err-store-clause-fault : goal.returns-in_err-store-clause-fault
 returns-in_err-store-clause-fault g c =
