@@ -4,9 +4,8 @@ use crate::calls::{PAIR, SHOWN_PAIR};
 use crate::program::{Host, ended, room, same, streams_of, told, words_of};
 use coord_commands::{MemFolder, Named, Streams, run_in, serve_in};
 use coord_disk::MemDisk;
-use std::io;
 use std::io::{ErrorKind, Write};
-use std::str;
+use std::{io, str};
 
 /// Words, and what a run with them ends with: its exit status, what it prints, and its fault line.
 type Run = (&'static str, u8, &'static str, &'static str);
