@@ -1,4 +1,4 @@
-use Rattle.std.proofs.Common.{◌≡◌, [], ◌++◌, ap, inl, refl, subst, sym, ◌∙◌}
+use Rattle.std.proofs.Common.{[], ◌++◌, ap, inl, refl, subst, sym, ◌∙◌}
 use Rattle.coord_engine.specs.Facade.{Beginning, first_settled}
 use Rattle.coord_engine.specs.declared.closed.Closed.{Closed}
 use Rattle.coord_engine.specs.State.{based_on}
