@@ -4,7 +4,7 @@ use Rattle.std.specs.declared.alloc.Global.{Global}
 use Rattle.std.proofs.lemmas.List.{append-nil, append_assoc}
 use Rattle.coord_types.specs.declared.packets.Packet.{Packet}
 use Rattle.coord_ledger.specs.declared.ticket.Note.{Note}
-use Rattle.coord_engine.specs.Facade.{AddsPackets, Basis, TakesPacket, Tries, TriesAll, Works, all_packets, step_of}
+use Rattle.coord_engine.specs.Facade.{AddsPackets, Basis, TakesPacket, Tries, TriesAll, Works, WorksAndTries, all_packets, step_of}
 use Rattle.coord_engine.specs.declared.hand.Hand.{Hand}
 use Rattle.coord_engine.proofs.PacketNotes.{adds_more, adds_none, adds_packet}
 
@@ -49,3 +49,8 @@ module _ {D : Type 0} (b : Basis D) where
   works_adds notes later hand left [] is = adds_none notes later is.0
   works_adds notes later hand left (p ∷ came) is =
       adds_more notes is.0 later (tried_one notes is.0 p is.4.waits is.4.tries) (adds_more is.0 is.2 later (tried_adds is.0 is.2 is.1.waiting is.3 is.5) (works_adds is.2 later (record is.1 { waiting = is.3 }) left came is.6))
+
+  -- and so has a port that tries those that wait once more
+  pub works_and_tries_adds : (notes later : List Note) (hand left : Hand) (came : List Packet) → WorksAndTries b notes hand came later left → AddsPackets notes later
+  works_and_tries_adds notes later hand left came is =
+      adds_more notes is.0 later (works_adds notes is.0 hand is.1 came is.3) (tried_adds is.0 later is.1.waiting is.2 is.4)

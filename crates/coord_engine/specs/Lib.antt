@@ -10,6 +10,7 @@ pub mod Past
 pub mod Port
 pub mod Released
 pub mod State
+pub mod SubmittingPort
 pub mod Threads
 pub mod Waiting
 pub mod WorkedPackets

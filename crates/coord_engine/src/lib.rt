@@ -36,6 +36,7 @@ mod port;
 mod released;
 pub mod rows;
 mod share;
+mod submitting_port;
 mod waiting;
 mod working;
 
@@ -52,5 +53,6 @@ pub use packet_share::PacketShare;
 pub use port::{Delivery, Port, step_of};
 pub use released::Released;
 pub use share::Share;
+pub use submitting_port::SubmittingPort;
 pub use waiting::Waiting;
 pub use working::{packet_worker, worker};

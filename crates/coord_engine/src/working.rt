@@ -4,7 +4,7 @@ ghost use Rattle.std.specs.Prelude.{◌≡◌, List, Vec};
 ghost use Rattle.std.specs.Iterator.{Drains, IsFinite};
 ghost use Rattle.coord_types.specs.declared.packets.Packet.{Packet as Asked};
 ghost use Rattle.coord_engine.specs.State.{based_on};
-ghost use Rattle.coord_engine.specs.Working.{AddsPackets, TakesPacket, Tries, TriesAll, Works, all_packets, has_to_wait};
+ghost use Rattle.coord_engine.specs.Working.{AddsPackets, TakesPacket, Tries, TriesAll, Works, WorksAndTries, all_packets, has_to_wait};
 
 use crate::port::step_of;
 use crate::{Engine, Guarded, Hand, Origin, PacketShare, Share, Waiting};
@@ -12,7 +12,7 @@ use coord_disk::Disk;
 use coord_types::{Packet, Refusal};
 use crossbeam_channel::Receiver;
 use std::alloc::Global;
-use std::sync::Wait;
+use std::sync::{MutexGuard, Wait};
 
 /// Whether a packet has to wait after this refusal, since there was no room for its step.
 fn has_to_wait(refusal: Refusal) -> bool
@@ -90,6 +90,19 @@ fn take_each<D: Disk, L: Origin>(
     }
 }
 
+/// Lets the lock go, and wakes the flusher where that is due.
+fn unlock<D: Disk, L: Origin>(
+    engine: &Engine<D, L>,
+    guarded: MutexGuard<'_, Guarded<D, L>>,
+    was_idle: bool,
+) {
+    let wakes = guarded.wakes_flusher(was_idle);
+    drop(guarded);
+    if wakes {
+        engine.work.notify_all();
+    }
+}
+
 /// Takes packets that came together under one lock, and wakes the flusher once.
 fn take_together<D: Disk, L: Origin, R: Wait>(
     rt: &R,
@@ -104,11 +117,26 @@ fn take_together<D: Disk, L: Origin, R: Wait>(
     let mut guarded = engine.guarded.lock(rt);
     let was_idle = guarded.is_idle();
     take_each(&mut guarded, packets, share, hand);
-    let wakes = guarded.wakes_flusher(was_idle);
-    drop(guarded);
-    if wakes {
-        engine.work.notify_all();
-    }
+    unlock(engine, guarded, was_idle);
+}
+
+/// Takes packets that came together, and tries those that wait once more, under one lock, and wakes the
+/// flusher once.
+pub(crate) fn take_and_try<D: Disk, L: Origin, R: Wait>(
+    rt: &R,
+    engine: &Engine<D, L>,
+    packets: &[Packet],
+    share: &mut Share<L>,
+    hand: &mut Hand,
+)
+    ensures { WorksAndTries (based_on D.model L.base L.before) share.old hand.old
+        packets.now share.new hand.new }
+{
+    let mut guarded = engine.guarded.lock(rt);
+    let was_idle = guarded.is_idle();
+    take_each(&mut guarded, packets, share, hand);
+    try_waiting(&mut guarded, share, &mut hand.waiting);
+    unlock(engine, guarded, was_idle);
 }
 
 /// Submits the packets that come, in order, and ends behind the last one. Their replies are

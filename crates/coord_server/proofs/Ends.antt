@@ -59,7 +59,7 @@ module _ {D : Type 0} (b : Basis D) {V : Type 0} (talked : V → List Talk → V
 
   -- the shares of the desk and of the workers, once all are back
   pub has_run : (v w : V) (left : LifeEnd) (own : List Note) (seen : ℕ) (shares : List (List Note)) → (port : Local) × (later : Local) × ServesLife b talked failed most port v w (record { notes = own; seen = seen; port = later }) left
-      → AddsWorkers (own ∷ []) shares → length shares ≡ 9 → HasRun b talked failed most v w left shares seen
+      → AddsWorkers (own ∷ []) shares → length shares ≡ 10 → HasRun b talked failed most v w left shares seen
   has_run v w left own seen shares s added all = record { port = s.0; desk = record { notes = own; seen = seen; port = s.1 }; served = s.2; saw = refl; added = added; all = all }
 
   -- one life: how the desk went on, and what is left of the engine, which was taken apart with all shares or refused them
@@ -77,7 +77,7 @@ module _ {D : Type 0} (b : Basis D) {V : Type 0} (talked : V → List Talk → V
       subst (λ s. AtSomeMoment b (λ g. IsLeftOf {D = D} life.closed.store life.closed.base life.closed.trail.items life.closed.settled g × RefusesClosing {D = D} g s is.desk.seen why)) is.added.1
       (subst (λ n. AtSomeMoment b (λ g. IsLeftOf {D = D} life.closed.store life.closed.base life.closed.trail.items life.closed.settled g × RefusesClosing {D = D} g shares n why)) (sym is.saw) so)
       in
-      let refused : RefusesShares b is.desk life.closed why = record { workers = is.added.0; of_packets = is.added.2; all = subst (λ s. length s ≡ 9) is.added.1 is.all; so = refuses } in
+      let refused : RefusesShares b is.desk life.closed why = record { workers = is.added.0; of_packets = is.added.2; all = subst (λ s. length s ≡ 10) is.added.1 is.all; so = refuses } in
       record {
         port = is.port;
         desk = is.desk;

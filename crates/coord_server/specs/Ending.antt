@@ -36,11 +36,11 @@ pub record IsOneHistory {D P : Type 0} (b : Basis D) (desk : DeskState P) (left 
 abbrev pub LeavesLedger : {D : Type 0} → Basis D → Closed D → Type 0
 LeavesLedger {D} b left = AtSomeMoment b (IsLeftOf {D = D} left.store left.base left.trail.items left.settled)
 
--- An engine refused for this reason to be taken apart with all nine shares, the desk's and those of eight workers; and this is what it had then.
+-- An engine refused for this reason to be taken apart with all ten shares, the desk's, the flusher's and those of eight workers; and this is what it had then.
 pub record RefusesShares {D P : Type 0} (b : Basis D) (desk : DeskState P) (left : Closed D) (why : CloseFault) : Type 0 where
   pub workers : List (List Note)
   pub of_packets : All (All IsOfPacket) workers
-  pub all : length (desk.notes ∷ workers) ≡ 9
+  pub all : length (desk.notes ∷ workers) ≡ 10
   pub so : AtSomeMoment b (λ g. IsLeftOf {D = D} left.store left.base left.trail.items left.settled g × RefusesClosing {D = D} g (desk.notes ∷ workers) desk.seen why)
 
 -- what is known of what a life leaves that ends so: it is one history, unless the life did not begin, or its engine refused to be taken apart
@@ -94,14 +94,14 @@ module _ {D : Type 0} (b : Basis D) {V : Type 0} (talked : V → List Talk → V
     Serves port v w desk (Some fault.OutOfMemory) = ServesLife port v w desk (end.Ended (Some fault.OutOfMemory)) ⊎ ServesLife port v w desk end.Resting
     Serves port v w desk served = LeavesLife port v w desk (end.Ended served)
 
-    -- the threads of a life have run: the desk served until this end and saw that much, and with its share all nine are back, the desk's and those of eight workers
+    -- the threads of a life have run: the desk served until this end and saw that much, and with its share all ten are back, the desk's, the flusher's and those of eight workers
     pub record HasRun (v w : V) (left : LifeEnd) (shares : List (List Note)) (seen : ℕ) : Type 0 where
       pub port : Local
       pub desk : DeskState Local
       pub served : ServesLife port v w desk left
       pub saw : desk.seen ≡ seen
       pub added : AddsWorkers (desk.notes ∷ []) shares
-      pub all : length shares ≡ 9
+      pub all : length shares ≡ 10
 
     -- one life: the desk served until it was left so, and what is left
     pub record IsLife (v : V) (life : Life D V) : Type 0 where

@@ -171,7 +171,7 @@ fn begin<D: Disk, L: Origin, O: Telling, R: Wait>(
 ) -> Option<Begun<L>> {
     let mut own = engine.share(setting.rt)?;
     own.reserve(NOTES_ROOM).ok()?;
-    let room = Vec::with_capacity(setting.alloc, usize::from(WORKERS) + 1).ok()?;
+    let room = Vec::with_capacity(setting.alloc, usize::from(WORKERS) + 2).ok()?;
     let (to, packets) = channels(setting.alloc).ok()?;
     setting.port.connect(to);
     Some(Begun { own, room, packets })
@@ -213,7 +213,7 @@ fn retired<D: Disk, L: Origin, C: Callers, R: Wait + Clock>(
     completed: JoinedThreads<L, C>,
 ) -> Life<D, C>
     requires parts { L.parts ≡ 65536 }
-    requires all { length completed.shares.items ≡ 9 }
+    requires all { length completed.shares.items ≡ 10 }
     ensures callers { result.callers ≡ completed.callers }
     ensures left { LeavesShares (based_on D.model L.base L.before) completed.shares.items
         completed.seen completed.left result }

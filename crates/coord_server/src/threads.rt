@@ -14,7 +14,7 @@ use crate::setting::Setting;
 use crate::{EngineDesk, ServerFault, Telling};
 use coord_admin::{Callers, Desk, Stop, serve_connections};
 use coord_disk::Disk;
-use coord_engine::{Engine, Origin, PacketShare, Port, Share, flusher, packet_worker};
+use coord_engine::{Engine, Origin, PacketShare, Port, Share, SubmittingPort, flusher, packet_worker};
 use coord_ledger::Seen;
 use coord_types::Packet;
 use crossbeam_channel::Receiver;
@@ -34,7 +34,7 @@ pub struct Begun<L: Count> {
     /// What the workers receive.
     pub packets: Vec<Receiver<Vec<Packet>>>,
     pub ghost unused: { own ≡ [] },
-    pub ghost has_room: { (room.items ≡ []) × (9 ≤ vec_capacity room) },
+    pub ghost has_room: { (room.items ≡ []) × (10 ≤ vec_capacity room) },
     pub ghost eight: { length packets.items ≡ 8 },
 }
 
@@ -51,7 +51,7 @@ pub struct JoinedThreads<L: Count, C> {
 /// given one, so nobody is served before all of them were started.
 #[derive(Drop)]
 struct Crew<L: Count> {
-    flushing: JoinHandle<()>,
+    flushing: JoinHandle<PacketShare<L>>,
     workers: Vec<JoinHandle<PacketShare<L>>>,
     ghost eight: { vec_len workers ≡ 8 },
 }
@@ -131,10 +131,10 @@ fn run_in<
     let (own, seen, left) = serve_over(setting, &*engine, &crew, own, &mut callers, opening);
     let Crew { flushing, workers } = crew;
     engine.finish(rt);
-    flushing.join(rt);
+    let flushed = flushing.join(rt);
     setting.port.hang_up();
     Ok(JoinedThreads {
-        shares: all_joined(rt, room, own, workers),
+        shares: all_joined(rt, room, own, flushed, workers),
         seen,
         callers,
         left,
@@ -160,19 +160,42 @@ fn start<
     requires eight { vec_len packets ≡ 8 }
     requires tell { MayTell L.history L.earlier L.base (MaySignal O.history O.gives) }
 {
-    let (rt, port) = (setting.rt, setting.port);
-    let flushing = scope
-        .spawn(
-            move ||
-                requires { MayTell L.history L.earlier L.base (MaySignal O.history O.gives) }
-            {
-                let mut port = port;
-                flusher(rt, engine, &mut port);
-            },
-        )
-        .ok()?;
+    let flushing = start_flusher(scope, setting, engine)?;
     let workers = start_workers(scope, setting, engine, packets)?;
     Some(Crew { flushing, workers })
+}
+
+/// Starts a flusher that submits the packets of its flights itself, with a share of its own, unless no
+/// thread or no share can be had.
+fn start_flusher<
+    's,
+    'r: 's,
+    'e: 's,
+    E,
+    D: Disk + Send,
+    L: Origin + Send + Sync,
+    O: Telling + Send + Sync,
+    R: Wait + Clock + Sync,
+>(
+    scope: &Scope<'s, E>,
+    setting: &Setting<'r, R, O>,
+    engine: &'e Engine<D, L>,
+) -> Option<JoinHandle<PacketShare<L>>>
+    requires { MayTell L.history L.earlier L.base (MaySignal O.history O.gives) }
+{
+    let (rt, alloc, signals) = (setting.rt, setting.alloc, setting.port);
+    let share = PacketShare::new(engine.share(rt)?);
+    scope
+        .spawn(
+            move || -> PacketShare<L>
+                requires { MayTell L.history L.earlier L.base (MaySignal O.history O.gives) }
+            {
+                let mut port = SubmittingPort::new(rt, alloc, engine, signals, share);
+                flusher(rt, engine, &mut port);
+                port.into_share()
+            },
+        )
+        .ok()
 }
 
 /// Starts a worker on each channel. None where one of them can't be had: the others then end with
@@ -307,19 +330,23 @@ fn serve_until_old<D: Disk, L: Origin, C: Callers, P: Port, O: Telling, R: Wait>
     }
 }
 
-/// The desk's share, and behind it those of all workers, which are waited for.
+/// The desk's share, and behind it the flusher's and those of all workers, which are waited for.
 fn all_joined<L: Count, R: Threads + Wait>(
     rt: &R,
     room: Vec<Share<L>>,
     own: Share<L>,
+    flushed: PacketShare<L>,
     running: Vec<JoinHandle<PacketShare<L>>>,
 ) -> Vec<Share<L>>
-    requires { (room.items ≡ []) × (vec_len running + 1 ≤ vec_capacity room) }
+    requires { (room.items ≡ []) × (vec_len running + 2 ≤ vec_capacity room) }
     ensures added { AddsWorkers (own ∷ []) result.items }
-    ensures all { vec_len result ≡ vec_len running + 1 }
+    ensures all { vec_len result ≡ vec_len running + 2 }
 {
     let mut shares = room;
     let Ok(()) = shares.push(own) else {
+        unreachable!()
+    };
+    let Ok(()) = shares.push(flushed.into_share()) else {
         unreachable!()
     };
     for worker in running {

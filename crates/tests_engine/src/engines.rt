@@ -3,6 +3,7 @@
 ghost use Rattle.std.specs.Prelude.{◌≡◌, IfSome};
 ghost use Rattle.coord_engine.specs.Past.{IsPastOf};
 
+use crate::alone::resets_alone;
 use crate::closing::{gives_all, retired, settles_its_step};
 use crate::handed::{flushes_all, hands_each};
 use crate::kept::takes_new_first;
@@ -52,6 +53,7 @@ pub(crate) enum Doing<'a> {
     KeepsInHand,
     LosesInHand(&'a AtomicBool),
     ResetsRing(Manner),
+    ResetsAlone,
 }
 
 // Does it. It gives all shares of the engine.
@@ -77,6 +79,7 @@ fn done<D: Disk + Send, L: Origin + Send + Sync, R: Threads + Wait + Clock + Syn
         Doing::KeepsInHand => keeps_in_hand(rt, alloc, engine),
         Doing::LosesInHand(synced) => loses_in_hand(rt, alloc, engine, synced),
         Doing::ResetsRing(manner) => resets_ring(rt, alloc, engine, manner),
+        Doing::ResetsAlone => resets_alone(rt, alloc, engine),
     }
 }
 
@@ -85,7 +88,7 @@ fn is_left<D: Disk, R: Abort>(rt: &R, doing: Doing<'_>, notes: &[Note], closed: 
     match doing {
         Doing::KeepsAll => has_kept_all(rt, closed),
         Doing::CallTwice => is_history(rt, notes, closed),
-        Doing::ResetsRing(_) => is_legal(rt, closed),
+        Doing::ResetsRing(_) | Doing::ResetsAlone => is_legal(rt, closed),
         _ => {}
     }
 }

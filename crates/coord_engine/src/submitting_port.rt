@@ -1,0 +1,107 @@
+//! A port that submits packets itself.
+
+ghost use Rattle.std.specs.Prelude.{◌≡◌, [], All};
+ghost use Rattle.coord_engine.specs.Working.{IsOfPacket};
+
+use crate::port::Port;
+use crate::working::take_and_try;
+use crate::{Engine, Hand, Origin, PacketShare, Reader, Share};
+use coord_disk::Disk;
+use coord_types::{NodeId, Packet};
+use std::alloc::Global;
+use std::marker::Model;
+use std::sync::Wait;
+
+/// A flusher's port that submits packets itself, by a share of its own, so that none of them goes to
+/// another thread and comes back. It gathers those of a flight, and submits them where it is to hand them
+/// on. Signals go to another port, which is asked for no packet.
+///
+/// It takes, keeps, drops or loses a packet as a worker does (`worker`), and tries those that it keeps once
+/// more behind each flight.
+#[derive(Drop)]
+pub struct SubmittingPort<'e, D: Disk, L: Origin, P: Port, R: Wait> {
+    rt: &'e R,
+    engine: &'e Engine<D, L>,
+    signals: P,
+    gathered: Vec<Packet>,
+    share: Share<L>,
+    hand: Hand,
+}
+
+impl<'e, D: Disk, L: Origin, P: Port, R: Wait> Model for SubmittingPort<'e, D, L, P, R> {
+    ghost use Rattle.std.specs.Prelude.{All};
+    ghost use Rattle.coord_engine.specs.SubmittingPort.{Submitting};
+    ghost use Rattle.coord_engine.specs.Working.{IsOfPacket};
+
+    ghost Value = { Submitting P };
+
+    ghost view = { λ p. record { signals = p.signals; gathered = p.gathered.items; notes = p.share; hand = p.hand } };
+
+    ghost invariant = { λ p. All IsOfPacket p.share };
+}
+
+impl<'e, D: Disk, L: Origin, P: Port + Drop, R: Wait> SubmittingPort<'e, D, L, P, R> {
+    /// A port that has gathered nothing yet.
+    pub fn new(
+        rt: &'e R,
+        alloc: Global,
+        engine: &'e Engine<D, L>,
+        signals: P,
+        share: PacketShare<L>,
+    ) -> Self
+        ensures signals { result.signals ≡ signals }
+        ensures gathered { result.gathered ≡ [] }
+        ensures notes { result.notes ≡ share }
+        ensures waiting { result.hand.waiting ≡ [] }
+    {
+        SubmittingPort {
+            rt,
+            engine,
+            signals,
+            gathered: Vec::new(alloc),
+            share: share.into_share(),
+            hand: Hand::new(alloc),
+        }
+    }
+
+    /// Its share, with the notes of all packets' steps that were accepted.
+    pub fn into_share(self) -> PacketShare<L>
+        ensures { result ≡ self.entry.notes }
+    {
+        PacketShare { share: self.share }
+    }
+}
+
+impl<'e, D: Disk, L: Origin, P: Port, R: Wait> Port for SubmittingPort<'e, D, L, P, R> {
+    ghost use Rattle.coord_engine.specs.State.{based_on};
+    ghost use Rattle.coord_engine.specs.SubmittingPort.{Gathers, PassesOn, SubmitsGathered};
+
+    ghost may_signal = { P.may_signal };
+
+    ghost carried = { Gathers };
+
+    ghost signalled = { PassesOn P.signalled };
+
+    ghost handed_on = { SubmitsGathered (based_on D.model L.base L.before) };
+
+    /// The packet names its node, so `_to` is not used.
+    fn carry(&mut self, _to: NodeId, packet: Packet) -> bool {
+        self.gathered.push(packet).is_ok()
+    }
+
+    fn signal(&mut self, reader: Reader, step: u64, node: NodeId, epoch: u64) -> bool {
+        self.signals.signal(reader, step, node, epoch)
+    }
+
+    fn hand_on(&mut self) -> u64 {
+        take_and_try(
+            self.rt,
+            self.engine,
+            &self.gathered,
+            &mut self.share,
+            &mut self.hand,
+        );
+        self.gathered.clear();
+        0
+    }
+}
