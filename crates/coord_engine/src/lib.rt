@@ -16,7 +16,8 @@
 //!
 //! A [`flusher`] flushes what is accepted and hands what is released to a [`Port`], each delivery once
 //! and in order (`specs/Flushing.antt`); a [`worker`] submits the packets that come for a node
-//! (`specs/Working.antt`). `specs/Pacing.antt` says when a flight starts, `specs/Waiting.antt` what a
+//! (`specs/Working.antt`), and a [`SubmittingPort`] those of the flusher's own flights, in its thread
+//! (`specs/SubmittingPort.antt`). `specs/Pacing.antt` says when a flight starts, `specs/Waiting.antt` what a
 //! worker keeps for another try.
 #![tactic(auto)]
 

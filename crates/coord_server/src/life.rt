@@ -18,7 +18,9 @@ use crate::threads::{Begun, JoinedThreads, run};
 use crate::{ServerFault, Telling, WORKERS};
 use coord_admin::Callers;
 use coord_disk::Disk;
-use coord_engine::{CloseFault, Closed, Engine, History, Origin, Retired, Writer};
+use coord_engine::{
+    CloseFault, Closed, Engine, History, Origin, PacketShare, Retired, Share, Writer,
+};
 use coord_ledger::{Ledger, Seen};
 use coord_store::Store;
 use coord_types::Packet;
@@ -31,8 +33,8 @@ use std::sync::ledger::Blank;
 use std::thread::Threads;
 use std::time::Clock;
 
-/// For so many notes the desk's share takes room when a life begins. Notes that stay within it never
-/// move. The room is more than 32 MiB, so that the C library takes it from the system by itself and
+/// For so many notes the desk's share takes room when a life begins, and the flusher's as many. Notes
+/// that stay within it never move. The room is more than 32 MiB, so that the C library takes it from the system by itself and
 /// gives it back when the life ends: smaller blocks stay with the thread that took them.
 const NOTES_ROOM: usize = 600_000;
 
@@ -163,18 +165,32 @@ fn serve_ledger<
     }
 }
 
-/// Gives out the desk's share, makes room for all that a life may not lose, and connects the port to
+/// Gives out the desk's share and the flusher's, makes room for all that a life may not lose, and connects the port to
 /// a channel for each worker. None where there is no memory.
 fn begin<D: Disk, L: Origin, O: Telling, R: Wait>(
     setting: &Setting<'_, R, O>,
     engine: &Engine<D, L>,
 ) -> Option<Begun<L>> {
-    let mut own = engine.share(setting.rt)?;
-    own.reserve(NOTES_ROOM).ok()?;
+    let own = share_with_room(setting.rt, engine)?;
+    let flushers = PacketShare::new(share_with_room(setting.rt, engine)?);
     let room = Vec::with_capacity(setting.alloc, usize::from(WORKERS) + 2).ok()?;
     let (to, packets) = channels(setting.alloc).ok()?;
     setting.port.connect(to);
-    Some(Begun { own, room, packets })
+    Some(Begun {
+        own,
+        flushers,
+        room,
+        packets,
+    })
+}
+
+/// A share with room for the notes of a whole life.
+fn share_with_room<D: Disk, L: Origin, R: Wait>(rt: &R, engine: &Engine<D, L>) -> Option<Share<L>>
+    ensures { IfSome result (λ share. share ≡ []) }
+{
+    let mut share = engine.share(rt)?;
+    share.reserve(NOTES_ROOM).ok()?;
+    Some(share)
 }
 
 /// What is left of a life that did not begin, of those who call, whom nobody served, and of its engine.

@@ -29,6 +29,7 @@ use std::time::Clock;
 pub struct Begun<L: Count> {
     /// The desk's share.
     pub own: Share<L>,
+    pub flushers: PacketShare<L>,
     /// Room for all shares: none of them may be lost for want of memory.
     pub room: Vec<Share<L>>,
     /// What the workers receive.
@@ -121,8 +122,13 @@ fn run_in<
     ensures unserved { IfErr result (λ back. (back.0 ≡ callers) × (back.1 ≡ opening)) }
 {
     let rt = setting.rt;
-    let Begun { own, room, packets } = begun;
-    let Some(crew) = start(scope, setting, engine, packets) else {
+    let Begun {
+        own,
+        flushers,
+        room,
+        packets,
+    } = begun;
+    let Some(crew) = start(scope, setting, engine, flushers, packets) else {
         engine.finish(rt);
         setting.port.hang_up();
         return Err((callers, opening));
@@ -155,18 +161,19 @@ fn start<
     scope: &Scope<'s, E>,
     setting: &Setting<'r, R, O>,
     engine: &'e Engine<D, L>,
+    flushers: PacketShare<L>,
     packets: Vec<Receiver<Vec<Packet>>>,
 ) -> Option<Crew<L>>
     requires eight { vec_len packets ≡ 8 }
     requires tell { MayTell L.history L.earlier L.base (MaySignal O.history O.gives) }
 {
-    let flushing = start_flusher(scope, setting, engine)?;
+    let flushing = start_flusher(scope, setting, engine, flushers)?;
     let workers = start_workers(scope, setting, engine, packets)?;
     Some(Crew { flushing, workers })
 }
 
-/// Starts a flusher that submits the packets of its flights itself, with a share of its own, unless no
-/// thread or no share can be had.
+/// Starts a flusher that submits the packets of its flights itself, with this share, unless no thread can
+/// be had.
 fn start_flusher<
     's,
     'r: 's,
@@ -180,11 +187,11 @@ fn start_flusher<
     scope: &Scope<'s, E>,
     setting: &Setting<'r, R, O>,
     engine: &'e Engine<D, L>,
+    share: PacketShare<L>,
 ) -> Option<JoinHandle<PacketShare<L>>>
     requires { MayTell L.history L.earlier L.base (MaySignal O.history O.gives) }
 {
     let (rt, alloc, signals) = (setting.rt, setting.alloc, setting.port);
-    let share = PacketShare::new(engine.share(rt)?);
     scope
         .spawn(
             move || -> PacketShare<L>

@@ -3,9 +3,9 @@ use Rattle.std.specs.Vec.Iter.{into_iter_len}
 use Rattle.coord_server.specs.Ending.{AddsWorkers}
 use Rattle.coord_server.proofs.threads.all_joined.Given as goal
 
--- each worker so far has left its share, and there is room for the others'
+-- the flusher and each worker so far have left their share, and there is room for the others'
 abbrev pub invariant-loop-worker : goal.invariant-loop-worker
 invariant-loop-worker g l =
     AddsWorkers (l.fn.own ∷ []) l.shares.items
-    × (vec_len l.shares + into_iter_len l.worker-iterator ≡ vec_len l.fn.running + 1)
-    × (vec_len l.fn.running + 1 ≤ vec_capacity l.shares)
+    × (vec_len l.shares + into_iter_len l.worker-iterator ≡ vec_len l.fn.running + 2)
+    × (vec_len l.fn.running + 2 ≤ vec_capacity l.shares)
