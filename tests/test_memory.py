@@ -11,7 +11,7 @@ from support import preloaded, stores
 from support.case import Case, until
 from support.program import PROGRAM, SHORT, SHORT_STEPS, Ended, faulted, ran
 from support.piped import Piped
-from support.refusing import FIRST_THREAD, WORKERS, Refusing
+from support.refusing import FIRST_THREAD, FLUSHER, WORKERS, Refusing
 from support.runs import worked_runs
 from support.served import FINISHED, STARTED, answered
 from support.serving import Answer, Request, Serving
@@ -205,23 +205,32 @@ class Later(Case):
 
 
 class Wave(Case):
-    takes = 5
+    """Each allocation that a thread asks for is refused in turn. A packet that finds no room is kept and taken a little later:
+    the wave comes to its end in as many steps, and nobody has anything sent again."""
 
-    def test_a_wave_whose_workers_lack_memory(self) -> None:
-        """Each allocation that the workers ask for is refused in turn. The packet is kept and taken a little later: the wave
-        comes to its end in as many steps, and nobody has anything sent again."""
+    takes = 10
+
+    def test_one_whose_flusher_lacks_memory(self) -> None:
+        self.expect_end(FLUSHER, self.read(self.made(PAIR)), is_begun=False, least=20)
+
+    def test_one_whose_workers_lack_memory(self) -> None:
+        """They take what is sent again at the start: the packet that the node in a reset has sent."""
+        self.expect_end(WORKERS, stores.store(IN_A_RESET), is_begun=True, least=1)
+
+    def expect_end(self, threads: range, content: bytes, *, is_begun: bool, least: int) -> None:
         self.needs("a C compiler", preloaded.has_compiler())
-        refusing, store = Refusing(PROGRAM, self.folder), self.made(PAIR)
-        content = self.read("store")
-        count = self.allocations_of_a_wave(store, refusing.environment(threads=WORKERS), refusing)
-        self.assertGreater(count, 5)
+        refusing = Refusing(PROGRAM, self.folder)
+        count = self.allocations_of_a_wave(content, refusing.environment(threads=threads), refusing, is_begun)
+        self.assertGreaterEqual(count, least)
         for first in range(1, count + 1):
-            self.write("store", content)
-            self.allocations_of_a_wave(store, refusing.environment(first, threads=WORKERS), refusing)
+            with self.subTest(first=first, of=count):
+                self.allocations_of_a_wave(content, refusing.environment(first, threads=threads), refusing, is_begun)
 
-    def allocations_of_a_wave(self, store: str, environment: dict[str, str], refusing: Refusing) -> int:
+    def allocations_of_a_wave(self, content: bytes, environment: dict[str, str], refusing: Refusing, is_begun: bool) -> int:
+        store = self.write("store", content)
         with Serving(store, env=environment) as server:
-            self.assertEqual(server.order(1, "reset", node=1), answered(STARTED, 4))
+            if not is_begun:
+                self.assertEqual(server.order(1, "reset", node=1), answered(STARTED, 4))
             until("the end of the wave", lambda: server.show() == AFTER_A_WAVE)
             count = refusing.count()
             self.assertEqual(server.close().status, 0)
@@ -230,18 +239,17 @@ class Wave(Case):
 
 
 class Waves(Case):
-    """Waves over a star, seven or eight packets of which come to one worker at once."""
+    """Waves over a star, with eight packets to its middle in one flight."""
 
     takes = 10
     star = topology([(node, 1) for node in (1, *range(8, 65, 8))], [(1, node) for node in range(8, 65, 8)])
 
     def test_packets_that_wait_together(self) -> None:
-        """That worker is refused memory for a while. Each packet that waits is taken once there is some, and nobody has
+        """The flusher is refused memory for a while. Each packet that waits is taken once there is some, and nobody has
         anything sent again."""
         self.needs("a C compiler", preloaded.has_compiler())
         refusing, store = Refusing(PROGRAM, self.folder), self.made(self.star)
-        worker = WORKERS[:1]  # the nodes with a number by 8 are its own
-        with Serving(store, env=refusing.environment(threads=worker)) as server:
+        with Serving(store, env=refusing.environment(threads=FLUSHER)) as server:
             for epoch in range(1, 31):
                 # one refusal takes room for packets that wait, and then several are refused in turn
                 refusing.refuse(refusing.count() + 1 + epoch % 3, 1 if epoch % 6 == 1 else 6)

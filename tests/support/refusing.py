@@ -14,7 +14,7 @@ import subprocess
 from .program import Ended, ran
 
 ALL_THREADS = range(1_000)
-FIRST_THREAD, WORKERS = range(1), range(3, 11)  # of a server; its printer is 1, and its flusher 2
+FIRST_THREAD, FLUSHER, WORKERS = range(1), range(2, 3), range(3, 11)  # of a server; its printer is 1
 SOURCE = r"""
 #define _GNU_SOURCE
 #include <dlfcn.h>

@@ -12,6 +12,11 @@ use std::alloc::Global;
 use std::marker::Model;
 use std::sync::Wait;
 
+/// Room for so many packets is taken at first: more than a flight releases, which has at most 256 steps,
+/// each with a receipt and a packet to at most 16 neighbours. Only where there is no memory for that, a packet
+/// may be lost later for want of memory to gather it.
+const ROOM: usize = 4_352;
+
 /// A flusher's port that submits packets itself, by a share of its own, so that none of them goes to
 /// another thread and comes back. It gathers those of a flight, and submits them where it is to hand them
 /// on. Signals go to another port, which is asked for no packet.
@@ -58,7 +63,7 @@ impl<'e, D: Disk, L: Origin, P: Port + Drop, R: Wait> SubmittingPort<'e, D, L, P
             rt,
             engine,
             signals,
-            gathered: Vec::new(alloc),
+            gathered: Vec::with_capacity(alloc, ROOM).unwrap_or(Vec::new(alloc)),
             share: share.into_share(),
             hand: Hand::new(alloc),
         }

@@ -12,7 +12,9 @@ use crate::engines::{Doing, does};
 use crate::scripts::{resetting, ring_steps};
 use coord_check::check;
 use coord_disk::{Disk, MemDisk};
-use coord_engine::{Closed, Engine, Hand, Origin, Port, Share, flusher, hand_over, worker};
+use coord_engine::{
+    Closed, Engine, Origin, PacketShare, Port, Share, flusher, hand_over, packet_worker,
+};
 use coord_types::{Packet, Step};
 use crossbeam_channel::{Receiver, Sender};
 use std::alloc::Global;
@@ -109,12 +111,9 @@ fn run<D: Disk + Send, L: Origin + Send + Sync, R: Threads + Wait + Clock + Sync
         {
             let mut running = Vec::new(alloc);
             for packets in channels {
-                let share = engine.share(rt).expect(rt, "no share");
+                let share = PacketShare::new(engine.share(rt).expect(rt, "no share"));
                 let started = scope
-                    .spawn(move || {
-                        let mut hand = Hand::new(alloc);
-                        worker(rt, engine, packets.iter(rt), share, &mut hand)
-                    })
+                    .spawn(move || packet_worker(rt, alloc, engine, packets, share))
                     .ok()
                     .expect(rt, "no thread");
                 running.push(started).expect(rt, "no memory");
@@ -127,7 +126,8 @@ fn run<D: Disk + Send, L: Origin + Send + Sync, R: Threads + Wait + Clock + Sync
             ring.hang_up();
             let mut shares = Vec::new(alloc);
             for started in running {
-                shares.push(started.join(rt)).expect(rt, "no memory");
+                let share = started.join(rt).into_share();
+                shares.push(share).expect(rt, "no memory");
             }
             shares.push(own).expect(rt, "no memory");
             (shares, signalled)
