@@ -1,6 +1,6 @@
 -- A server of which no fault is told was closed by a line.
 use Rattle.std.proofs.Common.{◌≡◌, ◌⊎◌, ℕ, zero, suc, ◌+◌, ◌≤◌, ◌||◌, not, nat_le, List, [], ◌∷◌, ◌++◌, All, length, Bool, true, false, Option, None, Some, IfNone, IfSome, inl, inr, refl, sym, ap, ◌∙◌, subst, append_assoc, arith, drop}
-use Rattle.std.proofs.lemmas.List.Elements.{All-push}
+use Rattle.std.proofs.lemmas.List.Elements.{All-nil, All-push}
 use Rattle.std.proofs.lemmas.Bool.Decides.{nat_tests}
 use Rattle.coord_engine.specs.Facade.{AtSomeMoment, Basis, Closes, IsLeftOf, IsNamed, IsOfPacket, IsSince, RefusesClosing, Retires, based_on}
 use Rattle.coord_engine.specs.declared.closed.CloseFault.{CloseFault}
@@ -25,6 +25,11 @@ use Rattle.coord_server.specs.declared.server_end.ServerEnd.{ServerEnd}
 
 pub adds_worker : (first all later : List (List Note)) (notes : List Note) → AddsWorkers first all → later ≡ all ++ notes ∷ [] → All IsOfPacket notes → AddsWorkers first later
 adds_worker first all later notes added pushed packets = (added.0 ++ notes ∷ [], pushed ∙ ap (λ l. l ++ notes ∷ []) added.1 ∙ append_assoc first added.0 (notes ∷ []), All-push (All IsOfPacket) added.0 notes added.2 packets)
+
+-- the flusher's share behind the desk's, in room that was empty
+pub adds_flusher : (own flushed : List Note) (room first second : List (List Note)) → room ≡ [] → first ≡ room ++ own ∷ [] → second ≡ first ++ flushed ∷ [] → All IsOfPacket flushed → AddsWorkers (own ∷ []) second
+adds_flusher own flushed room first second empty pushed again packets =
+    (flushed ∷ [], again ∙ ap (λ l. l ++ flushed ∷ []) (pushed ∙ ap (λ r. r ++ own ∷ []) empty), All-push (All IsOfPacket) [] flushed (All-nil (All IsOfPacket)) packets)
 
 -- where nothing came before
 named_of : (shares : List (List Note)) (count : ℕ) (before trail : List Step) (kinds : List Kind) → before ≡ [] → IsNamed shares (count + length before) (drop (length before) trail) (drop (length before) kinds) → IsNamed shares count trail kinds

@@ -34,8 +34,9 @@ use std::thread::Threads;
 use std::time::Clock;
 
 /// For so many notes the desk's share takes room when a life begins, and the flusher's as many. Notes
-/// that stay within it never move. The room is more than 32 MiB, so that the C library takes it from the system by itself and
-/// gives it back when the life ends: smaller blocks stay with the thread that took them.
+/// that stay within it never move. The room is more than 32 MiB, so that the C library takes it from
+/// the system by itself and gives it back when the life ends: smaller blocks stay with the thread that
+/// took them.
 const NOTES_ROOM: usize = 600_000;
 
 /// What a life begins with: a store's ledger, in which nothing is accepted yet, and a handle on the
@@ -165,20 +166,20 @@ fn serve_ledger<
     }
 }
 
-/// Gives out the desk's share and the flusher's, makes room for all that a life may not lose, and connects the port to
-/// a channel for each worker. None where there is no memory.
+/// Gives out the desk's share and the flusher's, makes room for all that a life may not lose, and
+/// connects the port to a channel for each worker. None where there is no memory.
 fn begin<D: Disk, L: Origin, O: Telling, R: Wait>(
     setting: &Setting<'_, R, O>,
     engine: &Engine<D, L>,
 ) -> Option<Begun<L>> {
     let own = share_with_room(setting.rt, engine)?;
-    let flushers = PacketShare::new(share_with_room(setting.rt, engine)?);
+    let flusher_share = PacketShare::new(share_with_room(setting.rt, engine)?);
     let room = Vec::with_capacity(setting.alloc, usize::from(WORKERS) + 2).ok()?;
     let (to, packets) = channels(setting.alloc).ok()?;
     setting.port.connect(to);
     Some(Begun {
         own,
-        flushers,
+        flusher_share,
         room,
         packets,
     })

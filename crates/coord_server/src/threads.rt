@@ -14,7 +14,9 @@ use crate::setting::Setting;
 use crate::{EngineDesk, ServerFault, Telling};
 use coord_admin::{Callers, Desk, Stop, serve_connections};
 use coord_disk::Disk;
-use coord_engine::{Engine, Origin, PacketShare, Port, Share, SubmittingPort, flusher, packet_worker};
+use coord_engine::{
+    Engine, Origin, PacketShare, Port, Share, SubmittingPort, flusher, packet_worker,
+};
 use coord_ledger::Seen;
 use coord_types::Packet;
 use crossbeam_channel::Receiver;
@@ -29,7 +31,8 @@ use std::time::Clock;
 pub struct Begun<L: Count> {
     /// The desk's share.
     pub own: Share<L>,
-    pub flushers: PacketShare<L>,
+    /// The flusher's.
+    pub flusher_share: PacketShare<L>,
     /// Room for all shares: none of them may be lost for want of memory.
     pub room: Vec<Share<L>>,
     /// What the workers receive.
@@ -124,11 +127,11 @@ fn run_in<
     let rt = setting.rt;
     let Begun {
         own,
-        flushers,
+        flusher_share,
         room,
         packets,
     } = begun;
-    let Some(crew) = start(scope, setting, engine, flushers, packets) else {
+    let Some(crew) = start(scope, setting, engine, flusher_share, packets) else {
         engine.finish(rt);
         setting.port.hang_up();
         return Err((callers, opening));
@@ -161,13 +164,13 @@ fn start<
     scope: &Scope<'s, E>,
     setting: &Setting<'r, R, O>,
     engine: &'e Engine<D, L>,
-    flushers: PacketShare<L>,
+    flusher_share: PacketShare<L>,
     packets: Vec<Receiver<Vec<Packet>>>,
 ) -> Option<Crew<L>>
     requires eight { vec_len packets ≡ 8 }
     requires tell { MayTell L.history L.earlier L.base (MaySignal O.history O.gives) }
 {
-    let flushing = start_flusher(scope, setting, engine, flushers)?;
+    let flushing = start_flusher(scope, setting, engine, flusher_share)?;
     let workers = start_workers(scope, setting, engine, packets)?;
     Some(Crew { flushing, workers })
 }
