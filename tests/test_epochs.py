@@ -1,12 +1,16 @@
 """Resets through many epochs: every signal once and in order, far beyond the first ones."""
 
 import os
+import resource
 
 from support import stores
 from support.program import Ended, ran
 from support.served import FINISHED, JOINED, STARTED, Served, answered
 from support.serving import Serving
 from support.stores import ring, topology
+
+
+CLOSING = 5  # processor seconds within which a life of so many steps is closed: each is looked for among all notes
 
 
 class Epochs(Served):
@@ -123,5 +127,20 @@ class ManySteps(Served):
                 steps = server.show()["accepted"]
             self.assertEqual(os.listdir(f"/proc/{server.process.pid}/task"), threads)
             self.expect_each_signal_once(server)
+            before, ended = self.spent(server.process.pid), self.spent_by_ended()
             self.assertEqual(server.close().status, 0)
+            self.assertLess(self.spent_by_ended() - ended - before, CLOSING)
         self.assertEqual(ran("check", store).printed, f"legal {steps}\n")
+
+    @staticmethod
+    def spent(process: int) -> float:
+        """The processor seconds of a process that runs, the system's for it among them."""
+        with open(f"/proc/{process}/stat", encoding="ascii") as stat:
+            ticks = stat.read().rpartition(")")[2].split()[11:13]
+        return sum(map(int, ticks)) / os.sysconf("SC_CLK_TCK")
+
+    @staticmethod
+    def spent_by_ended() -> float:
+        """Those of all processes that this one has started and that have ended."""
+        spent = resource.getrusage(resource.RUSAGE_CHILDREN)
+        return spent.ru_utime + spent.ru_stime
