@@ -220,13 +220,24 @@ class Called(Case):
                 self.assertEqual((where, ended, self.read("store")), (where, FAILED, content))
 
     def test_a_write_that_fails_where_a_store_is_made(self) -> None:
+        """Nothing more is asked of the device behind it."""
         words = ["init", self.path("store"), self.write("topology", ONE)]
+        ended, made = self.called(words, WRITE_FAILS=4)
+        self.assertEqual(ended, Ended(0, "created 1\n", ""))
         for number in (1, 2, 3):
             for error in ERRORS:
-                ended = ran(*words, env=self.environment(WRITE_FAILS=number, ERROR=error))
-                self.assertEqual((number, error, ended), (number, error, FAILED))
                 os.remove(self.path("store"))
-        self.assertEqual(ran(*words, env=self.environment(WRITE_FAILS=4)), Ended(0, "created 1\n", ""))
+                ended, called = self.called(words, WRITE_FAILS=number, ERROR=error)
+                self.assertEqual((number, error, ended), (number, error, FAILED))
+                self.assertEqual(called, made[:len(called)])
+                self.assertTrue(made[len(called)].startswith("write"))
+
+    def called(self, words: list[str], **settings: int) -> tuple[Ended, list[str]]:
+        """How the program ended, and which writes and syncs there were."""
+        calls = self.write("calls", "")
+        ended = ran(*words, env=self.environment(CALLS=calls, **settings))
+        with open(calls, encoding="ascii") as lines:
+            return ended, [line for line in lines if not line.startswith("out")]
 
     def test_a_write_that_fails_while_a_store_is_raised(self) -> None:
         content = stores.store(bodies=[stores.batch(1, stores.add(1))])
