@@ -2,6 +2,7 @@
 
 use crate::engines::{Doing, does};
 use crate::scripts::{resetting, ring_steps};
+use crate::threads::full::{MOST, is_filled};
 use crate::threads::ports::{Manner, Ring};
 use coord_disk::{Disk, MemDisk};
 use coord_engine::{Engine, Origin, PacketShare, Share, SubmittingPort, hand_over};
@@ -17,11 +18,12 @@ const NODES: u8 = 8;
 const FLIGHTS: u64 = 200;
 
 /// A reset of a ring without workers, flight by flight: each node signals once, and then nothing is
-/// pending. All shares.
+/// pending. If that is wanted, no more steps may be pending when its first packets come. All shares.
 pub(crate) fn resets_alone<D: Disk, L: Origin, R: Wait + Clock + Abort>(
     rt: &R,
     alloc: Global,
     engine: &Engine<D, L>,
+    is_full: bool,
 ) -> Vec<Share<L>> {
     let mut own = engine.share(rt).expect(rt, "no share");
     let reset = resetting(1, 3, 1).expect(rt, "no step");
@@ -30,6 +32,10 @@ pub(crate) fn resets_alone<D: Disk, L: Origin, R: Wait + Clock + Abort>(
     let ring = Ring::new(rt, alloc, Vec::new(alloc), Manner::Faithful);
     let share = PacketShare::new(engine.share(rt).expect(rt, "no share"));
     let mut port = SubmittingPort::new(rt, alloc, engine, &ring, share);
+    let flight = engine.flush_once(rt).expect(rt, "no flight");
+    let released = flight.expect(rt, "no releases");
+    assert!(rt; !is_full || is_filled(rt, engine, &mut own, MOST + 1));
+    hand_over(rt, engine, &mut port, released);
     let mut is_through = false;
     for _ in 0..FLIGHTS {
         match engine.flush_once(rt).expect(rt, "no flight") {
@@ -49,5 +55,13 @@ pub(crate) fn resets_alone<D: Disk, L: Origin, R: Wait + Clock + Abort>(
 fn a_ring_is_reset_by_one_thread(rt: HostRuntime) {
     let steps = ring_steps(&rt, rt.alloc(), NODES);
     let disk = MemDisk::new(rt.alloc());
-    does(&rt, rt.alloc(), disk, &steps, Doing::ResetsAlone);
+    does(&rt, rt.alloc(), disk, &steps, Doing::ResetsAlone(false));
+}
+
+// Both packets of the reset wait, and no other comes behind which they would be tried.
+#[test]
+fn packets_that_wait_are_tried_behind_each_flight(rt: HostRuntime) {
+    let steps = ring_steps(&rt, rt.alloc(), NODES);
+    let disk = MemDisk::new(rt.alloc());
+    does(&rt, rt.alloc(), disk, &steps, Doing::ResetsAlone(true));
 }

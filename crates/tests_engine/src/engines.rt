@@ -53,7 +53,7 @@ pub(crate) enum Doing<'a> {
     KeepsInHand,
     LosesInHand(&'a AtomicBool),
     ResetsRing(Manner),
-    ResetsAlone,
+    ResetsAlone(bool),
 }
 
 // Does it. It gives all shares of the engine.
@@ -79,7 +79,7 @@ fn done<D: Disk + Send, L: Origin + Send + Sync, R: Threads + Wait + Clock + Syn
         Doing::KeepsInHand => keeps_in_hand(rt, alloc, engine),
         Doing::LosesInHand(synced) => loses_in_hand(rt, alloc, engine, synced),
         Doing::ResetsRing(manner) => resets_ring(rt, alloc, engine, manner),
-        Doing::ResetsAlone => resets_alone(rt, alloc, engine),
+        Doing::ResetsAlone(is_full) => resets_alone(rt, alloc, engine, is_full),
     }
 }
 
@@ -88,7 +88,7 @@ fn is_left<D: Disk, R: Abort>(rt: &R, doing: Doing<'_>, notes: &[Note], closed: 
     match doing {
         Doing::KeepsAll => has_kept_all(rt, closed),
         Doing::CallTwice => is_history(rt, notes, closed),
-        Doing::ResetsRing(_) | Doing::ResetsAlone => is_legal(rt, closed),
+        Doing::ResetsRing(_) | Doing::ResetsAlone(_) => is_legal(rt, closed),
         _ => {}
     }
 }
