@@ -23,7 +23,7 @@ new_desk port = record { notes = []; seen = 0; port = port }
 abbrev pub Local : Type 0
 Local = Bor (Unit {0})
 
--- One history: what the desk and the workers noted are the steps that were accepted since the store was opened, each once with the kind of its reply, and each one's own in order. What workers noted are steps of packets. The store has the world after those that are settled, and what the desk has seen is settled.
+-- One history: what the desk, the flusher and the workers noted are the steps that were accepted since the store was opened, each once with the kind of its reply, and each one's own in order. What flusher and workers noted are steps of packets; their notes are `workers`. The store has the world after those that are settled, and what the desk has seen is settled.
 pub record IsOneHistory {D P : Type 0} (b : Basis D) (desk : DeskState P) (left : Closed D) : Type 0 where
   pub workers : List (List Note)
   pub of_packets : All (All IsOfPacket) workers
@@ -49,7 +49,7 @@ IsLeftAs b desk left (Some fault.NotBegun) = LeavesLedger b left
 IsLeftAs b desk left (Some (fault.NotClosed why)) = RefusesShares b desk left why
 IsLeftAs b desk left other = IsOneHistory b desk left
 
--- behind these shares those of workers were put, whose notes are all of packets
+-- behind these shares those of the flusher and of workers were put, whose notes are all of packets
 abbrev pub AddsWorkers : List (List Note) → List (List Note) → Type 0
 AddsWorkers first all = (workers : List (List Note)) × (all ≡ first ++ workers) × All (All IsOfPacket) workers
 
