@@ -10,7 +10,7 @@ from support.serving import Serving
 from support.stores import ring, topology
 
 
-CLOSING = 5  # processor seconds within which a life of so many steps is closed: each is looked for among all notes
+CLOSING = 60  # processor seconds within which a life of so many steps is closed: some 1, and 500 where each is looked for one by one
 
 
 class Epochs(Served):
