@@ -1,29 +1,37 @@
 -- A port that submits packets itself: what it has, and what it may be once it was asked.
-use Rattle.std.specs.Prelude.{◌≡◌, ℕ, Bool, true, false, List, [], ◌∷◌, ◌++◌}
+use Rattle.std.specs.Prelude.{◌≡◌, ◌≤◌, ℕ, Bool, true, false, List, [], ◌∷◌, ◌++◌, length}
 use Rattle.coord_types.specs.declared.packets.Packet.{Packet}
 use Rattle.coord_ledger.specs.declared.ticket.Note.{Note}
 use Rattle.coord_engine.specs.State.{Basis}
 use Rattle.coord_engine.specs.Working.{WorksAndTries}
 use Rattle.coord_engine.specs.declared.hand.Hand.{Hand}
 
--- the port that signals go to, the packets that it has gathered, the notes of those whose step was accepted, and what it has of those that were not
+-- the port that signals go to, the packets that it has gathered and for how many there is room, the notes of those whose step was accepted, and what it has of those that were not
 pub record Submitting (P : Type 0) : Type 0 where
   pub signals : P
   pub gathered : List Packet
+  pub room : ℕ
   pub notes : List Note
   pub hand : Hand
 
--- a packet is gathered behind the others, or there is no memory for it
+-- nothing but what is gathered has changed, and there is no less room
+pub record KeepsRest {P : Type 0} (port later : Submitting P) : Type 0 where
+  pub signals : later.signals ≡ port.signals
+  pub notes : later.notes ≡ port.notes
+  pub hand : later.hand ≡ port.hand
+  pub room : port.room ≤ later.room
+
+-- a packet is gathered behind the others; only where there is no room it may be lost
 abbrev pub Gathers : {P : Type 0} → Submitting P → ℕ → Packet → Bool → Submitting P → Type 0
-Gathers port to packet true later = later ≡ record port { gathered = port.gathered ++ packet ∷ [] }
-Gathers port to packet false later = later ≡ port
+Gathers port to packet true later = (later.gathered ≡ port.gathered ++ packet ∷ []) × KeepsRest port later
+Gathers port to packet false later = (later.gathered ≡ port.gathered) × (port.room ≤ length port.gathered) × KeepsRest port later
 
 -- A signal is passed on to the other port, which answers. `signalled`: what that port may be then.
 abbrev pub PassesOn : {P : Type 0} → (P → ℕ → ℕ → ℕ → Bool → P → Type 0) → Submitting P → ℕ → ℕ → ℕ → Bool → Submitting P → Type 0
 PassesOn signalled port step node epoch answer later =
-    signalled port.signals step node epoch answer later.signals × (later.gathered ≡ port.gathered) × (later.notes ≡ port.notes) × (later.hand ≡ port.hand)
+    signalled port.signals step node epoch answer later.signals × (later.gathered ≡ port.gathered) × (later.room ≡ port.room) × (later.notes ≡ port.notes) × (later.hand ≡ port.hand)
 
 -- Those that were gathered are submitted in order, and behind them those that wait are tried once more. None is in another hand then, and nothing is gathered any more.
 abbrev pub SubmitsGathered : {D P : Type 0} → Basis D → Submitting P → ℕ → Submitting P → Type 0
 SubmitsGathered b port lost later =
-    (lost ≡ 0) × (later.signals ≡ port.signals) × (later.gathered ≡ []) × WorksAndTries b port.notes port.hand port.gathered later.notes later.hand
+    (lost ≡ 0) × (later.signals ≡ port.signals) × (later.gathered ≡ []) × (port.room ≤ later.room) × WorksAndTries b port.notes port.hand port.gathered later.notes later.hand

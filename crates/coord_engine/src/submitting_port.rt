@@ -34,13 +34,13 @@ pub struct SubmittingPort<'e, D: Disk, L: Origin, P: Port, R: Wait> {
 }
 
 impl<'e, D: Disk, L: Origin, P: Port, R: Wait> Model for SubmittingPort<'e, D, L, P, R> {
-    ghost use Rattle.std.specs.Prelude.{All};
+    ghost use Rattle.std.specs.Prelude.{All, vec_capacity};
     ghost use Rattle.coord_engine.specs.SubmittingPort.{Submitting};
     ghost use Rattle.coord_engine.specs.Working.{IsOfPacket};
 
     ghost Value = { Submitting P };
 
-    ghost view = { λ p. record { signals = p.signals; gathered = p.gathered.items; notes = p.share; hand = p.hand } };
+    ghost view = { λ p. record { signals = p.signals; gathered = p.gathered.items; room = vec_capacity p.gathered; notes = p.share; hand = p.hand } };
 
     ghost invariant = { λ p. All IsOfPacket p.share };
 }
