@@ -244,14 +244,13 @@ class Waves(Case):
     takes = 10
     star = topology([(node, 1) for node in (1, *range(8, 65, 8))], [(1, node) for node in range(8, 65, 8)])
 
-    def test_packets_that_wait_together(self) -> None:
-        """The flusher is refused memory for a while. Each packet that waits is taken once there is some, and nobody has
-        anything sent again."""
+    def test_a_flusher_that_lacks_memory_for_a_while(self) -> None:
+        """It comes to its end, and nobody has anything sent again. The refusals fall mostly on flights: that several packets
+        wait together is tried by a full engine (tests_engine, alone.rt)."""
         self.needs("a C compiler", preloaded.has_compiler())
         refusing, store = Refusing(PROGRAM, self.folder), self.made(self.star)
         with Serving(store, env=refusing.environment(threads=FLUSHER)) as server:
             for epoch in range(1, 31):
-                # one refusal takes room for packets that wait, and then several are refused in turn
                 refusing.refuse(refusing.count() + 1 + epoch % 3, 1 if epoch % 6 == 1 else 6)
                 self.assertEqual(server.order(epoch, "reset", node=1)["kind"], STARTED)
                 until(f"the end of wave {epoch}", lambda: self.has_ended(server.show(), epoch))
