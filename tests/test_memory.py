@@ -146,6 +146,35 @@ class Start(Case):
                     self.assertEqual(self.read("store"), content)
         self.assertGreater(told, 10)
 
+    def test_each_allocation_of_a_start_in_a_reset(self) -> None:
+        """What was on its way is sent again behind the line `listening`, for which the first thread asks for memory: the server
+        says that it has none and ends, or it serves on, and what it has lost is sent once a client asks for that."""
+        self.needs("a C compiler", preloaded.has_compiler())
+        refusing, content = Refusing(PROGRAM, self.folder), stores.store(IN_A_RESET)
+        with Serving(self.write("store", content), env=refusing.environment(threads=FIRST_THREAD)):
+            count = unchanged(refusing.count)
+        told = 0
+        for first in range(count - 8, count + 1):
+            with self.subTest(first=first, of=count):
+                told += self.lacks_memory(content, refusing.environment(first, threads=FIRST_THREAD))
+        self.assertGreater(told, 4)
+
+    def lacks_memory(self, content: bytes, environment: dict[str, str]) -> bool:
+        """Whether a server over a store in a reset ends with that."""
+        try:
+            with Serving(self.write("store", content), env=environment) as server:
+                try:
+                    self.assertEqual(server.ask({"op": "resend"})["kind"], "resent")
+                    until("the end of the wave", lambda: server.show() == AFTER_A_WAVE)
+                    return False
+                except ConnectionError:
+                    ended = server.ended()
+        except AssertionError as early:
+            self.assertIn(str(NO_MEMORY), str(early))
+            return True
+        self.assertEqual((ended.status, ended.told), (NO_MEMORY.status, NO_MEMORY.told))
+        return True
+
     def start(self, store: str, environment: dict[str, str]) -> Ended | None:
         """How a server ends that does not listen; None of one that does."""
         try:

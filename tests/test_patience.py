@@ -13,6 +13,7 @@ from support.serving import Answer, Connection, Serving
 from support.stores import ring, topology
 
 LINE, REPLY, SILENCE, CONNECTION, DISCARD = 10, 10, 15, 600, 1
+READ = 512  # bytes that the server reads at once
 LATE = 30  # seconds by which a busy machine may be late
 SHOW: Answer = {"op": "show"}
 HALVES = (b'{"op":"re', b'send"}\n')
@@ -283,6 +284,21 @@ class Patience(Case):
                 connection.send(HALVES[1] + HALVES[0])
                 connection.socket.settimeout(PATIENCE)
                 self.assertEqual(connection.line(), RESENT)
+
+    def test_a_line_that_begins_before_the_reply_to_another(self) -> None:
+        """What the server does between two lines is not the client's time: a line whose beginning it read before it replied to
+        the one ahead has its time from that reply on. Each read takes six seconds here: one behind the reply leaves it time."""
+        self.needs("a C compiler", preloaded.has_compiler())
+        order, half = b'{"op":"reset","client":1,"number":1,"node":1}\n', b'{"op":'
+        with self.serving(env=preloaded.environment(self.folder, STILL=1, READ_SECONDS=6)) as server, \
+                server.connect() as connection:
+            connection.send((order + half).ljust(READ + 1))
+            self.assertEqual(connection.line(), b'{"kind":"finished","step":2}\n')
+            until("a server that waits", lambda: waits(server, connection))
+            connection.send(b" ")
+            until("a server that waits, or ends it", lambda: waits(server, connection) or not kept(*ends_of(connection)))
+            connection.send(b'"resend"}\n')
+            self.assertEqual(connection.line(), RESENT)
 
     def test_lines_that_are_read_slowly(self) -> None:
         """Each line has its own time, also where a server reads on for long before it replies: 250 orders, sent at once, are

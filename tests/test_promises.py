@@ -1,8 +1,5 @@
-"""The list of what is promised, what breaks it, that one name means one thing, and how `refusals/run` finds the function of
-a wrong body."""
+"""The list of what is promised, what breaks it, and that one name means one thing."""
 
-import importlib.machinery
-import importlib.util
 import os
 import pathlib
 import shutil
@@ -191,37 +188,3 @@ class Names(Copied):
         self.assertEqual(status, 1, said)
         self.assertIn("docs/names.txt: next_size is no double any more", said)
         self.assertIn("docs/names.txt: next_size has no reason", said)
-
-
-class Heads(Case):
-    """In which block of methods a place of a source file stands."""
-
-    TEXT = """impl Kept {
-    fn end(&self) {}
-}
-
-impl<'a, S: Read + Write, L: OpenListener<Stream = S>, T: Clock> Callers
-    for Accepted<'a, L, T> {
-    fn end(&mut self) {
-        self.discard();
-    }
-}
-"""
-
-    def setUp(self) -> None:
-        super().setUp()
-        loader = importlib.machinery.SourceFileLoader("refusals_run", f"{ROOT}/refusals/run")
-        spec = importlib.util.spec_from_loader("refusals_run", loader)
-        assert spec
-        self.run_of_refusals = importlib.util.module_from_spec(spec)
-        loader.exec_module(self.run_of_refusals)
-
-    def test_a_head_on_two_lines(self) -> None:
-        pattern, body = self.run_of_refusals.function_at("src/callers.rt", self.TEXT, self.TEXT.index("self.discard"))
-        self.assertEqual(pattern, ("callers", "AcceptedCallers", "end"))
-        self.assertTrue(self.run_of_refusals.is_of_trait(self.TEXT, body))
-
-    def test_a_head_on_one_line(self) -> None:
-        pattern, body = self.run_of_refusals.function_at("src/callers.rt", self.TEXT, self.TEXT.index("&self"))
-        self.assertEqual(pattern, ("callers", "Kept", "end"))
-        self.assertFalse(self.run_of_refusals.is_of_trait(self.TEXT, body))

@@ -8,6 +8,7 @@ sys.dont_write_bytecode = True
 ROOT = os.path.dirname(os.path.dirname(os.path.dirname(os.path.abspath(__file__))))
 sys.path.insert(0, f"{ROOT}/refusals")
 import catalogue  # noqa: E402
+import choice  # noqa: E402
 
 
 def read(path: str) -> str:
@@ -37,3 +38,11 @@ def plant(folder: str, word: str) -> None:
         if read(path).count(exchange.old) != 1:
             sys.exit(f"{word}: what is to be exchanged in {path} does not stand there once: {exchange.old}")
         write(path, read(path).replace(exchange.old, exchange.new))
+
+
+def plant_choice(folder: str, words: list[str]) -> None:
+    """Puts wrong bodies in of which the environment chooses one."""
+    try:
+        choice.plant(folder, [catalogue.find(word) for word in words])
+    except choice.Unfit as unfit:
+        sys.exit(f"a wrong body can't be chosen: {unfit}")

@@ -116,17 +116,20 @@ fn notes_of<L: Origin, R: Abort>(rt: &R, alloc: Global, shares: &[Share<L>]) -> 
     notes
 }
 
-// What callers may have seen of an engine, and the same with one more step.
-fn seen_of<D: Disk, L: Origin, R: Wait + Abort>(rt: &R, engine: &Engine<D, L>) -> (Seen, Seen) {
+// What callers may have seen of an engine, the same with one more step, and how many steps are settled.
+fn seen_of<D: Disk, L: Origin, R: Wait + Abort>(
+    rt: &R,
+    engine: &Engine<D, L>,
+) -> (Seen, Seen, u64) {
     let mut seen = Seen::new();
     let shown = engine.show(rt, &mut seen).expect(rt, "not shown");
     let mut later = Seen::new();
     later.note(shown.settled.saturating_add(1));
-    (seen, later)
+    (seen, later, shown.settled)
 }
 
 // What is left of an engine that closes with these shares once all that is settled was seen, and not
-// where one more step was.
+// where one more step was. It tells as many steps as settled.
 fn closed_if_settled<D: Disk, L: Origin, R: Wait + Abort>(
     rt: &R,
     engine: Engine<D, L>,
@@ -134,10 +137,12 @@ fn closed_if_settled<D: Disk, L: Origin, R: Wait + Abort>(
 ) -> Closed<D>
     requires { L.parts ≡ 65536 }
 {
-    let (seen, later) = seen_of(rt, &engine);
+    let (seen, later, settled) = seen_of(rt, &engine);
     match engine.close(shares, &later) {
         Err((CloseFault::NotSettled, engine, shares)) => {
-            engine.close(shares, &seen).ok().expect(rt, "no close").0
+            let closed = engine.close(shares, &seen).ok().expect(rt, "no close").0;
+            same(rt, &closed.settled, &settled);
+            closed
         }
         _ => panic!(rt; "it closes though one more step was seen"),
     }

@@ -1,0 +1,220 @@
+"""Many wrong bodies in one build, of which the environment chooses one.
+
+A build takes minutes, and most witnesses run for a second. So in a copy of the crates each function that a wrong body
+changes becomes a choice: beside it stand a copy of it for each of its wrong bodies and one with the right code, and the
+function itself calls the one that the variable WRONG_BODY names by its number, 0 for none. A function in C reads that
+variable, since no crate reads any. The copies have no contract, as nothing is proved of such a build.
+
+A body that changes anything but the code of functions can't be chosen so.
+"""
+
+import os
+import re
+from collections.abc import Iterable
+from dataclasses import dataclass
+from typing import NamedTuple
+
+from catalogue import Body
+from places import HEAD, function_at, is_of_trait
+
+# A line that a clause of a contract begins with.
+CLAUSE = re.compile(r"\s+(?:requires|ensures|ghost)\b")
+NOTHING_CHOSEN = "_right"
+MODULE = """//! Which wrong body the environment chooses.
+
+unsafe extern "C" {{
+    pub safe fn wrong_body_of_{crate}() -> i32;
+}}
+"""
+# A program that is run without the variable waits: then `tools/trial_build` takes it.
+IN_C = """#include <stdlib.h>
+#include <unistd.h>
+
+int wrong_body_of_{crate}(void) {{
+    static int chosen = -1;
+    if (chosen < 0) chosen = atoi(getenv("WRONG_BODY"));
+    return chosen;
+}}
+
+static void __attribute__((constructor)) wait_to_be_taken(void) {{
+    while (!getenv("WRONG_BODY")) pause();
+}}
+"""
+
+
+class Unfit(Exception):
+    """A wrong body that can't be chosen while the program runs, with the reason."""
+
+
+@dataclass(frozen=True)
+class Function:
+    """A function's text, in parts: up to its contract, its contract, and its code from the opening brace on."""
+
+    indent: str
+    name: str
+    arguments: tuple[str, ...]
+    head: str
+    contract: str
+    code: str
+
+    @classmethod
+    def read(cls, text: str) -> "Function":
+        """A function as `rt fmt` lays it out. Raises Unfit where a parameter has no name by which it is passed on."""
+        lines = text.split("\n")
+        indent = text[: len(text) - len(text.lstrip(" "))]
+        if f"{indent}{{" in lines:
+            brace = lines.index(f"{indent}{{")
+            clause = next((at for at, line in enumerate(lines[:brace]) if CLAUSE.match(line)), brace)
+            head, contract, code = lines[:clause], lines[clause:brace], lines[brace:]
+        else:
+            last = next((at for at, line in enumerate(lines) if line.endswith(" {")), None)
+            if last is None:
+                raise Unfit("it has no code")
+            head, contract, code = [*lines[:last], lines[last][:-2]], [], [f"{indent}{{", *lines[last + 1 :]]
+        name, arguments = read_head("\n".join(head))
+        return cls(indent, name, arguments, "\n".join(head), "\n".join(contract), "\n".join(code))
+
+    def copy(self, suffix: str, code: str) -> str:
+        """A function beside this one that has its head and no contract."""
+        head = re.sub(r"^ *(?:pub(?:\([a-z]+\))? )?(?:const )?(?:final )?", self.indent, self.head)
+        return re.sub(rf"\bfn {self.name}\b", f"fn {self.name}{suffix}", head, count=1) + "\n" + code
+
+    def call(self, suffix: str) -> str:
+        """A call of such a copy, which passes on what this function was called with."""
+        of = "self." if self.arguments[:1] == ("self",) else "Self::" if self.indent else ""
+        return f"{of}{self.name}{suffix}({', '.join(it for it in self.arguments if it != 'self')})"
+
+    def choosing(self, crate: str, numbers: Iterable[int]) -> str:
+        """This function, which calls the copy that is chosen."""
+        within = f"{self.indent}    "
+        lines = [self.head, *[self.contract] * bool(self.contract), f"{self.indent}{{"]
+        for number in numbers:
+            lines += [f"{within}if crate::wrong_body::wrong_body_of_{crate}() == {number} {{",
+                      f"{within}    return {self.call(f'_{number}')};", f"{within}}}"]
+        return "\n".join([*lines, f"{within}{self.call(NOTHING_CHOSEN)}", f"{self.indent}}}"])
+
+
+def behind_bracket(text: str, at: int) -> int:
+    """The place behind the bracket that closes the one at `at`."""
+    depth = 0
+    while True:
+        if text[at] in "([{<":
+            depth += 1
+        elif text[at] in ")]}" or text[at] == ">" and text[at - 1] != "-":
+            depth -= 1
+        at += 1
+        if not depth:
+            return at
+
+
+def read_head(head: str) -> tuple[str, tuple[str, ...]]:
+    """The name of a function and those of its parameters. Raises Unfit."""
+    named = re.search(r"\bfn (\w+)", head)
+    if not named:
+        raise Unfit("it is no function")
+    at = named.end()
+    if head[at] == "<":
+        at = behind_bracket(head, at)
+    end, names = behind_bracket(head, at), list[str]()
+    at += 1
+    while at < end - 1:
+        parameter = re.compile(r"\s*(?:&\s*(?:'\w+ )?)?(?:mut )?(self|[a-z]\w*)(?=\s*[:,)])").match(head, at)
+        if not parameter:
+            raise Unfit("a parameter has no name")
+        names.append(parameter[1])
+        while at < end - 1 and head[at] != ",":
+            at = behind_bracket(head, at) if head[at] in "([{<" else at + 1
+        at += 1
+        if not head[at : end - 1].strip():
+            break
+    return named[1], tuple(names)
+
+
+class Change(NamedTuple):
+    """What a wrong body makes of a function: its file, its text as it stands there, and the code that takes its place."""
+
+    file: str
+    text: str
+    code: str
+
+
+def changes_of(body: Body, crates: str) -> list[Change]:
+    """What a body changes of the crates in this folder. Raises Unfit."""
+    codes: dict[tuple[str, str], str] = {}
+    for file, old, new in ((it.file, it.old, it.new) for it in body.exchanges if not it.file.startswith("proofs/")):
+        with open(f"{crates}/{body.crate}/{file}", encoding="utf-8") as source:
+            whole = source.read()
+        place, text = function_at(file, whole, whole.find(old))
+        if whole.count(old) != 1 or place is None:
+            raise Unfit("it changes what is no function")
+        code = codes.get((file, text)) or Function.read(text).code
+        if code.count(old) != 1:
+            raise Unfit("it changes more than the code of a function")
+        if place.name == "main" or is_of_trait(whole, text) and not re.match(r"impl\b.* for \w", head_above(whole, text), re.S):
+            raise Unfit("no function can stand beside it")
+        codes[file, text] = code.replace(old, new)
+    return [Change(file, text, code) for (file, text), code in codes.items()]
+
+
+def head_above(whole: str, text: str) -> str:
+    """The head of the block in which a method stands."""
+    return list(HEAD.finditer(whole[: whole.find(text)]))[-1][0]
+
+
+def fits(body: Body) -> bool:
+    """Whether a body of the repository can be chosen."""
+    try:
+        return bool(changes_of(body, "crates"))
+    except Unfit:
+        return False
+
+
+def plant(folder: str, bodies: list[Body]) -> None:
+    """Puts bodies into a copy of the crates, each chosen by its number: 1 for the first. Raises Unfit."""
+    choices: dict[tuple[str, str, str], dict[int, str]] = {}
+    for number, body in enumerate(bodies, 1):
+        try:
+            changes = changes_of(body, f"{folder}/crates")
+        except Unfit as unfit:
+            raise Unfit(f"{body.id}: {unfit}") from unfit
+        for change in changes:
+            choices.setdefault((body.crate, change.file, change.text), {})[number] = change.code
+    for (crate, file, text), codes in choices.items():
+        put(f"{folder}/crates/{crate}/{file}", text, crate, codes)
+    for crate in sorted({crate for crate, _, _ in choices}):
+        declare(f"{folder}/crates/{crate}", crate)
+
+
+def put(path: str, text: str, crate: str, codes: dict[int, str]) -> None:
+    """Makes a function of a file a choice between these codes and its own."""
+    with open(path, encoding="utf-8") as source:
+        whole = source.read()
+    function = Function.read(text)
+    copies = [function.copy(f"_{number}", code) for number, code in codes.items()]
+    copies.append(function.copy(NOTHING_CHOSEN, function.code))
+    choosing = function.choosing(crate, codes)
+    if is_of_trait(whole, text):
+        # a trait's methods are its own alone, so the copies are methods of the type
+        head = head_above(whole, text)
+        generics = head[4 : behind_bracket(head, 4)] if head[4] == "<" else ""
+        owner = f"impl{generics} {head[4 + len(generics) :].split(' for ', 1)[1]}"
+        whole = "\n\n".join([whole.replace(text, choosing).rstrip("\n"), f"{owner}\n" + "\n\n".join(copies) + "\n}\n"])
+    else:
+        whole = whole.replace(text, "\n\n".join([choosing, *copies]))
+    with open(path, "w", encoding="utf-8") as source:
+        source.write(whole)
+
+
+def declare(folder: str, crate: str) -> None:
+    """Gives a crate the function that says which body is chosen."""
+    root = next(path for name in ("lib.rt", "main.rt") if os.path.exists(path := f"{folder}/src/{name}"))
+    with open(root, encoding="utf-8") as source:
+        text = source.read()
+    os.makedirs(f"{folder}/c", exist_ok=True)
+    for path, said in {
+        root: re.sub(r"^(?=(?:pub )?mod )", "mod wrong_body;\n", text, count=1, flags=re.M),
+        f"{folder}/src/wrong_body.rt": MODULE.format(crate=crate),
+        f"{folder}/c/wrong_body.c": IN_C.format(crate=crate),
+    }.items():
+        with open(path, "w", encoding="utf-8") as source:
+            source.write(said)

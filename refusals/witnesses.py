@@ -1,0 +1,143 @@
+"""The witnesses of wrong bodies: each is a test that fails with its body in.
+
+Where that is possible the bodies stand in one build for each crate of tests, and in one for the program, and the
+environment chooses one of them (choice.py). Others stand in a build of their own. With nothing chosen each test has to
+pass.
+"""
+
+import os
+import re
+import subprocess
+import tempfile
+from concurrent.futures import ThreadPoolExecutor
+from itertools import count
+from queue import Queue
+
+import choice
+from copies import RT, Depends, copy_crate, libraries, make_copy
+from edits import Edit
+
+# What a test of the folder tests/ runs, by the variables that name it: the words of its build, and its file.
+PROGRAMS: dict[str, tuple[list[str], str]] = {"RESETD": ([], "resetd"), "RESETD_SHORT": (["--steps", "32"], "resetd_short")}
+# Seconds within which a test of a crate ends.
+LIMIT = 60
+LATE, SEEN = "did not end in time", ("FAILED", "waits")
+
+
+def run(edits: list[Edit], depends: Depends, jobs: int) -> int:
+    """Runs the witness of each edit. How many of them have not failed."""
+    found: list[str] = []
+    alone = [edit for edit in edits if edit.refused or not choice.fits(edit.body)]
+    with tempfile.TemporaryDirectory() as scratch:
+        for tests in sorted({edit.tests for edit in edits}):
+            chosen = [edit for edit in edits if edit.tests == tests and edit not in alone]
+            chosen, others = built(scratch, tests, chosen)
+            alone += others
+            with ThreadPoolExecutor(jobs) as pool:
+                names = sorted({edit.test for edit in chosen})
+                passes = dict(zip(names, pool.map(lambda name: what_test_did(scratch, tests, name, 0) == "ok", names)))
+                found += pool.map(lambda edit, number: try_chosen(scratch, edit, number, passes[edit.test]), chosen, count(1))
+    found += run_alone(alone, depends, jobs)
+    failed = sum(map(found.count, SEEN))
+    print(f"{len(found)} edits, {failed} seen by their witness, {len(found) - failed} not")
+    return len(found) - failed
+
+
+def built(scratch: str, tests: str, edits: list[Edit]) -> tuple[list[Edit], list[Edit]]:
+    """Builds what these tests run, with the edits to choose from: those that it has, and those with which it did not compile."""
+    left, apart = edits, list[Edit]()
+    while left:
+        said = build(scratch, tests, left)
+        if not said:
+            return left, apart
+        named = [edit for edit in left if any(re.search(rf"(?<!\w){re.escape(file)}:\d", said) for file, _, _ in edit.pairs)]
+        print(f"{tests}: {len(named) or len(left)} edits stand alone, since the build of all said:\n{said}", flush=True)
+        apart += named or left
+        left = [edit for edit in left if named and edit not in named]
+    return [], apart
+
+
+def build(scratch: str, tests: str, edits: list[Edit]) -> str:
+    """Builds what these tests run. What a build says where it fails, and nothing where it does not."""
+    chosen = ["tools/trial_build", "--choose", *(word for edit in edits for word in ("--edit", edit.id))]
+    if tests == "tests":
+        wanted = [[*chosen, *words, f"{scratch}/{file}"] for words, file in PROGRAMS.values()]
+        wanted.append(["tools/trial_library", scratch])
+    else:
+        wanted = [[*chosen, "--tests", tests, f"{scratch}/{tests}"]]
+    making = [subprocess.Popen(words, stdout=subprocess.PIPE, stderr=subprocess.STDOUT, text=True) for words in wanted]
+    said = [process.communicate()[0] for process in making]
+    return "\n".join(text for process, text in zip(making, said) if process.returncode)
+
+
+def what_test_did(scratch: str, tests: str, test: str, number: int) -> str:
+    """Runs a test over a build, with the edit of this number: ok, FAILED, or that it did not end in time."""
+    environment = {**os.environ, "WRONG_BODY": str(number)}
+    if tests == "tests":
+        files = {variable: f"{scratch}/{file}" for variable, (_, file) in PROGRAMS.items()}
+        environment |= {**files, "RESETD_MEMBER": f"{scratch}/libresetd_member.so"}
+        done = subprocess.run(["tests/run", "--jobs", "1", test], env=environment, capture_output=True, text=True)
+        return said_of(test, done.stdout)
+    try:
+        status = subprocess.run([f"{scratch}/{tests}", test], env=environment, capture_output=True, timeout=LIMIT).returncode
+    except subprocess.TimeoutExpired:
+        return LATE
+    return "FAILED" if status else "ok"
+
+
+def said_of(test: str, text: str) -> str:
+    """What this text of a run says of a test."""
+    said = re.search(rf"^test {re.escape(test)} \.\.\. (\w+)((?:\n +.*)*)", text, re.M)
+    return "was not run" if not said else LATE if "no-answer" in said[2] else said[1]
+
+
+def try_chosen(scratch: str, edit: Edit, number: int, passes: bool) -> str:
+    """Runs the witness of an edit of a build, prints what it did and gives it."""
+    found = what_test_did(scratch, edit.tests, edit.test, number)
+    if edit.waits and found == LATE:
+        found = "waits"
+    if not passes:
+        found = "did not pass without it either"
+    return tell(edit, found)
+
+
+def tell(edit: Edit, found: str) -> str:
+    print(f"{edit.id}: {edit.tests} {edit.test}: {found}", flush=True)
+    return found
+
+
+def run_alone(edits: list[Edit], depends: Depends, jobs: int) -> list[str]:
+    """Runs the witness of each edit over a build that has this edit alone, and gives what each did."""
+    needed = set[str]().union(*(libraries(edit.tests, depends) for edit in edits if edit.tests in depends))
+    with tempfile.TemporaryDirectory() as scratch, ThreadPoolExecutor(jobs) as pool:
+        copies = Queue[str]()
+        for number in range(min(jobs, len(edits))):
+            copies.put(make_copy(os.path.join(scratch, str(number)), needed, depends))
+        return list(pool.map(lambda edit: try_alone(edit, copies), edits))
+
+
+def try_alone(edit: Edit, copies: Queue[str]) -> str:
+    """Puts an edit into a copy that is free, runs the tests of its witness's crate there, and says what that test did."""
+    if edit.tests == "tests":
+        done = subprocess.run(["tests/run", "--edit", edit.id, edit.test], capture_output=True, text=True)
+        return tell(edit, said_of(edit.test, done.stdout))
+    copy = copies.get()
+    try:
+        fits = edit.apply(os.path.join(copy, "crates", edit.crate))
+        found = what_copy_did(edit, copy) if fits else "an old text does not stand there once"
+        copy_crate(edit.crate, copy)
+        if edit.waits and found == LATE:
+            found = "waits" if what_copy_did(edit, copy) == "ok" else "did not end without it either"
+        if edit.refused and found == "FAILED" and what_copy_did(edit, copy) != "ok":
+            found = "failed without it too"
+        return tell(edit, found)
+    finally:
+        copies.put(copy)
+
+
+def what_copy_did(edit: Edit, copy: str) -> str:
+    """Runs the witness of an edit in a copy of the crates: ok, FAILED, or that it did not end in time."""
+    refused = ["--fail-alloc", edit.refused] if edit.refused else []
+    words = [*RT, "try", "--test", "--seconds", str(LIMIT), *refused, "--", edit.test]
+    done = subprocess.run(words, cwd=os.path.join(copy, "crates", edit.tests), capture_output=True, text=True)
+    return said_of(edit.test, done.stdout + done.stderr)
