@@ -242,10 +242,10 @@ class Patience(Case):
 
     def test_a_connection_that_lasts(self) -> None:
         """By a clock that is put forward. It is looked at before a line is waited for, so one more line may be answered.
-        The second client has as long as the first one, and so has one that comes after years."""
+        The second client has as long as the first one, and so has one that comes after years, and the next one."""
         self.needs("a C compiler", preloaded.has_compiler())
         with self.serving(env=preloaded.environment(self.folder, CLOCK=self.clock(0))) as server:
-            for begun in (0, 10_000, 300_000_000):
+            for begun in (0, 10_000, 300_000_000, 300_010_000):
                 self.clock(begun)
                 with server.connect() as connection:
                     self.expect_served(connection, lines=2)
