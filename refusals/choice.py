@@ -19,6 +19,8 @@ from places import HEAD, function_at, is_of_trait
 
 # A line that a clause of a contract begins with.
 CLAUSE = re.compile(r"\s+(?:requires|ensures|ghost)\b")
+# A parameter that has a name by which it can be passed on.
+PARAMETER = re.compile(r"(?:&\s*(?:'\w+\s+)?)?(?:mut )?(self|_?[a-z]\w*)\s*(?::|$)")
 NOTHING_CHOSEN = "_right"
 MODULE = """//! Which wrong body the environment chooses.
 
@@ -107,6 +109,19 @@ def behind_bracket(text: str, at: int) -> int:
             return at
 
 
+def split_at_commas(text: str) -> list[str]:
+    """The pieces of a text between its commas, but for those within brackets."""
+    pieces, depth = [""], 0
+    for before, letter in zip(f" {text}", text):
+        depth += letter in "([{<"
+        depth -= letter in ")]}" or letter == ">" and before != "-"
+        if letter == "," and not depth:
+            pieces.append("")
+        else:
+            pieces[-1] += letter
+    return [piece.strip() for piece in pieces if piece.strip()]
+
+
 def read_head(head: str) -> tuple[str, tuple[str, ...]]:
     """The name of a function and those of its parameters. Raises Unfit."""
     named = re.search(r"\bfn (\w+)", head)
@@ -115,19 +130,10 @@ def read_head(head: str) -> tuple[str, tuple[str, ...]]:
     at = named.end()
     if head[at] == "<":
         at = behind_bracket(head, at)
-    end, names = behind_bracket(head, at), list[str]()
-    at += 1
-    while at < end - 1:
-        parameter = re.compile(r"\s*(?:&\s*(?:'\w+ )?)?(?:mut )?(self|[a-z]\w*)(?=\s*[:,)])").match(head, at)
-        if not parameter:
-            raise Unfit("a parameter has no name")
-        names.append(parameter[1])
-        while at < end - 1 and head[at] != ",":
-            at = behind_bracket(head, at) if head[at] in "([{<" else at + 1
-        at += 1
-        if not head[at : end - 1].strip():
-            break
-    return named[1], tuple(names)
+    parameters = [PARAMETER.match(it) for it in split_at_commas(head[at + 1 : behind_bracket(head, at) - 1])]
+    if not all(parameters):
+        raise Unfit("a parameter has no name")
+    return named[1], tuple(parameter[1] for parameter in parameters if parameter)
 
 
 class Change(NamedTuple):

@@ -19,8 +19,8 @@ from edits import Edit
 
 # What a test of the folder tests/ runs, by the variables that name it: the words of its build, and its file.
 PROGRAMS: dict[str, tuple[list[str], str]] = {"RESETD": ([], "resetd"), "RESETD_SHORT": (["--steps", "32"], "resetd_short")}
-# Seconds within which a test of a crate ends.
-LIMIT = 60
+# Seconds within which a test of a crate ends, and after which one that its edit makes wait counts as waiting.
+LIMIT, WAITS = 600, 60
 LATE, SEEN = "did not end in time", ("FAILED", "waits")
 
 
@@ -31,7 +31,7 @@ def run(edits: list[Edit], depends: Depends, jobs: int) -> int:
     with tempfile.TemporaryDirectory() as scratch:
         for tests in sorted({edit.tests for edit in edits}):
             chosen = [edit for edit in edits if edit.tests == tests and edit not in alone]
-            chosen, others = built(scratch, tests, chosen)
+            chosen, others = build_together(scratch, tests, chosen)
             alone += others
             with ThreadPoolExecutor(jobs) as pool:
                 names = sorted({edit.test for edit in chosen})
@@ -43,7 +43,7 @@ def run(edits: list[Edit], depends: Depends, jobs: int) -> int:
     return len(found) - failed
 
 
-def built(scratch: str, tests: str, edits: list[Edit]) -> tuple[list[Edit], list[Edit]]:
+def build_together(scratch: str, tests: str, edits: list[Edit]) -> tuple[list[Edit], list[Edit]]:
     """Builds what these tests run, with the edits to choose from: those that it has, and those with which it did not compile."""
     left, apart = edits, list[Edit]()
     while left:
@@ -70,22 +70,22 @@ def build(scratch: str, tests: str, edits: list[Edit]) -> str:
     return "\n".join(text for process, text in zip(making, said) if process.returncode)
 
 
-def what_test_did(scratch: str, tests: str, test: str, number: int) -> str:
+def what_test_did(scratch: str, tests: str, test: str, number: int, seconds: int = LIMIT) -> str:
     """Runs a test over a build, with the edit of this number: ok, FAILED, or that it did not end in time."""
     environment = {**os.environ, "WRONG_BODY": str(number)}
     if tests == "tests":
         files = {variable: f"{scratch}/{file}" for variable, (_, file) in PROGRAMS.items()}
         environment |= {**files, "RESETD_MEMBER": f"{scratch}/libresetd_member.so"}
         done = subprocess.run(["tests/run", "--jobs", "1", test], env=environment, capture_output=True, text=True)
-        return said_of(test, done.stdout)
+        return outcome_in(test, done.stdout)
     try:
-        status = subprocess.run([f"{scratch}/{tests}", test], env=environment, capture_output=True, timeout=LIMIT).returncode
+        status = subprocess.run([f"{scratch}/{tests}", test], env=environment, capture_output=True, timeout=seconds).returncode
     except subprocess.TimeoutExpired:
         return LATE
     return "FAILED" if status else "ok"
 
 
-def said_of(test: str, text: str) -> str:
+def outcome_in(test: str, text: str) -> str:
     """What this text of a run says of a test."""
     said = re.search(rf"^test {re.escape(test)} \.\.\. (\w+)((?:\n +.*)*)", text, re.M)
     return "was not run" if not said else LATE if "no-answer" in said[2] else said[1]
@@ -93,7 +93,7 @@ def said_of(test: str, text: str) -> str:
 
 def try_chosen(scratch: str, edit: Edit, number: int, passes: bool) -> str:
     """Runs the witness of an edit of a build, prints what it did and gives it."""
-    found = what_test_did(scratch, edit.tests, edit.test, number)
+    found = what_test_did(scratch, edit.tests, edit.test, number, WAITS if edit.waits else LIMIT)
     if edit.waits and found == LATE:
         found = "waits"
     if not passes:
@@ -120,7 +120,7 @@ def try_alone(edit: Edit, copies: Queue[str]) -> str:
     """Puts an edit into a copy that is free, runs the tests of its witness's crate there, and says what that test did."""
     if edit.tests == "tests":
         done = subprocess.run(["tests/run", "--edit", edit.id, edit.test], capture_output=True, text=True)
-        return tell(edit, said_of(edit.test, done.stdout))
+        return tell(edit, outcome_in(edit.test, done.stdout))
     copy = copies.get()
     try:
         fits = edit.apply(os.path.join(copy, "crates", edit.crate))
@@ -138,6 +138,6 @@ def try_alone(edit: Edit, copies: Queue[str]) -> str:
 def what_copy_did(edit: Edit, copy: str) -> str:
     """Runs the witness of an edit in a copy of the crates: ok, FAILED, or that it did not end in time."""
     refused = ["--fail-alloc", edit.refused] if edit.refused else []
-    words = [*RT, "try", "--test", "--seconds", str(LIMIT), *refused, "--", edit.test]
+    words = [*RT, "try", "--test", "--seconds", str(WAITS), *refused, "--", edit.test]
     done = subprocess.run(words, cwd=os.path.join(copy, "crates", edit.tests), capture_output=True, text=True)
-    return said_of(edit.test, done.stdout + done.stderr)
+    return outcome_in(edit.test, done.stdout + done.stderr)

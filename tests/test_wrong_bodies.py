@@ -59,7 +59,7 @@ impl<'a, S: Read> Source for Counted<'a, S> {
 }
 """
 
-    def planted(self, *exchanges: tuple[str, str]) -> str:
+    def plant(self, *exchanges: tuple[str, str]) -> str:
         """The source file with a wrong body for each of these exchanges."""
         os.makedirs(f"{self.folder}/crates/low/src")
         for name, text in (("lib.rt", "pub mod counts;\n"), ("counts.rt", self.SOURCE)):
@@ -71,7 +71,7 @@ impl<'a, S: Read> Source for Counted<'a, S> {
             return file.read()
 
     def test_two_bodies_of_one_function(self) -> None:
-        planted = self.planted(("checked_add(1)", "checked_add(2)"), ("count.checked_add(1)", "None"))
+        planted = self.plant(("checked_add(1)", "checked_add(2)"), ("count.checked_add(1)", "None"))
         self.assertIn("""pub fn next(count: u64, of: &[(u64, u64)]) -> Option<u64>
     ensures { IsNext count of.now result }
 {
@@ -104,11 +104,11 @@ fn next_right(count: u64, of: &[(u64, u64)]) -> Option<u64>
 
     def test_a_method_of_a_trait(self) -> None:
         """Its copies are methods of the type."""
-        planted = self.planted(("self.count += 1;", ""))
+        planted = self.plant(("self.count += 1;", ""))
         self.assertIn("        self.read_right(buffer)\n    }\n}\n\nimpl<'a, S: Read> Counted<'a, S> {\n    fn read_1(&mut self, ", planted)
 
     def test_a_body_that_can_not_be_chosen(self) -> None:
         for number, (old, new) in enumerate((("= 64", "= 63"), ("-> Option<u64>", "-> Option<u32>"), ("count.now", "count.old"))):
             self.folder = f"{self.folder}/{number}"
             with self.subTest(old), self.assertRaisesRegex(choice.Unfit, "low/body_"):
-                self.planted((old, new))
+                self.plant((old, new))
