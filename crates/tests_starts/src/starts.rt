@@ -56,9 +56,22 @@ fn unheard(rt: &(impl Abort + AllocGlobal)) -> Task {
     )
 }
 
-// That order comes again.
+// That order comes again. Order 3 then resets node 1, which signals at once.
 fn repeating(rt: &(impl Abort + AllocGlobal)) -> Task {
-    asking(rt, &[add(2, NodeId::new(3).unwrap()), Event::Collect(0)])
+    let again = add(2, NodeId::new(3).unwrap());
+    let command = Command::Reset(NodeId::new(1).unwrap());
+    let reset = Event::Submit(Step::Order(Client::new(1).unwrap(), 3, command));
+    asking(
+        rt,
+        &[
+            again,
+            Event::Collect(0),
+            reset,
+            Event::Begin,
+            Event::Commit,
+            Event::Finish,
+        ],
+    )
 }
 
 // What was answered in a start, and how much was released.
@@ -112,7 +125,7 @@ fn the_starts_of_a_store_are_one_history(rt: HostRuntime) {
             "[Accepted(1), Begun(1), Committed, Finished(1), Collected(Reply { step: 1, kind: Done }), Accepted(2)] 0",
             "raised",
             "[Repeated(1), Collected(Reply { step: 1, kind: Done }), Accepted(2), Begun(1), Committed] 0",
-            "[Repeated(2), Collected(Reply { step: 2, kind: Done })] 0",
+            "[Repeated(2), Collected(Reply { step: 2, kind: Done }), Accepted(3), Begun(1), Committed, Finished(3)] 1",
         ],
     );
 }
