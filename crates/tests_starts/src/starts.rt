@@ -74,6 +74,28 @@ fn repeating(rt: &(impl Abort + AllocGlobal)) -> Task {
     )
 }
 
+// Client 1's order of this number.
+fn order(number: u64, command: Command) -> Event {
+    Event::Submit(Step::Order(Client::new(1).unwrap(), number, command))
+}
+
+// Two nodes are joined, and the first of them is reset: its packet is on its way.
+fn in_a_reset(rt: &(impl Abort + AllocGlobal)) -> Task {
+    let (first, second) = (NodeId::new(1).unwrap(), NodeId::new(2).unwrap());
+    asking(
+        rt,
+        &[
+            add(1, first),
+            add(2, second),
+            order(3, Command::Join(first, second)),
+            order(4, Command::Reset(first)),
+            Event::Begin,
+            Event::Commit,
+            Event::Finish,
+        ],
+    )
+}
+
 // What was answered in a start, and how much was released.
 fn told_of(rt: &(impl Abort + AllocGlobal), trace: &Trace) -> String {
     let (answers, released) = (&trace.answers, trace.released.len());
@@ -126,6 +148,20 @@ fn the_starts_of_a_store_are_one_history(rt: HostRuntime) {
             "raised",
             "[Repeated(1), Collected(Reply { step: 1, kind: Done }), Accepted(2), Begun(1), Committed] 0",
             "[Repeated(2), Collected(Reply { step: 2, kind: Done }), Accepted(3), Begun(1), Committed, Finished(3)] 1",
+        ],
+    );
+}
+
+// A store in a reset is not raised.
+#[test]
+fn a_store_in_a_reset_stays_as_it_is(rt: HostRuntime) {
+    let outcomes = ran(&rt, &[in_a_reset(&rt), Task::Migrate]);
+    tells(
+        &rt,
+        &outcomes,
+        &[
+            "[Accepted(1), Accepted(2), Accepted(3), Accepted(4), Begun(4), Committed, Finished(4)] 1",
+            "refused",
         ],
     );
 }
