@@ -1,6 +1,7 @@
 -- The laws of the protocol, each the contract of a function of `laws`, and runs that are known.
 pub mod Laws
 pub mod Waves
+pub mod Overlaps
 pub mod Trails
 pub mod Release
 pub mod KeptReplies

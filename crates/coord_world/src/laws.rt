@@ -8,6 +8,7 @@ ghost use Rattle.coord_world.specs.laws.Release.{FreshWhereReleased, ReleaseLaw,
 ghost use Rattle.coord_world.specs.laws.Trails.{FoldCounts, TrailGoesOn, TrailIsCut, TrailKeepsWorlds};
 ghost use Rattle.coord_world.specs.laws.Version1.{Version1AsksNoDistance};
 ghost use Rattle.coord_world.specs.laws.Waves.{OncePerWave};
+ghost use Rattle.coord_world.specs.laws.Overlaps.{AloneAsFinished, AskedIsSignalled, NoMoreThanStarted, OnceIfOneStarted, OnceOrMore};
 
 /// A step that a world takes over some settled world, it takes over itself.
 #[tactic(auto, using(crate::proofs::Acceptance::itself))]
@@ -78,6 +79,40 @@ pub fn rows_give_world()
 /// signalled exactly once, and any other signal comes with the reply Finished.
 pub fn once_per_wave()
     ensures { OncePerWave }
+{}
+
+/// In a list of steps in turn, a node that is asked to reset, whatever the reply, is signalled from
+/// then on at least once if it is Ready in the end.
+pub fn asked_is_signalled()
+    ensures { AskedIsSignalled }
+{}
+
+/// In a list of steps in turn that begins and ends where every node of a part that no link leaves is
+/// Ready, and keeps all nodes and links, each node that a path of links connects with one of the part
+/// where a reset was started is signalled at least once, however many start.
+pub fn once_or_more()
+    ensures { OnceOrMore }
+{}
+
+/// In a list of steps in turn that begins where every node of a part that no link leaves is Ready, and
+/// keeps all nodes and links, no node of the part that has a link is signalled more often than resets
+/// were started in the part.
+pub fn no_more_than_started()
+    ensures { NoMoreThanStarted }
+{}
+
+/// In a list of steps in turn that begins where every node of a part that no link leaves is Ready, and
+/// keeps all nodes and links, a node of the part without a link is signalled just as often as its
+/// resets are answered Finished.
+pub fn alone_as_finished()
+    ensures { AloneAsFinished }
+{}
+
+/// In a list of steps in turn that begins and ends where every node of a part that no link leaves is
+/// Ready, and keeps all nodes and links, and where just one reset was started in the part, each node
+/// that a path of links connects with its initiator is signalled exactly once.
+pub fn once_if_one_started()
+    ensures { OnceIfOneStarted }
 {}
 
 /// After any number of its steps, a trail has come to a legal world within its ranges.

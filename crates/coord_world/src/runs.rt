@@ -2,7 +2,7 @@
 //! say which steps are taken and what each gives out.
 
 ghost use Rattle.coord_world.specs.laws.ReleasedRun.{ReleasedRun};
-ghost use Rattle.coord_world.specs.laws.WorkedSteps.{Distances, DropInAbort, DropInConverge, StoredRun, StoredWave, TwoInitiators, TwoInitiatorsWithDistances};
+ghost use Rattle.coord_world.specs.laws.WorkedSteps.{Distances, DropInAbort, DropInConverge, NotAllAfterEach, Overlaps, StoredRun, StoredWave, TwoInitiators, TwoInitiatorsWithDistances};
 
 /// Two nodes and one reset.
 #[tactic(auto, using(crate::proofs::WorkedRuns::stored_computes))]
@@ -14,6 +14,20 @@ pub fn stored_run()
 #[tactic(auto, using(crate::proofs::waves::StoredWave::stored_is_wave))]
 pub fn stored_wave()
     ensures { StoredWave }
+{}
+
+/// Where both ends of a link start a reset, each is signalled once; where one end starts another
+/// before the other one is Ready, each is signalled twice.
+#[tactic(auto, using(crate::proofs::waves::WorkedOverlaps::overlaps_compute))]
+pub fn overlaps()
+    ensures { Overlaps }
+{}
+
+/// Of three resets on a path the last one is started at one end while the second is still at the node
+/// beside it, and the node at the other end is not signalled after that.
+#[tactic(auto, using(crate::proofs::waves::WorkedOverlaps::not_all_after_each))]
+pub fn not_all_after_each()
+    ensures { NotAllAfterEach }
 {}
 
 /// Each packet of that reset is refused until the step that gives it out is settled.

@@ -17,7 +17,8 @@ use Rattle.coord_world.specs.laws.Trails.{IsSound}
 use Rattle.coord_world.proofs.release.ReleaseLaw.{front_has_sent, has_receipted_receipt, receipt_has_receipted, release_law, has_sent_front, again_released}
 use Rattle.coord_world.proofs.release.TakeablePackets.{clearable_is_due, refused_or_none_holds, none_holds_passes, takeable_is_next}
 use Rattle.coord_world.proofs.release.LaneFronts.{front_fold, front_not_past, past_fold, receipt_fold}
-use Rattle.coord_world.proofs.release.Trails.{EachFresh, fold-append, fold-take_drop, each_fresh-append, each_fresh-drop, each_fresh-take, sound_fold, trail_each_fresh}
+use Rattle.coord_world.proofs.waves.Running.{fold-append}
+use Rattle.coord_world.proofs.release.Trails.{EachFresh, fold-take_drop, each_fresh-append, each_fresh-drop, each_fresh-take, sound_fold, trail_each_fresh}
 use Rattle.coord_world.proofs.release.ResendList.{not_in_nil}
 
 -- ---- a release stays

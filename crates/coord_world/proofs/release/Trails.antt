@@ -7,7 +7,7 @@ use Rattle.coord_world.specs.laws.Trails.{IsTrail, IsSound, FoldCounts, TrailKee
 use Rattle.coord_world.proofs.Acceptance.{itself}
 use Rattle.coord_world.proofs.legal.NextKeepsLegal.{legal_next}
 use Rattle.coord_world.proofs.ranges.NextKeepsRanges.{ranges_next}
-use Rattle.coord_world.proofs.waves.OncePerWave.{IsTaken, taken_in_turn}
+use Rattle.coord_world.proofs.waves.Running.{IsTaken, taken_in_turn}
 
 -- each step is fresh over the world before it, and in its ranges
 abbrev pub EachFresh : World → List Step → Type 0
@@ -51,10 +51,6 @@ pub fold-take_drop : (n : ℕ) (ss : List Step) (w : World) → fold (fold w (ta
 fold-take_drop zero ss w = refl
 fold-take_drop (suc n) [] w = refl
 fold-take_drop (suc n) (s ∷ ss) w = fold-take_drop n ss (next w s)
-
-pub fold-append : (xs ys : List Step) (w : World) → fold w (xs ++ ys) ≡ fold (fold w xs) ys
-fold-append [] ys w = refl
-fold-append (x ∷ xs) ys w = fold-append xs ys (next w x)
 
 pub each_fresh-append : (xs ys : List Step) (w : World) → EachFresh w xs → EachFresh (fold w xs) ys → EachFresh w (xs ++ ys)
 each_fresh-append [] ys w each on = on

@@ -96,6 +96,7 @@ pub record Starts (z y : Ideal) (t : ℕ) : Type 0 where
   pub parent : (y.state t).parent ≡ None
   pub elsewhere : Elsewhere z y t
   pub sent : (x : ℕ) → contains (z.state t).neighbours x ≡ true → 1 ≤ aborts (y.in_transit t x)
+  pub apart : (a b : ℕ) → a ≢ t → y.in_transit a b ≡ z.in_transit a b
 
 -- what a step does that makes y of z: who signals, who starts, and the kind of its reply
 pub data Effect (z y : Ideal) (signals : ℕ → ℕ) (starts : List ℕ) (k : Kind) : Type 0 where

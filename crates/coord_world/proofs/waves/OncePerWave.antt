@@ -1,77 +1,27 @@
--- A wave signals each node that it reaches exactly once: once in each of its phases.
-use Rattle.std.proofs.Common.{◌≡◌, ℕ, false, List, [], ◌∷◌, ◌++◌, refl, sym, ap, ◌∙◌, All, ◌≢◌, ◌⊎◌, ◌≤◌, true, subst, inl, inr, arith, ◌+◌}
-use Rattle.std.proofs.lemmas.List.Elements.{All-head, All-tail, All-cons, All-nil}
+-- A wave signals each node that it reaches exactly once, as overlapping resets of which there is one.
+use Rattle.std.proofs.Common.{◌≡◌, ℕ, Bool, false, List, [], ◌∷◌, ◌++◌, refl, sym, ap, ◌∙◌, All, ◌≢◌, ◌⊎◌, ◌≤◌, true, subst, inl, inr, arith, count_by}
+use Rattle.std.proofs.lemmas.List.Elements.{All-cons, All-nil}
 use Rattle.std.proofs.lemmas.Bool.Decides.{nat_tests}
-use Rattle.coord_types.proofs.Sets.{same_nodes}
-use Rattle.coord_types.specs.declared.steps.Step.{Step}
-use Rattle.coord_node.specs.Rules.{is_empty}
-use Rattle.coord_world.specs.Facade.{InTurn, IsFresh, World, fold, next, state, view, StepOutcome, is_linked, is_ready, outputs, outs, reply, is_abort}
-use Rattle.coord_world.specs.laws.Waves.{AllReady, changes_topology, Connected, IsExplained, started, started_by, signals_of, OncePerWave}
-use Rattle.coord_world.proofs.lanes.LaneNumbers.{AllCount}
-use Rattle.coord_world.proofs.waves.FirstPhase.{SameNear, among, abort_busy, Front, ends_settled, ends_once, passed_by, turned, grows, mode_is_ready, begins}
-use Rattle.coord_world.proofs.legal.NextKeepsLegal.{sound_next}
-use Rattle.coord_world.proofs.View.{counts_next}
-use Rattle.coord_world.proofs.legal.Sound.{Sound}
-use Rattle.coord_world.proofs.waves.StepEffects.{StepEffect, step_effect, same_links, signals_in}
 use Rattle.coord_types.specs.Facade.{Ideal, contains}
 use Rattle.coord_types.specs.declared.steps.Kind.{Kind}
 use Rattle.coord_types.specs.declared.steps.Kind.TheVariants.{Finished}
+use Rattle.coord_types.specs.declared.steps.Step.{Step}
+use Rattle.coord_node.specs.Rules.{is_empty}
 use Rattle.coord_node.specs.Steps.{kind}
 use Rattle.coord_tables.proofs.Cases.{same_or_apart}
-use Rattle.coord_world.proofs.waves.Effect.{Effect, SamePlace, Starts, Silent}
-use Rattle.coord_world.proofs.waves.Connected.{connected_further, along, connected_self}
-use Rattle.coord_world.proofs.waves.LastPhase.{sender_aborts, Settled, busy, settles}
-use Rattle.coord_world.proofs.waves.SignalsOf.{all_explained, signals_given, signals_first}
-use Rattle.coord_world.proofs.lists.NodeSets.{empty_has}
+use Rattle.coord_world.specs.Facade.{World, fold, next, state, view, StepOutcome, is_linked, is_ready, outputs, outs, reply}
+use Rattle.coord_world.specs.laws.Overlaps.{BeginsReady, OnceIfOneStarted, PartReady}
+use Rattle.coord_world.specs.laws.Waves.{Connected, IsExplained, started, started_by, signals_of, OncePerWave}
+use Rattle.coord_world.proofs.legal.Sound.{Sound}
 use Rattle.coord_world.proofs.legal.SoundView.{sound_view}
-
--- ---- its steps in turn
-
--- a step, between the world before it and the world after it
-pub record Goes (w : World) (s : Step) : Type 0 where
-  pub before : Sound (view w)
-  pub after : Sound (view (next w s))
-  pub near : SameNear (view w) (view (next w s))
-  pub effect : StepEffect (view w) (view (next w s)) s
-
--- steps that end where every node is Ready
-abbrev pub AllGo : World → List Step → Type 0
-AllGo w [] = AllReady w
-AllGo w (s ∷ ss) = Goes w s × AllGo (next w s) ss
-
--- each step is fresh over some settled world
-abbrev pub IsTaken : World → List Step → Type 0
-IsTaken w steps = (before rest : List Step) (s : Step) → steps ≡ before ++ s ∷ rest → (settled : World) × IsFresh (fold w before) settled s
-
--- steps in turn are
-pub taken_in_turn : (w : World) (steps : List Step) → InTurn w steps → IsTaken w steps
-taken_in_turn w steps in_turn before rest s is = let turn = in_turn before rest s is in (fold w turn.0, turn.1.1.1)
-
-module _ (w settled : World) (s : Step) (stays : changes_topology s ≡ false) (sound : Sound (view w)) (counts : AllCount w) (fresh : IsFresh w settled s) where
-  -- the links are those of the nodes, before and after
-  near_next : Sound (view (next w s)) → SameNear (view w) (view (next w s))
-  near_next after a b = sym (after.linked a b) ∙ same_links w settled s stays counts fresh a b ∙ sound.linked a b
-
-  -- one step
-  goes : Goes w s
-  goes =
-      let after = sound_next w settled s sound counts fresh in
-      record { before = sound; after = after; near = near_next after; effect = step_effect w settled s stays sound counts fresh }
-
--- step by step
-pub running : (steps : List Step) (w : World) → Sound (view w) → AllCount w → IsTaken w steps → All (λ s. changes_topology s ≡ false) steps → AllReady (fold w steps) → AllGo w steps
-running [] w sound counts taken stays ready = ready
-running (s ∷ ss) w sound counts taken stays ready =
-    let first = taken [] ss s refl in
-    let stay = All-head (λ s. changes_topology s ≡ false) s ss stays in (
-      goes w first.0 s stay sound counts first.1,
-      running ss (next w s) (sound_next w first.0 s sound counts first.1) (counts_next w first.0 s counts first.1)
-          (λ before rest q is. taken (s ∷ before) rest q (ap (λ l. s ∷ l) is)) (All-tail (λ s. changes_topology s ≡ false) s ss stays) ready,
-    )
-
--- a node keeps having neighbours
-pub near_kept : (w : World) (s : Step) → Goes w s → (x : ℕ) → is_empty (state (next w s) x).neighbours ≡ is_empty (state w x).neighbours
-near_kept w s goes x = ap is_empty (same_nodes _ _ (goes.near x))
+use Rattle.coord_world.proofs.waves.Connected.{connected_further, along, connected_self}
+use Rattle.coord_world.proofs.waves.Effect.{Effect, SamePlace}
+use Rattle.coord_world.proofs.waves.Modes.{abort_busy, linked_some, sender_aborts}
+use Rattle.coord_world.proofs.waves.Running.{AllGo, Start, all_go, near_kept, start_of}
+use Rattle.coord_world.proofs.waves.SignalsOf.{all_explained, signals_given}
+use Rattle.coord_world.proofs.waves.Spread.{all_among, among, among-append, reached_signals}
+use Rattle.coord_world.proofs.waves.StepEffects.{signals_in}
+use Rattle.coord_world.proofs.waves.Trees.{no_more}
 
 -- ---- each signal is explained
 
@@ -139,174 +89,47 @@ explained base u (s ∷ ss) w run like inside known =
     later [] ys t h = h
     later (x ∷ xs) ys t h = grind (arith, later xs ys t h)
 
--- ---- both phases
+-- ---- exactly once
 
--- nothing is in the first of two lists that together are empty
-front_empty : (xs ys : List ℕ) → xs ++ ys ≡ [] → (xs ≡ []) × (ys ≡ [])
-front_empty [] ys e = (refl, e)
-front_empty (x ∷ xs) ys e = cc
-
--- the last phase
-pub last_phase : (steps : List Step) (w : World) → AllGo w steps → started w steps ≡ [] → Settled (view w) → (x : ℕ) → is_empty (state w x).neighbours ≡ false → signals_of x (outs w steps) ≡ busy (state w x)
-last_phase [] w ready none settled x some = let r = ap is_ready (ready x) in grind (arith, r)
-last_phase (s ∷ ss) w run none settled x some =
-    let goes = run.0 in
-    let nobody = front_empty (started_by (kind (state w) s) s) (started (next w s) ss) none in
-    let step = settles (view w) (view (next w s)) (signals_in w.version (state w) s) (started_by (kind (state w) s) s) (kind (state w) s) goes.before settled nobody.0 goes.effect in
-    let rest = last_phase ss (next w s) run.1 nobody.1 step.settled x (near_kept w s goes x ∙ some) in
-    let now = step.once x some in
-    let all = signals_first x w s ss in
-    omega arith
-
--- the world in which u begins its wave, and a later one
-pub record Within (base : World) (u : ℕ) (w : World) : Type 0 where
-  pub like : (a b : ℕ) → is_linked base a b ≡ true → contains (state w a).neighbours b ≡ true
-  pub near : (x : ℕ) → Connected base u x → is_empty (state w x).neighbours ≡ false
-
--- a step keeps that
-within_next : (base : World) (u : ℕ) (w : World) (s : Step) → Goes w s → Within base u w → Within base u (next w s)
-within_next base u w s goes within = record {
-  like = λ a b linked. goes.near a b ∙ within.like a b linked;
-  near = λ x path. near_kept w s goes x ∙ within.near x path;
-}
-
--- the first phase goes on, or it ends
-data Turn (base : World) (u : ℕ) (y : Ideal) (signals : ℕ → ℕ) : Type 0 where
-  on : (xs : List ℕ) → Front y u xs → ((x : ℕ) → Connected base u x → signals x ≡ 0) → Turn base u y signals
-  ends : Settled y → ((x : ℕ) → Connected base u x → signals x + busy (y.state x) ≡ 1) → Turn base u y signals
-
--- by what the step does
-turn : (base : World) (u : ℕ) (z y : Ideal) (signals : ℕ → ℕ) (starts : List ℕ) (k : Kind) (xs : List ℕ) → Sound z → Sound y → SameNear z y →
-    ((a b : ℕ) → is_linked base a b ≡ true → contains (z.state a).neighbours b ≡ true) → ((x : ℕ) → Connected base u x → is_empty (z.state x).neighbours ≡ false) →
-    Front z u xs → starts ≡ [] → Effect z y signals starts k → Turn base u y signals
-turn base u z y signals starts k xs before after near like some front none (Effect.passes passes silent e) = Turn.on xs (passed_by z y u xs near front passes) (λ x path. silent x)
-turn base u z y signals starts k xs before after near like some front none (Effect.alone t passes lone signal kind e) =
-    Turn.on xs (passed_by z y u xs near front passes) (λ x path. signal x ∙ elim (same_or_apart x t) [
-      | inl here ↦ absurd (let more = subst (λ q. is_empty (z.state q).neighbours ≡ false) here (some x path) in cc)
-      | inr apart ↦ grind (arith, nat_tests)
-    ])
-turn base u z y signals starts k xs before after near like some front none (Effect.reaches t v reaches silent e) = Turn.on (t ∷ xs) (grows z y u t v xs before near front reaches) (λ x path. silent x)
-turn base u z y signals starts k xs before after near like some front none (Effect.turns t p turns silent e) = Turn.on xs (turned z y u xs near front t p turns) (λ x path. silent x)
-turn base u z y signals starts k xs before after near like some front none (Effect.finishes t finishes signal e) =
-    Turn.ends (ends_settled z y u t xs before after near front finishes) (ends_once z y u t xs before after near front finishes base signals signal like)
-turn base u z y signals starts k xs before after near like some front none (Effect.starts_at t start silent e) = absurd (cc)
-
--- the first phase, and then the last
-pub first_phase : (base : World) (u : ℕ) (steps : List Step) (w : World) → AllGo w steps → started w steps ≡ [] → Within base u w → (xs : List ℕ) → Front (view w) u xs →
-    (x : ℕ) → Connected base u x → signals_of x (outs w steps) ≡ 1
-first_phase base u [] w ready none within xs front x path = absurd (let is_ready = ready u in let is_abort = front.top in cc)
-first_phase base u (s ∷ ss) w run none within xs front x path =
-    let goes = run.0 in
-    let nobody = front_empty (started_by (kind (state w) s) s) (started (next w s) ss) none in
-    let all = signals_first x w s ss in
-    elim (turn base u (view w) (view (next w s)) (signals_in w.version (state w) s) (started_by (kind (state w) s) s) (kind (state w) s) xs goes.before goes.after goes.near within.like within.near front nobody.0 goes.effect) [
-      | on more front_next silent ↦
-          let rest = first_phase base u ss (next w s) run.1 nobody.1 (within_next base u w s goes within) more front_next x path in
-          let now = silent x path in
-          omega arith
-      | ends settled once ↦
-          let rest = last_phase ss (next w s) run.1 nobody.1 settled x ((within_next base u w s goes within).near x path) in
-          let now = once x path in
-          omega arith
-    ]
-
--- ---- until it begins
-
--- a step starts at one node, or at none
-pub data Start (z y : Ideal) (signals : ℕ → ℕ) (starts : List ℕ) : Type 0 where
-  nowhere : starts ≡ [] → Start z y signals starts
-  somewhere : (t : ℕ) → Starts z y t → Silent signals → starts ≡ t ∷ [] → Start z y signals starts
-
--- by what the step does
-pub start_of : (z y : Ideal) (signals : ℕ → ℕ) (starts : List ℕ) (k : Kind) → Effect z y signals starts k → Start z y signals starts
-start_of z y signals starts k (Effect.passes passes silent e) = Start.nowhere e
-start_of z y signals starts k (Effect.alone t passes lone signal kind e) = Start.nowhere e
-start_of z y signals starts k (Effect.reaches t v reaches silent e) = Start.nowhere e
-start_of z y signals starts k (Effect.turns t p turns silent e) = Start.nowhere e
-start_of z y signals starts k (Effect.finishes t finishes signal e) = Start.nowhere e
-start_of z y signals starts k (Effect.starts_at t start silent e) = Start.somewhere t start silent e
-
--- a wave's whole run
-pub record Whole (base : World) (u : ℕ) (w : World) (steps : List Step) : Type 0 where
-  pub some : is_empty (state w u).neighbours ≡ false
-  pub once : (x : ℕ) → Connected base u x → signals_of x (outs w steps) ≡ 1
-
-module _ (base : World) (u : ℕ) (w : World) (sound : Sound (view w)) (like : (a b : ℕ) → is_linked base a b ≡ true → contains (state w a).neighbours b ≡ true) where
-  -- a node that is linked with another one has a neighbour
-  linked_some : (a b : ℕ) → is_linked base a b ≡ true → is_empty (state w b).neighbours ≡ false
-  linked_some a b linked = let back = sym (sound.mirrored a b) ∙ like a b linked in grind (arith, back, empty_has (state w b).neighbours a)
-
-  -- where the initiator has a neighbour, each node that is connected with it has one
-  within : is_empty (state w u).neighbours ≡ false → Within base u w
-  within some = record { like = like; near = λ x path. along base (λ q. is_empty (state w q).neighbours ≡ false) (λ a b _ linked. linked_some a b linked) u x path.0 path.1 some }
-
-module _ (base : World) (u : ℕ) (w : World) (s : Step) (ss : List Step) (goes : Goes w s) (ready : AllReady w) (like : (a b : ℕ) → is_linked base a b ≡ true → contains (state w a).neighbours b ≡ true) where
-  -- the neighbours after the step
-  like_next : (a b : ℕ) → is_linked base a b ≡ true → contains (state (next w s) a).neighbours b ≡ true
-  like_next a b linked = goes.near a b ∙ like a b linked
-
-  -- the wave begins with this step
-  starting : AllGo (next w s) ss → Starts (view w) (view (next w s)) u → Silent (signals_in w.version (state w) s) → started (next w s) ss ≡ [] → Whole base u w (s ∷ ss)
-  starting run start silent nobody = record {
-    some = start.some;
-    once = λ x path.
-        let front = begins (view w) (view (next w s)) u goes.near ready start in
-        let inside = within base u (next w s) goes.after like_next (near_kept w s goes u ∙ start.some) in
-        let rest = first_phase base u ss (next w s) run nobody inside (u ∷ []) front x path in
-        let now = silent x in
-        let all = signals_first x w s ss in
-        omega arith;
-  }
-
-  -- the wave hasn't begun yet
-  waiting : started_by (kind (state w) s) s ≡ [] → (AllReady (next w s) → Whole base u (next w s) ss) → Whole base u w (s ∷ ss)
-  waiting none rest =
-      let step = settles (view w) (view (next w s)) (signals_in w.version (state w) s) (started_by (kind (state w) s) s) (kind (state w) s) goes.before (λ x. ap is_abort (ready x)) none goes.effect in
-      let whole = rest (λ x. mode_is_ready (state (next w s) x).mode (step.ready x (ap is_ready (ready x)))) in
-      let some : is_empty (state w u).neighbours ≡ false = sym (near_kept w s goes u) ∙ whole.some in
-      record {
-        some = some;
-        once = λ x path.
-            let near = (within base u w goes.before like some).near x path in
-            let now = step.once x near in
-            let was = ap is_ready (ready x) in
-            let later = whole.once x path in
-            let all = signals_first x w s ss in
-            let none_now : signals_in w.version (state w) s x ≡ 0 = grind (arith, now, was) in
-            omega arith;
-      }
-
--- all steps
-pub whole_run : (base : World) (u : ℕ) (steps : List Step) (w : World) → AllGo w steps → AllReady w → started w steps ≡ u ∷ [] → ((a b : ℕ) → is_linked base a b ≡ true → contains (state w a).neighbours b ≡ true) → Whole base u w steps
-whole_run base u [] w run ready one like = cc
-whole_run base u (s ∷ ss) w run ready one like = elim (start_of (view w) (view (next w s)) (signals_in w.version (state w) s) (started_by (kind (state w) s) s) (kind (state w) s) run.0.effect) [
-  | nowhere none ↦
-      let later : started (next w s) ss ≡ u ∷ [] = subst (λ l. l ++ started (next w s) ss ≡ u ∷ []) none one in
-      waiting base u w s ss run.0 ready like none (λ ready_next. whole_run base u ss (next w s) run.1 ready_next later (like_next base u w s ss run.0 ready like))
-  | somewhere t start silent here ↦
-      let all : t ∷ started (next w s) ss ≡ u ∷ [] = subst (λ l. l ++ started (next w s) ss ≡ u ∷ []) here one in
-      let same : t ≡ u = cc all in
-      starting base u w s ss run.0 ready like run.1 (subst (Starts (view w) (view (next w s))) same start) silent (cc all)
+-- a node where a reset is started has a neighbour
+started_some : (steps : List Step) (w : World) → AllGo w steps → (u : ℕ) → among (started w steps) u ≡ true → is_empty (state w u).neighbours ≡ false
+started_some [] w run u h = cc
+started_some (s ∷ ss) w run u h = elim (among-append (started_by (kind (state w) s) s) (started (next w s) ss) u h) [
+  | inl here ↦ elim (start_of (view w) (view (next w s)) (signals_in w.version (state w) s) (started_by (kind (state w) s) s) (kind (state w) s) run.0.effect) [
+    | Start.nowhere none ↦ absurd (let nobody = subst (λ l. among l u ≡ true) none here in cc)
+    | Start.somewhere t start silent e ↦ let is = subst (λ l. among l u ≡ true) e here in let same : u ≡ t = grind (arith, nat_tests, is) in rw same start.some
+  ]
+  | inr later ↦ sym (near_kept w s run.0 u) ∙ started_some ss (next w s) run.1 u later
 ]
 
--- ---- the law
+-- at least once by what it reaches, at most once by its tree
+once : (w : World) (steps : List Step) (part : ℕ → Bool) → BeginsReady w steps part → PartReady (fold w steps) part → count_by part (started w steps) ≡ 1 →
+    (u : ℕ) → among (started w steps) u ≡ true → part u ≡ true → (v : ℕ) → Connected w u v → signals_of v (outs w steps) ≡ 1
+once w steps part begins ready_after one u h inside v path =
+    let sound = sound_view w begins.in_range begins.legal in
+    let run = all_go w steps begins.in_range begins.legal begins.in_turn begins.same_topology in
+    let some = along w (λ q. is_empty (state w q).neighbours ≡ false) (λ a b _ linked. linked_some (view w) sound a b (sym (sound.linked a b) ∙ linked)) u v path.0 path.1 (started_some steps w run u h) in
+    let inside_v = along w (λ q. part q ≡ true) (λ a b in_a linked. sym (begins.is_part a b linked) ∙ in_a) u v path.0 path.1 inside in
+    let least = reached_signals w steps part begins ready_after u h inside v path in
+    let most = no_more w steps part begins v inside_v some in
+    omega arith
 
--- the connected nodes by the phases, the others by who signals at all
+pub once_if_one_started : OnceIfOneStarted
+once_if_one_started w steps part begins ready_after one =
+    all_among (λ u. part u ≡ true → (v : ℕ) → Connected w u v → signals_of v (outs w steps) ≡ 1) (started w steps) (once w steps part begins ready_after one)
+
+-- the connected nodes as where one reset was started, the others by who signals at all
 pub once_per_wave : OncePerWave
 once_per_wave w steps u wave = record {
-  once = (whole_run w u steps w run wave.ready_before wave.one_start (λ a b linked. sym (sound.linked a b) ∙ linked)).once;
-  others = explained w u steps w run (λ a b near. sound.linked a b ∙ near)
+  once = once w steps (λ _. true) begins (λ v _. wave.ready_after v) (rw wave.one_start (grind (arith, nat_tests))) u (rw wave.one_start (grind (arith, nat_tests))) refl;
+  others = explained w u steps w (all_go w steps wave.in_range wave.legal wave.in_turn wave.same_topology) (λ a b near. (sound_view w wave.in_range wave.legal).linked a b ∙ near)
       (λ x busy. absurd (let ready = ap is_ready (wave.ready_before x) in cc))
       (λ t h. subst (Connected w u) (sym (alone t h)) (connected_self w u));
 }
   where
-    -- the view at the start
-    sound : Sound (view w)
-    sound = sound_view w wave.in_range wave.legal
-
-    -- what each step does to the view
-    run : AllGo w steps
-    run = running steps w sound wave.legal.lanes (taken_in_turn w steps wave.in_turn) wave.same_topology wave.ready_after
+    -- all nodes are a part
+    begins : BeginsReady w steps (λ _. true)
+    begins = record { in_range = wave.in_range; legal = wave.legal; in_turn = wave.in_turn; same_topology = wave.same_topology; is_part = λ a b _. refl; ready_before = λ v _. wave.ready_before v }
 
     -- nobody else starts
     alone : (t : ℕ) → among (started w steps) t ≡ true → t ≡ u

@@ -222,6 +222,7 @@ module _ (z : Ideal) (c n t : ℕ) (sound : Sound z) where
         parent = ap (λ (q : NodeState). q.parent) (row_here z t d);
         elsewhere = row_there z t d;
         sent = λ x near. let linked = sound.linked t x ∙ near in grind (arith, nat_tests, aborts-append (z.in_transit t x) (added d x));
+        apart = λ a b far. grind (arith, nat_tests, far);
       }) (λ x. refl) refl
 
   -- a node in a reset goes on with it

@@ -23,12 +23,12 @@ ready_entries [] ready v = refl
 ready_entries (e ∷ es) ready v = by_test (eq_by_cmp nat_cmp v e.0) (λ b. (state_or_none (cond b (Some e.1) (find nat_cmp v es))).mode ≡ Ready) (λ _. ready.0) (λ _. ready_entries es ready.1 v)
 
 -- where each entry of a world is Ready, each node is
-all_ready : (w : World) → AllByRecursion (λ e. e.1.mode ≡ Ready) w.nodes.list → AllReady w
+pub all_ready : (w : World) → AllByRecursion (λ e. e.1.mode ≡ Ready) w.nodes.list → AllReady w
 unfolding table.get
 all_ready w ready v = ready_entries w.nodes.list ready v
 
 -- the steps that link the nodes are fresh in turn
-linking : EachFresh (no_world 1) two_linked
+pub linking : EachFresh (no_world 1) two_linked
 unfolding table.empty table.get table.insert table.remove table.change table.len set.contains set.empty set.insert set.remove set.len lane_at
 linking = ((refl, (omega arith, omega arith, ((omega arith, omega arith), omega arith, omega arith))), ((refl, (omega arith, omega arith, ((omega arith, omega arith), omega arith, omega arith))), ((refl, (omega arith, omega arith, ((omega arith, omega arith), (omega arith, omega arith)))), tt)))
 
@@ -47,7 +47,7 @@ unfolding table.empty table.get table.insert table.remove table.change table.len
 one_start = refl
 
 -- the nodes are Ready before it
-ready_before : AllByRecursion (λ e. e.1.mode ≡ Ready) (fold (no_world 1) two_linked).nodes.list
+pub ready_before : AllByRecursion (λ e. e.1.mode ≡ Ready) (fold (no_world 1) two_linked).nodes.list
 unfolding table.empty table.get table.insert table.remove table.change table.len set.contains set.empty set.insert set.remove set.len lane_at
 ready_before = (refl, (refl, tt))
 

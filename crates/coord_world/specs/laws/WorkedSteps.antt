@@ -1,5 +1,5 @@
 -- Runs from the empty world whose outcomes are known.
-use Rattle.std.specs.Prelude.{◌≡◌, ℕ, List, [], ◌∷◌, ◌++◌, map, Result, Ok}
+use Rattle.std.specs.Prelude.{◌≡◌, ℕ, true, List, [], ◌∷◌, ◌++◌, map, Result, Ok}
 use Rattle.coord_types.specs.declared.messages.Msg.{Msg}
 use Rattle.coord_types.specs.declared.messages.Msg.TheVariants as msg
 use Rattle.coord_types.specs.declared.outputs.Output.{Output}
@@ -17,7 +17,8 @@ use Rattle.coord_world.specs.protocol.Acceptance.{accepts}
 use Rattle.coord_world.specs.protocol.Next.{next, fold}
 use Rattle.coord_world.specs.protocol.NumberedWorld.{World, no_world, state}
 use Rattle.coord_world.specs.protocol.Outputs.{StepOutcome, outs}
-use Rattle.coord_world.specs.laws.Waves.{IsWave}
+use Rattle.coord_world.specs.laws.Waves.{Connected, IsWave, signals_of, started}
+use Rattle.coord_world.specs.laws.Overlaps.{BeginsReady, PartReady}
 
 -- the n-th order of client 1
 abbrev pub order : ℕ → Command → Step
@@ -98,6 +99,53 @@ TwoInitiators =
     ∷ gives 12 Cleared (data_out 1 2 3 3 msg.Ready ∷ [])
     ∷ gives 13 Taken (receipt_out 1 2 3 3 ∷ []) ∷ []
     )
+
+-- a list of steps from two linked nodes on that begins and ends where both are Ready, with starts at these nodes, and so many signals of each
+pub record IsOverlap (steps : List Step) (at : List ℕ) (times : ℕ) : Type 0 where
+  pub begins : BeginsReady (fold (no_world 1) two_linked) steps (λ _. true)
+  pub ends : PartReady (fold (fold (no_world 1) two_linked) steps) (λ _. true)
+  pub starts : started (fold (no_world 1) two_linked) steps ≡ at
+  pub first : signals_of 1 (outs (fold (no_world 1) two_linked) steps) ≡ times
+  pub second : signals_of 2 (outs (fold (no_world 1) two_linked) steps) ≡ times
+
+-- both ends of the link start a reset, and the two waves go on as one
+abbrev pub two_starts : List Step
+two_starts =
+    order 4 (Reset 1) ∷ order 5 (Reset 2) ∷ take 1 2 3 1 (msg.Abort 0) ∷ take 2 1 3 1 (msg.Abort 0) ∷ clear 1 2 3 1 ∷ clear 2 1 3 1
+    ∷ take 1 2 3 2 msg.Ack ∷ take 2 1 3 2 msg.Ack ∷ []
+
+-- one end starts another reset before the other one is Ready, and the two waves go on one after the other
+abbrev pub start_again : List Step
+start_again =
+    order 4 (Reset 1) ∷ take 1 2 3 1 (msg.Abort 0) ∷ take 2 1 3 1 msg.Ack ∷ order 5 (Reset 1) ∷ clear 1 2 3 1 ∷ take 1 2 3 2 msg.Ready
+    ∷ clear 1 2 3 2 ∷ take 1 2 3 3 (msg.Abort 0) ∷ clear 2 1 3 1 ∷ take 2 1 3 2 msg.Ack ∷ clear 1 2 3 3 ∷ take 1 2 3 4 msg.Ready ∷ []
+
+-- of two starts a node is signalled once, or twice
+abbrev pub Overlaps : Type 0
+Overlaps = IsOverlap two_starts (1 ∷ 2 ∷ []) 1 × IsOverlap start_again (1 ∷ 1 ∷ []) 2
+
+-- a path of three nodes, of which two start resets that meet, and the first is signalled
+abbrev pub path_linked : List Step
+path_linked = order 1 (Add 1 1) ∷ order 2 (Add 2 1) ∷ order 3 (Add 3 1) ∷ order 4 (Join 1 2) ∷ order 5 (Join 2 3) ∷ []
+
+abbrev pub two_meet : List Step
+two_meet =
+    order 6 (Reset 1) ∷ order 7 (Reset 2) ∷ take 2 1 4 1 (msg.Abort 0) ∷ take 1 2 4 1 (msg.Abort 0) ∷ clear 1 2 4 1 ∷ take 1 2 4 2 msg.Ack
+    ∷ clear 2 1 4 1 ∷ take 2 1 4 2 msg.Ack ∷ []
+
+-- then the last one starts a reset too, which meets that of the second
+abbrev pub third_meets : List Step
+third_meets =
+    order 8 (Reset 3) ∷ take 2 3 5 1 (msg.Abort 0) ∷ take 3 2 5 1 (msg.Abort 0) ∷ clear 2 3 5 1 ∷ take 2 3 5 2 msg.Ack ∷ clear 3 2 5 1
+    ∷ take 3 2 5 2 msg.Ack ∷ []
+
+-- so not every node that is connected with one where a reset was started is signalled after that
+pub record NotAllAfterEach : Type 0 where
+  pub begins : BeginsReady (fold (no_world 1) path_linked) (two_meet ++ third_meets) (λ _. true)
+  pub ends : PartReady (fold (fold (no_world 1) path_linked) (two_meet ++ third_meets)) (λ _. true)
+  pub last : started (fold (fold (no_world 1) path_linked) two_meet) third_meets ≡ 3 ∷ []
+  pub connected : Connected (fold (no_world 1) path_linked) 3 1
+  pub none_after : signals_of 1 (outs (fold (fold (no_world 1) path_linked) two_meet) third_meets) ≡ 0
 
 -- the first link of a path of three nodes is dropped while the wave goes out
 abbrev pub DropInAbort : Type 0
