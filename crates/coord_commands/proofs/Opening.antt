@@ -1,28 +1,24 @@
 -- What is known of the bytes of a disk.
-use Rattle.std.proofs.Common.{◌≡◌, ◌≢◌, ◌⊎◌, ℕ, ◌+◌, Bool, true, false, List, Option, Some, None, Err, IfSome, inl, inr, refl, sym, ap, ◌∙◌, subst, arith, if◌then◌else◌}
-use Rattle.std.specs.Prelude.{⊤}
+use Rattle.std.proofs.Common.{◌≡◌, ◌≢◌, ◌⊎◌, ℕ, ◌+◌, Bool, true, false, List, Option, Some, None, Ok, Err, IfSome, inl, inr, refl, sym, ap, ◌∙◌, subst, arith, if◌then◌else◌}
 use Rattle.std.proofs.KnownBytes.{Keeps-refl}
 use Rattle.std.specs.Io.KnownBytes.{Keeps}
 use Rattle.std.proofs.lemmas.Bool.Decides.{nat_tests}
 use Rattle.coord_disk.specs.Model.DiskModel.{DiskModel}
-use Rattle.coord_disk.proofs.MomentLemmas.{and_then}
-use Rattle.coord_disk.specs.Model.Moments.{AddsNothing, LeavesOnly}
-use Rattle.coord_disk.specs.Model.Present.{IsImage, Present, whole}
-use Rattle.coord_types.specs.declared.steps.Step.{Step}
-use Rattle.coord_engine.specs.Facade.{IsAfterSome}
+use Rattle.coord_disk.specs.Model.Moments.{AddsNothing}
+use Rattle.coord_disk.specs.Model.Present.{Present, whole}
 use Rattle.coord_engine.specs.declared.closed.Closed.{Closed}
-use Rattle.coord_server.specs.Lives.{ClosedLivesAreOne, all_steps, steps_had, steps_to_close}
-use Rattle.coord_server.specs.Moments.{KeepsAlong}
 use Rattle.coord_store.specs.Facade.{Kept, Recovered}
 use Rattle.coord_store.specs.Refused.{failed_in}
 use Rattle.coord_store.specs.declared.faults.StoreFault.{StoreFault}
 use Rattle.coord_store.specs.declared.faults.StoreFault.TheVariants.{Device}
 use Rattle.coord_world.specs.protocol.NumberedWorld.{World}
 use Rattle.coord_commands.specs.Folders.{bytes_of, known_of, reads}
+use Rattle.coord_admin.specs.declared.patience.Patience.{Patience}
 use Rattle.coord_server.specs.declared.fault.ServerFault.{ServerFault}
+use Rattle.coord_server.specs.declared.server_end.ServerEnd.{ServerEnd}
 use Rattle.coord_commands.specs.Faults.{fault_of_server}
 use Rattle.coord_commands.specs.Inspection.{IsOfOpening}
-use Rattle.coord_commands.specs.Serving.{ClosesAndPrints, EndsAfterLives, EndsServing, GivesWorld, HeldAlong, IsNotOpened, IsOfServing, IsOpenedStore, IsPutBack, ServedWhole, ServedWithOutput}
+use Rattle.coord_commands.specs.Serving.{EndsServing, GivesWorld, IsNotOpened, IsOfServing, IsOpenedStore, IsPutBack, IsServed, RunsWithOutput, ServedWhole, ServedWithOutput}
 use Rattle.coord_commands.specs.declared.fault.Fault.{Fault}
 use Rattle.coord_commands.specs.declared.fault.Fault.TheVariants.{OutOfMemory, Socket, Store}
 use Rattle.coord_commands.proofs.Raising.{closed, if_both, unread}
@@ -44,7 +40,7 @@ gives_some (Some known) w is = (w, is)
 
 -- where a server was served and put back, the bytes give a world before and after
 pub gave : {D : Type 0} (model : DiskModel D) (before after : Option Present) (old new : Option (List ℕ)) → ServedWhole model before after old new → GivesWorld (reads before) × GivesWorld (reads after)
-gave model before after old new is = (gives_some (reads before) is.0.began is.0.opened, gives_some (reads after) is.0.left.store.world is.0.closed)
+gave model before after old new is = (gives_some (reads before) is.0.store.world is.0.opened.world, gives_some (reads after) is.0.ended.closed.store.world is.2)
 
 -- the faults of serving, where the disk gave a world
 pub of_serving : (bytes : Option (List ℕ)) (fault : ServerFault) → GivesWorld bytes → IsOfServing bytes (fault_of_server fault)
@@ -73,21 +69,24 @@ module _ {D : Type 0} (model : DiskModel D) where
       → model.failures store.disk ≡ model.failures taken + 0 → model.keeps_model store.disk ≡ model.keeps_model taken → AddsNothing model taken store.disk → (model.keeps_model taken ≡ true → model.present store.disk ≡ whole (model.present taken).read) → IsOpenedStore model before store
   opened before taken store was world failures same_model moments same = grind (arith, nat_tests, if_keeps)
 
-  -- what a store's disk held from the taking on, along the steps of its server
-  held_along : (before : Option Present) (store now : Kept D) (steps : List Step) (back : D) (is : IsOpenedStore model before store) → KeepsAlong model store steps now → back ≡ now.disk → HeldAlong model is.taken store.world steps back
-  held_along before store now steps back is along same =
-      λ keeps. subst (λ d. LeavesOnly model is.taken d (λ image. IsImage (model.present is.taken) image ⊎ IsAfterSome store.world steps image)) (sym same) (and_then model is.taken store.disk now.disk _ _ (is.any_moment keeps) (along.moments (is.same_model ∙ keeps)))
+  -- a server ran over an opened store, and its disk was put back
+  abbrev is_served : (before after : Option Present) (old new : Option (List ℕ)) (store : Kept D) (ended : ServerEnd D Patience (Option (List ℕ))) (left : Closed D) (back : D) → IsOpenedStore model before store → RunsWithOutput model store old new ended → left ≡ ended.closed → back ≡ left.store.disk → IfSome after (λ known. known_of model back ≡ Some known) → IsServed model before after old new
+  is_served before after old new store ended left back is run same home put = record {
+    store = store;
+    opened = is;
+    ended = ended;
+    run = run;
+    put = subst (λ d. IfSome after (λ known. known_of model d ≡ Some known)) (home ∙ ap (λ (c : Closed D). c.store.disk) same) put;
+  }
 
   -- a store was opened, served to a close and put back
-  pub served_whole : (before after : Option Present) (old new : Option (List ℕ)) (store : Kept D) (closed : Closed D) (back : D) → IsOpenedStore model before store → ClosesAndPrints model store old new closed → ClosedLivesAreOne model
+  pub served_whole : (before after : Option Present) (old new : Option (List ℕ)) (store : Kept D) (closed : Closed D) (back : D) → IsOpenedStore model before store → ServedWithOutput model store old new (Ok closed)
       → IfSome (bytes_of model back) (λ known. Recovered known closed.store.world) → back ≡ closed.store.disk → IfSome after (λ known. known_of model back ≡ Some known) → ServedWhole model before after old new
-  served_whole before after old new store closed back is along are_one gives same put =
-      let lived = along.0 in
-      let steps = all_steps (steps_to_close model store.world closed lived) in (
-        record { began = store.world; left = closed; opened = is.world; lived = lived; one = are_one store.world closed lived; closed = back_gives model after back closed.store.world gives put },
-        record { taken = is.taken; back = back; was = is.was; put = put; any_moment = held_along before store closed.store steps back is along.1 same },
-        record { printer = along.2.0; whole = along.2.1; printed = along.2.2; settled = along.2.3 },
-      )
+  served_whole before after old new store closed back is served gives same put = (
+    is_served before after old new store served.ended closed back is served.run served.tells.0 same put,
+    served.tells.1,
+    subst (λ (c : Closed D). IfSome (reads after) (λ known. Recovered known c.store.world)) served.tells.0 (back_gives model after back closed.store.world gives put),
+  )
 
   -- a disk whose store was opened, and then put back
   as_it_was : (before after : Option Present) (store : Kept D) (back : D) → IsOpenedStore model before store → back ≡ store.disk → IfSome after (λ known. known_of model back ≡ Some known) → GivesWorld (reads before) × IsPutBack model 0 before after
@@ -110,24 +109,7 @@ module _ {D : Type 0} (model : DiskModel D) where
   -- a server over it has ended, and its disk is put back
   pub ended : (before after : Option Present) (old new : Option (List ℕ)) (store : Kept D) (told : ServerFault × Closed D) (back : D) → IsOpenedStore model before store → ServedWithOutput model store old new (Err told)
       → back ≡ told.1.store.disk → IfSome after (λ known. known_of model back ≡ Some known) → EndsServing model before after old new (fault_of_server told.0)
-  ended before after old new store told back is served disk put =
-      let end = served.ended in
-      let home = disk ∙ ap (λ (c : Closed D). c.store.disk) served.tells.0 in
-      let along = served.along.2 in
-      let steps = all_steps (steps_had model (λ _ _ _. ⊤) (λ _ _. ⊤) store.world served.along.0 end along.0) in
-      let ends : EndsAfterLives model store.world told.0 before after old new =
-      record {
-        taken = is.taken;
-        was = is.was;
-        ended = end;
-        lived = (served.along.0, served.along.1, along.0);
-        tells = served.tells.1;
-        put = subst (λ d. IfSome after (λ known. known_of model d ≡ Some known)) home put;
-        any_moment = held_along before store end.closed.store steps end.closed.store.disk is along.1 refl;
-        printed = served.printed;
-      }
-      in
-      inr (record { began = store.world; opened = is.world; fault = told.0; ends = ends; named = refl })
+  ended before after old new store told back is served disk put = inr (is_served before after old new store served.ended told.1 back is served.run served.tells.0 disk put, told.0, served.tells.1, refl)
 
   of_unopened : (before after : Option Present) (fault : StoreFault) → ((fault ≡ Device) × (after ≡ before)) ⊎ (IsOfOpening (reads before) (Store fault) × IsPutBack model (failed_in fault) before after) → IsOfServing (reads before) (Store fault)
   of_unopened before after fault (inl none) = inl none.0
@@ -135,4 +117,7 @@ module _ {D : Type 0} (model : DiskModel D) where
 
   -- as far as the bytes tell
   pub of_ending : (before after : Option Present) (old new : Option (List ℕ)) (told : Fault) → EndsServing model before after old new told → IsOfServing (reads before) told
-  of_ending before after old new told h1 = grind (arith, nat_tests, of_unopened, of_serving, gives_some)
+  of_ending before after old new told (inl (inl none, kept)) = subst (IsOfServing (reads before)) (sym none.named) (of_unopened before after none.fault none.why)
+  of_ending before after old new told (inl (inr (inl bound), kept)) = subst (IsOfServing (reads before)) (sym bound.0) bound.1
+  of_ending before after old new told (inl (inr (inr begun), kept)) = subst (IsOfServing (reads before)) (sym begun.0) begun.1
+  of_ending before after old new told (inr (is, fault, why, named)) = subst (IsOfServing (reads before)) (sym named) (of_serving (reads before) fault (gives_some (reads before) is.store.world is.opened.world))

@@ -5,7 +5,7 @@ ghost use Rattle.std.specs.Io.KnownBytes.{Keeps};
 ghost use Rattle.std.specs.Net.Grammar.{IsSocketV4Text};
 ghost use Rattle.std.specs.declared.net.socket_addr.SocketAddrV4.{SocketAddrV4};
 ghost use Rattle.coord_commands.specs.Folders.{bytes_of, reads};
-ghost use Rattle.coord_commands.specs.Serving.{ClosesAndPrints, EndsServing, IsNotOpened, IsOfServing, IsOpenedStore, ServedWhole, ServedWithOutput, ServesAt};
+ghost use Rattle.coord_commands.specs.Serving.{EndsServing, IsNotOpened, IsOfServing, IsOpenedStore, ServedWhole, ServedWithOutput, ServesAt};
 ghost use Rattle.coord_store.specs.Kept.{has_stopped};
 ghost use Rattle.coord_store.specs.Recovered.{Recovered};
 
@@ -16,7 +16,6 @@ use crate::status::report;
 use crate::streams::Streams;
 use coord_disk::Disk;
 use coord_engine::Closed;
-use coord_server::laws::closed_lives_are_one;
 use coord_server::{ServerFault, serve_store};
 use coord_store::Store;
 use std::alloc::Global;
@@ -98,7 +97,6 @@ fn serve_at<S: Net + Threads + Wait + Clock + Sync + AllocGlobal, F: Folder, W: 
             drop(listener);
             match served {
                 Ok(Ok(closed)) => {
-                    closed_lives_are_one::<F::Disk>();
                     folder.close(file, left(closed));
                     Ok(())
                 }
@@ -140,8 +138,6 @@ fn serve_open<
     ensures served { IfOk result
         (ServedWithOutput D.model store (W.contents output.old) (W.contents output.new)) }
     ensures going { IfOk result (λ told. IfOk told (λ closed. has_stopped closed.store ≡ false)) }
-    ensures closes { IfOk result (λ told. IfOk told (ClosesAndPrints D.model store
-        (W.contents output.old) (W.contents output.new))) }
     ensures unserved { IfErr result (λ back. (back ≡ store) ×
         Keeps (W.contents output.old) (W.contents output.new)) }
 {

@@ -13,8 +13,9 @@ use Rattle.coord_disk.specs.Model.DiskModel.{DiskModel}
 use Rattle.coord_world.specs.protocol.NumberedWorld.{World}
 use Rattle.coord_admin.specs.Connections.{Talk}
 use Rattle.coord_server.specs.EngineDesk.{DeskState}
-use Rattle.coord_server.specs.Ending.{AddsWorkers, HasRun, IsLeftAs, IsLife, IsOneHistory, RefusesShares, IsServedToClose, LeavesLife, LeavesShares, Local, Serves, ServesLife, end_fault, fault_at_end, new_desk}
-use Rattle.coord_server.specs.Lives.{AreClosed, EndsLives, MayGoOn, IsToldForCause, HasLived, IsLastLife, LifeSteps, Lives, Rests, life_steps, steps_in, steps_of, talked_any}
+use Rattle.coord_server.specs.Ending.{AddsWorkers, HasRun, IsLeftAs, IsLife, IsOneHistory, RefusesShares, LeavesLife, LeavesShares, Local, Serves, ServesLife, end_fault, fault_at_end, new_desk}
+use Rattle.coord_server.specs.Lives.{AreLives, HaveRested, IsLast, IsLastLife, IsToldForCause, LifeRun, MayGoOn, Rests}
+use Rattle.coord_server.specs.Moments.{HasLived}
 use Rattle.coord_server.specs.Printed.{is_amiss}
 use Rattle.coord_server.specs.declared.fault.ServerFault.{ServerFault}
 use Rattle.coord_server.specs.declared.fault.ServerFault.TheVariants as fault
@@ -46,9 +47,6 @@ leaves_shares b shares seen served life None named told at since settled = inl (
 leaves_shares b shares seen served life (Some why) named told at since settled = inr (why, told, record { state = at.state; held = at.held; so = (at.so.0, at.so.2) })
 
 module _ {D : Type 0} (b : Basis D) {V : Type 0} (talked : V → List Talk → V → Type 0) (failed : V → V → Type 0) (most : ℕ) where
-  closed_if_none : (stopped : Bool) (served : Option ServerFault) (is_broken : Bool) (port : Local) (v w : V) (desk : DeskState Local) → fault_at_end stopped served is_broken ≡ None → Serves b talked failed most port v w desk served → IsServedToClose b most port desk
-  closed_if_none stopped served is_broken port v w desk h1 h2 = grind arith
-
   -- a life is left as its serving ended
   leaves_as : (port : Local) (v w : V) (desk : DeskState Local) (left : LifeEnd) → ServesLife b talked failed most port v w desk left → LeavesLife b talked failed most port v w desk left
   leaves_as port v w desk left h1 = grind arith
@@ -154,71 +152,44 @@ module _ {D : Type 0} (m : DiskModel D) {V : Type 0} (talked : V → List Talk �
   abbrev b : World → Basis D
   b world = based_on m world []
 
-  unfoldable pub rests : (world : World) (v : V) (life : Life D V) → life.left ≡ Resting → IsLife (b world) talked failed most v life → most ≤ length life.closed.trail.items → has_stopped life.closed.store ≡ false → life.closed.settled ≡ life.closed.base.count + length life.closed.trail.items
-      → Rests m talked most world v life.callers life.closed.store.world
+  -- a life that was had, as one of a server's
+  abbrev pub run_of : (world : World) (v : V) (life : Life D V) → IsLife (b world) talked failed most v life → LifeRun D V
+  run_of world v life so = record { port = so.port; desk = so.desk; left = life.closed; callers = life.callers }
+
+  pub rests : (world : World) (v : V) (life : Life D V) → life.left ≡ Resting → (so : IsLife (b world) talked failed most v life) → most ≤ length life.closed.trail.items → has_stopped life.closed.store ≡ false → life.closed.settled ≡ life.closed.base.count + length life.closed.trail.items
+      → Rests m talked most world v (run_of world v life so)
   rests world v life is so kept going all =
       let rested = subst (LeavesLife (b world) talked failed most so.port v life.callers so.desk) is so.served in
-      record { port = so.port; desk = so.desk; left = life.closed; served = rested.0; old = kept; history = rested_history (b world) so.desk life.closed life.left is so.left; all_settled = all; going = going; goes_on = refl }
-
-  -- one more life has rested, and the next one begins with this
-  pub lives_next : (began world : World) (v u others : V) (life : Life D V) (next : Kept D) → (n : ℕ) × Lives m talked most n began v world u → IsLife (b world) talked failed most u life
-      → most ≤ length life.closed.trail.items → life.left ≡ Resting → next ≡ life.closed.store → others ≡ life.callers → has_stopped life.closed.store ≡ false → life.closed.settled ≡ life.closed.base.count + length life.closed.trail.items
-      → ((n : ℕ) × Lives m talked most n began v next.world others) × (has_stopped next ≡ false)
-  lives_next began world v u others life next lives so kept is same same_w going all =
-      let on : (n : ℕ) × Lives m talked most n began v life.closed.store.world life.callers = (suc lives.0, (world, u, lives.1, rests world u life is so kept going all)) in (
-        rw same_w (rw same on),
-        rw same going,
-      )
+      record { served = rested.0; old = kept; history = rested_history (b world) so.desk life.closed life.left is so.left; all_settled = all; going = going }
 
   -- why a fault is told of a server whose last life was left so
-  pub has_cause : {W : Type 0} (began : World) (v : V) (life : Life D V) (ended : ServerEnd D V W) → EndsLives m talked failed most began v life → IsLastLife life.left ended.served → ended.closed ≡ life.closed
+  pub has_cause : {W : Type 0} (first : Kept D) (v : V) (life : Life D V) (ended : ServerEnd D V W) → HasLived m talked failed most first v life → IsLastLife life.left ended.served → ended.closed ≡ life.closed
       → (life.left ≡ Unprinted → ended.served ≡ Some fault.Write → ended.printer.is_broken ≡ true) → (life.left ≡ Resting → ¬ MayGoOn most life.closed) → IsToldForCause most ended
-  has_cause began v life ended (n, world, u, lives, so) over same write rests =
-      let told = told_for (b world) talked failed most (MayGoOn most life.closed) so.port u life.callers so.desk life.left ended.served ended.printer.is_broken so.served over write rests in
+  has_cause first v life ended lived over same write rests =
+      let so = lived.life in
+      let told = told_for (b lived.world) talked failed most (MayGoOn most life.closed) so.port lived.callers life.callers so.desk life.left ended.served ended.printer.is_broken so.served over write rests in
       (told.0, λ device. subst (λ (c : Closed D). ¬ MayGoOn most c) (sym same) (told.1 device))
 
-module _ {D : Type 0} (m : DiskModel D) {V : Type 0} (talked : V → List Talk → V → Type 0) (most : ℕ) where
-  -- whoever called
-  rested_any : (world next : World) (v w : V) → Rests m talked most world v w next → Rests m talked_any most world tt tt next
-  rested_any world next v w r = record {
-    port = r.port;
-    desk = r.desk;
-    left = r.left;
-    served = (r.served.0, tt, r.served.2);
-    old = r.old;
-    history = r.history;
-    all_settled = r.all_settled;
-    going = r.going;
-    goes_on = r.goes_on;
+  pub is_last : (world : World) (v : V) (life : Life D V) (served : Option ServerFault) → (so : IsLife (b world) talked failed most v life) → IsLastLife life.left served → IsLast m talked failed most world v (run_of world v life so) served
+  is_last world v life served so over = record {
+    served = served_at_last (b world) talked failed most so.port v life.callers so.desk life.left served so.served over;
+    history = left_at_last (b world) so.desk life.closed life.left served so.left over;
   }
 
-  lives_any : (n : ℕ) (began next : World) (v w : V) → Lives m talked most n began v next w → Lives m talked_any most n began tt next tt
-  lives_any zero began next v w is = (is.0, refl)
-  lives_any (suc n) began next v w is = (is.0, tt, lives_any n began is.0 v is.1 is.2, rested_any is.0 next is.1 w is.3)
+  -- one more life behind those that rested
+  pub one_more : (began world : World) (v u : V) (ls : List (LifeRun D V)) (l : LifeRun D V) → HaveRested m talked most began v ls world u → Rests m talked most world u l → HaveRested m talked most began v (ls ++ l ∷ []) l.left.store.world l.callers
+  one_more began world v u [] l here r = (rw (sym here.0) (rw (sym here.1) r), (refl, refl))
+  one_more began world v u (q ∷ qs) l here r = (here.0, one_more q.left.store.world world q.callers u qs l here.1 r)
 
-  -- each of them did what it did
-  same_steps : (n : ℕ) (began next : World) (v w : V) (is : Lives m talked most n began v next w) → steps_of m talked_any most n began tt next tt (lives_any n began next v w is) ≡ steps_of m talked most n began v next w is
-  unfolding lives_any rested_any
-  same_steps zero began next v w is = refl
-  same_steps (suc n) began next v w is = ap (λ (ls : List LifeSteps). ls ++ steps_in is.3.left ∷ []) (same_steps n began is.0 v is.1 is.2)
+  -- and the last one
+  pub and_last : (began world : World) (v u w : V) (ls : List (LifeRun D V)) (l : LifeRun D V) (why : Option ServerFault) (left : Closed D) → HaveRested m talked most began v ls world u → IsLast m talked failed most world u l why → l.left ≡ left → l.callers ≡ w → AreLives m talked failed most began v (ls ++ l ∷ []) why left w
+  and_last began world v u w [] l why left here is same same_w = (rw (sym here.0) (rw (sym here.1) is), same, same_w)
+  and_last began world v u w (q ∷ []) l why left here is same same_w = (here.0, and_last q.left.store.world world q.callers u w [] l why left here.1 is same same_w)
+  and_last began world v u w (q ∷ r ∷ rs) l why left here is same same_w = (here.0, and_last q.left.store.world world q.callers u w (r ∷ rs) l why left here.1 is same same_w)
 
 -- nothing ended the serving of a server of which no fault is told
-served_none : (stopped : Bool) (served : Option ServerFault) (is_broken : Bool) → fault_at_end stopped served is_broken ≡ None → served ≡ None
+pub served_none : (stopped : Bool) (served : Option ServerFault) (is_broken : Bool) → fault_at_end stopped served is_broken ≡ None → served ≡ None
 served_none stopped served is_broken none = grind arith
-
--- of a server whose lives have the steps that its own have
-pub closed_lives : {D W : Type 0} (m : DiskModel D) {V : Type 0} (talked : V → List Talk → V → Type 0) (failed : V → V → Type 0) (began : World) (v : V) (ended : ServerEnd D V W)
-    → fault_at_end (has_stopped ended.closed.store) ended.served (is_amiss ended.printer ended.closed.settled) ≡ None → (is : HasLived m talked failed life_steps began v ended) → AreClosed m talked failed began v ended is ended.closed
-closed_lives m talked failed began v ended none is =
-    let b = based_on m is.1 [] in (
-      (
-        is.0,
-        is.1,
-        lives_any m talked life_steps is.0 began is.1 v is.2 is.3,
-        (is.4.0, is.4.1, closed_if_none b talked failed life_steps (has_stopped ended.closed.store) ended.served (is_amiss ended.printer ended.closed.settled) is.4.0 is.2 ended.callers is.4.1 none is.4.2, subst (IsLeftAs b is.4.1 ended.closed) (served_none (has_stopped ended.closed.store) ended.served (is_amiss ended.printer ended.closed.settled) none) is.4.3),
-      ),
-      ap (λ (ls : List LifeSteps). ls ++ steps_in ended.closed ∷ []) (same_steps m talked life_steps is.0 began is.1 v is.2 is.3),
-    )
 
 -- of a store that has stopped a fault is told
 pub not_stopped : (stopped : Bool) (served : Option ServerFault) (is_broken : Bool) → fault_at_end stopped served is_broken ≡ None → stopped ≡ false

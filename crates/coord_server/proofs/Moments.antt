@@ -1,5 +1,5 @@
 -- Moments of one life after the other.
-use Rattle.std.proofs.Common.{◌≡◌, inl, inr, ⊎_elim, true, false, ℕ, suc, List, [], ◌∷◌, ◌++◌, ◌+◌, ◌-◌, ◌≤◌, length, take, Option, Some, IfSome, refl, sym, ap, subst, ◌∙◌, append-nil, length-append, arith}
+use Rattle.std.proofs.Common.{◌≡◌, ◌⊎◌, inl, inr, ⊎_elim, true, false, ℕ, suc, List, [], ◌∷◌, ◌++◌, ◌+◌, ◌-◌, ◌≤◌, length, take, Option, Some, IfSome, refl, sym, ap, subst, ◌∙◌, append-nil, length-append, arith}
 use Rattle.std.proofs.Math.Seq.{take-append-add, take-length}
 use Rattle.atomic_table.specs.Seated.{TableId}
 use Rattle.std.proofs.lemmas.Grind.{flat_map-append}
@@ -14,18 +14,19 @@ use Rattle.coord_world.specs.Facade.{World, fold}
 use Rattle.coord_world.proofs.Facade.{fold-append, fold_counts}
 use Rattle.coord_admin.specs.Connections.{Talk}
 use Rattle.coord_engine.proofs.OnTheWay.{joined}
-use Rattle.coord_engine.proofs.Past.{after_some_is_on_the_way, left_only, of_more}
-use Rattle.coord_engine.specs.Facade.{Beginning, IsAfterSome, IsOnTheWay, IsPastOf, MayTell, Past, StartsWith, StaysAlong, first_settled}
+use Rattle.coord_engine.proofs.Past.{left_only, of_more}
+use Rattle.coord_engine.specs.Facade.{Beginning, IsAfterSome, IsPastOf, MayTell, Past, StartsWith, StaysAlong, first_settled}
 use Rattle.coord_engine.specs.State.{based_on}
 use Rattle.coord_engine.specs.declared.closed.Closed.{Closed}
-use Rattle.coord_server.proofs.Ends.{left_at_last, rested_history, rests, served_at_last}
-use Rattle.coord_server.proofs.OneHistory.{Tells, is_left, leaves_all, left_of, lives_are_one, tells}
+use Rattle.coord_server.proofs.Ends.{and_last, is_last, one_more, rested_history, rests, run_of}
+use Rattle.coord_server.proofs.OneHistory.{Tells, behind_rested, is_left, leaves_all, left_of, tells}
 use Rattle.coord_server.proofs.Starts.{on_more, printed_more}
 use Rattle.coord_server.specs.EngineDesk.{DeskState}
-use Rattle.coord_server.specs.Ending.{IsLeftAs, IsLife, IsOneHistory, end_fault}
-use Rattle.coord_server.specs.Lives.{AreOneHistory, IsToldForCause, IsLastLife, LifeSteps, all_steps, steps_in, steps_of}
-use Rattle.coord_server.specs.Moments.{AtEachMoment, ComesFrom, EndsAlong, HasComeTo, HaveRested, KeepsAlong, LivesKeepAlong, LivesTell}
+use Rattle.coord_server.specs.Ending.{IsLife, IsOneHistory, end_fault}
+use Rattle.coord_server.specs.Lives.{AreOneHistory, HaveRested, IsLastLife, IsToldForCause, LifeRun, all_steps}
+use Rattle.coord_server.specs.Moments.{HasLived, KeepsAlong}
 use Rattle.coord_server.specs.Printed.{IsPrinted, PrinterState}
+use Rattle.coord_server.specs.ServerRun.{ServerRun}
 use Rattle.coord_server.specs.declared.life.Life.{Life}
 use Rattle.coord_server.specs.declared.life_end.LifeEnd.TheVariants.{Resting}
 use Rattle.coord_server.specs.declared.server_end.ServerEnd.{ServerEnd}
@@ -39,8 +40,23 @@ behind base steps more bytes after = record {
 }
 
 -- the steps of some lives and of one more
-and_steps : (lives : List LifeSteps) (l : LifeSteps) → all_steps (lives ++ l ∷ []) ≡ all_steps lives ++ l.trail
-and_steps lives l = flat_map-append (λ (x : LifeSteps). x.trail) lives (l ∷ []) ∙ ap (λ (s : List Step). all_steps lives ++ s) (append-nil l.trail)
+and_steps : {D V : Type 0} (lives : List (LifeRun D V)) (l : LifeRun D V) → all_steps (lives ++ l ∷ []) ≡ all_steps lives ++ l.left.trail.items
+and_steps {D} {V} lives l = flat_map-append (λ (x : LifeRun D V). x.left.trail.items) lives (l ∷ []) ∙ ap (λ (s : List Step). all_steps lives ++ s) (append-nil l.left.trail.items)
+
+-- these steps lead from the one store to the other, and a crash meanwhile left only worlds after the first of them
+pub record HasComeTo {D : Type 0} (m : DiskModel D) (first : Kept D) (steps : List Step) (now : Kept D) : Type 0 where
+  pub trail : IsTrail first.world steps
+  pub leads : fold first.world steps ≡ now.world
+  pub along : KeepsAlong m first steps now
+
+-- the store is still the first one, or these steps of lives have come from there to it
+abbrev pub ComesFrom : {D : Type 0} → DiskModel D → Kept D → List Step → Kept D → Type 0
+ComesFrom m first steps now = ((steps ≡ []) × (now ≡ first)) ⊎ HasComeTo m first steps now
+
+-- some lives have rested, and come by their steps, which are written, from the first store to this one
+abbrev pub RestedTo : {D : Type 0} (m : DiskModel D) {V : Type 0} (talked : V → List Talk → V → Type 0) (most : ℕ) → Kept D → V → Kept D → V → List Step → Type 0
+RestedTo {D} m {V} talked most first v now w written =
+    (lives : List (LifeRun D V)) × HaveRested m talked most first.world v lives now.world w × ComesFrom m first (all_steps lives) now × (written ≡ all_steps lives)
 
 module _ {D : Type 0} (m : DiskModel D) where
   -- of an engine that was made over the ledger of a store
@@ -111,80 +127,57 @@ tells_on m may history own first now steps written tell same come is =
 
 module _ {D : Type 0} (m : DiskModel D) {V : Type 0} (talked : V → List Talk → V → Type 0) (failed : V → V → Type 0) (most : ℕ) where
   -- one more life has rested, and the next one begins with this
-  pub rested_on : (first now next : Kept D) (v u others : V) (life : Life D V) (written later : List Step) → HaveRested m talked most first v now u written → later ≡ written ++ first_settled life.closed.base life.closed.trail.items life.closed.settled → IsLife (based_on m now.world []) talked failed most u life → KeepsAlong m now life.closed.trail.items life.closed.store
-      → most ≤ length life.closed.trail.items → life.left ≡ Resting → next ≡ life.closed.store → others ≡ life.callers → has_stopped life.closed.store ≡ false → life.closed.settled ≡ life.closed.base.count + length life.closed.trail.items → HaveRested m talked most first v next others later
-  unfolding rests
+  pub rested_on : (first now next : Kept D) (v u others : V) (life : Life D V) (written later : List Step) → RestedTo m talked most first v now u written → later ≡ written ++ first_settled life.closed.base life.closed.trail.items life.closed.settled → IsLife (based_on m now.world []) talked failed most u life → KeepsAlong m now life.closed.trail.items life.closed.store
+      → most ≤ length life.closed.trail.items → life.left ≡ Resting → next ≡ life.closed.store → others ≡ life.callers → has_stopped life.closed.store ≡ false → life.closed.settled ≡ life.closed.base.count + length life.closed.trail.items → RestedTo m talked most first v next others later
   rested_on first now next v u others life written later rested adds so along kept is same same_w going all =
-      let lives = steps_of m talked most rested.0 first.world v now.world u rested.1 in
+      let lives = rested.0 in
+      let run : LifeRun D V = run_of m talked failed most now.world u life so in
       let come : ComesFrom m first (all_steps lives ++ life.closed.trail.items) life.closed.store = next_from m first now (all_steps lives) life.closed so.desk rested.2 (rested_history (based_on m now.world []) so.desk life.closed life.left is so.left) along all in
       let here : later ≡ all_steps lives ++ life.closed.trail.items = adds ∙ ap (λ l. written ++ l) (all_of_settled m life.closed all) ∙ ap (λ l. l ++ life.closed.trail.items) rested.3 in
-      let more = subst (λ l. ComesFrom m first l life.closed.store) (sym (and_steps lives (steps_in life.closed))) come in
-      let whole : HaveRested m talked most first v life.closed.store life.callers later = (suc rested.0, (now.world, u, rested.1, rests m talked failed most now.world u life is so kept going all), more, here ∙ sym (and_steps lives (steps_in life.closed))) in
-      subst (λ k. HaveRested m talked most first v k others later) (sym same) (subst (λ w. HaveRested m talked most first v life.closed.store w later) (sym same_w) whole)
+      let more = subst (λ l. ComesFrom m first l life.closed.store) (sym (and_steps lives run)) come in
+      let whole : RestedTo m talked most first v life.closed.store life.callers later =
+      (lives ++ run ∷ [], one_more m talked failed most first.world now.world v u lives run rested.1 (rests m talked failed most now.world u life is so kept going all), more, here ∙ sym (and_steps lives run))
+      in
+      subst (λ k. RestedTo m talked most first v k others later) (sym same) (subst (λ w. RestedTo m talked most first v life.closed.store w later) (sym same_w) whole)
 
   -- the last life has ended
-  pub ends_along : (first now : Kept D) (v u : V) (life : Life D V) (written : List Step) → HaveRested m talked most first v now u written → life.writer.steps ≡ written ++ first_settled life.closed.base life.closed.trail.items life.closed.settled → IsLife (based_on m now.world []) talked failed most u life → KeepsAlong m now life.closed.trail.items life.closed.store → EndsAlong m talked failed most first v life
+  pub ends_along : (first now : Kept D) (v u : V) (life : Life D V) (written : List Step) → RestedTo m talked most first v now u written → life.writer.steps ≡ written ++ first_settled life.closed.base life.closed.trail.items life.closed.settled → IsLife (based_on m now.world []) talked failed most u life → KeepsAlong m now life.closed.trail.items life.closed.store → HasLived m talked failed most first v life
   ends_along first now v u life written rested adds so along =
-      let lives = steps_of m talked most rested.0 first.world v now.world u rested.1 in
-      let whole = after_life m first now (all_steps lives) life.closed rested.2 along in
-      let steps = and_steps lives (steps_in life.closed) in
+      let lives = rested.0 in
       let settled = settled_behind m first.world (all_steps lives) now.world life.closed (leads_of m first now (all_steps lives) rested.2) (tells (based_on m now.world []) life.closed (is_left (based_on m now.world []) so.desk life.closed (end_fault life.left) so.left)) in
-      let here : life.writer.steps ≡ first_settled first.world (all_steps lives ++ life.closed.trail.items) life.closed.settled = adds ∙ ap (λ l. l ++ first_settled life.closed.base life.closed.trail.items life.closed.settled) rested.3 ∙ sym settled in (
-        (rested.0, now.world, u, rested.1, so),
-        subst (λ l. KeepsAlong m first l life.closed.store) (sym steps) whole,
-        here ∙ ap (λ l. first_settled first.world l life.closed.settled) (sym steps),
-      )
+      record {
+        rested = lives;
+        world = now.world;
+        callers = u;
+        before = rested.1;
+        life = so;
+        along = after_life m first now (all_steps lives) life.closed rested.2 along;
+        written = adds ∙ ap (λ l. l ++ first_settled life.closed.base life.closed.trail.items life.closed.settled) rested.3 ∙ sym settled;
+      }
 
-  -- and so has the server
-  pub lives_along : {W : Type 0} (first : Kept D) (v : V) (life : Life D V) (ended : ServerEnd D V W) → EndsAlong m talked failed most first v life → IsLastLife life.left ended.served → ended.closed ≡ life.closed → ended.callers ≡ life.callers → IsToldForCause most ended → LivesKeepAlong m talked failed most first v ended
-  lives_along first v life ended ((n, world, u, lives, so), along, written) over same same_w cause = (
-    (
-      n,
-      world,
-      u,
-      lives,
-      (
-        so.port,
-        so.desk,
-        rw same_w (served_at_last (based_on m world []) talked failed most so.port u life.callers so.desk life.left ended.served so.served over),
-        subst (λ c. IsLeftAs (based_on m world []) so.desk c ended.served) (sym same) (left_at_last (based_on m world []) so.desk life.closed life.left ended.served so.left over),
-      ),
-      cause,
-    ),
-    subst (λ (c : Closed D). KeepsAlong m first (all_steps (steps_of m talked most n first.world v world u lives ++ steps_in c ∷ [])) c.store) (sym same) along,
-  )
-
-  -- what the last life has written are the settled steps of all of them
-  written_at_last : {W : Type 0} (first : Kept D) (v : V) (life : Life D V) (ended : ServerEnd D V W) (ends : EndsAlong m talked failed most first v life) (over : IsLastLife life.left ended.served) (same : ended.closed ≡ life.closed) (same_w : ended.callers ≡ life.callers) (cause : IsToldForCause most ended)
-      → let lived = (lives_along first v life ended ends over same same_w cause).0 in
-      life.writer.steps ≡ first_settled first.world (all_steps (steps_of m talked most lived.0 first.world v lived.1 lived.2 lived.3 ++ steps_in ended.closed ∷ [])) ended.closed.settled
-  unfolding lives_along
-  written_at_last first v life ended ((n, world, u, lives, so), along, written) over same same_w cause =
-      subst (λ (c : Closed D). life.writer.steps ≡ first_settled first.world (all_steps (steps_of m talked most n first.world v world u lives ++ steps_in c ∷ [])) c.settled) (sym same) written
-
-  -- and what it printed are signals of these steps
-  pub lives_tell : {W : Type 0} (contents : W → Option (List ℕ)) (first : Kept D) (v : V) (life : Life D V) (ended : ServerEnd D V W) (gives : List Step → ℕ → ℕ → ℕ → Type 0) (lasts : (first more : List Step) (step node epoch : ℕ) → gives first step node epoch → gives (first ++ more) step node epoch) (p q : PrinterState W) (read : List Step) → EndsAlong m talked failed most first v life → IsLastLife life.left ended.served → ended.closed ≡ life.closed → ended.callers ≡ life.callers → IsToldForCause most ended
-      → ended.printer ≡ q → StartsWith life.writer.steps read → IsPrinted contents (gives read) p q → LivesTell m talked failed most contents gives first v p ended
-  lives_tell contents first v life ended gives lasts p q read ends over same same_w cause same_q reads printed =
-      let along = lives_along first v life ended ends over same same_w cause in
-      let written = written_at_last first v life ended ends over same same_w cause in
+  -- and so has the server, which printed signals of these steps
+  pub server_run : {W : Type 0} (contents : W → Option (List ℕ)) (first : Kept D) (v : V) (life : Life D V) (ended : ServerEnd D V W) (gives : List Step → ℕ → ℕ → ℕ → Type 0) (lasts : (first more : List Step) (step node epoch : ℕ) → gives first step node epoch → gives (first ++ more) step node epoch) (p q : PrinterState W) (read : List Step) → HasLived m talked failed most first v life → IsLastLife life.left ended.served → ended.closed ≡ life.closed → ended.callers ≡ life.callers → IsToldForCause most ended
+      → ended.printer ≡ q → StartsWith life.writer.steps read → IsPrinted contents (gives read) p q → ServerRun m talked failed most contents gives first v p ended
+  server_run contents first v life ended gives lasts p q read lived over same same_w cause same_q reads printed =
+      let rested = lived.rested in
+      let last : LifeRun D V = run_of m talked failed most lived.world lived.callers life lived.life in
+      let is = is_last m talked failed most lived.world lived.callers life ended.served lived.life over in
+      let lives : List (LifeRun D V) = rested ++ last ∷ [] in
+      let one : AreOneHistory first.world lives ended.closed.store ended.closed.settled = subst (λ (c : Closed D). AreOneHistory first.world lives c.store c.settled) (sym same) (behind_rested m talked failed most first.world lived.world v lived.callers rested last ended.served lived.before is) in
+      let steps : all_steps lives ≡ all_steps rested ++ life.closed.trail.items = and_steps rested last in
+      let along : KeepsAlong m first (all_steps rested ++ life.closed.trail.items) ended.closed.store = subst (λ (c : Closed D). KeepsAlong m first (all_steps rested ++ life.closed.trail.items) c.store) (sym same) lived.along in
+      let written : life.writer.steps ≡ first_settled first.world (all_steps rested ++ life.closed.trail.items) ended.closed.settled = subst (λ (c : Closed D). life.writer.steps ≡ first_settled first.world (all_steps rested ++ life.closed.trail.items) c.settled) (sym same) lived.written in
       let here : IsPrinted contents (gives life.writer.steps) p ended.printer =
       subst (λ x. IsPrinted contents (gives life.writer.steps) p x) (sym same_q)
       (printed_more contents (gives read) (gives life.writer.steps) (on_more gives lasts read life.writer.steps reads) p q printed)
       in
-      (along.0, along.1, subst (λ l. IsPrinted contents (gives l) p ended.printer) written here)
-
-  -- the server's disk is on the way of all accepted steps
-  pub on_the_way : {W : Type 0} (first : Kept D) (v : V) (ended : ServerEnd D V W) → LivesKeepAlong m talked failed most first v ended → AtEachMoment m first ended.closed
-  on_the_way {W} first v ended lives =
-      let lived = lives.0 in
-      let earlier = steps_of m talked most lived.0 first.world v lived.1 lived.2 lived.3 in
-      let one : AreOneHistory first.world (earlier ++ steps_in ended.closed ∷ []) ended.closed.store ended.closed.settled = lives_are_one m talked failed most W first.world v ended lived in
-      let last : ended.closed.base ≡ fold first.world (all_steps earlier) = one.follow earlier [] (steps_in ended.closed) refl in
-      let leads : fold first.world (all_steps (earlier ++ steps_in ended.closed ∷ [])) ≡ fold ended.closed.base ended.closed.trail.items =
-      ap (fold first.world) (and_steps earlier (steps_in ended.closed)) ∙ fold-append (all_steps earlier) ended.closed.trail.items first.world ∙ ap (λ w. fold w ended.closed.trail.items) (sym last)
-      in
       record {
-        same_model = lives.1.same_model;
-        moments = λ keeps. weaker m first.disk ended.closed.store.disk _ _ (lives.1.moments keeps) (λ bytes after. subst (λ w. IsOnTheWay first.world w bytes) leads (after_some_is_on_the_way first.world (all_steps (earlier ++ steps_in ended.closed ∷ [])) bytes one.trail after));
+        lives = lives;
+        served = and_last m talked failed most first.world lived.world v lived.callers ended.callers rested last ended.served ended.closed lived.before is (sym same) (sym same_w);
+        trail = one.trail;
+        counted = (one.least, one.most);
+        settled = one.world;
+        along = subst (λ l. KeepsAlong m first l ended.closed.store) (sym steps) along;
+        printed = subst (λ l. IsPrinted contents (gives l) p ended.printer) (written ∙ ap (λ l. first_settled first.world l ended.closed.settled) (sym steps)) here;
+        cause = cause;
       }

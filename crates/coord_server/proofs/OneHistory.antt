@@ -1,5 +1,5 @@
 -- All lives of a server are one history.
-use Rattle.std.proofs.Common.{◌≡◌, ℕ, zero, suc, ◌+◌, ◌-◌, ◌≤◌, List, [], ◌∷◌, ◌++◌, length, take, refl, sym, ap, ◌∙◌, append-nil, length-append, arith, map, Option, None, Some}
+use Rattle.std.proofs.Common.{◌≡◌, ℕ, ◌+◌, ◌-◌, ◌≤◌, List, [], ◌∷◌, ◌++◌, length, take, refl, sym, ap, ◌∙◌, append-nil, length-append, arith, map, subst, Option, None, Some}
 use Rattle.std.proofs.Math.Seq.{take-append-add, take-length}
 use Rattle.std.proofs.lemmas.Grind.{flat_map-append}
 use Rattle.std.specs.List.{range_with_len}
@@ -13,10 +13,9 @@ use Rattle.coord_engine.specs.State.{Basis, based_on}
 use Rattle.coord_engine.specs.declared.closed.Closed.{Closed}
 use Rattle.coord_server.specs.EngineDesk.{DeskState}
 use Rattle.coord_server.specs.Ending.{LeavesLedger, IsLeftAs, IsOneHistory}
-use Rattle.coord_server.specs.Lives.{AreOneHistory, ClosedLivesAreOne, EndsOneHistory, HasLived, LifeSteps, Lives, LivesAreOne, Rests, all_given, all_steps, life_steps, talked_any, steps_in, steps_of}
+use Rattle.coord_server.specs.Lives.{AreLives, AreOneHistory, HaveRested, IsLast, LifeRun, LivesAreOne, all_given, all_steps}
 use Rattle.coord_server.specs.declared.fault.ServerFault.{ServerFault}
 use Rattle.coord_server.specs.declared.fault.ServerFault.TheVariants as fault
-use Rattle.coord_server.specs.declared.server_end.ServerEnd.{ServerEnd}
 
 -- ---- one life
 
@@ -56,24 +55,25 @@ leaves_all world left t all =
 
 -- ---- lives one behind the other
 
--- each begins with the world after the steps of those before it, over which its own are a trail; behind them is this world
-abbrev GoOn : World → List LifeSteps → World → Type 0
-GoOn w [] next = next ≡ w
-GoOn w (l ∷ ls) next = (l.base ≡ w) × IsTrail w l.trail × GoOn (fold w l.trail) ls next
+module _ {D V : Type 0} where
+  -- each begins with the world after the steps of those before it, over which its own are a trail; behind them is this world
+  abbrev GoOn : World → List (LifeRun D V) → World → Type 0
+  GoOn w [] next = next ≡ w
+  GoOn w (l ∷ ls) next = (l.left.base ≡ w) × IsTrail w l.left.trail.items × GoOn (fold w l.left.trail.items) ls next
 
--- one more
-goes_on : (ls : List LifeSteps) (w world next : World) (l : LifeSteps) → GoOn w ls world → l.base ≡ world → IsTrail world l.trail → next ≡ fold world l.trail → GoOn w (ls ++ l ∷ []) next
-goes_on [] w world next l here base steps is = (
-  base ∙ here,
-  rw (sym here) steps,
-  is ∙ ap (λ (x : World). fold x l.trail) here,
-)
-goes_on (q ∷ qs) w world next l here base steps is = (here.0, here.1, goes_on qs (fold w q.trail) world next l here.2 base steps is)
+  -- one more
+  goes_on : (ls : List (LifeRun D V)) (w world next : World) (l : LifeRun D V) → GoOn w ls world → l.left.base ≡ world → IsTrail world l.left.trail.items → next ≡ fold world l.left.trail.items → GoOn w (ls ++ l ∷ []) next
+  goes_on [] w world next l here base steps is = (
+    base ∙ here,
+    rw (sym here) steps,
+    is ∙ ap (λ (x : World). fold x l.left.trail.items) here,
+  )
+  goes_on (q ∷ qs) w world next l here base steps is = (here.0, here.1, goes_on qs (fold w q.left.trail.items) world next l here.2 base steps is)
 
--- where they end
-end_of : (ls : List LifeSteps) (w next : World) → GoOn w ls next → next ≡ fold w (all_steps ls)
-end_of [] w next here = here
-end_of (l ∷ ls) w next here = end_of ls (fold w l.trail) next here.2 ∙ sym (fold-append l.trail (all_steps ls) w)
+  -- where they end
+  end_of : (ls : List (LifeRun D V)) (w next : World) → GoOn w ls next → next ≡ fold w (all_steps ls)
+  end_of [] w next here = here
+  end_of (l ∷ ls) w next here = end_of ls (fold w l.left.trail.items) next here.2 ∙ sym (fold-append l.left.trail.items (all_steps ls) w)
 
 fresh-append : (xs ys : List Step) (w : World) → EachFresh w xs → EachFresh (fold w xs) ys → EachFresh w (xs ++ ys)
 fresh-append [] ys w each on = on
@@ -83,32 +83,33 @@ pub outs-append : (xs ys : List Step) (w : World) → outs w (xs ++ ys) ≡ outs
 outs-append [] ys w = refl
 outs-append (x ∷ xs) ys w = ap (λ l. record { reply = reply w x; outputs = outputs w x } ∷ l) (outs-append xs ys (next w x))
 
--- each step of theirs is fresh
-all_fresh : (ls : List LifeSteps) (w next : World) → GoOn w ls next → EachFresh w (all_steps ls)
-all_fresh [] w next here = tt
-all_fresh (l ∷ ls) w next here = fresh-append l.trail (all_steps ls) w (trail_each_fresh w l.trail here.1) (all_fresh ls (fold w l.trail) next here.2)
+module _ {D V : Type 0} where
+  -- each step of theirs is fresh
+  all_fresh : (ls : List (LifeRun D V)) (w next : World) → GoOn w ls next → EachFresh w (all_steps ls)
+  all_fresh [] w next here = tt
+  all_fresh (l ∷ ls) w next here = fresh-append l.left.trail.items (all_steps ls) w (trail_each_fresh w l.left.trail.items here.1) (all_fresh ls (fold w l.left.trail.items) next here.2)
 
--- the first of them began with a sound world
-sound_first : (ls : List LifeSteps) (l : LifeSteps) (w next : World) → GoOn w (ls ++ l ∷ []) next → IsSound w
-sound_first [] l w next here = here.1.sound
-sound_first (q ∷ qs) l w next here = here.1.sound
+  -- the first of them began with a sound world
+  sound_first : (ls : List (LifeRun D V)) (l : LifeRun D V) (w next : World) → GoOn w (ls ++ l ∷ []) next → IsSound w
+  sound_first [] l w next here = here.1.sound
+  sound_first (q ∷ qs) l w next here = here.1.sound
 
--- each begins with the fold of the steps before it
-each_follows : (before : List LifeSteps) (w next : World) (ls rest : List LifeSteps) (life : LifeSteps) → GoOn w ls next → ls ≡ before ++ life ∷ rest → life.base ≡ fold w (all_steps before)
-each_follows [] w next [] rest life here is = cc
-each_follows [] w next (q ∷ qs) rest life here is = let same : q ≡ life = cc is in sym (ap (λ (x : LifeSteps). x.base) same) ∙ here.0
-each_follows (b ∷ bs) w next [] rest life here is = cc
-each_follows (b ∷ bs) w next (q ∷ qs) rest life here is =
-    let same : q ≡ b = cc is in
-    let later : qs ≡ bs ++ life ∷ rest = cc is in
-    let steps : fold w q.trail ≡ fold w b.trail = ap (λ (x : LifeSteps). fold w x.trail) same in
-    each_follows bs (fold w q.trail) next qs rest life here.2 later ∙ ap (λ (x : World). fold x (all_steps bs)) steps ∙ sym (fold-append b.trail (all_steps bs) w)
+  -- each begins with the fold of the steps before it
+  each_follows : (before : List (LifeRun D V)) (w next : World) (ls rest : List (LifeRun D V)) (life : LifeRun D V) → GoOn w ls next → ls ≡ before ++ life ∷ rest → life.left.base ≡ fold w (all_steps before)
+  each_follows [] w next [] rest life here is = cc
+  each_follows [] w next (q ∷ qs) rest life here is = let same : q ≡ life = cc is in sym (ap (λ (x : LifeRun D V). x.left.base) same) ∙ here.0
+  each_follows (b ∷ bs) w next [] rest life here is = cc
+  each_follows (b ∷ bs) w next (q ∷ qs) rest life here is =
+      let same : q ≡ b = cc is in
+      let later : qs ≡ bs ++ life ∷ rest = cc is in
+      let steps : fold w q.left.trail.items ≡ fold w b.left.trail.items = ap (λ (x : LifeRun D V). fold w x.left.trail.items) same in
+      each_follows bs (fold w q.left.trail.items) next qs rest life here.2 later ∙ ap (λ (x : World). fold x (all_steps bs)) steps ∙ sym (fold-append b.left.trail.items (all_steps bs) w)
 
--- what they give out
-given_by : (ls : List LifeSteps) (w next : World) → GoOn w ls next → all_given ls ≡ outs w (all_steps ls)
-given_by [] w next here = refl
-given_by (l ∷ ls) w next here =
-    ap (λ (x : World). outs x l.trail ++ all_given ls) here.0 ∙ ap (λ (o : List StepOutcome). outs w l.trail ++ o) (given_by ls (fold w l.trail) next here.2) ∙ sym (outs-append l.trail (all_steps ls) w)
+  -- what they give out
+  given_by : (ls : List (LifeRun D V)) (w next : World) → GoOn w ls next → all_given ls ≡ outs w (all_steps ls)
+  given_by [] w next here = refl
+  given_by (l ∷ ls) w next here =
+      ap (λ (x : World). outs x l.left.trail.items ++ all_given ls) here.0 ∙ ap (λ (o : List StepOutcome). outs w l.left.trail.items ++ o) (given_by ls (fold w l.left.trail.items) next here.2) ∙ sym (outs-append l.left.trail.items (all_steps ls) w)
 
 -- each step has the number behind the one before
 numbers : (ss : List Step) (w : World) → map (λ (o : StepOutcome). o.reply.step) (outs w ss) ≡ range_with_len (w.count + 1) (length ss)
@@ -118,13 +119,13 @@ numbers (s ∷ ss) w = ap (λ l. (w.count + 1) ∷ l) (numbers ss (next w s))
 -- ---- all lives
 
 -- lives, and the last one, are one history
-one_history : {D : Type 0} (began world : World) (ls : List LifeSteps) (left : Closed D) → GoOn began ls world → Tells world left → AreOneHistory began (ls ++ steps_in left ∷ []) left.store left.settled
-one_history {D} began world ls left here t =
+one_history : {D V : Type 0} (began world : World) (ls : List (LifeRun D V)) (last : LifeRun D V) → GoOn began ls world → Tells world last.left → AreOneHistory began (ls ++ last ∷ []) last.left.store last.left.settled
+one_history {D} {V} began world ls last here t =
+    let left = last.left in
     let trail = left.trail.items in
-    let last : LifeSteps = steps_in left in
-    let lives : List LifeSteps = ls ++ last ∷ [] in
+    let lives : List (LifeRun D V) = ls ++ last ∷ [] in
     let on : GoOn began lives (fold world trail) = goes_on ls began world (fold world trail) last here t.from t.steps refl in
-    let steps : all_steps lives ≡ all_steps ls ++ trail = flat_map-append (λ (l : LifeSteps). l.trail) ls (last ∷ []) ∙ ap (λ (s : List Step). all_steps ls ++ s) (append-nil trail) in
+    let steps : all_steps lives ≡ all_steps ls ++ trail = flat_map-append (λ (l : LifeRun D V). l.left.trail.items) ls (last ∷ []) ∙ ap (λ (s : List Step). all_steps ls ++ s) (append-nil trail) in
     let there : world ≡ fold began (all_steps ls) = end_of ls began world here in
     let count : world.count ≡ began.count + length (all_steps ls) = ap (λ (w : World). w.count) there ∙ fold_counts began (all_steps ls) in
     let long : length (all_steps lives) ≡ length (all_steps ls) + length trail = ap length steps ∙ length-append (all_steps ls) trail in
@@ -142,23 +143,29 @@ one_history {D} began world ls left here t =
     }
 
 module _ {D : Type 0} (m : DiskModel D) {V : Type 0} (talked : V → List Talk → V → Type 0) (most : ℕ) where
-  -- a life that rests goes on to the next one
-  rest_goes_on : (began world next : World) (ls : List LifeSteps) (v w : V) (r : Rests m talked most world v w next) → GoOn began ls world → GoOn began (ls ++ steps_in r.left ∷ []) next
-  rest_goes_on began world next ls v w r here = grind (arith, tells, left_of, goes_on, leaves_all)
-
-  lives_go_on : (n : ℕ) (began next : World) (v w : V) (lives : Lives m talked most n began v next w) → GoOn began (steps_of m talked most n began v next w lives) next
-  lives_go_on zero began next v w lives = lives.0
-  lives_go_on (suc n) began next v w lives = rest_goes_on began lives.0 next (steps_of m talked most n began v lives.0 lives.1 lives.2) lives.1 w lives.3 (lives_go_on n began lives.0 v lives.1 lives.2)
+  lives_go_on : (began next : World) (v w : V) (ls : List (LifeRun D V)) → HaveRested m talked most began v ls next w → GoOn began ls next
+  lives_go_on began next v w [] lives = lives.0
+  lives_go_on began next v w (l ∷ ls) lives =
+      let r = lives.0 in
+      let t = tells (based_on m began []) l.left (left_of (based_on m began []) l.desk l.left r.history) in
+      (t.from, t.steps, subst (λ x. GoOn x ls next) (leaves_all began l.left t r.all_settled) (lives_go_on l.left.store.world next l.callers w ls lives.1))
 
 module _ {D : Type 0} (m : DiskModel D) {V : Type 0} (talked : V → List Talk → V → Type 0) (failed : V → V → Type 0) (most : ℕ) where
-  pub lives_are_one : (W : Type 0) → LivesAreOne W m talked failed most
-  lives_are_one W began v ended lived =
-      one_history began lived.1 (steps_of m talked most lived.0 began v lived.1 lived.2 lived.3) ended.closed (lives_go_on m talked most lived.0 began lived.1 v lived.2 lived.3) (tells (based_on m lived.1 []) ended.closed (is_left (based_on m lived.1 []) lived.4.1 ended.closed ended.served lived.4.3))
+  -- those that rested, and the last one
+  pub behind_rested : (began world : World) (v u : V) (ls : List (LifeRun D V)) (l : LifeRun D V) (why : Option ServerFault) → HaveRested m talked most began v ls world u → IsLast m talked failed most world u l why → AreOneHistory began (ls ++ l ∷ []) l.left.store l.left.settled
+  behind_rested began world v u ls l why rested last = one_history began world ls l (lives_go_on m talked most began world v u ls rested) (tells (based_on m world []) l.left (is_left (based_on m world []) l.desk l.left why last.history))
 
-  -- what the last life leaves ends one history
-  pub ends : {W : Type 0} (began : World) (v : V) (ended : ServerEnd D V W) → HasLived m talked failed most began v ended → EndsOneHistory began ended.closed
-  ends {W} began v ended lived = (steps_of m talked most lived.0 began v lived.1 lived.2 lived.3, lives_are_one W began v ended lived)
+  -- lives are some that rested, and a last one
+  apart : (began : World) (v w : V) (lives : List (LifeRun D V)) (why : Option ServerFault) (left : Closed D) → AreLives m talked failed most began v lives why left w
+      → (ls : List (LifeRun D V)) × (l : LifeRun D V) × (world : World) × (u : V) × (lives ≡ ls ++ l ∷ []) × HaveRested m talked most began v ls world u × IsLast m talked failed most world u l why × (l.left ≡ left)
+  apart began v w [] why left is = absurd is
+  apart began v w (l ∷ []) why left is = ([], l, began, v, refl, (refl, refl), is.0, is.1)
+  apart began v w (l ∷ k ∷ later) why left is =
+      let more = apart l.left.store.world l.callers w (k ∷ later) why left is.1 in
+      (l ∷ more.0, more.1, more.2, more.3, ap (λ ls. l ∷ ls) more.4, (is.0, more.5), more.6, more.7)
 
-pub closed_lives_are_one : {D : Type 0} (m : DiskModel D) → ClosedLivesAreOne m
-closed_lives_are_one {D} m began left lived =
-    one_history began lived.1 (steps_of m talked_any life_steps lived.0 began tt lived.1 tt lived.2) left (lives_go_on m talked_any life_steps lived.0 began lived.1 tt tt lived.2) (tells (based_on m lived.1 []) left (left_of (based_on m lived.1 []) lived.3.1 left lived.3.3))
+  pub lives_are_one : LivesAreOne m talked failed most
+  lives_are_one began v w lives why left is =
+      let at = apart began v w lives why left is in
+      subst (λ ls. AreOneHistory began ls left.store left.settled) (sym at.4)
+      (subst (λ (c : Closed D). AreOneHistory began (at.0 ++ at.1 ∷ []) c.store c.settled) at.7 (behind_rested began at.2 v at.3 at.0 at.1 why at.5 at.6))

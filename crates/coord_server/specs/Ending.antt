@@ -118,10 +118,6 @@ LeavesShares {D} {V} b shares seen served life =
     ⊎ ((why : CloseFault) × (life.left ≡ end.Ended (Some (fault.NotClosed why)))
     × AtSomeMoment b (λ g. IsLeftOf {D = D} life.closed.store life.closed.base life.closed.trail.items life.closed.settled g × RefusesClosing {D = D} g shares seen why))
 
--- a desk that began with nothing was served over some connections, the last of which closed it
-abbrev pub IsServedToClose : {D P : Type 0} → Basis D → ℕ → P → DeskState P → Type 0
-IsServedToClose b most port desk = ServedToClose (DeskAnswers b) (DeskKeeps b) most (λ (v : Unit {0}) (talks : List Talk) (w : Unit {0}). Unit {0}) tt (new_desk port) tt desk
-
 -- how a life ends whose output was not opened: those who call have failed, or the first line was not printed. `failed v w`: those who call were v, and have failed
 abbrev pub EndsUnopened : {V : Type 0} → (V → V → Type 0) → V → LifeEnd → Type 0
 EndsUnopened failed v end.Unprinted = Unit {0}

@@ -5,6 +5,7 @@ pub mod Lines
 pub mod Lives
 pub mod Moments
 pub mod Printed
+pub mod ServerRun
 pub mod Signals
 pub mod Told
 pub mod WorkedTold

@@ -2,7 +2,7 @@
 //! contracts are the laws.
 
 ghost use Rattle.std.specs.Prelude.{ℕ};
-ghost use Rattle.coord_server.specs.Lives.{ClosedLivesAreOne, LivesAreOne};
+ghost use Rattle.coord_server.specs.Lives.{LivesAreOne};
 ghost use Rattle.coord_server.specs.Told.{LivesLeaveSteps, NotesAreReplies, NotesEndALife, RepliesNameSteps, ToldIsSettled};
 ghost use Rattle.coord_server.specs.WorkedTold.{TellUpToThird};
 
@@ -10,15 +10,10 @@ use coord_admin::Callers;
 use coord_disk::Disk;
 use coord_engine::Port;
 
-/// All lives of a server are one history: one trail from the world of its first store, of which each
-/// step has a number of its own.
-pub fn lives_are_one<D: Disk, C: Callers, W>()
-    ensures { (most : ℕ) → LivesAreOne W D.model C.talked C.failed most }
-{}
-
-/// The same, where a line has closed the last life.
-pub fn closed_lives_are_one<D: Disk>()
-    ensures { ClosedLivesAreOne D.model }
+/// All lives of a server are one history: one trail from the world of its first store, over which each
+/// life began where the one before ended, and of which each step has a number of its own.
+pub fn lives_are_one<D: Disk, C: Callers>()
+    ensures { (most : ℕ) → LivesAreOne D.model C.talked C.failed most }
 {}
 
 /// An order that is told a reply was noted just then, with the number and the kind that it is told, or

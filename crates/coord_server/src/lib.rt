@@ -7,7 +7,7 @@
 //! `specs/EngineDesk.antt` says what that desk may answer, by what the engine's calls say,
 //! `specs/Printed.antt` the lines that are printed, `specs/Ending.antt` what is left at the end of a
 //! life: one history, and a store that has not stopped; and `specs/Lives.antt` how lives follow one
-//! another. The main theorem is the contract of `serve_store`, with what an `EngineDesk` is proved to
+//! another. The main theorem is `specs/ServerRun.antt`, which `serve_store` ensures, with what an `EngineDesk` is proved to
 //! answer as a `Desk`. Nothing of this says that a thread runs, that a packet comes or that anyone is
 //! served.
 #![tactic(auto)]

@@ -4,9 +4,10 @@ ghost use Rattle.std.specs.Prelude.{◌≡◌, ◌⊎◌, List, [], false, true,
 ghost use Rattle.std.specs.Thread.{IsSend, IsSync};
 ghost use Rattle.coord_store.specs.Kept.{has_stopped};
 ghost use Rattle.coord_server.specs.declared.life_end.LifeEnd.TheVariants as LifeEndAs;
-ghost use Rattle.coord_server.specs.Lives.{EndsOneHistory, HasLived, IsLastLife, MayGoOn};
-ghost use Rattle.coord_server.specs.Moments.{AtEachMoment, EndsAlong, LivesKeepAlong, LivesTell};
+ghost use Rattle.coord_server.specs.Lives.{IsLastLife, MayGoOn};
+ghost use Rattle.coord_server.specs.Moments.{HasLived};
 ghost use Rattle.coord_server.specs.Printed.{IsPrinted, IsUnprintedFor, new_printer};
+ghost use Rattle.coord_server.specs.ServerRun.{ServerRun};
 ghost use Rattle.coord_server.specs.Signals.{MaySignal};
 ghost use Rattle.coord_engine.specs.History.{StartsWith};
 ghost use Rattle.coord_engine.specs.Released.{GivesSignal, MayTell};
@@ -60,11 +61,7 @@ pub fn serve_lives<
     output: W,
 ) -> Result<ServerEnd<D, C, W>, (Store<D>, W)>
     requires { has_stopped store ≡ false }
-    ensures lives { IfOk result (HasLived D.model C.talked C.failed most store.world callers) }
-    ensures whole { IfOk result (λ ended. EndsOneHistory store.world ended.closed) }
-    ensures along { IfOk result (LivesKeepAlong D.model C.talked C.failed most store callers) }
-    ensures moments { IfOk result (λ ended. AtEachMoment D.model store ended.closed) }
-    ensures printed { IfOk result (LivesTell D.model C.talked C.failed most W.contents
+    ensures served { IfOk result (ServerRun D.model C.talked C.failed most W.contents
         (GivesSignal store.world) store callers (new_printer output store.world.count)) }
     ensures unserved { IfErr result (λ back. (back.0 ≡ store) × (back.1 ≡ output)) }
 {
@@ -95,8 +92,8 @@ fn serve_told<
     requires new { written.1 ≡ record { history = O.history; steps = [] } }
     requires tell { (earlier : List Step) → MayTell O.history earlier (fold store.world earlier)
         (MaySignal O.history O.gives) }
-    ensures printed { IfOk result (LivesTell D.model C.talked C.failed most W.contents O.gives store callers
-        (new_printer output store.world.count)) }
+    ensures served { IfOk result (ServerRun D.model C.talked C.failed most W.contents O.gives
+        store callers (new_printer output store.world.count)) }
     ensures unserved { IfErr result (λ back. (back.0 ≡ store) × (back.1 ≡ output)) }
 {
     let (history, mut writer) = written;
@@ -143,7 +140,7 @@ fn serve_and_print<
     requires new { writer ≡ record { history = O.history; steps = [] } }
     requires tell { (earlier : List Step) → MayTell O.history earlier
         (fold start.over.value.world earlier) (MaySignal O.history O.gives) }
-    ensures { LivesTell D.model C.talked C.failed setting.now.life_steps W.contents O.gives
+    ensures { ServerRun D.model C.talked C.failed setting.now.life_steps W.contents O.gives
         start.over.value callers printing.printer result }
 {
     thread::scope(
@@ -154,7 +151,7 @@ fn serve_and_print<
                 (start.history ≡ O.history) × (writer ≡ record { history = O.history; steps = [] }) ×
                 ((earlier : List Step) → MayTell O.history earlier
                 (fold start.over.value.world earlier) (MaySignal O.history O.gives)) }
-            ensures { LivesTell D.model C.talked C.failed setting.entry.now.life_steps W.contents
+            ensures { ServerRun D.model C.talked C.failed setting.entry.now.life_steps W.contents
                 O.gives start.over.value callers printing.printer result }
         {
             let mut opening = opening;
@@ -219,7 +216,7 @@ fn print_and_live<
     requires new { writer ≡ record { history = O.history; steps = [] } }
     requires tell { (earlier : List Step) → MayTell O.history earlier
         (fold start.over.value.world earlier) (MaySignal O.history O.gives) }
-    ensures { LivesTell D.model C.talked C.failed setting.now.life_steps W.contents O.gives
+    ensures { ServerRun D.model C.talked C.failed setting.now.life_steps W.contents O.gives
         start.over.value callers printing.promise.first.value result }
 {
     let life = live(setting, start, writer, callers, opening);
@@ -246,7 +243,7 @@ fn live<
     requires new { writer ≡ record { history = O.history; steps = [] } }
     requires tell { (earlier : List Step) → MayTell O.history earlier
         (fold start.over.value.world earlier) (MaySignal O.history O.gives) }
-    ensures lived { EndsAlong D.model C.talked C.failed setting.now.life_steps
+    ensures lived { HasLived D.model C.talked C.failed setting.now.life_steps
         start.over.value callers result }
     ensures same { result.writer.history ≡ O.history }
     ensures last { result.left ≡ LifeEndAs.Resting →

@@ -2,7 +2,6 @@
 
 ghost use Rattle.std.specs.Prelude.{◌≡◌, ◌≤◌, false, IfErr, IfOk, None, Some};
 ghost use Rattle.coord_store.specs.Kept.{has_stopped};
-ghost use Rattle.coord_world.specs.protocol.NumberedWorld.{World};
 ghost use Rattle.coord_server.specs.Ending.{fault_at_end};
 ghost use Rattle.coord_server.specs.Printed.{is_amiss};
 
@@ -51,8 +50,6 @@ impl<D: Disk, C, W: Write> ServerEnd<D, C, W> {
 }
 
 impl<D: Disk, C: Callers + Drop, W: Write + Drop> ServerEnd<D, C, W> {
-    ghost use Rattle.coord_server.specs.Lives.{AreClosed, HasLived, life_steps};
-
     /// What is left of its last engine, or the fault to tell and what is left all the same; and what
     /// printed. No fault is told of a server only where a line closed it and its store has not stopped.
     pub fn into_closed(self) -> (Result<Closed<D>, (ServerFault, Closed<D>)>, Printer<W>)
@@ -65,9 +62,7 @@ impl<D: Disk, C: Callers + Drop, W: Write + Drop> ServerEnd<D, C, W> {
         ensures going { IfOk result.0 (λ closed. has_stopped closed.store ≡ false) }
         ensures whole { IfOk result.0 (λ closed. (self.printer.is_broken ≡ false) ×
             (self.printer.last.step ≤ closed.settled)) }
-        ensures lives { (began : World) (v : C) (lived : HasLived D.model C.talked C.failed
-            life_steps began v self) → IfOk result.0 (AreClosed D.model C.talked C.failed began v
-            self lived) }
+        ensures by_close { IfOk result.0 (λ _. self.served ≡ None) }
         ensures printer { result.1 ≡ self.printer }
     {
         let fault = self.fault();

@@ -1,12 +1,9 @@
 //! A store that is served until a line closes it.
 
-ghost use Rattle.std.specs.Prelude.{◌≡◌, false, true, IfErr, IfOk};
+ghost use Rattle.std.specs.Prelude.{◌≡◌, false, IfErr, IfOk};
 ghost use Rattle.coord_admin.specs.Times.{IsUsual};
-ghost use Rattle.coord_engine.specs.Released.{GivesSignal};
-ghost use Rattle.coord_store.specs.Kept.{ImagesGive, has_stopped};
-ghost use Rattle.coord_server.specs.Lives.{EndsOneHistory, HasLived, HasServed, life_steps};
-ghost use Rattle.coord_server.specs.Moments.{AtEachMoment, LivesKeepAlong, LivesTell, ServedAlong, ServedTell};
-ghost use Rattle.coord_server.specs.Printed.{new_printer};
+ghost use Rattle.coord_store.specs.Kept.{has_stopped};
+ghost use Rattle.coord_server.specs.ServerRun.{HasServed, HasServedUsual};
 
 use crate::ServerEnd;
 use crate::lives::serve_lives;
@@ -44,14 +41,7 @@ pub fn serve_store<
     output: W,
 ) -> Result<ServerEnd<D, Accepted<'a, A, R>, W>, (Store<D>, W)>
     requires { has_stopped store ≡ false }
-    ensures lives { IfOk result (HasServed D.model store.world) }
-    ensures whole { IfOk result (λ ended. EndsOneHistory store.world ended.closed) }
-    ensures along { IfOk result (ServedAlong D.model store) }
-    ensures moments { IfOk result (λ ended. AtEachMoment D.model store ended.closed) }
-    ensures printed { IfOk result (ServedTell D.model W.contents store
-        (new_printer output store.world.count)) }
-    ensures images { IfOk result (λ ended. D.model.keeps_model ended.closed.store.disk ≡ true →
-        ImagesGive D.model ended.closed.store) }
+    ensures served { IfOk result (HasServedUsual D.model W.contents store output) }
     ensures unserved { IfErr result (λ back. (back.0 ≡ store) × (back.1 ≡ output)) }
 {
     serve_accepted(
@@ -80,14 +70,7 @@ fn serve_accepted<
 ) -> Result<ServerEnd<D, Accepted<'a, A, R>, W>, (Store<D>, W)>
     requires going { has_stopped store ≡ false }
     requires patience { IsUsual callers }
-    ensures lives { IfOk result (HasServed D.model store.world) }
-    ensures whole { IfOk result (λ ended. EndsOneHistory store.world ended.closed) }
-    ensures along { IfOk result (ServedAlong D.model store) }
-    ensures moments { IfOk result (λ ended. AtEachMoment D.model store ended.closed) }
-    ensures printed { IfOk result (ServedTell D.model W.contents store
-        (new_printer output store.world.count)) }
-    ensures images { IfOk result (λ ended. D.model.keeps_model ended.closed.store.disk ≡ true →
-        ImagesGive D.model ended.closed.store) }
+    ensures served { IfOk result (HasServedUsual D.model W.contents store output) }
     ensures unserved { IfErr result (λ back. (back.0 ≡ store) × (back.1 ≡ output)) }
 {
     serve_callers(rt, alloc, store, callers, output)
@@ -109,19 +92,9 @@ pub fn serve_callers<
     output: W,
 ) -> Result<ServerEnd<D, C, W>, (Store<D>, W)>
     requires { has_stopped store ≡ false }
-    ensures lives { IfOk result
-        (HasLived D.model C.talked C.failed life_steps store.world callers) }
-    ensures whole { IfOk result (λ ended. EndsOneHistory store.world ended.closed) }
-    ensures along { IfOk result
-        (LivesKeepAlong D.model C.talked C.failed life_steps store callers) }
-    ensures moments { IfOk result (λ ended. AtEachMoment D.model store ended.closed) }
-    ensures printed { IfOk result (LivesTell D.model C.talked C.failed life_steps W.contents
-        (GivesSignal store.world) store callers (new_printer output store.world.count)) }
-    ensures images { IfOk result (λ ended. D.model.keeps_model ended.closed.store.disk ≡ true →
-        ImagesGive D.model ended.closed.store) }
+    ensures served { IfOk result
+        (HasServed D.model C.talked C.failed W.contents store callers output) }
     ensures unserved { IfErr result (λ back. (back.0 ≡ store) × (back.1 ≡ output)) }
 {
-    let ended = serve_lives(rt, alloc, LIFE_STEPS, store, callers, output)?;
-    ended.closed.store.lemma_images_give_world();
-    Ok(ended)
+    serve_lives(rt, alloc, LIFE_STEPS, store, callers, output)
 }

@@ -4,7 +4,7 @@ use Rattle.coord_store.specs.Kept.{has_stopped}
 use Rattle.coord_commands.proofs.Endings.{err_last}
 use Rattle.coord_commands.proofs.Opening.{ended, not_begun, not_bound, served_whole}
 use Rattle.coord_commands.specs.Faults.{fault_of_server}
-use Rattle.coord_commands.specs.Serving.{ClosesAndPrints, EndsServing, ServedWithOutput}
+use Rattle.coord_commands.specs.Serving.{EndsServing, ServedWithOutput}
 use Rattle.coord_commands.proofs.serving.serve_at.Goals as goal
 
 -- there was no memory for a server to begin with
@@ -34,10 +34,10 @@ returns-in-Ok-Ok-clause-served g c =
     let store = c.in_ok-store.store in
     let old = g.W.Write.contents c.args.output.now in
     let new = g.W.Write.contents c.serve_open-served.new.output in
-    let served = c.serve_open-served.ensures in
+    let told = c.serve_open-served.ensures in
     let is = c.in-Ok-Ok.is ∙ ap (λ v. Ok v) c.in-Ok-Ok.field-0-is in
-    served_whole m (g.F.Folder.holds c.args.folder.now c.args.file.now) (g.F.Folder.holds c.close.new.self c.args.file.now) old new store c.in-Ok-Ok.closed c.left.result c.in_ok-store.ensures.opened (subst (λ r. IfOk r (λ told. IfOk told (ClosesAndPrints m store old new))) is served.closes)
-    c.closed_lives_are_one.ensures (c.left.ensures.bytes (subst (λ r. IfOk r (λ told. IfOk told (λ closed. has_stopped closed.store ≡ false))) is served.going)) c.left.ensures.disk c.close.ensures
+    served_whole m (g.F.Folder.holds c.args.folder.now c.args.file.now) (g.F.Folder.holds c.close.new.self c.args.file.now) old new store c.in-Ok-Ok.closed c.left.result c.in_ok-store.ensures.opened (subst (λ r. IfOk r (ServedWithOutput m store old new)) is told.served)
+    (c.left.ensures.bytes (subst (λ r. IfOk r (λ told. IfOk told (λ closed. has_stopped closed.store ≡ false))) is told.going)) c.left.ensures.disk c.close.ensures
 
 -- a server that has ended with a fault
 pub returns-in-Ok-Err-clause-fault : goal.returns-in-Ok-Err-clause-fault

@@ -10,7 +10,7 @@ use Rattle.coord_server.proofs.Moments.{ends_along, rested_on, tells_on}
 use Rattle.coord_server.proofs.lives.live.Goals as goal
 
 pub loop-init : goal.loop-init
-loop-init g c = (tt, tt, c.requires.history, ap (λ (b : Beginning). b.history) c.requires.new, (0, (refl, refl), inl (refl, refl), ap (λ (b : Beginning). b.steps) c.requires.new))
+loop-init g c = (tt, tt, c.requires.history, ap (λ (b : Beginning). b.history) c.requires.new, ([], (refl, refl), inl (refl, refl), ap (λ (b : Beginning). b.steps) c.requires.new))
 
 pub loop-preserved : goal.loop-preserved
 loop-preserved g c =

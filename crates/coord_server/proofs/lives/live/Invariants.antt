@@ -1,5 +1,5 @@
 use Rattle.std.proofs.Common.{◌≡◌}
-use Rattle.coord_server.specs.Moments.{HaveRested}
+use Rattle.coord_server.proofs.Moments.{RestedTo}
 use Rattle.coord_server.proofs.lives.live.Given as goal
 
 -- a number of lives have rested, the last one left the store that the next one begins with, and the steps of all are written
@@ -7,4 +7,4 @@ abbrev pub invariant-loop : goal.invariant-loop
 invariant-loop g l =
     (goal.iterator-loop g).can_next l.iterator' × (goal.iterator-loop g).is_finite l.iterator'
     × (l.start.history ≡ g.O.Telling.history) × (l.writer.history ≡ g.O.Telling.history)
-    × HaveRested g.D.Disk.model g.C.Callers.talked l.fn.setting.life_steps l.fn.start.over.value l.fn.callers l.start.over.value l.callers l.writer.steps
+    × RestedTo g.D.Disk.model g.C.Callers.talked l.fn.setting.life_steps l.fn.start.over.value l.fn.callers l.start.over.value l.callers l.writer.steps

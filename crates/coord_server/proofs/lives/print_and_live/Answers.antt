@@ -1,5 +1,5 @@
 use Rattle.coord_server.proofs.Ends.{has_cause}
-use Rattle.coord_server.proofs.Moments.{lives_tell}
+use Rattle.coord_server.proofs.Moments.{server_run}
 use Rattle.coord_server.proofs.lives.print_and_live.Goals as goal
 
 pub returns : goal.returns
@@ -13,5 +13,5 @@ returns g c =
     let ended = c.end_of.result in
     let last = c.end_of.ensures.last in
     let printed = c.join-printed in
-    let cause = has_cause m talked failed most over.world c.args.callers life.result ended life.ensures.lived.0 last.0 last.1 c.end_of.ensures.write life.ensures.last in
-    lives_tell m talked failed most g.W.Write.contents over c.args.callers life.result ended g.O.Telling.gives g.O.Telling.lasts c.args.printing.promise.first.value printed.result.printer printed.result.reader.steps life.ensures.lived last.0 last.1 last.2 cause last.3 c.end_of.ensures.read printed.ensures.1
+    let cause = has_cause m talked failed most over c.args.callers life.result ended life.ensures.lived last.0 last.1 c.end_of.ensures.write life.ensures.last in
+    server_run m talked failed most g.W.Write.contents over c.args.callers life.result ended g.O.Telling.gives g.O.Telling.lasts c.args.printing.promise.first.value printed.result.printer printed.result.reader.steps life.ensures.lived last.0 last.1 last.2 cause last.3 c.end_of.ensures.read printed.ensures.1

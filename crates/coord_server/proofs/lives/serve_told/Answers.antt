@@ -1,12 +1,12 @@
 use Rattle.std.proofs.Common.{◌≡◌, ◌∙◌, ap, rules, subst}
 use Rattle.coord_store.specs.Kept.{Kept}
-use Rattle.coord_server.specs.Moments.{LivesTell}
 use Rattle.coord_server.specs.Printed.{PrinterState, new_printer}
+use Rattle.coord_server.specs.ServerRun.{ServerRun}
 use Rattle.coord_server.proofs.lives.serve_told.Goals as goal
 
-pub returns-clause-printed : goal.returns-clause-printed
-returns-clause-printed g c =
-    let tells : Kept g.row.D.Denot → PrinterState g.row.W.Denot → Type 0 = λ store printer. LivesTell g.D.Disk.model g.C.Callers.talked g.C.Callers.failed c.args.most g.W.Write.contents g.O.Telling.gives store c.args.callers printer c.serve_and_print.result in
+pub returns-clause-served : goal.returns-clause-served
+returns-clause-served g c =
+    let tells : Kept g.row.D.Denot → PrinterState g.row.W.Denot → Type 0 = λ store printer. ServerRun g.D.Disk.model g.C.Callers.talked g.C.Callers.failed c.args.most g.W.Write.contents g.O.Telling.gives store c.args.callers printer c.serve_and_print.result in
     let since : c.count-since.result ≡ c.args.store.world.count = search rules in
     let printer = c.new-port.ensures ∙ ap (new_printer c.args.output) since in
     subst (λ store. tells store (new_printer c.args.output c.args.store.world.count)) c.in-Ok.ensures.over (subst (tells c.in-Ok.start.over.value) printer c.serve_and_print.ensures)

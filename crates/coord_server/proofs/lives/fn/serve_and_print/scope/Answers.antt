@@ -1,7 +1,7 @@
 use Rattle.std.proofs.Common.{subst}
 use Rattle.coord_server.proofs.Ends.{has_cause}
-use Rattle.coord_server.proofs.Moments.{lives_tell}
-use Rattle.coord_server.specs.Moments.{LivesTell}
+use Rattle.coord_server.proofs.Moments.{server_run}
+use Rattle.coord_server.specs.ServerRun.{ServerRun}
 use Rattle.coord_server.proofs.lives.fn.serve_and_print.scope.Goals as goal
 
 -- a thread prints
@@ -9,7 +9,7 @@ pub returns-in-Ok : goal.returns-in-Ok
 returns-in-Ok g c =
     let m = g.D.Disk.model in
     let most = c.captures.setting.now.life_steps in
-    subst (λ printer. LivesTell m g.C.Callers.talked g.C.Callers.failed most g.W.Write.contents g.O.Telling.gives c.captures.start.over.value c.captures.callers printer c.print_and_live.result)
+    subst (λ printer. ServerRun m g.C.Callers.talked g.C.Callers.failed most g.W.Write.contents g.O.Telling.gives c.captures.start.over.value c.captures.callers printer c.print_and_live.result)
     c.in-Ok.ensures.started c.print_and_live.ensures
 
 -- none does
@@ -24,5 +24,5 @@ returns-in-Err g c =
     let ended = c.end_of.result in
     let last = c.end_of.ensures.last in
     let printed = c.in-Err.printed in
-    let cause = has_cause m talked failed most over.world c.captures.callers life.result ended life.ensures.lived.0 last.0 last.1 c.end_of.ensures.write life.ensures.last in
-    lives_tell m talked failed most g.W.Write.contents over c.captures.callers life.result ended g.O.Telling.gives g.O.Telling.lasts c.captures.printing.printer printed.printer printed.reader.steps life.ensures.lived last.0 last.1 last.2 cause last.3 c.end_of.ensures.read c.in-Err.ensures.refused.1
+    let cause = has_cause m talked failed most over c.captures.callers life.result ended life.ensures.lived last.0 last.1 c.end_of.ensures.write life.ensures.last in
+    server_run m talked failed most g.W.Write.contents over c.captures.callers life.result ended g.O.Telling.gives g.O.Telling.lasts c.captures.printing.printer printed.printer printed.reader.steps life.ensures.lived last.0 last.1 last.2 cause last.3 c.end_of.ensures.read c.in-Err.ensures.refused.1
