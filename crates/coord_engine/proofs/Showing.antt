@@ -1,11 +1,13 @@
 -- What a ledger answers to a caller that wants to see it.
-use Rattle.std.proofs.Common.{◌≡◌, ℕ, ◌<◌, ◌≤◌, Bool, true, false, Result, Ok, Err, refl, sym, subst, arith, MatchResult, OnErr, is_some, nat_lt}
+use Rattle.std.proofs.Common.{◌≡◌, ℕ, ◌<◌, ◌≤◌, Bool, true, false, List, Result, Ok, Err, refl, sym, subst, arith, MatchResult, OnErr, is_some, nat_lt}
 use Rattle.std.proofs.lemmas.Bool.Decides.{nat_tests}
+use Rattle.atomic_table.specs.Seated.{TableId}
 use Rattle.coord_types.specs.declared.refusals.Refusal.{Refusal}
 use Rattle.coord_types.specs.declared.refusals.Refusal.TheVariants.{Behind, OutOfMemory, Stopped}
-use Rattle.coord_ledger.specs.machine.Log.{accepted_count, settled_count, settled_world}
+use Rattle.coord_types.specs.declared.steps.Step.{Step}
+use Rattle.coord_ledger.specs.machine.Log.{accepted_count, settled_count, settled_steps, settled_world}
 use Rattle.coord_view.specs.Shown.{Shown, shown}
-use Rattle.coord_engine.specs.Facade.{AnswersShow, Basis, CanHold, GuardedState, RefusesShow, Shows}
+use Rattle.coord_engine.specs.Facade.{AnswersShow, Basis, Beginning, CanHold, GuardedState, HasReadSettled, RefusesShow, Shows}
 
 module _ {D : Type 0} (g : GuardedState D) (seen later : ℕ) where
   -- what the ledger says that it did
@@ -33,9 +35,10 @@ module _ {D : Type 0} (g : GuardedState D) (seen later : ℕ) where
       subst Told (sym why) ((refl, lt), subst (λ r. OnErr r (later ≡ seen)) why is.unseen)
   told_by answer is false false b_is c_is = let le : seen ≤ settled_count g.ledger.log = grind (arith, nat_tests) in told_shown answer is.unseen b_is le (is.view b_is le)
 
-  told_at : (b : Basis D) → CanHold b g → (answer : Result Shown Refusal) → Told answer → AnswersShow b answer seen later
-  told_at b is (Ok view) so = record { state = g; held = is; so = so }
-  told_at b is (Err why) so = (record { state = g; held = is; so = so.0 }, so.1)
+  module _ (b : Basis D) (is : CanHold b g) (history : TableId) (earlier : List Step) (read : Beginning) (reads : HasReadSettled history earlier (settled_steps g.ledger.log) read) where
+    told_at : (answer : Result Shown Refusal) → Told answer → AnswersShow b history earlier read answer seen later
+    told_at (Ok view) so = record { state = g; held = is; so = (so, reads) }
+    told_at (Err why) so = (record { state = g; held = is; so = (so.0, reads) }, so.1)
 
-  pub told : (b : Basis D) → CanHold b g → (answer : Result Shown Refusal) → LedgerShows answer → AnswersShow b answer seen later
-  told b is answer shows = told_at b is answer (told_by answer shows (is_some g.ledger.log.doubt) (nat_lt (settled_count g.ledger.log) seen) refl refl)
+    pub told : (answer : Result Shown Refusal) → LedgerShows answer → AnswersShow b history earlier read answer seen later
+    told answer shows = told_at answer (told_by answer shows (is_some g.ledger.log.doubt) (nat_lt (settled_count g.ledger.log) seen) refl refl)

@@ -9,5 +9,5 @@ pub use Rattle.coord_engine.specs.Port.{AreAsked, AreHanded, IsAsked, MayAsk, Ma
 pub use Rattle.coord_engine.specs.Released.{AreOfSettled, GivesSignal, HasReadSettled, MayHand, MayTell, first_settled}
 pub use Rattle.coord_engine.specs.State.{Basis, CanHold, GuardedState, based_on, with_ledger}
 pub use Rattle.coord_engine.specs.SubmittingPort.{Gathers, KeepsRest, PassesOn, Submitting, SubmitsGathered}
-pub use Rattle.coord_engine.specs.Threads.{AnswersShow, AnswersTicket, AtSomeMoment, Closes, Flushes, IsLeftOf, Leaves, RefusesShow, Retires, SendsAgain, Shows}
+pub use Rattle.coord_engine.specs.Threads.{AnswersShow, AnswersTicket, AtMomentRead, AtSomeMoment, Closes, Flushes, IsLeftOf, Leaves, RefusesShow, Retires, SendsAgain, Shows}
 pub use Rattle.coord_engine.specs.Working.{AddsPackets, IsOfPacket, Keeps, TakesPacket, Tries, TriesAll, Works, WorksAndTries, all_packets, waits_after}

@@ -1,5 +1,6 @@
 -- What an engine's calls answer while other threads call too. Nothing is known of what a lock holds when it is taken but what its type keeps, so a call answers as the value under the lock does in some state that it can have.
 use Rattle.std.specs.Prelude.{◌≡◌, ℕ, ◌≤◌, ◌<◌, false, true, List, is_some, take, Option, Result, Ok, Err, Some, IfNone, IfSome}
+use Rattle.atomic_table.specs.Seated.{TableId}
 use Rattle.coord_types.specs.declared.limits.TheConstants.{MAX_BATCH_STEPS}
 use Rattle.coord_types.specs.declared.refusals.Refusal.{Refusal}
 use Rattle.coord_types.specs.declared.refusals.Refusal.TheVariants.{Behind, OutOfMemory, Stopped}
@@ -9,10 +10,12 @@ use Rattle.coord_store.specs.Kept.{Kept, has_stopped}
 use Rattle.coord_world.specs.Facade.{World, outs}
 use Rattle.coord_ledger.specs.declared.release.Release.{Release}
 use Rattle.coord_ledger.specs.declared.ticket.Note.{Note}
-use Rattle.coord_ledger.specs.Facade.{Claim, FlightState, LedgerState, accepted_count, keeps_store, next_flight, pending, releases_of, resent, settled_count, settled_world}
+use Rattle.coord_ledger.specs.Facade.{Claim, FlightState, LedgerState, accepted_count, keeps_store, next_flight, pending, releases_of, resent, settled_count, settled_steps, settled_world}
 use Rattle.coord_view.specs.Shown.{Shown, shown}
 use Rattle.coord_engine.specs.Calls.{AnswersStep, IsToldTicket, engine_verdict}
 use Rattle.coord_engine.specs.Closing.{MayClose, RefusesClosing}
+use Rattle.coord_engine.specs.History.{Beginning}
+use Rattle.coord_engine.specs.Released.{HasReadSettled}
 use Rattle.coord_engine.specs.State.{Basis, CanHold, GuardedState}
 use Rattle.coord_engine.specs.declared.closed.CloseFault.{CloseFault}
 
@@ -21,6 +24,10 @@ pub record AtSomeMoment {D : Type 0} (b : Basis D) (P : GuardedState D → Type 
   pub state : GuardedState D
   pub held : CanHold b state
   pub so : P state
+
+-- this holds in some state that the value under the lock can have, of which this one has read the settled steps, behind the steps of earlier lives in this history
+abbrev pub AtMomentRead : {D : Type 0} → Basis D → TableId → List Step → Beginning → (GuardedState D → Type 0) → Type 0
+AtMomentRead {D} b history earlier read P = AtSomeMoment {D = D} b (λ g. P g × HasReadSettled history earlier (settled_steps g.ledger.log) read)
 
 -- a step was submitted
 abbrev pub Submits : {D : Type 0} → Step → Result Claim Refusal → List Note → List Note → GuardedState D → Type 0
@@ -37,14 +44,14 @@ RefusesShow (Behind settled) seen g = (settled ≡ settled_count g.ledger.log) �
 RefusesShow OutOfMemory seen g = Unit {0}
 RefusesShow refusal seen g = ⊥
 
--- what is answered to a caller that wants to see it: it is shown, or not and the caller has seen no more
-abbrev pub AnswersShow : {D : Type 0} → Basis D → Result Shown Refusal → ℕ → ℕ → Type 0
-AnswersShow {D} b (Ok view) seen later = AtSomeMoment b (Shows {D = D} view seen later)
-AnswersShow {D} b (Err refusal) seen later = AtSomeMoment b (RefusesShow {D = D} refusal seen) × (later ≡ seen)
+-- what is answered to a caller that wants to see it, once this was read: it is shown, or not and the caller has seen no more
+abbrev pub AnswersShow : {D : Type 0} → Basis D → TableId → List Step → Beginning → Result Shown Refusal → ℕ → ℕ → Type 0
+AnswersShow {D} b history earlier read (Ok view) seen later = AtMomentRead b history earlier read (Shows {D = D} view seen later)
+AnswersShow {D} b history earlier read (Err refusal) seen later = AtMomentRead b history earlier read (RefusesShow {D = D} refusal seen) × (later ≡ seen)
 
--- what is answered to a ticket that was waited for
-abbrev pub AnswersTicket : {D : Type 0} → Basis D → Claim → Result Reply (Refusal × Claim) → Type 0
-AnswersTicket {D} b claim answer = AtSomeMoment {D = D} b (λ g. IsToldTicket g.ledger claim answer)
+-- what is answered to a ticket that was waited for, once this was read
+abbrev pub AnswersTicket : {D : Type 0} → Basis D → TableId → List Step → Beginning → Claim → Result Reply (Refusal × Claim) → Type 0
+AnswersTicket {D} b history earlier read claim answer = AtMomentRead {D = D} b history earlier read (λ g. IsToldTicket g.ledger claim answer)
 
 -- this flight went out
 abbrev pub Leaves : {D : Type 0} → FlightState D → GuardedState D → Type 0

@@ -6,6 +6,7 @@ ghost use Rattle.coord_ledger.specs.ledger.Calls.{releases_in};
 ghost use Rattle.coord_engine.specs.Calls.{IsToldTicket};
 ghost use Rattle.coord_engine.specs.Closing.{IsSince, RefusesClosing};
 ghost use Rattle.coord_engine.specs.Flights.{AnswersBegin, AnswersFlush, ComesBack};
+ghost use Rattle.coord_engine.specs.History.{StartsWith};
 ghost use Rattle.coord_engine.specs.Past.{IsPastOf, StaysAlong};
 ghost use Rattle.coord_engine.specs.Released.{HasReadSettled, first_settled};
 ghost use Rattle.coord_engine.specs.State.{based_on, most_shares};
@@ -13,8 +14,8 @@ ghost use Rattle.coord_engine.specs.Threads.{AnswersShow, AnswersTicket, AtSomeM
 
 use crate::flushing::rest;
 use crate::{
-    CloseFault, Closed, Collected, Guarded, History, Origin, OwnFlight, Released, Retired, Share,
-    Writer,
+    CloseFault, Closed, Collected, Guarded, History, Origin, OwnFlight, Reader, Released, Retired,
+    Share, Writer,
 };
 use coord_disk::Disk;
 use coord_ledger::{Ledger, Seen, Ticket};
@@ -143,12 +144,21 @@ impl<D: Disk, L: Origin> Engine<D, L> {
 
     /// Waits until the ticket's step is settled, and gives its reply. `Stranger` refuses a ticket
     /// of another ledger, and `Stopped` one whose step will not be settled any more; both give it
-    /// back.
-    pub fn collect<R: Wait>(&self, rt: &R, ticket: Ticket) -> Result<Reply, (Refusal, Ticket)>
-        ensures { AnswersTicket (based_on D.model L.base L.before) ticket result }
+    /// back. A reader reads on: the answer is so at a moment of which it has read the settled steps.
+    pub fn collect<R: Wait>(
+        &self,
+        rt: &R,
+        ticket: Ticket,
+        reader: &mut Reader,
+    ) -> Result<Reply, (Refusal, Ticket)>
+        requires { reader.old.history ≡ L.history }
+        ensures answered { AnswersTicket (based_on D.model L.base L.before)
+            L.history L.earlier reader.new ticket result }
+        ensures begins { StartsWith reader.new.steps reader.old.steps }
     {
-        let (guarded, answer) = self.lock_to_tell(rt, ticket);
+        let (mut guarded, answer) = self.lock_to_tell(rt, ticket);
         guarded.keeps();
+        guarded.read_on(&self.history, reader);
         answer
     }
 
@@ -177,12 +187,22 @@ impl<D: Disk, L: Origin> Engine<D, L> {
         unreachable!()
     }
 
-    /// Shows the settled world, of which the caller must not have seen more.
-    pub fn show<R: Wait>(&self, rt: &R, seen: &mut Seen) -> Result<View, Refusal>
-        ensures { AnswersShow (based_on D.model L.base L.before) result seen.old seen.new }
+    /// Shows the settled world, of which the caller must not have seen more. A reader reads on: what is
+    /// shown is the world after the settled steps that it has read then.
+    pub fn show<R: Wait>(
+        &self,
+        rt: &R,
+        seen: &mut Seen,
+        reader: &mut Reader,
+    ) -> Result<View, Refusal>
+        requires { reader.old.history ≡ L.history }
+        ensures answered { AnswersShow (based_on D.model L.base L.before)
+            L.history L.earlier reader.new result seen.old seen.new }
+        ensures begins { StartsWith reader.new.steps reader.old.steps }
     {
-        let guarded = self.guarded.lock(rt);
+        let mut guarded = self.guarded.lock(rt);
         guarded.keeps();
+        guarded.read_on(&self.history, reader);
         guarded.ledger().show(seen)
     }
 

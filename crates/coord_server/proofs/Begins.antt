@@ -8,9 +8,9 @@ use Rattle.coord_server.specs.declared.fault.ServerFault.TheVariants as fault
 use Rattle.coord_server.specs.declared.life_end.LifeEnd.{LifeEnd}
 use Rattle.coord_server.specs.declared.life_end.LifeEnd.TheVariants.{Resting, Unfollowed, Unprinted, Ended}
 
--- a desk without notes, which has seen nothing, is a new one
-pub begins : {P : Type 0} (d : DeskState P) → d.notes ≡ [] → d.seen ≡ 0 → d ≡ new_desk d.port
-begins d notes seen = λ i. record { notes = notes i; seen = seen i; port = d.port }
+-- a desk without notes, which has seen and read nothing, is a new one
+pub begins : {P : Type 0} (d : DeskState P) → d.notes ≡ [] → d.seen ≡ 0 → d.read ≡ [] → d ≡ new_desk d.port
+begins d notes seen read = λ i. record { notes = notes i; seen = seen i; read = read i; port = d.port }
 
 -- an output that was not opened ends a life in which nobody was served
 pub ends_unopened : {D : Type 0} (b : Basis D) {V : Type 0} (talked : V → List Talk → V → Type 0) (failed : V → V → Type 0) (most : ℕ) {P : Type 0} (v : V) (desk : DeskState P) (left : LifeEnd) → EndsUnopened failed v left → talked v [] v → desk ≡ new_desk desk.port

@@ -2,9 +2,10 @@
 use Rattle.std.proofs.Common.{◌≡◌, ◌⊎◌, ℕ, zero, suc, ◌+◌, ◌≤◌, ◌||◌, not, nat_le, List, [], ◌∷◌, ◌++◌, All, length, Bool, true, false, Option, None, Some, IfNone, IfSome, inl, inr, refl, sym, ap, ◌∙◌, subst, append_assoc, arith, drop}
 use Rattle.std.proofs.lemmas.List.Elements.{All-nil, All-push}
 use Rattle.std.proofs.lemmas.Bool.Decides.{nat_tests}
-use Rattle.coord_engine.specs.Facade.{AtSomeMoment, Basis, Closes, IsLeftOf, IsNamed, IsOfPacket, IsSince, RefusesClosing, Retires, based_on}
+use Rattle.coord_engine.specs.Facade.{AtSomeMoment, Basis, Beginning, Closes, HasReadSettled, IsLeftOf, IsNamed, IsOfPacket, IsSince, RefusesClosing, Retires, StartsWith, based_on, first_settled}
 use Rattle.coord_engine.specs.declared.closed.CloseFault.{CloseFault}
 use Rattle.coord_engine.specs.declared.closed.Closed.{Closed}
+use Rattle.atomic_table.specs.Seated.{TableId}
 use Rattle.coord_types.specs.declared.steps.Kind.{Kind}
 use Rattle.coord_types.specs.declared.steps.Step.{Step}
 use Rattle.coord_ledger.specs.declared.ticket.Note.{Note}
@@ -12,6 +13,7 @@ use Rattle.coord_store.specs.Kept.{Kept, has_stopped}
 use Rattle.coord_disk.specs.Model.DiskModel.{DiskModel}
 use Rattle.coord_world.specs.protocol.NumberedWorld.{World}
 use Rattle.coord_admin.specs.Connections.{Talk}
+use Rattle.coord_server.proofs.Reading.{begins_so}
 use Rattle.coord_server.specs.EngineDesk.{DeskState}
 use Rattle.coord_server.specs.Ending.{AddsWorkers, HasRun, IsLeftAs, IsLife, IsOneHistory, RefusesShares, LeavesLife, LeavesShares, Local, Serves, ServesLife, end_fault, fault_at_end, new_desk}
 use Rattle.coord_server.specs.Lives.{AreLives, HaveRested, IsLast, IsLastLife, IsToldForCause, LifeRun, MayGoOn, Rests}
@@ -56,26 +58,28 @@ module _ {D : Type 0} (b : Basis D) {V : Type 0} (talked : V → List Talk → V
   left_as port v w desk left closed h1 h2 = grind arith
 
   -- the desk's notes, in the share that it gave back
-  pub serves_with : (v w : V) (desk : DeskState Local) (left : LifeEnd) (notes : List Note) (seen : ℕ) → (port : Local) × ServesLife b talked failed most port v w desk left → notes ≡ desk.notes → seen ≡ desk.seen
-      → (port : Local) × (later : Local) × ServesLife b talked failed most port v w (record { notes = notes; seen = seen; port = later }) left
-  serves_with v w desk left notes seen s same saw = (s.0, desk.port, rw same (rw saw s.1))
+  pub serves_with : (history : TableId) (earlier : List Step) (reader : Beginning) (v w : V) (desk : DeskState Local) (left : LifeEnd) (notes : List Note) (seen : ℕ) → (port : Local) × ServesLife b talked failed most port v w desk left → notes ≡ desk.notes → seen ≡ desk.seen → HasReadSettled history earlier desk.read reader
+      → (port : Local) × (later : Local) × (read : List Step) × ServesLife b talked failed most port v w (record { notes = notes; seen = seen; read = read; port = later }) left × HasReadSettled history earlier read reader
+  serves_with history earlier reader v w desk left notes seen s same saw read = (s.0, desk.port, desk.read, rw same (rw saw s.1), read)
 
   -- the shares of the desk and of the workers, once all are back
-  pub has_run : (v w : V) (left : LifeEnd) (own : List Note) (seen : ℕ) (shares : List (List Note)) → (port : Local) × (later : Local) × ServesLife b talked failed most port v w (record { notes = own; seen = seen; port = later }) left
-      → AddsWorkers (own ∷ []) shares → length shares ≡ 10 → HasRun b talked failed most v w left shares seen
-  has_run v w left own seen shares s added all = record { port = s.0; desk = record { notes = own; seen = seen; port = s.1 }; served = s.2; saw = refl; added = added; all = all }
+  pub has_run : (history : TableId) (earlier : List Step) (reader : Beginning) (v w : V) (left : LifeEnd) (own : List Note) (seen : ℕ) (shares : List (List Note)) → (port : Local) × (later : Local) × (read : List Step) × ServesLife b talked failed most port v w (record { notes = own; seen = seen; read = read; port = later }) left × HasReadSettled history earlier read reader
+      → AddsWorkers (own ∷ []) shares → length shares ≡ 10 → HasRun b talked failed most history earlier v w left shares seen reader
+  has_run history earlier reader v w left own seen shares s added all = record { port = s.0; desk = record { notes = own; seen = seen; read = s.2; port = s.1 }; served = s.3; saw = refl; read = s.4; added = added; all = all }
 
   -- one life: how the desk went on, and what is left of the engine, which was taken apart with all shares or refused them
-  pub lived : (v u : V) (ran : LifeEnd) (shares : List (List Note)) (seen : ℕ) (life : Life D V) → b.before ≡ [] → HasRun b talked failed most v u ran shares seen → LeavesShares b shares seen ran life → life.callers ≡ u → IsLife b talked failed most v life
-  lived v u ran shares seen life none is (inl (left, since, closed, settled)) same_w =
+  pub lived : (history : TableId) (earlier : List Step) (reader : Beginning) (v u : V) (ran : LifeEnd) (shares : List (List Note)) (seen : ℕ) (life : Life D V) → b.before ≡ [] → HasRun b talked failed most history earlier v u ran shares seen reader → LeavesShares b shares seen ran life → life.callers ≡ u
+      → HasReadSettled history earlier (first_settled life.closed.base life.closed.trail.items life.closed.settled) life.writer → StartsWith life.writer.steps reader.steps → IsLife b talked failed most v life
+  lived here earlier reader v u ran shares seen life none is (inl (left, since, closed, settled)) same_w written begins =
       let history : IsOneHistory b is.desk life.closed = one_history b is.desk shares life.closed none is.added since closed (subst (λ n. n ≤ life.closed.settled) (sym is.saw) settled) in
       record {
         port = is.port;
         desk = is.desk;
         served = subst (LeavesLife b talked failed most is.port v life.callers is.desk) (sym left) (subst (λ w. LeavesLife b talked failed most is.port v w is.desk ran) (sym same_w) (leaves_as is.port v u is.desk ran is.served));
         left = subst (λ e. IsLeftAs b is.desk life.closed (end_fault e)) (sym left) (left_as is.port v u is.desk ran life.closed is.served history);
+        told = begins_so here earlier is.desk.read _ reader life.writer is.read written begins;
       }
-  lived v u ran shares seen life none is (inr (why, left, so)) same_w =
+  lived here earlier reader v u ran shares seen life none is (inr (why, left, so)) same_w written begins =
       let refuses : AtSomeMoment b (λ g. IsLeftOf {D = D} life.closed.store life.closed.base life.closed.trail.items life.closed.settled g × RefusesClosing {D = D} g (is.desk.notes ∷ is.added.0) is.desk.seen why) =
       subst (λ s. AtSomeMoment b (λ g. IsLeftOf {D = D} life.closed.store life.closed.base life.closed.trail.items life.closed.settled g × RefusesClosing {D = D} g s is.desk.seen why)) is.added.1
       (subst (λ n. AtSomeMoment b (λ g. IsLeftOf {D = D} life.closed.store life.closed.base life.closed.trail.items life.closed.settled g × RefusesClosing {D = D} g shares n why)) (sym is.saw) so)
@@ -86,6 +90,7 @@ module _ {D : Type 0} (b : Basis D) {V : Type 0} (talked : V → List Talk → V
         desk = is.desk;
         served = subst (LeavesLife b talked failed most is.port v life.callers is.desk) (sym left) (ran, subst (λ w. ServesLife b talked failed most is.port v w is.desk ran) (sym same_w) is.served);
         left = subst (λ e. IsLeftAs b is.desk life.closed (end_fault e)) (sym left) refused;
+        told = begins_so here earlier is.desk.read _ reader life.writer is.read written begins;
       }
 
   -- a life that did not begin. Its desk would have begun over this port
@@ -95,6 +100,7 @@ module _ {D : Type 0} (b : Basis D) {V : Type 0} (talked : V → List Talk → V
     desk = new_desk port;
     served = subst (LeavesLife b talked failed most port v life.callers (new_desk port)) (sym left) (subst (λ w. talked v [] w) (sym same) nobody, refl);
     left = subst (λ e. IsLeftAs b (new_desk port) life.closed (end_fault e)) (sym left) so;
+    told = (first_settled life.closed.base life.closed.trail.items life.closed.settled, refl);
   }
 
   -- the last life: as it was left, or one that rests and that no other follows
@@ -104,6 +110,7 @@ module _ {D : Type 0} (b : Basis D) {V : Type 0} (talked : V → List Talk → V
     desk = is.desk;
     served = subst (LeavesLife b talked failed most is.port v last.callers is.desk) (sym left) (subst (λ w. LeavesLife b talked failed most is.port v w is.desk life.left) (sym same_w) is.served);
     left = subst (λ e. IsLeftAs b is.desk last.closed (end_fault e)) (sym left) (subst (λ c. IsLeftAs b is.desk c (end_fault life.left)) (sym same) is.left);
+    told = subst (λ (c : Closed D). StartsWith (first_settled c.base c.trail.items c.settled) is.desk.read) (sym same) is.told;
   }
   last_life v life last Why is same same_w (inr (left, rests)) = record {
     port = is.port;
@@ -111,6 +118,7 @@ module _ {D : Type 0} (b : Basis D) {V : Type 0} (talked : V → List Talk → V
     served = subst (LeavesLife b talked failed most is.port v last.callers is.desk) (sym left)
         (subst (LeavesLife b talked failed most is.port v last.callers is.desk) rests (subst (λ w. LeavesLife b talked failed most is.port v w is.desk life.left) (sym same_w) is.served));
     left = subst (λ e. IsLeftAs b is.desk last.closed (end_fault e)) (sym left) (subst (λ e. IsLeftAs b is.desk last.closed (end_fault e)) rests (subst (λ c. IsLeftAs b is.desk c (end_fault life.left)) (sym same) is.left));
+    told = subst (λ (c : Closed D). StartsWith (first_settled c.base c.trail.items c.settled) is.desk.read) (sym same) is.told;
   }
 
   -- a last life that ended so
@@ -160,7 +168,7 @@ module _ {D : Type 0} (m : DiskModel D) {V : Type 0} (talked : V → List Talk �
       → Rests m talked most world v (run_of world v life so)
   rests world v life is so kept going all =
       let rested = subst (LeavesLife (b world) talked failed most so.port v life.callers so.desk) is so.served in
-      record { served = rested.0; old = kept; history = rested_history (b world) so.desk life.closed life.left is so.left; all_settled = all; going = going }
+      record { served = rested.0; old = kept; history = rested_history (b world) so.desk life.closed life.left is so.left; all_settled = all; going = going; told = so.told }
 
   -- why a fault is told of a server whose last life was left so
   pub has_cause : {W : Type 0} (first : Kept D) (v : V) (life : Life D V) (ended : ServerEnd D V W) → HasLived m talked failed most first v life → IsLastLife life.left ended.served → ended.closed ≡ life.closed
@@ -174,6 +182,7 @@ module _ {D : Type 0} (m : DiskModel D) {V : Type 0} (talked : V → List Talk �
   is_last world v life served so over = record {
     served = served_at_last (b world) talked failed most so.port v life.callers so.desk life.left served so.served over;
     history = left_at_last (b world) so.desk life.closed life.left served so.left over;
+    told = so.told;
   }
 
   -- one more life behind those that rested

@@ -1,7 +1,9 @@
 pub mod Begins
 pub mod Ends
+pub mod InOrder
 pub mod Moments
 pub mod OneHistory
+pub mod Reading
 pub mod Settled
 pub mod Signals
 pub mod Starts

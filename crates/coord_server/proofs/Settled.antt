@@ -6,13 +6,13 @@ use Rattle.std.proofs.lemmas.List.{length-take-le}
 use Rattle.coord_types.specs.declared.refusals.Refusal.{Refusal}
 use Rattle.coord_types.specs.declared.refusals.Refusal.TheVariants as refusal
 use Rattle.coord_types.specs.declared.steps.Reply.{Reply}
+use Rattle.coord_types.specs.declared.steps.Step.{Step}
 use Rattle.coord_lines.specs.Lines.{Line}
 use Rattle.coord_lines.specs.Written.{IsFirstPart}
 use Rattle.coord_view.specs.Shown.{Shown}
 use Rattle.coord_world.proofs.Facade.{fold_counts}
 use Rattle.coord_ledger.specs.Facade.{Log, settled_count, settled_world}
 use Rattle.coord_engine.specs.Facade.{Basis}
-use Rattle.coord_engine.specs.Threads.{AnswersShow}
 use Rattle.coord_admin.specs.Connections.{AllServed, Connection, Talk}
 use Rattle.coord_admin.specs.Replies.{order_answer, refused, reply_line, reply_lines, resend_answer, show_answer}
 use Rattle.coord_admin.specs.Requests.{asked_by}
@@ -26,7 +26,7 @@ use Rattle.coord_admin.specs.declared.request.Request.{Request}
 use Rattle.coord_admin.specs.declared.request.Request.TheVariants as request
 use Rattle.coord_admin.specs.declared.session.Ended.{Ended}
 use Rattle.coord_admin.specs.declared.session.Ended.TheVariants as ended
-use Rattle.coord_server.specs.EngineDesk.{DeskAnswers, DeskKeeps, DeskState, seen_after}
+use Rattle.coord_server.specs.EngineDesk.{DeskAnswers, DeskKeeps, DeskState, ShowsTo, seen_after}
 use Rattle.coord_server.specs.Ending.{new_desk}
 use Rattle.coord_server.specs.Told.{AllWriteUpTo, TellsUpTo, ToldIsSettled, WritesUpTo}
 
@@ -184,12 +184,13 @@ order_goes (Err r) n m is = (omega (arith, is), refused_tells m r)
 world_counts : (log : Log) → log.settled ≤ length log.trail → (settled_world log).count ≡ settled_count log
 world_counts log within = omega (arith, fold_counts log.base (take log.settled log.trail), length-take-le log.settled log.trail within)
 
-show_goes : {D : Type 0} (b : Basis D) (result : Result Shown Refusal) (n m : ℕ) → AnswersShow b result n m → Goes n (show_answer result) m
-show_goes b (Ok view) n m is =
+show_goes : {D : Type 0} (b : Basis D) (result : Result Shown Refusal) (n m : ℕ) (read now : List Step) → ShowsTo b result n m read now → Goes n (show_answer result) m
+show_goes b (Ok view) n m read now told =
+    let is = told.at in
     let log = is.state.ledger.log in
-    let counted : view.settled ≡ (settled_world log).count = ap (λ (v : Shown). v.settled) is.so.2 in
-    (omega (arith, is.so.1, is.so.3), omega (arith, is.so.3, counted, world_counts log is.held.log.within))
-show_goes b (Err r) n m is = (omega (arith, is.1), refused_tells m r)
+    let counted : view.settled ≡ (settled_world log).count = ap (λ (v : Shown). v.settled) is.so.0.2 in
+    (omega (arith, is.so.0.1, is.so.0.3), omega (arith, is.so.0.3, counted, world_counts log is.held.log.within))
+show_goes b (Err r) n m read now is = (omega (arith, is.1), refused_tells m r)
 
 resend_tells : (n : ℕ) (result : Result ℕ Refusal) → TellsUpTo n (resend_answer result)
 resend_tells n (Ok k) = tt
@@ -197,7 +198,7 @@ resend_tells n (Err r) = refused_tells n r
 
 desk_goes : {D P : Type 0} (b : Basis D) (d e : DeskState P) (r : Request) (a : Answer) → DeskAnswers b d r a e → Goes d.seen a e.seen
 desk_goes b d e (request.Order client number command) a is = subst (λ (x : Answer). Goes d.seen x e.seen) (sym is.1) (order_goes is.0 d.seen e.seen is.3)
-desk_goes b d e request.Show a is = subst (λ (x : Answer). Goes d.seen x e.seen) (sym is.1) (show_goes b is.0 d.seen e.seen is.2)
+desk_goes b d e request.Show a is = subst (λ (x : Answer). Goes d.seen x e.seen) (sym is.1) (show_goes b is.0 d.seen e.seen d.read e.read is.2)
 desk_goes b d e request.Resend a is = subst (λ (x : Answer). Goes d.seen x e.seen) (sym is.1) (omega (arith, is.4), resend_tells e.seen is.0)
 desk_goes {D} {P} b d e request.Close a is = subst (λ (x : Answer). Goes d.seen x e.seen) (sym is.0) (omega (arith, ap (λ (x : DeskState P). x.seen) is.1), tt)
 

@@ -10,7 +10,7 @@ use Rattle.coord_store.specs.Recovered.{Recovered}
 use Rattle.coord_world.specs.Facade.{StepOutcome, World, fold, next, outputs, outs, reply}
 use Rattle.coord_world.specs.declared.verdicts.Verdict.{Verdict}
 use Rattle.coord_ledger.specs.declared.ticket.Note.{Note}
-use Rattle.coord_ledger.specs.Facade.{Claim, IsCollectable, LedgerGives, Log, GivesSettled as LogGives, kinds_of, reply_of, settled_world}
+use Rattle.coord_ledger.specs.Facade.{Claim, IsCollectable, LedgerGives, Log, GivesSettled as LogGives, kinds_of, reply_of, settled_steps, settled_world}
 use Rattle.coord_engine.specs.declared.closed.Closed.{Closed}
 use Rattle.coord_engine.specs.Facade.{AnswersStep, AtSomeMoment, Basis, LedgerAndNotes, all_notes, engine_verdict, note_of, notes_of}
 use Rattle.coord_server.specs.Told.{LifeGives, LivesLeaveSteps, NamesItsStep, NotesAreReplies, NotesEndALife, RepliesNameSteps}
@@ -30,25 +30,26 @@ numbered n w s count = ap (λ c. record { step = c + 1; what = s; kind = (reply 
 -- ---- replies
 
 -- the claim's step was submitted, and its note
-noted : {D : Type 0} (s : Step) (v : Result Verdict Refusal) (before after : LedgerAndNotes D) (claim : Claim) → AnswersStep s v before (Ok claim) after
+pub noted : {D : Type 0} (s : Step) (v : Result Verdict Refusal) (before after : LedgerAndNotes D) (claim : Claim) → AnswersStep s v before (Ok claim) after
     → (claim.what ≡ s) × ((after.notes ≡ before.notes ++ note_of claim ∷ []) ⊎ (after.notes ≡ before.notes))
 noted s v before after claim h1 = grind arith
 
 -- a claim of this step with this reply
-claim_of : (s : Step) (reply : Reply) (claim : Claim) → reply ≡ reply_of claim → claim.what ≡ s → claim ≡ record { step = reply.step; what = s; kind = reply.kind }
+pub claim_of : (s : Step) (reply : Reply) (claim : Claim) → reply ≡ reply_of claim → claim.what ≡ s → claim ≡ record { step = reply.step; what = s; kind = reply.kind }
 claim_of s reply claim is what = λ i. record { step = (ap (λ (r : Reply). r.step) (sym is)) i; what = what i; kind = (ap (λ (r : Reply). r.kind) (sym is)) i }
 
-names : {D : Type 0} (b : Basis D) (s : Step) (reply : Reply) (before after : List Note) (claim : Claim) → claim ≡ record { step = reply.step; what = s; kind = reply.kind }
-    → (after ≡ before ++ note_of claim ∷ []) ⊎ (after ≡ before) → AtSomeMoment b (λ g. IsCollectable g.ledger.log claim) → NamesItsStep b s reply before after
-names b s reply before after claim is note settled = record {
+names : {D : Type 0} (b : Basis D) (s : Step) (reply : Reply) (before after : List Note) (now : List Step) (claim : Claim) → claim ≡ record { step = reply.step; what = s; kind = reply.kind }
+    → (after ≡ before ++ note_of claim ∷ []) ⊎ (after ≡ before) → AtSomeMoment b (λ g. IsCollectable g.ledger.log claim × (settled_steps g.ledger.log ≡ now)) → NamesItsStep b s reply before after now
+names b s reply before after now claim is note settled = record {
   noted = subst (λ (c : Claim). (after ≡ before ++ note_of c ∷ []) ⊎ (after ≡ before)) is note;
-  settled = subst (λ (c : Claim). AtSomeMoment b (λ g. IsCollectable g.ledger.log c)) is settled;
+  settled = subst (λ (c : Claim). AtSomeMoment b (λ g. IsCollectable g.ledger.log c × (settled_steps g.ledger.log ≡ now))) is settled;
 }
 
 pub replies_name_steps : (D : Type 0) → RepliesNameSteps D
-replies_name_steps D b s reply before after (claim, accepted, collected) =
+replies_name_steps D b s reply before after read now (claim, accepted, told) =
+    let collected = told.at in
     let note = noted s (engine_verdict accepted.state s) (record { ledger = accepted.state.ledger; notes = before }) (record { ledger = accepted.so.0; notes = after }) claim accepted.so.1 in
-    names b s reply before after claim (claim_of s reply claim collected.so.0 note.0) note.1 (record { state = collected.state; held = collected.held; so = collected.so.1 })
+    names b s reply before after now claim (claim_of s reply claim collected.so.0.0 note.0) note.1 (record { state = collected.state; held = collected.held; so = (collected.so.0.1, collected.so.1) })
 
 -- ---- notes
 

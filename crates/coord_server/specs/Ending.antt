@@ -1,9 +1,11 @@
 -- How a server ends, and what it leaves of its engine.
 use Rattle.std.specs.Borrow.{Bor}
 use Rattle.std.specs.Prelude.{◌≡◌, ◌⊎◌, ℕ, ◌≤◌, List, [], ◌∷◌, ◌++◌, All, Bool, true, false, Option, Some, None, length}
+use Rattle.atomic_table.specs.Seated.{TableId}
+use Rattle.coord_types.specs.declared.steps.Step.{Step}
 use Rattle.coord_ledger.specs.declared.ticket.Note.{Note}
 use Rattle.coord_ledger.specs.machine.Log.{kinds_of}
-use Rattle.coord_engine.specs.Facade.{AtSomeMoment, Basis, Closes, IsLeftOf, IsNamed, IsOfPacket, IsSince, RefusesClosing}
+use Rattle.coord_engine.specs.Facade.{AtSomeMoment, Basis, Beginning, Closes, HasReadSettled, IsLeftOf, IsNamed, IsOfPacket, IsSince, RefusesClosing, StartsWith, first_settled}
 use Rattle.coord_engine.specs.declared.closed.CloseFault.{CloseFault}
 use Rattle.coord_engine.specs.declared.closed.Closed.{Closed}
 use Rattle.coord_admin.specs.Connections.{Talk, ServedOpen, ServedToClose}
@@ -17,7 +19,7 @@ use Rattle.coord_server.specs.declared.life_end.LifeEnd.TheVariants as end
 
 -- a desk over this port that has noted nothing and seen nothing
 abbrev pub new_desk : {P : Type 0} → P → DeskState P
-new_desk port = record { notes = []; seen = 0; port = port }
+new_desk port = record { notes = []; seen = 0; read = []; port = port }
 
 -- the port of a server, within its process: contracts see nothing of it
 abbrev pub Local : Type 0
@@ -94,21 +96,23 @@ module _ {D : Type 0} (b : Basis D) {V : Type 0} (talked : V → List Talk → V
     Serves port v w desk (Some fault.OutOfMemory) = ServesLife port v w desk (end.Ended (Some fault.OutOfMemory)) ⊎ ServesLife port v w desk end.Resting
     Serves port v w desk served = LeavesLife port v w desk (end.Ended served)
 
-    -- the threads of a life have run: the desk served until this end and saw that much, and with its share all ten are back, the desk's, the flusher's and those of eight workers
-    pub record HasRun (v w : V) (left : LifeEnd) (shares : List (List Note)) (seen : ℕ) : Type 0 where
+    -- the threads of a life have run: the desk served until this end and saw that much, this one has read what the desk told of behind these earlier steps, and with its share all ten are back, the desk's, the flusher's and those of eight workers
+    pub record HasRun (history : TableId) (earlier : List Step) (v w : V) (left : LifeEnd) (shares : List (List Note)) (seen : ℕ) (reader : Beginning) : Type 0 where
       pub port : Local
       pub desk : DeskState Local
       pub served : ServesLife port v w desk left
       pub saw : desk.seen ≡ seen
+      pub read : HasReadSettled history earlier desk.read reader
       pub added : AddsWorkers (desk.notes ∷ []) shares
       pub all : length shares ≡ 10
 
-    -- one life: the desk served until it was left so, and what is left
+    -- one life: the desk served until it was left so, and what is left. The settled steps begin with those of which the desk told
     pub record IsLife (v : V) (life : Life D V) : Type 0 where
       pub port : Local
       pub desk : DeskState Local
       pub served : LeavesLife port v life.callers desk life.left
       pub left : IsLeftAs b desk life.closed (end_fault life.left)
+      pub told : StartsWith (first_settled life.closed.base life.closed.trail.items life.closed.settled) desk.read
 
 -- An engine was taken apart into what a life has left. Either with these shares, which noted all that was accepted: then the life is left as its serving ended. Or it refused them, and the life is left for that reason.
 abbrev pub LeavesShares : {D V : Type 0} → Basis D → List (List Note) → ℕ → LifeEnd → Life D V → Type 0

@@ -1,5 +1,6 @@
 -- What a desk over an engine may answer. Other threads call the engine too, so each answer is one that it can give in some state that it can have.
-use Rattle.std.specs.Prelude.{◌≡◌, ◌⊎◌, ℕ, Bool, List, max, length, Result, Ok, Err}
+use Rattle.std.specs.Prelude.{◌≡◌, ◌⊎◌, ℕ, Bool, List, drop, max, length, Result, Ok, Err}
+use Rattle.atomic_table.specs.Seated.{TableId}
 use Rattle.coord_types.specs.declared.packets.Packet.{Packet}
 use Rattle.coord_types.specs.declared.refusals.Refusal.{Refusal}
 use Rattle.coord_types.specs.declared.refusals.Refusal.TheVariants.{OutOfMemory}
@@ -8,10 +9,11 @@ use Rattle.coord_types.specs.declared.steps.Step.{Step}
 use Rattle.coord_types.specs.declared.steps.Step.TheVariants as step
 use Rattle.coord_ledger.specs.declared.release.Release.{Release}
 use Rattle.coord_ledger.specs.declared.ticket.Note.{Note}
+use Rattle.coord_ledger.specs.Facade.{settled_steps}
 use Rattle.coord_ledger.specs.ledger.State.{Claim}
 use Rattle.coord_view.specs.Shown as shown
-use Rattle.coord_engine.specs.Facade.{AreHanded, Basis, CollectsAs, deliveries_of}
-use Rattle.coord_engine.specs.Threads.{AnswersShow, AtSomeMoment, SendsAgain, Submits}
+use Rattle.coord_engine.specs.Facade.{AreHanded, Basis, Beginning, CollectsAs, GuardedState, HasReadSettled, StartsWith, deliveries_of}
+use Rattle.coord_engine.specs.Threads.{AtSomeMoment, RefusesShow, SendsAgain, Shows, Submits}
 use Rattle.coord_engine.specs.declared.collected.Collected.TheVariants.{Settled, Refused}
 use Rattle.coord_admin.specs.Replies.{order_answer, resend_answer, show_answer}
 use Rattle.coord_admin.specs.declared.answer.Answer.{Answer}
@@ -19,33 +21,52 @@ use Rattle.coord_admin.specs.declared.answer.Answer.TheVariants.{Closed}
 use Rattle.coord_admin.specs.declared.request.Request.{Request}
 use Rattle.coord_admin.specs.declared.request.Request.TheVariants as request
 
--- the notes of the steps that were accepted for the desk, the greatest step that it knows to be settled, and the port to which it hands what is sent again
+-- the notes of the steps that were accepted for the desk, the greatest step that it knows to be settled, the settled steps that it has read, and the port to which it hands what is sent again
 pub record DeskState (P : Type 0) : Type 0 where
   pub notes : List Note
   pub seen : ℕ
+  pub read : List Step
   pub port : P
+
+-- the steps that were read behind earlier ones
+abbrev pub read_in : List Step → Beginning → List Step
+read_in earlier read = drop (length earlier) read.steps
+
+-- some steps of this history were read behind earlier ones
+abbrev pub IsReadIn : TableId → List Step → Beginning → Type 0
+IsReadIn history earlier read = HasReadSettled history earlier (read_in earlier read) read
+
+-- This holds in some state that the engine can have, whose settled steps are those that have been read now. They begin with those that were read before.
+pub record AtMomentTold {D : Type 0} (b : Basis D) (before now : List Step) (P : GuardedState D → Type 0) : Type 0 where
+  pub at : AtSomeMoment b (λ g. P g × (settled_steps g.ledger.log ≡ now))
+  pub begins : StartsWith now before
 
 -- a step was submitted, and its ticket is this claim
 abbrev pub AcceptsOrder : {D : Type 0} → Basis D → Step → Claim → List Note → List Note → Type 0
 AcceptsOrder {D} b s claim before after = AtSomeMoment b (Submits {D = D} s (Ok claim) before after)
 
--- A reply is given once its step is settled. A refusal is one of the submitting, or it comes while the reply is waited for: then the step was accepted, and a repeat of its number tells.
-abbrev pub AnswersOrder : {D : Type 0} → Basis D → Step → Result Reply Refusal → List Note → List Note → Type 0
-AnswersOrder {D} b s (Ok reply) before after = (claim : Claim) × AcceptsOrder b s claim before after × AtSomeMoment b (λ g. CollectsAs {D = D} g.ledger claim (Settled reply))
-AnswersOrder {D} b s (Err refusal) before after =
-    AtSomeMoment b (Submits {D = D} s (Err refusal) before after)
-    ⊎ ((claim : Claim) × AcceptsOrder b s claim before after × AtSomeMoment b (λ g. CollectsAs {D = D} g.ledger claim (Refused refusal claim)))
+-- what is said to a step that was posted, where these steps were read before and these now: its reply once it is settled, or why there will be none
+abbrev pub Replies : {D : Type 0} → Basis D → Result Claim Refusal → Result Reply Refusal → List Step → List Step → Type 0
+Replies {D} b (Ok claim) (Ok reply) before now = AtMomentTold b before now (λ g. CollectsAs {D = D} g.ledger claim (Settled reply))
+Replies {D} b (Ok claim) (Err refusal) before now = AtMomentTold b before now (λ g. CollectsAs {D = D} g.ledger claim (Refused refusal claim))
+Replies {D} b (Err why) (Ok reply) before now = ⊥
+Replies {D} b (Err why) (Err refusal) before now = (refusal ≡ why) × (now ≡ before)
+
+-- A reply is given once its step is settled. A refusal is one of the submitting, or it comes while the reply is waited for: then the step was accepted, and a repeat of its number tells. The lists of steps: what was read before and now.
+abbrev pub AnswersOrder : {D : Type 0} → Basis D → Step → Result Reply Refusal → List Note → List Note → List Step → List Step → Type 0
+AnswersOrder {D} b s (Ok reply) before after read now = (claim : Claim) × AcceptsOrder b s claim before after × AtMomentTold b read now (λ g. CollectsAs {D = D} g.ledger claim (Settled reply))
+AnswersOrder {D} b s (Err refusal) before after read now =
+    (AtSomeMoment b (Submits {D = D} s (Err refusal) before after) × (now ≡ read))
+    ⊎ ((claim : Claim) × AcceptsOrder b s claim before after × AtMomentTold b read now (λ g. CollectsAs {D = D} g.ledger claim (Refused refusal claim)))
+
+-- the settled world is shown as it is after the steps that have been read now; or not, for a reason that holds then
+abbrev pub ShowsTo : {D : Type 0} → Basis D → Result shown.Shown Refusal → ℕ → ℕ → List Step → List Step → Type 0
+ShowsTo {D} b (Ok view) seen later before now = AtMomentTold b before now (Shows {D = D} view seen later)
+ShowsTo {D} b (Err refusal) seen later before now = AtMomentTold b before now (RefusesShow {D = D} refusal seen) × (later ≡ seen)
 
 abbrev pub seen_after : Result Reply Refusal → ℕ → ℕ
 seen_after (Ok reply) seen = max seen reply.step
 seen_after (Err refusal) seen = seen
-
--- what is said to a step that was posted: its reply once it is settled, or why there will be none
-abbrev pub Replies : {D : Type 0} → Basis D → Result Claim Refusal → Result Reply Refusal → Type 0
-Replies {D} b (Ok claim) (Ok reply) = AtSomeMoment b (λ g. CollectsAs {D = D} g.ledger claim (Settled reply))
-Replies {D} b (Ok claim) (Err refusal) = AtSomeMoment b (λ g. CollectsAs {D = D} g.ledger claim (Refused refusal claim))
-Replies {D} b (Err why) (Ok reply) = ⊥
-Replies {D} b (Err why) (Err refusal) = refusal ≡ why
 
 -- how many packets were sent again
 abbrev pub Resends : {D : Type 0} → Basis D → Result ℕ Refusal → Type 0
@@ -59,20 +80,20 @@ HandsAgain {D} b carried signalled handed_on count port later =
 
 abbrev pub DeskAnswers : {D P : Type 0} → Basis D → DeskState P → Request → Answer → DeskState P → Type 0
 DeskAnswers {D} b d (request.Order client number command) answer e =
-    (result : Result Reply Refusal) × (answer ≡ order_answer result) × AnswersOrder b (step.Order client number command) result d.notes e.notes × (e.seen ≡ seen_after result d.seen) × (e.port ≡ d.port)
+    (result : Result Reply Refusal) × (answer ≡ order_answer result) × AnswersOrder b (step.Order client number command) result d.notes e.notes d.read e.read × (e.seen ≡ seen_after result d.seen) × (e.port ≡ d.port)
 DeskAnswers {D} b d request.Show answer e =
-    (result : Result shown.Shown Refusal) × (answer ≡ show_answer result) × AnswersShow b result d.seen e.seen × (e.notes ≡ d.notes) × (e.port ≡ d.port)
-DeskAnswers {D} b d request.Resend answer e = (result : Result ℕ Refusal) × (answer ≡ resend_answer result) × Resends b result × (e.notes ≡ d.notes) × (e.seen ≡ d.seen)
+    (result : Result shown.Shown Refusal) × (answer ≡ show_answer result) × ShowsTo b result d.seen e.seen d.read e.read × (e.notes ≡ d.notes) × (e.port ≡ d.port)
+DeskAnswers {D} b d request.Resend answer e = (result : Result ℕ Refusal) × (answer ≡ resend_answer result) × Resends b result × (e.notes ≡ d.notes) × (e.seen ≡ d.seen) × (e.read ≡ d.read)
 DeskAnswers {D} b d request.Close answer e = (answer ≡ Closed) × (e ≡ d)
 
 -- an order is submitted, and nothing more of the settled world is known; nothing else is posted
 abbrev pub DeskPosts : {D P : Type 0} → Basis D → DeskState P → Request → Result Claim Refusal → DeskState P → Type 0
-DeskPosts {D} b d (request.Order client number command) posted e = AtSomeMoment b (Submits {D = D} (step.Order client number command) posted d.notes e.notes) × (e.seen ≡ d.seen) × (e.port ≡ d.port)
+DeskPosts {D} b d (request.Order client number command) posted e = AtSomeMoment b (Submits {D = D} (step.Order client number command) posted d.notes e.notes) × (e.seen ≡ d.seen) × (e.read ≡ d.read) × (e.port ≡ d.port)
 DeskPosts {D} b d request posted e = ⊥
 
 -- once an order was accepted its reply is waited for, and nothing more is noted
 abbrev pub DeskReplies : {D P : Type 0} → Basis D → DeskState P → Result Claim Refusal → Result Reply Refusal → DeskState P → Type 0
-DeskReplies {D} b d posted reply e = Replies b posted reply × (e.notes ≡ d.notes) × (e.seen ≡ seen_after reply d.seen) × (e.port ≡ d.port)
+DeskReplies {D} b d posted reply e = Replies b posted reply d.read e.read × (e.notes ≡ d.notes) × (e.seen ≡ seen_after reply d.seen) × (e.port ≡ d.port)
 
 -- how many steps its engine has kept at some moment, and no fewer than the desk has noted itself
 abbrev pub DeskKeeps : {D P : Type 0} → Basis D → DeskState P → ℕ → Type 0

@@ -1,6 +1,7 @@
 pub mod Ending
 pub mod EngineDesk
 pub mod Halves
+pub mod InOrder
 pub mod Lines
 pub mod Lives
 pub mod Moments

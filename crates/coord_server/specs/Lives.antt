@@ -7,6 +7,7 @@ use Rattle.coord_store.specs.Kept.{Kept, has_stopped}
 use Rattle.coord_world.specs.laws.Trails.{IsTrail}
 use Rattle.coord_world.specs.Facade.{StepOutcome, World, fold, outs}
 use Rattle.coord_admin.specs.Connections.{Talk}
+use Rattle.coord_engine.specs.Facade.{StartsWith, first_settled}
 use Rattle.coord_engine.specs.State.{Basis, based_on}
 use Rattle.coord_engine.specs.declared.closed.Closed.{Closed}
 use Rattle.coord_server.specs.EngineDesk.{DeskState}
@@ -57,13 +58,14 @@ module _ {D : Type 0} (m : DiskModel D) {V : Type 0} (talked : V → List Talk �
   abbrev pub begun_over : World → Basis D
   begun_over world = based_on m world []
 
-  -- A life from this world that rests: no line has closed it, it has kept the steps of a life, it is one history, all that was accepted is settled, and its store has not stopped. The next one begins over the world of that store.
+  -- A life from this world that rests: no line has closed it, it has kept the steps of a life, it is one history, all that was accepted is settled, of the first of which its desk told, and its store has not stopped. The next one begins over the world of that store.
   pub record Rests (began : World) (v : V) (life : LifeRun D V) : Type 0 where
     pub served : ServedWhileOpen (begun_over began) talked most life.port v life.callers life.desk
     pub old : most ≤ length life.left.trail.items
     pub history : IsOneHistory (begun_over began) life.desk life.left
     pub all_settled : life.left.settled ≡ life.left.base.count + length life.left.trail.items
     pub going : has_stopped life.left.store ≡ false
+    pub told : StartsWith (first_settled life.left.base life.left.trail.items life.left.settled) life.desk.read
 
   -- lives that rest, each of which begins where the one before ended, and then this world is there, and those are who call
   abbrev pub HaveRested : World → V → List (LifeRun D V) → World → V → Type 0
@@ -72,10 +74,11 @@ module _ {D : Type 0} (m : DiskModel D) {V : Type 0} (talked : V → List Talk �
 
 -- `failed v w`: those who call were v, and have failed
 module _ {D : Type 0} (m : DiskModel D) {V : Type 0} (talked : V → List Talk → V → Type 0) (failed : V → V → Type 0) (most : ℕ) where
-  -- The last life of a server, from this world, where this ended it: its desk served until then, and so its engine was left.
+  -- The last life of a server, from this world, where this ended it: its desk served until then, and told of settled steps; and so its engine was left.
   pub record IsLast (began : World) (v : V) (life : LifeRun D V) (why : Option ServerFault) : Type 0 where
     pub served : Serves (based_on m began []) talked failed most life.port v life.callers life.desk why
     pub history : IsLeftAs (based_on m began []) life.desk life.left why
+    pub told : StartsWith (first_settled life.left.base life.left.trail.items life.left.settled) life.desk.read
 
   -- these are the lives of a server that ended for this, and left these: each but the last rests, and the next one begins where it ended
   abbrev pub AreLives : World → V → List (LifeRun D V) → Option ServerFault → Closed D → V → Type 0

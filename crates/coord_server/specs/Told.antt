@@ -8,7 +8,7 @@ use Rattle.coord_store.specs.Kept.{has_stopped}
 use Rattle.coord_store.specs.Recovered.{Recovered}
 use Rattle.coord_world.specs.Facade.{StepOutcome, fold, outs}
 use Rattle.coord_ledger.specs.declared.ticket.Note.{Note}
-use Rattle.coord_ledger.specs.Facade.{IsCollectable}
+use Rattle.coord_ledger.specs.Facade.{IsCollectable, settled_steps}
 use Rattle.coord_engine.specs.State.{Basis}
 use Rattle.coord_engine.specs.Threads.{AtSomeMoment}
 use Rattle.coord_engine.specs.declared.closed.Closed.{Closed}
@@ -22,14 +22,14 @@ use Rattle.coord_lines.specs.Written.{IsFirstPart}
 use Rattle.coord_server.specs.EngineDesk.{AnswersOrder, DeskKeeps, DeskState}
 use Rattle.coord_server.specs.Ending.{IsClosed, IsOneHistory, ServedWhileOpen}
 
--- An order that is told a reply was noted just then, with the number and the kind that it is told; or nothing was, since it repeats one. At some moment of that life the step was settled: the log had it at that number and answered it with that kind, or the base kept that reply for that order.
-pub record NamesItsStep {D : Type 0} (b : Basis D) (s : Step) (reply : Reply) (before after : List Note) : Type 0 where
+-- An order that is told a reply was noted just then, with the number and the kind that it is told; or nothing was, since it repeats one. Of these settled steps, which were read by then, that of this number is the order, and was answered with that kind; or the base kept that reply for that order.
+pub record NamesItsStep {D : Type 0} (b : Basis D) (s : Step) (reply : Reply) (before after : List Note) (read : List Step) : Type 0 where
   pub noted : (after ≡ before ++ record { step = reply.step; what = s; kind = reply.kind } ∷ []) ⊎ (after ≡ before)
-  pub settled : AtSomeMoment b (λ g. IsCollectable g.ledger.log (record { step = reply.step; what = s; kind = reply.kind }))
+  pub settled : AtSomeMoment b (λ g. IsCollectable g.ledger.log (record { step = reply.step; what = s; kind = reply.kind }) × (settled_steps g.ledger.log ≡ read))
 
 -- each reply that a desk gives to an order names its step
 abbrev pub RepliesNameSteps : Type 0 → Type 0
-RepliesNameSteps D = (b : Basis D) (s : Step) (reply : Reply) (before after : List Note) → AnswersOrder b s (Ok reply) before after → NamesItsStep b s reply before after
+RepliesNameSteps D = (b : Basis D) (s : Step) (reply : Reply) (before after : List Note) (read now : List Step) → AnswersOrder b s (Ok reply) before after read now → NamesItsStep b s reply before after now
 
 -- the step of a note stands in what is left of a life at the note's number, and what is left gives it the reply that the note has
 pub record IsReplied {D : Type 0} (left : Closed D) (note : Note) : Type 0 where

@@ -1,13 +1,14 @@
 //! A desk over an engine.
 
-ghost use Rattle.std.specs.Prelude.{◌≡◌, IfOk};
+ghost use Rattle.std.specs.Prelude.{◌≡◌, [], IfOk};
 ghost use Rattle.coord_types.specs.declared.refusals.Refusal.TheVariants.{OutOfMemory};
+ghost use Rattle.coord_engine.specs.Released.{HasReadSettled};
 ghost use Rattle.coord_engine.specs.State.{based_on};
-ghost use Rattle.coord_server.specs.EngineDesk.{HandsAgain, Replies, Resends};
+ghost use Rattle.coord_server.specs.EngineDesk.{HandsAgain, IsReadIn, Replies, Resends, read_in};
 
 use coord_admin::Desk;
 use coord_disk::Disk;
-use coord_engine::{Engine, Origin, Port, Share, hand_over};
+use coord_engine::{Engine, Origin, Port, Reader, Share, hand_over};
 use coord_ledger::{Seen, Ticket};
 use coord_types::{Client, Command, Refusal, Reply, Step};
 use coord_view::View;
@@ -15,7 +16,8 @@ use std::marker::Model;
 use std::sync::Wait;
 
 /// Asks an engine, and hands what is to be sent again to a port. Contracts see the notes of its
-/// share, how much it has seen, and the port.
+/// share, how much it has seen, the settled steps that it has read, and the port. What it answers is so
+/// after the steps that it has read then.
 #[derive(Drop)]
 pub struct EngineDesk<'a, D: Disk, L: Origin, P: Port, R: Wait> {
     rt: &'a R,
@@ -23,20 +25,36 @@ pub struct EngineDesk<'a, D: Disk, L: Origin, P: Port, R: Wait> {
     port: P,
     share: Share<L>,
     seen: Seen,
+    /// Has read the settled steps of which the desk told.
+    reader: Reader,
 }
 
 impl<'a, D: Disk, L: Origin, P: Port, R: Wait> Model for EngineDesk<'a, D, L, P, R> {
-    ghost use Rattle.coord_server.specs.EngineDesk.{DeskState};
+    ghost use Rattle.coord_server.specs.EngineDesk.{DeskState, IsReadIn, read_in};
 
     ghost Value = { DeskState P };
 
-    ghost view = { λ d. record { notes = d.share; seen = d.seen; port = d.port } };
+    ghost view = { λ d. record {
+      notes = d.share;
+      seen = d.seen;
+      read = read_in L.earlier d.reader;
+      port = d.port;
+    } };
+
+    ghost invariant = { λ d. IsReadIn L.history L.earlier d.reader };
 }
 
 impl<'a, D: Disk, L: Origin, P: Port + Drop, R: Wait> EngineDesk<'a, D, L, P, R> {
-    /// A desk that has seen nothing yet.
-    pub fn new(rt: &'a R, engine: &'a Engine<D, L>, port: P, share: Share<L>) -> Self
-        ensures { result ≡ record { notes = share; seen = 0; port = port } }
+    /// A desk that has seen nothing yet, with a reader that has read the steps of earlier lives.
+    pub fn new(
+        rt: &'a R,
+        engine: &'a Engine<D, L>,
+        port: P,
+        share: Share<L>,
+        reader: Reader,
+    ) -> Self
+        requires { reader ≡ record { history = L.history; steps = L.earlier } }
+        ensures { result ≡ record { notes = share; seen = 0; read = []; port = port } }
     {
         EngineDesk {
             rt,
@@ -44,13 +62,16 @@ impl<'a, D: Disk, L: Origin, P: Port + Drop, R: Wait> EngineDesk<'a, D, L, P, R>
             port,
             share,
             seen: Seen::new(),
+            reader,
         }
     }
 
-    /// The desk's share, with the notes of what was accepted for it, and what the desk has seen.
-    pub fn into_parts(self) -> (Share<L>, Seen)
+    /// The desk's share, with the notes of what was accepted for it, what the desk has seen, and its
+    /// reader.
+    pub fn into_parts(self) -> (Share<L>, Seen, Reader)
         ensures notes { result.0 ≡ self.entry.notes }
         ensures seen { result.1 ≡ self.entry.seen }
+        ensures read { HasReadSettled L.history L.earlier self.entry.read result.2 }
     {
         let EngineDesk {
             rt: _,
@@ -58,22 +79,27 @@ impl<'a, D: Disk, L: Origin, P: Port + Drop, R: Wait> EngineDesk<'a, D, L, P, R>
             port: _,
             share,
             seen,
+            reader,
         } = self;
-        (share, seen)
+        (share, seen, reader)
     }
 }
 
-/// Wakes the flusher, and waits for the reply to a step.
+/// Wakes the flusher, and waits for the reply to a step. A reader reads on.
 fn collect<D: Disk, L: Origin, R: Wait>(
     rt: &R,
     engine: &Engine<D, L>,
     posted: Result<Ticket, Refusal>,
+    reader: &mut Reader,
 ) -> Result<Reply, Refusal>
-    ensures { Replies (based_on D.model L.base L.before) posted result }
+    requires { IsReadIn L.history L.earlier reader.old }
+    ensures replied { Replies (based_on D.model L.base L.before) posted result
+        (read_in L.earlier reader.old) (read_in L.earlier reader.new) }
+    ensures read { IsReadIn L.history L.earlier reader.new }
 {
     let ticket = posted?;
     engine.wake_flusher(rt);
-    match engine.collect(rt, ticket) {
+    match engine.collect(rt, ticket, reader) {
         Ok(reply) => Ok(reply),
         Err((refusal, ticket)) => {
             ticket.forget();
@@ -129,13 +155,13 @@ impl<'a, D: Disk, L: Origin, P: Port, R: Wait> Desk for EngineDesk<'a, D, L, P, 
     }
 
     fn reply(&mut self, posted: Result<Ticket, Refusal>) -> Result<Reply, Refusal> {
-        let reply = collect(self.rt, self.engine, posted)?;
+        let reply = collect(self.rt, self.engine, posted, &mut self.reader)?;
         self.seen.note(reply.step);
         Ok(reply)
     }
 
     fn show(&mut self) -> Result<View, Refusal> {
-        self.engine.show(self.rt, &mut self.seen)
+        self.engine.show(self.rt, &mut self.seen, &mut self.reader)
     }
 
     fn resend(&mut self) -> Result<u64, Refusal>

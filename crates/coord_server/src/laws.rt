@@ -2,6 +2,7 @@
 //! contracts are the laws.
 
 ghost use Rattle.std.specs.Prelude.{ℕ};
+ghost use Rattle.coord_server.specs.InOrder.{ToldInOrder};
 ghost use Rattle.coord_server.specs.Lives.{LivesAreOne};
 ghost use Rattle.coord_server.specs.Told.{LivesLeaveSteps, NotesAreReplies, NotesEndALife, RepliesNameSteps, ToldIsSettled};
 ghost use Rattle.coord_server.specs.WorkedTold.{TellUpToThird};
@@ -34,6 +35,13 @@ pub fn notes_are_replies<D: Disk, P: Port>()
 /// left: no reply has a greater number, and no world that was shown counts more steps as settled.
 pub fn told_is_settled<D: Disk, C: Callers, P: Port>()
     ensures { ToldIsSettled D P C.talked }
+{}
+
+/// What the desk of a life told or showed, over one connection after the other, is borne out by the
+/// settled steps that it had read then: a reply is that of the order's own step, and a view that of the
+/// world after them. None goes back behind those of an answer before.
+pub fn told_in_order<D: Disk, C: Callers, P: Port>()
+    ensures { ToldInOrder D P C.talked }
 {}
 
 /// The reply to the third step and a world with three settled steps tell of three steps, and not of

@@ -1,6 +1,7 @@
 //! One life of a server: an engine with its threads, from a store to what is left of it.
 
 ghost use Rattle.std.specs.Prelude.{◌≡◌, ◌≤◌, [], false, length, IfErr, IfOk, IfSome, None, Some};
+ghost use Rattle.coord_engine.specs.History.{StartsWith};
 ghost use Rattle.coord_engine.specs.Past.{IsPastOf, StaysAlong};
 ghost use Rattle.coord_engine.specs.Released.{MayTell};
 ghost use Rattle.coord_engine.specs.State.{based_on};
@@ -19,7 +20,7 @@ use crate::{ServerFault, Telling, WORKERS};
 use coord_admin::Callers;
 use coord_disk::Disk;
 use coord_engine::{
-    CloseFault, Closed, Engine, History, Origin, PacketShare, Retired, Share, Writer,
+    CloseFault, Closed, Engine, History, Origin, PacketShare, Reader, Retired, Share, Writer,
 };
 use coord_ledger::{Ledger, Seen};
 use coord_store::Store;
@@ -153,12 +154,14 @@ fn serve_ledger<
         result.closed.trail.items result.closed.store.disk }
     ensures written { HasWritten L.history L.earlier result.closed result.writer }
 {
+    let mut writer = writer;
+    let reader = writer.reader(&history);
     let engine: Engine<D, L> = Engine::new(setting.alloc, blank, history, writer, ledger);
-    let Some(begun) = begin(setting, &engine) else {
+    let Some(begun) = begin(setting, &engine, reader) else {
         return unbegun(setting, engine, callers);
     };
     match run(setting, &engine, begun, callers, opening) {
-        Ok(completed) => retired(setting.rt, engine, completed),
+        Ok(completed) => retired(setting.rt, setting.history, engine, completed),
         Err((callers, opening)) => {
             drop(opening);
             unbegun(setting, engine, callers)
@@ -171,7 +174,10 @@ fn serve_ledger<
 fn begin<D: Disk, L: Origin, O: Telling, R: Wait>(
     setting: &Setting<'_, R, O>,
     engine: &Engine<D, L>,
-) -> Option<Begun<L>> {
+    reader: Reader,
+) -> Option<Begun<L>>
+    requires { reader ≡ record { history = L.history; steps = L.earlier } }
+{
     let own = share_with_room(setting.rt, engine)?;
     let flusher_share = PacketShare::new(share_with_room(setting.rt, engine)?);
     let room = Vec::with_capacity(setting.alloc, usize::from(WORKERS) + 2).ok()?;
@@ -179,6 +185,7 @@ fn begin<D: Disk, L: Origin, O: Telling, R: Wait>(
     setting.port.connect(to);
     Some(Begun {
         own,
+        reader,
         flusher_share,
         room,
         packets,
@@ -223,17 +230,21 @@ fn unbegun<D: Disk, L: Origin, C, O: Telling, R: Wait + Clock>(
 }
 
 /// What is left of a life whose threads have run, once its engine is taken apart with all shares; or,
-/// where the engine refuses them, whatever they noted.
+/// where the engine refuses them, whatever they noted. What is written begins with what the desk has read.
 fn retired<D: Disk, L: Origin, C: Callers, R: Wait + Clock>(
     rt: &R,
+    history: &History,
     engine: Engine<D, L>,
     completed: JoinedThreads<L, C>,
 ) -> Life<D, C>
     requires parts { L.parts ≡ 65536 }
     requires all { length completed.shares.items ≡ 10 }
+    requires here { history.now ≡ L.history }
+    requires own { completed.reader.history ≡ L.history }
     ensures callers { result.callers ≡ completed.callers }
     ensures left { LeavesShares (based_on D.model L.base L.before) completed.shares.items
         completed.seen completed.left result }
+    ensures begins { StartsWith (result.writer).steps completed.reader.steps }
     ensures along { StaysAlong D.model L.disk L.base
         result.closed.trail.items result.closed.store.disk }
     ensures written { HasWritten L.history L.earlier result.closed result.writer }
@@ -241,14 +252,16 @@ fn retired<D: Disk, L: Origin, C: Callers, R: Wait + Clock>(
     let JoinedThreads {
         shares,
         seen,
+        reader,
         callers,
         left,
     } = completed;
     let Retired {
         closed,
-        writer,
+        mut writer,
         refused,
     } = engine.retire(rt, shares, &seen);
+    writer.take_back(history, reader);
     Life {
         closed,
         writer,

@@ -1,12 +1,13 @@
 //! The threads of one life of a server, while connections are served.
 
-ghost use Rattle.std.specs.Prelude.{◌≡◌, ◌⊎◌, ◌+◌, ◌≤◌, [], ◌∷◌, ℕ, IfErr, IfOk, IfSome, IsErr, None, Some, length, vec_capacity, vec_len};
+ghost use Rattle.std.specs.Prelude.{◌≡◌, ◌⊎◌, ◌+◌, ◌≤◌, [], ◌∷◌, List, ℕ, IfErr, IfOk, IfSome, IsErr, None, Some, length, vec_capacity, vec_len};
 ghost use Rattle.std.specs.Thread.{IsSend, IsSync};
-ghost use Rattle.coord_engine.specs.Released.{MayTell};
+ghost use Rattle.coord_engine.specs.Released.{HasReadSettled, MayTell};
 ghost use Rattle.coord_engine.specs.State.{based_on};
 ghost use Rattle.coord_server.specs.EngineDesk.{HandsAgain};
 ghost use Rattle.coord_server.specs.Ending.{AddsWorkers, EndsUnopened, HasRun, Local, ServesLife, new_desk};
 ghost use Rattle.coord_server.specs.Signals.{MaySignal};
+ghost use Rattle.coord_types.specs.declared.steps.Step.{Step};
 
 use crate::life_end::LifeEnd;
 use crate::printing::Opening;
@@ -15,7 +16,7 @@ use crate::{EngineDesk, ServerFault, Telling};
 use coord_admin::{Callers, Desk, Stop, serve_connections};
 use coord_disk::Disk;
 use coord_engine::{
-    Engine, Origin, PacketShare, Port, Share, SubmittingPort, flusher, packet_worker,
+    Engine, Origin, PacketShare, Port, Reader, Share, SubmittingPort, flusher, packet_worker,
 };
 use coord_ledger::Seen;
 use coord_types::Packet;
@@ -28,9 +29,11 @@ use std::time::Clock;
 
 /// What the threads of a life begin with.
 #[derive(Drop)]
-pub struct Begun<L: Count> {
+pub struct Begun<L: Origin> {
     /// The desk's share.
     pub own: Share<L>,
+    /// The desk's reader, which has read the steps of earlier lives.
+    pub reader: Reader,
     /// The flusher's.
     pub flusher_share: PacketShare<L>,
     /// Room for all shares: none of them may be lost for want of memory.
@@ -38,15 +41,18 @@ pub struct Begun<L: Count> {
     /// What the workers receive.
     pub packets: Vec<Receiver<Vec<Packet>>>,
     pub ghost unused: { own ≡ [] },
+    pub ghost unread: { reader ≡ record { history = L.history; steps = L.earlier } },
     pub ghost has_room: { (room.items ≡ []) × (10 ≤ vec_capacity room) },
     pub ghost eight: { length packets.items ≡ 8 },
 }
 
-/// What they leave once all have ended: all shares, the desk's first, and what the desk has seen.
+/// What they leave once all have ended: all shares, the desk's first, what the desk has seen, and what
+/// has read the steps of which it told.
 #[derive(Drop)]
 pub struct JoinedThreads<L: Count, C> {
     pub shares: Vec<Share<L>>,
     pub seen: Seen,
+    pub reader: Reader,
     pub callers: C,
     pub left: LifeEnd,
 }
@@ -80,7 +86,8 @@ pub fn run<
     requires { MayTell L.history L.earlier L.base (MaySignal O.history O.gives) }
     ensures completed { IfOk result (λ completed.
         HasRun (based_on D.model L.base L.before) C.talked C.failed setting.now.life_steps
-        callers completed.callers completed.left completed.shares.items completed.seen) }
+        L.history L.earlier callers completed.callers completed.left completed.shares.items
+        completed.seen completed.reader) }
     ensures unserved { IfErr result (λ back. (back.0 ≡ callers) × (back.1 ≡ opening)) }
 {
     thread::scope(
@@ -91,8 +98,8 @@ pub fn run<
                 MayTell L.history L.earlier L.base (MaySignal O.history O.gives) }
             ensures completed { IfOk result (λ completed.
                 HasRun (based_on D.model L.base L.before) C.talked C.failed
-                setting.entry.now.life_steps callers completed.callers completed.left
-                completed.shares.items completed.seen) }
+                setting.entry.now.life_steps L.history L.earlier callers completed.callers
+                completed.left completed.shares.items completed.seen completed.reader) }
             ensures unserved { IfErr result (λ back. (back.0 ≡ callers) × (back.1 ≡ opening)) }
         { run_in(scope, setting, engine, begun, callers, opening) },
     )
@@ -121,12 +128,14 @@ fn run_in<
     requires { MayTell L.history L.earlier L.base (MaySignal O.history O.gives) }
     ensures completed { IfOk result (λ completed.
         HasRun (based_on D.model L.base L.before) C.talked C.failed setting.now.life_steps
-        callers completed.callers completed.left completed.shares.items completed.seen) }
+        L.history L.earlier callers completed.callers completed.left completed.shares.items
+        completed.seen completed.reader) }
     ensures unserved { IfErr result (λ back. (back.0 ≡ callers) × (back.1 ≡ opening)) }
 {
     let rt = setting.rt;
     let Begun {
         own,
+        reader,
         flusher_share,
         room,
         packets,
@@ -137,7 +146,8 @@ fn run_in<
         return Err((callers, opening));
     };
     let mut callers = callers;
-    let (own, seen, left) = serve_over(setting, &*engine, &crew, own, &mut callers, opening);
+    let (own, seen, reader, left) =
+        serve_over(setting, &*engine, &crew, own, reader, &mut callers, opening);
     let Crew { flushing, workers } = crew;
     engine.finish(rt);
     let flushed = flushing.join(rt);
@@ -145,6 +155,7 @@ fn run_in<
     Ok(JoinedThreads {
         shares: all_joined(rt, room, own, flushed, workers),
         seen,
+        reader,
         callers,
         left,
     })
@@ -261,25 +272,29 @@ fn start_worker<
 }
 
 /// Opens the output, and serves those who call by a desk with this share, while a crew is at work.
-/// The share, what the desk has seen, and what ended that.
+/// The share, what the desk has seen, its reader, and what ended that.
 fn serve_over<D: Disk, L: Origin, C: Callers, O: Telling, R: Wait>(
     setting: &Setting<'_, R, O>,
     engine: &Engine<D, L>,
     _crew: &Crew<L>,
     own: Share<L>,
+    reader: Reader,
     callers: &mut C,
     opening: Option<Opening>,
-) -> (Share<L>, Seen, LifeEnd)
-    requires { own ≡ [] }
-    ensures { (port : Local) × (later : Local) × ServesLife
+) -> (Share<L>, Seen, Reader, LifeEnd)
+    requires unused { own ≡ [] }
+    requires unread { reader ≡ record { history = L.history; steps = L.earlier } }
+    ensures { (port : Local) × (later : Local) × (read : List Step) × ServesLife
         (based_on D.model L.base L.before) C.talked C.failed setting.now.life_steps port
-        callers.old callers.new (record { notes = result.0; seen = result.1; port = later }) result.2 }
+        callers.old callers.new
+        (record { notes = result.0; seen = result.1; read = read; port = later }) result.3 ×
+        HasReadSettled L.history L.earlier read result.2 }
 {
     let opened = open(setting.rt, &*callers, opening);
-    let mut desk = EngineDesk::new(setting.rt, engine, setting.port, own);
+    let mut desk = EngineDesk::new(setting.rt, engine, setting.port, own, reader);
     let left = serve_clients(setting, opened, callers, &mut desk);
-    let (own, seen) = desk.into_parts();
-    (own, seen, left)
+    let (own, seen, reader) = desk.into_parts();
+    (own, seen, reader, left)
 }
 
 /// Opens the output, where that was not done before; or says how the life ends where it can't be opened.

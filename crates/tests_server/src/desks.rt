@@ -9,7 +9,7 @@ ghost use Rattle.std.specs.Thread.{IsSend, IsSync};
 use crate::rings::created;
 use coord_admin::{Desk, Halves, serve};
 use coord_disk::{Disk, MemDisk};
-use coord_engine::{Closed, Engine, History, Origin, Share, Writer, flusher};
+use coord_engine::{Closed, Engine, History, Origin, Reader, Share, Writer, flusher};
 use coord_ledger::{Ledger, Seen, View};
 use coord_server::{EngineDesk, LocalPort, Telling};
 use coord_types::{Client, Command, Group, NodeId, Refusal, Reply, Step};
@@ -188,9 +188,11 @@ fn run<
     alloc: Global,
     engine: &Engine<D, L>,
     port: &LocalPort<&R, O>,
+    reader: Reader,
     lines: &Lines<'_>,
 ) -> (Share<L>, Seen, bool)
-    requires { MayTell L.history L.earlier L.base (MaySignal O.history O.gives) }
+    requires tell { MayTell L.history L.earlier L.base (MaySignal O.history O.gives) }
+    requires unread { reader ≡ record { history = L.history; steps = L.earlier } }
 {
     let is_waiting = AtomicBool::new(false);
     thread::scope(
@@ -198,11 +200,12 @@ fn run<
         rt,
         |scope| -> (Share<L>, Seen, bool)
             requires { IsSend D.row × IsSend L.row × IsSync L.row × IsSync R.row × IsSend O.row × IsSync O.row ×
+                (reader ≡ record { history = L.history; steps = L.earlier }) ×
                 MayTell L.history L.earlier L.base (MaySignal O.history O.gives) }
         {
             let own = engine.share(rt).expect(rt, "no share");
             let mut front = Front {
-                desk: EngineDesk::new(rt, engine, port, own),
+                desk: EngineDesk::new(rt, engine, port, own, reader),
                 is_waiting: &is_waiting,
                 forgets: lines.forgets,
             };
@@ -219,7 +222,7 @@ fn run<
             engine.finish(rt);
             flushing.join(rt);
             let Front { desk, .. } = front;
-            let (own, seen) = desk.into_parts();
+            let (own, seen, _reader) = desk.into_parts();
             (own, seen, are_replied)
         },
     )
@@ -238,12 +241,19 @@ fn asks_shared<
     L: Origin + Send + Sync,
     O: Telling + Send + Sync,
     R: Threads + Wait + Clock + Sync + Abort,
->(rt: &R, alloc: Global, engine: &Engine<D, L>, lines: &Lines<'_>) -> (Vec<Share<L>>, Seen)
-    requires { MayTell L.history L.earlier L.base (MaySignal O.history O.gives) }
+>(
+    rt: &R,
+    alloc: Global,
+    engine: &Engine<D, L>,
+    reader: Reader,
+    lines: &Lines<'_>,
+) -> (Vec<Share<L>>, Seen)
+    requires tell { MayTell L.history L.earlier L.base (MaySignal O.history O.gives) }
+    requires unread { reader ≡ record { history = L.history; steps = L.earlier } }
 {
     let other = filled(rt, engine, lines.pending);
     let port = silent_port::<O, R>(rt, alloc);
-    let (own, seen, are_replied) = run(rt, alloc, engine, &port, lines);
+    let (own, seen, are_replied) = run(rt, alloc, engine, &port, reader, lines);
     drop(port);
     assert!(rt; are_replied);
     let shares = Vec::from_array(alloc, [own, other]).expect(rt, "no memory");
@@ -281,8 +291,10 @@ fn asks_engine<
     requires tell { MayTell L.history L.earlier L.base (MaySignal O.history O.gives) }
 {
     assert!(rt; !ledger.is_out());
+    let mut writer = writer;
+    let reader = writer.reader(&history);
     let engine: Engine<D, L> = Engine::new(alloc, blank, history, writer, ledger);
-    let (shares, seen) = asks_shared::<D, L, O, R>(rt, alloc, &engine, lines);
+    let (shares, seen) = asks_shared::<D, L, O, R>(rt, alloc, &engine, reader, lines);
     let (closed, _writer) = engine.close(shares, &seen).ok().expect(rt, "no close");
     has_accepted(rt, &closed, lines);
 }

@@ -1,12 +1,17 @@
-//! What is said to tickets, and what is shown and sent again.
+//! What is said to tickets, and what readers read under the lock.
 
+ghost use Rattle.std.specs.Prelude.{◌≡◌};
 ghost use Rattle.coord_engine.specs.Calls.{CollectsAs};
+ghost use Rattle.coord_engine.specs.History.{StartsWith};
+ghost use Rattle.coord_engine.specs.Released.{HasReadSettled};
+ghost use Rattle.coord_ledger.specs.machine.Log.{settled_steps};
 
 use super::Guarded;
-use crate::{Collected, Origin};
+use crate::{Collected, History, Origin, Reader};
 use coord_disk::Disk;
 use coord_ledger::Ticket;
 use coord_types::Refusal;
+use std::mem::replace;
 
 impl<D: Disk, L: Origin> Guarded<D, L> {
     /// The reply to the ticket's step once it is settled. `Stranger` refuses a ticket of another
@@ -23,5 +28,18 @@ impl<D: Disk, L: Origin> Guarded<D, L> {
             Err(back) if self.ledger.stopped() => Collected::Refused(Refusal::Stopped, back),
             Err(back) => Collected::Waiting(back),
         }
+    }
+
+    /// Has a reader read on, so that it has read all settled steps. They begin with what it had read.
+    pub fn read_on(&mut self, history: &History, reader: &mut Reader)
+        requires here { history.now ≡ L.history }
+        requires own { reader.old.history ≡ L.history }
+        ensures read { HasReadSettled L.history L.earlier
+            (settled_steps self.old.ledger.log) reader.new }
+        ensures begins { StartsWith reader.new.steps reader.old.steps }
+        ensures same { self.new ≡ self.old }
+    {
+        let before = replace(reader, self.writer.reader(history));
+        self.writer.take_back(history, before);
     }
 }

@@ -1,14 +1,18 @@
 use Rattle.std.proofs.Common.{refl}
+use Rattle.coord_engine.specs.Facade.{AtMomentRead, CollectsAs}
 use Rattle.coord_engine.specs.State.{based_on}
+use Rattle.coord_engine.specs.declared.collected.Collected.TheVariants.{Settled, Refused}
+use Rattle.coord_server.proofs.Reading.{read_at, told_at}
 use Rattle.coord_server.proofs.desk.collect.Goals as goal
 
-pub returns-in-Ok : goal.returns-in-Ok
-returns-in-Ok g c =
+pub returns-in-Ok-clause-replied : goal.returns-in-Ok-clause-replied
+returns-in-Ok-clause-replied g c =
     let b = based_on g.D.Disk.model g.L.Origin.base g.L.Origin.before in
-    rw c.in_ok-ticket.was c.in-Ok.ensures
+    rw c.in_ok-ticket.was (told_at b g.L.Origin.history g.L.Origin.earlier c.args.reader.now c.collect.new.reader _ c.requires c.in-Ok.ensures.begins c.in-Ok.ensures.answered)
 
-pub returns-in-Err : goal.returns-in-Err
-returns-in-Err g c =
+pub returns-in-Err-clause-replied : goal.returns-in-Err-clause-replied
+returns-in-Err-clause-replied g c =
     let b = based_on g.D.Disk.model g.L.Origin.base g.L.Origin.before in
-    let told = c.in-Err.ensures in
-    rw c.in_ok-ticket.was (record { state = told.state; held = told.held; so = (refl, told.so.1) })
+    let told = c.in-Err.ensures.answered in
+    rw c.in_ok-ticket.was
+    (told_at b g.L.Origin.history g.L.Origin.earlier c.args.reader.now c.collect.new.reader (λ x. CollectsAs x.ledger c.in_ok-ticket.ticket (Refused c.in-Err.refusal c.in_ok-ticket.ticket)) c.requires c.in-Err.ensures.begins (record { state = told.state; held = told.held; so = ((refl, told.so.0.1), told.so.1) }))

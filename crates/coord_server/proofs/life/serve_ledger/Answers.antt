@@ -7,7 +7,7 @@ pub returns-in-Ok-clause-life : goal.returns-in-Ok-clause-life
 returns-in-Ok-clause-life g c =
     let b = based_on g.D.Disk.model g.L.Origin.base g.L.Origin.before in
     let completed = c.in-Ok.completed in
-    lived b g.C.Callers.talked g.C.Callers.failed c.args.setting.now.life_steps c.args.callers completed.callers completed.left completed.shares.items completed.seen _ c.requires.before.1 c.in-Ok.ensures.completed (search rules) (search rules)
+    lived b g.C.Callers.talked g.C.Callers.failed c.args.setting.now.life_steps g.L.Origin.history g.L.Origin.earlier completed.reader c.args.callers completed.callers completed.left completed.shares.items completed.seen _ c.requires.before.1 c.in-Ok.ensures.completed (search rules) (search rules) c.retired.ensures.written c.retired.ensures.begins
 
 pub returns-in_default-clause-life : goal.returns-in_default-clause-life
 returns-in_default-clause-life g c =

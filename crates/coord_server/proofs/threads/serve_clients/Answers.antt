@@ -7,7 +7,7 @@ use Rattle.coord_server.proofs.threads.serve_clients.Goals as goal
 pub serve_until_old-requires : goal.serve_until_old-requires
 serve_until_old-requires g c =
     let again = c.resend.ensures.answered in
-    begins c.resend.new.self (again.3 ∙ ap (λ d. d.notes) c.requires.new) (again.4 ∙ ap (λ d. d.seen) c.requires.new)
+    begins c.resend.new.self (again.3 ∙ ap (λ d. d.notes) c.requires.new) (again.4 ∙ ap (λ d. d.seen) c.requires.new) (again.5 ∙ ap (λ d. d.read) c.requires.new)
 
 -- the output could not be opened
 pub returns-in-Err-clause-served : goal.returns-in-Err-clause-served
@@ -24,6 +24,6 @@ returns-in_default-resend-clause-served g c =
       c.resend.new.self.port,
       (
         g.met.C.Callers.at_rest c.args.callers.now,
-        begins c.resend.new.self (again.3 ∙ ap (λ d. d.notes) c.requires.new) (again.4 ∙ ap (λ d. d.seen) c.requires.new),
+        begins c.resend.new.self (again.3 ∙ ap (λ d. d.notes) c.requires.new) (again.4 ∙ ap (λ d. d.seen) c.requires.new) (again.5 ∙ ap (λ d. d.read) c.requires.new),
       ),
     )

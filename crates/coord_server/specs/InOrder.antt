@@ -1,0 +1,85 @@
+-- What the answers of a life tell, by its one history: each is borne out by some first settled steps, and none goes back behind the one before.
+use Rattle.std.specs.List.{AllByRecursion}
+use Rattle.std.specs.Prelude.{◌≡◌, ◌⊎◌, ℕ, List, [], ◌∷◌, ◌++◌, Result, Ok, Some, map, slice_get, take}
+use Rattle.coord_types.specs.declared.steps.Reply.{Reply}
+use Rattle.coord_types.specs.declared.steps.Step.{Step}
+use Rattle.coord_types.specs.declared.steps.Step.TheVariants as step
+use Rattle.coord_lines.specs.Lines.{Line, lines_of}
+use Rattle.coord_lines.specs.Written.{IsFirstPart}
+use Rattle.coord_view.specs.Shown.{Shown, shown}
+use Rattle.coord_world.specs.Facade.{World, fold, reply}
+use Rattle.coord_ledger.specs.Facade.{IsKeptBy}
+use Rattle.coord_engine.specs.Facade.{Basis, StartsWith}
+use Rattle.coord_admin.specs.Connections.{Connection, Talk}
+use Rattle.coord_admin.specs.Replies.{reply_line, reply_lines}
+use Rattle.coord_admin.specs.Requests.{asked_by}
+use Rattle.coord_admin.specs.declared.answer.Answer.{Answer}
+use Rattle.coord_admin.specs.declared.answer.Answer.TheVariants as answer
+use Rattle.coord_admin.specs.declared.fault.LineFault.{LineFault}
+use Rattle.coord_admin.specs.declared.request.Request.{Request}
+use Rattle.coord_admin.specs.declared.request.Request.TheVariants as request
+use Rattle.coord_server.specs.EngineDesk.{DeskState}
+use Rattle.coord_server.specs.Ending.{IsClosed, ServedWhileOpen}
+
+-- an answer to a line, and the settled steps of its life by which it is given
+pub record Told : Type 0 where
+  pub line : Line
+  pub answer : Answer
+  pub after : List Step
+
+-- The reply is that to the order's own step: the order stands among these steps, and was answered so there. Or the world before them kept that reply for that order.
+abbrev pub IsOwnReply : World → List Step → Step → Reply → Type 0
+IsOwnReply base steps s r =
+    ((place : ℕ) × (slice_get steps place ≡ Some s) × (reply (fold base (take place steps)) s ≡ r))
+    ⊎ IsKeptBy base (record { step = r.step; what = s; kind = r.kind })
+
+-- a reply is given to an order alone, and is that of its step
+abbrev pub RepliesTo : World → List Step → Reply → Result Request LineFault → Type 0
+RepliesTo base steps r (Ok (request.Order client number command)) = IsOwnReply base steps (step.Order client number command) r
+RepliesTo base steps r asked = ⊥
+
+-- a view is shown to whoever asks for it, and is that of the world after these steps
+abbrev pub ShowsAfter : World → List Step → Shown → Result Request LineFault → Type 0
+ShowsAfter base steps view (Ok request.Show) = (accepted : ℕ) × (view ≡ shown accepted (fold base steps))
+ShowsAfter base steps view asked = ⊥
+
+-- these steps from a world bear out what was answered to what was asked
+abbrev pub BearOut : World → List Step → Result Request LineFault → Answer → Type 0
+BearOut base steps asked (answer.Replied r) = RepliesTo base steps r asked
+BearOut base steps asked (answer.Shown view) = ShowsAfter base steps view asked
+BearOut base steps asked (answer.Refused r) = Unit {0}
+BearOut base steps asked (answer.Resent n) = Unit {0}
+BearOut base steps asked answer.Closed = Unit {0}
+BearOut base steps asked (answer.Faulted f) = Unit {0}
+
+abbrev pub IsBorneOut : World → Told → Type 0
+IsBorneOut base t = BearOut base t.after (asked_by t.line) t.answer
+
+-- the steps by which these are given begin with those by which the one before was, from these on, and lead to those
+abbrev pub GoOn : List Step → List Told → List Step → Type 0
+GoOn first [] last = StartsWith last first
+GoOn first (t ∷ told) last = StartsWith t.after first × GoOn t.after told last
+
+-- What was written over a connection are the answers to its first lines, each borne out by settled steps, of which none goes back behind these first ones, nor behind those of an answer before. In one more line it may break off.
+pub record WritesInOrder (base : World) (first : List Step) (talk : Talk) (last : List Step) : Type 0 where
+  pub told : List Told
+  pub torn : List Told
+  pub left : List Line
+  pub lines : lines_of talk.bytes_read ≡ map (λ t. t.line) (told ++ torn) ++ left
+  pub go_on : GoOn first (told ++ torn) last
+  pub borne_out : AllByRecursion (IsBorneOut base) (told ++ torn)
+  pub part : List ℕ
+  pub broken : ((torn ≡ []) × (part ≡ [])) ⊎ ((t : Told) × (torn ≡ t ∷ []) × IsFirstPart part (reply_line t.answer))
+  pub text_is : talk.bytes_written ≡ reply_lines (map (λ t. t.answer) told) ++ part
+
+-- over these connections, one after the other
+abbrev pub AllInOrder : World → List Step → List Connection → List Step → Type 0
+AllInOrder base first [] last = StartsWith last first
+AllInOrder base first (c ∷ cs) last = (now : List Step) × WritesInOrder base first c.talk now × AllInOrder base now cs last
+
+-- All that the desk of a life told or showed, over one connection after the other, whether or not a line closed it, is borne out so, by the settled steps that the desk has read.
+abbrev pub ToldInOrder : Type 0 → Type 0 → {V : Type 0} → (V → List Talk → V → Type 0) → Type 0
+ToldInOrder D P {V} talked =
+    (b : Basis D) (most : ℕ) (port : P) (v w : V) (desk : DeskState P)
+    → ((served : ServedWhileOpen b talked most port v w desk) → AllInOrder b.base [] served.0 desk.read)
+    × ((served : IsClosed b talked most port v w desk) → AllInOrder b.base [] (served.0 ++ served.1 ∷ []) desk.read)
