@@ -35,14 +35,15 @@ docs/SERVICES.md says what a service has to do, and why.
 
 from .address import Credentials
 from .answers import (Away, Fault, Faulted, Garbled, NotNow, NotTaken, Refusal, Refused, Reply)
+from .at_front import AtFront
 from .errors import BadWords, InLoop, ResetdError, Unreadable, Untrusted
 from .files import Held, hold, keep, read
 from .following import LOOK_SECONDS
 from .gateway import Gateway
 from .limits import CLIENTS, GROUPS, NODES
-from .member import Member, OutOfRun, Run
+from .member import Member, OutOfRun, Run, Work
 from .orders import CountLost, CountNotFound, Orders, find_count
-from .port import Port, TooLong, patiently
+from .port import Past, Port, TooLong, patiently
 from .rule import Due
 from .seats import Served
 from .signals import Clock, Follower, Stream, Wake, Wakes
@@ -55,9 +56,9 @@ from .watching import Watched, views, wakes_of
 __version__ = "0.16.0"  # that of the first heading of CHANGELOG.md
 
 __all__ = [
-    "Away", "BadTopology", "BadWords", "CLIENTS", "Clock", "CountLost", "CountNotFound", "Credentials", "Due", "Fault", "Faulted",
+    "AtFront", "Away", "Work", "BadTopology", "BadWords", "CLIENTS", "Clock", "CountLost", "CountNotFound", "Credentials", "Due", "Fault", "Faulted",
     "Follower", "GROUPS", "Garbled", "Gateway", "Held", "InLoop", "LOOK_SECONDS", "Link", "Member", "NODES", "NoStore", "Node",
-    "NotNow", "NotTaken", "Orders", "OutOfRun", "Port", "Refusal", "Refused", "Reply", "ResetdError", "Restless", "Run", "Served",
+    "NotNow", "NotTaken", "Orders", "OutOfRun", "Past", "Port", "Refusal", "Refused", "Reply", "ResetdError", "Restless", "Run", "Served",
     "Shelf", "Starts", "Stream", "TooLong", "Unreadable", "Untrusted", "View", "Wake", "Wakes", "Watched", "find_count", "hold",
     "keep", "patiently", "read", "views", "wakes_of",
 ]

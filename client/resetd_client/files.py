@@ -10,6 +10,9 @@ from typing import IO
 from .errors import ResetdError, Unreadable
 
 
+SECTOR = 512  # bytes of a file that a disk writes as a whole
+
+
 class Held(ResetdError):
     """Another process holds the folder. Needs a person, unless that process ends by itself."""
 
@@ -52,6 +55,29 @@ def sync_folder(path: str) -> None:
         os.close(folder)
 
 
+def empty(path: str) -> None:
+    """Takes all text out of a file that is there; when it returns, that is on the disk. A cut before leaves the text of
+    before, or nothing: so it takes one sync, and none of the folder."""
+    descriptor = os.open(path, os.O_WRONLY | os.O_CLOEXEC | os.O_NOFOLLOW)
+    try:
+        os.ftruncate(descriptor, 0)
+        os.fdatasync(descriptor)
+    finally:
+        os.close(descriptor)
+
+
+def sync(path: str) -> None:
+    """Syncs a file that is there, and its folder."""
+    if not os.path.exists(path):
+        return
+    descriptor = os.open(path, os.O_RDONLY | os.O_CLOEXEC)
+    try:
+        os.fsync(descriptor)
+    finally:
+        os.close(descriptor)
+    sync_folder(path)
+
+
 def put(path: str, text: str) -> None:
     """Replaces a file's content by a text, as a whole for whoever reads it, and syncs nothing: after a power cut the file
     has an earlier text, or this one, or a part of it, or none."""
@@ -59,6 +85,26 @@ def put(path: str, text: str) -> None:
         file.write(text)
         file.flush()
         os.replace(path + ".new", path)
+
+
+def overwrite(path: str, text: str) -> None:
+    """The same as `put`, for a file that nobody else reads: a short text goes over the old one, with blanks before its last
+    line feed where it is shorter, in one call, which no kill cuts. A longer one is put. No new file is made, and nothing waits for the disk."""
+    try:
+        descriptor = os.open(path, os.O_WRONLY | os.O_CLOEXEC | os.O_NOFOLLOW)
+    except FileNotFoundError:
+        put(path, text)
+        return
+    try:
+        size = os.fstat(descriptor).st_size
+        line = text.rstrip("\n").encode()
+        line += b" " * max(size - 1 - len(line), 0) + b"\n"
+        if len(line) > SECTOR:
+            put(path, text)
+        else:
+            os.pwrite(descriptor, line, 0)
+    finally:
+        os.close(descriptor)
 
 
 def append(path: str, size: int, text: bytes) -> None:
@@ -72,7 +118,7 @@ def append(path: str, size: int, text: bytes) -> None:
         rest = memoryview(text)
         while rest:
             rest = rest[file.write(rest) or 0:]
-        os.fsync(descriptor)
+        os.fsync(descriptor) if is_new else os.fdatasync(descriptor)
     if is_new:
         sync_folder(path)
 

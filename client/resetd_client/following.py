@@ -6,12 +6,13 @@ import random
 import time
 from collections.abc import Callable, Mapping
 
+from .at_front import AtFront
 from .answers import Away, NotTaken, Outcome, Refusal, Refused
 from .bell import Bell
 from .changes import Changes, wait_for
 from .errors import BadWords
 from .orders import Order, Orders, warn
-from .port import patiently
+from .port import Port, patiently
 from .signals import Clock, Wake, Wakes
 from .view import View
 
@@ -19,6 +20,8 @@ LOOK_SECONDS = 30.0  # between two looks, where nothing wakes it
 STOP_SECONDS = 0.1  # of a wait for wake-ups without a descriptor, which is looked into for a `stop`
 FIRST_WAIT = 0.01  # seconds between looks while others are not through: nothing wakes it when another one confirms
 MOST_WAITS = 20  # after which that wait, longer by 1.3 each time, stays as it is: some 2 seconds
+PUSH_SECONDS = 1.0  # for which a view is awaited that a front pushes behind an order
+TOLD_SECONDS = 2.0  # between looks while others are not through, and a front tells of each change
 DOUBT_SECONDS = 0.1  # until it looks after a message of another run: more of them bring no more looks
 
 
@@ -35,8 +38,12 @@ def check_every(seconds: float) -> None:
 class Following:
     """Looks, waits for a wake-up, and looks again. A subclass says how to look, and for how long to wait."""
 
-    def __init__(self, orders: Orders, told: Callable[[str], None] = warn) -> None:
+    port: Port
+
+    def __init__(self, orders: Orders | AtFront, told: Callable[[str], None] = warn) -> None:
         self.orders, self._told = orders, told
+        self._front = orders if isinstance(orders, AtFront) else None
+        self._settled = 0  # how many steps the last view had
         self._bell = Bell()
         self._is_stopping = False  # no lock, since a signal's handler may set it
         self._waits = 0  # looks in a row that did not find the group through
@@ -88,29 +95,57 @@ class Following:
         """How long to wait for a wake-up: less while the group is not through, since nothing wakes a member when another
         one confirms; longer each time, since a member that is down holds the others."""
         self._waits = 0 if is_through else min(self._waits + 1, MOST_WAITS)
+        if not is_through and self._front and self._front.descriptors():
+            return min(every, TOLD_SECONDS)
         return every if is_through else min(every, FIRST_WAIT * 1.3 ** self._waits)
 
-    def _confirm(self, epochs: Mapping[int, int]) -> None:
+    def _view(self) -> View:
+        """The view that a front has pushed behind the last order, if there is one that was not looked at yet, else a look."""
+        view = self._front.take() if self._front else None
+        if view is None or view.settled < self._settled:
+            view = self.port.show()
+        self._settled = view.settled
+        return view
+
+    def _await_view(self) -> None:
+        """After an order: a front pushes a view that has it."""
+        if self._front:
+            self._front.await_view(PUSH_SECONDS)
+
+    def _confirm(self, epochs: Mapping[int, int], meanwhile: Callable[[], None] = lambda: None) -> None:
         """Confirms epochs of nodes, however long the coordinator is away. It is no fault if an epoch was confirmed
         before, or if a node has gone or went back meanwhile: the next look sees it. Raises Refused for all else, and
         Stopped."""
         self._order([{"op": "confirm", "node": node, "epoch": epoch} for node, epoch in epochs.items()],
-                    {Refusal.BAD_EPOCH, Refusal.UNKNOWN_NODE})
+                    {Refusal.BAD_EPOCH, Refusal.UNKNOWN_NODE}, meanwhile)
 
-    def _ask_reset(self, node: int, why: str) -> None:
+    def _ask_reset(self, node: int, why: str, epoch: int | None = None) -> None:
         """Asks for a reset, and tells of the first in a row. It is no fault if the node has gone meanwhile. Raises as
         `_confirm` does."""
         if node not in self._asked:
             self._told(f"node {node}: {why}: a reset is asked for")
         self._asked.add(node)
-        self._order([{"op": "reset", "node": node}], {Refusal.UNKNOWN_NODE})
+        seen = {"epoch": epoch} if self._front and epoch is not None else {}
+        self._order([{"op": "reset", "node": node, **seen}], {Refusal.UNKNOWN_NODE, Refusal.BAD_EPOCH})
 
-    def _order(self, orders: list[Order], passed: set[Refusal]) -> None:
-        """Carries out orders; goes on after these refusals."""
+    def _order(self, orders: list[Order], passed: set[Refusal], meanwhile: Callable[[], None] = lambda: None) -> None:
+        """Carries out orders; goes on after these refusals. `meanwhile` is called once, while the first ones are under way."""
+        calls = [meanwhile]
+
         def ordered() -> list[Outcome]:
             if self._is_stopping:
                 raise Stopped
-            return self.orders.order_all(orders)
+            if isinstance(self.orders, AtFront):
+                return self.orders.order_all(orders, meanwhile=lambda: calls.pop()() if calls else None)
+            outcomes = self.orders.order_all(orders)
+            if calls:
+                calls.pop()()
+            return outcomes
+        if isinstance(self.orders, AtFront):
+            for outcome in patiently(ordered):
+                if isinstance(outcome, NotTaken) and not (isinstance(outcome, Refused) and outcome.refusal in passed):
+                    raise outcome
+            return
         while orders:
             outcomes = patiently(ordered)
             last = outcomes[-1]

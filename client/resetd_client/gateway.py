@@ -8,6 +8,7 @@ from collections.abc import Callable, Iterable, Mapping
 from typing import NamedTuple
 
 from .answers import Away
+from .at_front import AtFront
 from .changes import Changes
 from .following import DOUBT_SECONDS, LOOK_SECONDS, Following, check_every
 from .orders import Orders, warn
@@ -100,7 +101,7 @@ class Gateway(Following):
     """Serves members. `members` has the names of each node's members, and the member NAME has the folder
     FOLDER/NAME: several members of one node, as the processes of one host, all begin before it is confirmed."""
 
-    def __init__(self, port: Port, orders: Orders, members: Mapping[int, Iterable[str]], folder: str, *,
+    def __init__(self, port: Port, orders: Orders | AtFront, members: Mapping[int, Iterable[str]], folder: str, *,
                  word: str = "", told: Callable[[str], None] = warn) -> None:
         """Raises Unreadable if a file of its own does not read."""
         super().__init__(orders, told)
@@ -118,14 +119,15 @@ class Gateway(Following):
         """One look at `show` for all members: tells what they are to begin, confirms what they have begun, asks for
         resets, and looks again where it ordered something. Raises as `Member.look` does."""
         for _ in range(MOST_TURNS):
-            view = self.port.show()
+            view = self._view()
             rows = {row.node: row for row in view.nodes}
             self._note_absent({desk.node for desk in self.desks} - set(rows))
             judged = self._judge(view, rows)
             self._tell_members(view, judged)
-            if not self._order_what_is_due(judged):
+            if not self._order_what_is_due(view, judged):
                 return view
             self._waits = 0
+            self._await_view()
         raise Away("there are new epochs each time that it looks")
 
     def follow(self, wakes: Wakes, every: float = LOOK_SECONDS) -> None:
@@ -148,7 +150,7 @@ class Gateway(Following):
         for each in judged:
             if each.due is Due.BEGIN:
                 each.desk.note_begin(each.row.epoch)
-        self._shelf.keep()
+        self._shelf.keep(is_synced=any(each.due is Due.BEGIN for each in judged))
         self._is_through = len(judged) == len(self.desks) and all(each.due is Due.TALK for each in judged)
         return judged
 
@@ -166,18 +168,21 @@ class Gateway(Following):
             if each.due is Due.BEGIN:
                 each.desk.tell()
 
-    def _order_what_is_due(self, judged: list[Judged]) -> bool:
+    def _order_what_is_due(self, view: View, judged: list[Judged]) -> bool:
         """Confirms what was begun, and asks for one reset, since that may reach the others too. Answers whether there was
         something to order."""
         begun = [each for each in judged if each.desk.has_begun(each.row)]
-        self._confirm({each.desk.node: each.row.epoch for each in begun})
+        for each in begun:
+            each.desk.starts.foresee(view)
+        self._shelf.write()
+        self._confirm({each.desk.node: each.row.epoch for each in begun}, self._shelf.keep)
         for each in begun:
             each.desk.note_confirmed()
         unfit = {each.desk.node: each.desk.starts.why(each.row) for each in judged if each.due is Due.RESET}
         unfit.update({each.desk.node: "a member refuses another's tag, and the same is shown to both"
                       for each in judged if each.desk.is_parted()})
         for node in list(unfit)[:1]:
-            self._ask_reset(node, unfit[node])
+            self._ask_reset(node, unfit[node], next(each.row.epoch for each in judged if each.desk.node == node))
         return bool(begun or unfit)
 
     def _note_absent(self, absent: set[int]) -> None:

@@ -19,7 +19,7 @@ class History:
 
     def __init__(self, path: str) -> None:
         """Raises Unreadable if the file does not read."""
-        self._path = path
+        self._path = self.path = path
         text = files.read_bytes(path) or b""
         self._size = text.rfind(b"\n") + 1  # of the lines that are whole
         if not LINES.fullmatch(text, 0, self._size):

@@ -2,6 +2,7 @@
 
 from __future__ import annotations
 
+import enum
 import math
 import os
 import threading
@@ -10,6 +11,7 @@ from contextlib import contextmanager
 from dataclasses import dataclass
 
 from .answers import Away
+from .at_front import AtFront
 from .errors import ResetdError, refuse_in_loop
 from .following import DOUBT_SECONDS, LOOK_SECONDS, Following, check_every
 from .orders import Orders, warn
@@ -37,6 +39,14 @@ class Run:
         return is_same_run(self.tag, tag)
 
 
+class Work(enum.Enum):
+    """How `begin` replaces the work, and so what has to be on the disk before it."""
+
+    PARTS = enum.auto()  # part by part: "nothing begun" is synced before
+    WHOLE = enum.auto()  # at once, with its epoch, as a file that another is put in the place of: nothing is synced before
+    MEMORY = enum.auto()  # it is in memory alone, and `begun` is None at each start: nothing is synced before
+
+
 class OutOfRun(ResetdError):
     """No run is on, or the message is of another one: don't take it, and close its connection. Needs no person."""
 
@@ -57,22 +67,26 @@ class Member(Following):
     that begins, and with None when it ends, by the thread that looks; it must not wait for that thread.
     """
 
-    def __init__(self, port: Port, orders: Orders, node: int, begun: int | None, begin: Callable[[int], None], *,
+    def __init__(self, port: Port, orders: Orders | AtFront, node: int, begun: int | None, begin: Callable[[int], None], *,
                  word: str = "", told: Callable[[str], None] = warn, wakes: Wakes | None = None,
-                 every: float = LOOK_SECONDS, on_run: Callable[[Run | None], None] = lambda run: None) -> None:
+                 every: float = LOOK_SECONDS, on_run: Callable[[Run | None], None] = lambda run: None, work: Work = Work.PARTS) -> None:
         """Raises ValueError if a file of its own does not read."""
         super().__init__(orders, told)
         self.port, self.node = port, node
         self._shelf = Shelf(os.path.join(orders.folder, f"start-{node}.json"))
         self._starts = Starts(self._shelf, node, begun)
+        if work is Work.MEMORY:
+            self._shelf.keep_no_starts()
         self._begin, self._word, self._on_run = begin, word, on_run
-        self._wakes, self._every = wakes or Clock(), every
+        self._work = work
+        self._wakes, self._every = wakes or self._front or Clock(), every
         self._thread: threading.Thread | None = None
         self._fault: BaseException | None = None
         self._run: Run | None = None
         self._changes = threading.Condition(threading.RLock())  # over the run, and the work that belongs to it
         self._is_there = True
         self._refused: set[str] = set()  # the tags of messages of other runs, since the last look
+        self._epoch: int | None = None  # of its node, in the last view
         self._why: str | None = None  # why somebody wants a reset
 
     @property
@@ -116,13 +130,16 @@ class Member(Following):
         """Asks `show`, begins anew, confirms and asks for resets until there is nothing more to do, and answers the
         last view. `run` is then the run that the group is in, or None while somebody is not through. After Away call
         it again; Refused and Faulted need a person."""
-        self._ask_wanted_reset()
+        if self._ask_wanted_reset():
+            self._await_view()
         for _ in range(MOST_TURNS):
-            view = self.port.show()
+            view = self._view()
             row = view.node(self.node)
             self._note_presence(row is not None)
+            self._epoch = row.epoch if row else None
             if row is None or not self._advance(view, row):
                 return view
+            self._await_view()
         raise Away(f"node {self.node} has a new epoch each time it is looked at")
 
     def follow(self, wakes: Wakes, every: float = LOOK_SECONDS, after: Callable[[View], None] | None = None) -> None:
@@ -173,10 +190,12 @@ class Member(Following):
             self._refused.add(tag)
         self._bell.ring()
 
-    def _ask_wanted_reset(self) -> None:
+    def _ask_wanted_reset(self) -> bool:
+        """Asks for the reset that somebody wants, if its node is still at the epoch of the last view. Whether one was asked for."""
         why, self._why = self._why, None
         if why is not None:
-            self._ask_reset(self.node, why)
+            self._ask_reset(self.node, why, self._epoch)
+        return why is not None
 
     def _advance(self, view: View, row: Node) -> bool:
         """Does what the view asks for. Answers whether to look again."""
@@ -186,25 +205,27 @@ class Member(Following):
         refused = self._set_run(run)
         is_parted = run is not None and any(are_parted(run.tag, tag) for tag in refused)
         if due is Due.BEGIN:
-            self._begin_anew(row)
+            self._begin_anew(view, row)
         elif is_parted:
-            self._ask_reset(self.node, "a member that is connected talks in another run, and the same is shown to it")
+            self._ask_reset(self.node, "a member that is connected talks in another run, and the same is shown to it", row.epoch)
         elif due is Due.RESET:
-            self._ask_reset(self.node, self._starts.why(row))
+            self._ask_reset(self.node, self._starts.why(row), row.epoch)
         else:
             self._asked -= {self.node} if run else set()
             return False
         self._waits = 0
         return True
 
-    def _begin_anew(self, row: Node) -> None:
+    def _begin_anew(self, view: View, row: Node) -> None:
         """No run is on: no work `in_run` is under way, and none begins."""
         self._starts.note_begin()
-        self._shelf.keep()
+        if self._work is Work.PARTS or self._work is Work.WHOLE and self._shelf.may_be_taken_for_begun(row.epoch):
+            self._shelf.keep(is_synced=True)
         self._begin(row.epoch)
         self._starts.note_begun(row.epoch)
-        self._shelf.keep()
-        self._confirm({self.node: row.epoch})
+        self._starts.foresee(view)
+        self._shelf.write()
+        self._confirm({self.node: row.epoch}, self._shelf.keep)
 
     def _set_run(self, run: Run | None) -> set[str]:
         """Says which run is on. Answers the tags that were refused before."""

@@ -94,7 +94,7 @@ class Orders:
         self._of_thread = threading.local()  # `series`: the one that Away left unfinished in a thread
         try:
             text = files.read(self._path)
-            self._is_known = text is not None  # whether there is a count
+            self._is_known = bool(text)  # whether there is a count
             self._kept = self._read(text) if text else Kept(0, [])
         except BaseException:
             self._lock.close()
@@ -249,7 +249,7 @@ class Orders:
         if is_new:
             first = pending[0] if pending else {}
             behind = {"behind": pending[1:]} if len(pending) > 1 else {}
-            files.keep(self._path, json.dumps(
+            (files.put if self.recovers else files.keep)(self._path, json.dumps(
                 {"number": number + bool(pending), "answered": not pending, "order": first, **behind}))
 
     def _read(self, text: str) -> Kept:

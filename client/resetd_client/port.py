@@ -27,6 +27,11 @@ class TooLong(BadWords):
     """A request that no line can hold: it was not sent. Needs a person: who wrote the words."""
 
 
+class Past(Away):
+    """An address shows fewer steps than another one has shown: an earlier coordinator of the same store, or a store that went
+    back. It counts once an order is carried out there. Needs no person, unless it lasts."""
+
+
 class Port:
     """Asks a coordinator, one connection after the other, each closed at once: the port serves one at a time.
 
@@ -34,7 +39,10 @@ class Port:
     coordinator, of which one serves at a time. It tries them in turn, beginning with the one that answered last, and
     goes on to the next if one gives no answer, or answers Stopped, PendingFull or OutOfMemory.
 
-    Any threads may share it: it keeps nothing between two calls but which address answered last.
+    An old coordinator, whose store another one serves by now, still answers `show`. So a view of another address than that of
+    the last view counts only if it has as many steps; else the address is passed over, until it carries out an order.
+
+    Any threads may share it: it keeps nothing between two calls but which address answered last, and how many steps that had.
     """
 
     def __init__(self, addresses: str, seconds: float = REPLY_SECONDS, credentials: Credentials | None = None) -> None:
@@ -43,6 +51,8 @@ class Port:
         self.addresses = addresses_of(addresses, credentials)
         self.seconds = seconds
         self._last = 0
+        self._settled, self._shown_by = 0, self.addresses[0]  # of the last view that counted, or of an order since
+        self._past: dict[Address, int] = {}  # of addresses that were passed over: how many steps they had accepted
 
     @property
     def is_front(self) -> bool:
@@ -52,7 +62,12 @@ class Port:
     def ask(self, request: Request) -> dict[str, Any]:
         """The members of the answer to one request. Raises Away (NotNow is one), NotTaken (Refused, Faulted or Garbled),
         TooLong and Untrusted, as all below do that ask."""
-        return self._at_one(lambda address: members_of(self._answer(address, request), str(address)))
+        return self._at_one(lambda address: self._members(address, request))
+
+    def _members(self, address: Address, request: Request) -> dict[str, Any]:
+        answer = members_of(self._answer(address, request), str(address))
+        self._note_answer(address, answer)
+        return answer
 
     def raw(self, request: Request) -> str:
         """The line that answers one request, whatever it says. Raises Away if none came, TooLong and Untrusted."""
@@ -60,11 +75,29 @@ class Port:
 
     def show(self) -> View:
         """The nodes and links, as far as they are on the disk. Raises Garbled too."""
-        answer = self.ask({"op": "show"})
+        return self._at_one(self._shown)
+
+    def _shown(self, address: Address) -> View:
+        answer = members_of(self._answer(address, {"op": "show"}), str(address))
         try:
-            return View.of(answer)
+            view = View.of(answer)
         except (KeyError, ValueError, TypeError, IndexError) as fault:
             raise Garbled(json.dumps(answer)) from fault
+        if address is not self._shown_by and view.settled < self._settled:
+            self._past[address] = view.accepted
+            raise Past(f"{address} shows {view.settled} steps, and {self._shown_by} has shown {self._settled}")
+        self._note_steps(address, view.settled)
+        return view
+
+    def _note_steps(self, address: Address, steps: int) -> None:
+        self._settled, self._shown_by = steps, address
+        self._past.pop(address, None)
+
+    def _note_answer(self, address: Address, answer: Mapping[str, Any]) -> None:
+        """An order that was carried out now is on the disk of who has the store now."""
+        step = answer.get("step")
+        if isinstance(step, int) and step > self._past.get(address, self._settled):
+            self._note_steps(address, step)
 
     def resend(self) -> int:
         """Has what is on its way sent again, and answers how many packets that are. Raises Garbled too."""
@@ -96,7 +129,9 @@ class Port:
         try:
             for line in self._lines(address, requests):
                 try:
-                    answers.append(members_of(line, str(address)))
+                    answer = members_of(line, str(address))
+                    self._note_answer(address, answer)
+                    answers.append(answer)
                 except NotTaken as not_taken:
                     answers.append(not_taken)
         except Away:

@@ -124,11 +124,12 @@ class Served:
         self._told = wanted
         return int(wanted.split()[0])
 
-    def has_begun(self, work: str = "") -> None:
+    def has_begun(self, work: str = "", is_synced: bool = True) -> None:
         """Says that the member has begun what `wanted` told last, and that this stands with the work on the disk. `work`
         goes down with it, in one file at once: so neither can be there without the other, and a begin costs two syncs, where
-        it costs four with the work in a file of its own, synced before this call."""
-        files.keep(os.path.join(self._folder, "begun"), self._told + work)
+        it costs four with the work in a file of its own, synced before this call. Where the work is in memory alone, nothing
+        need be synced: the member's next process calls `has_lost` when it starts."""
+        (files.keep if is_synced else files.put)(os.path.join(self._folder, "begun"), self._told + work)
 
     def work(self) -> str | None:
         """What was given to `has_begun`; None where nothing is begun, or its work was lost."""

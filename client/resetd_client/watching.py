@@ -7,16 +7,17 @@ import select
 import socket
 import ssl
 import time
-from collections.abc import Iterator
+from collections.abc import Callable, Iterator, Sequence
 
 from .address import Address, away
 from .answers import Away, Garbled, NotTaken, members_of
 from .errors import BadWords
-from .port import Port, line_of
+from .port import Port, Request, line_of
 from .signals import Clock, Follower, Wake, Wakes
 from .view import View
 
 SILENCE_SECONDS = 45.0  # after so long without a line the front, or the way to it, is taken for dead
+REPLY_SECONDS = 30.0  # a front's own patience with the server
 FIRST_PAUSE, PAUSE = 0.1, 2.0  # seconds between two trials to connect, at first and at most
 MOST_BYTES = 1 << 20  # of a line: 64 nodes and 128 links take some ten thousand
 
@@ -28,6 +29,8 @@ class Pushed:
         """`seconds` is how long it may take to connect. Raises Away and Untrusted."""
         self._address, self._rest, self.is_over = address, b"", False
         self._is_answered = False
+        self._seconds = seconds
+        self.awaited, self.answers = 0, list[str]()  # of orders that were sent over it
         self._connection = address.connect(seconds)
         try:
             self._connection.sendall(line_of({"op": "watch"}))
@@ -43,6 +46,17 @@ class Pushed:
     def fileno(self) -> int:
         return self._connection.fileno()
 
+    def send(self, requests: Sequence[Request]) -> None:
+        """Sends orders; their answers come between the views. Raises Away, and TooLong."""
+        text = b"".join(line_of(request) for request in requests)
+        try:
+            self._connection.settimeout(self._seconds)
+            self._connection.sendall(text)
+            self._connection.setblocking(False)
+        except OSError as fault:
+            raise away(self._address, fault) from fault
+        self.awaited, self.answers = len(requests), []
+
     def views(self, seconds: float) -> list[View]:
         """The views that have come, after at most so many seconds; `is_over` is then true if no more will. Raises Away
         after a silence, NotTaken (Garbled, Faulted) if what came is no view, and Untrusted."""
@@ -52,12 +66,22 @@ class Pushed:
         elif silence <= 0:
             raise Away(f"{self._address}: no line for {SILENCE_SECONDS:g} s")
         *lines, self._rest = self._rest.split(b"\n")
+        if self._is_answered or len(lines) > 1:
+            lines = [line for place, line in enumerate(lines) if not self._takes(line, place)]
         self._is_answered = self._is_answered or bool(lines)
         if self.is_over and not self._is_answered and (refusal := self._address.refusal()):
             raise refusal
         if len(self._rest) > MOST_BYTES:
             raise Garbled(self._rest[:100].decode("utf-8", "replace"), str(self._address))
         return [view_of(line.decode("utf-8", "replace"), str(self._address)) for line in lines]
+
+    def _takes(self, line: bytes, place: int) -> bool:
+        """Takes the answer to an order. The first line of all is the answer to `watch`."""
+        if line.startswith(b'{"accepted":') or not self.awaited or not (self._is_answered or place):
+            return False
+        self.awaited -= 1
+        self.answers.append(line.decode("utf-8", "replace"))
+        return True
 
     def _is_ready(self, seconds: float) -> bool:
         """Whether something can be read; TLS may hold what the system has given already."""
@@ -92,16 +116,62 @@ class Watched:
         self._seconds, self._turn = seconds, 0
         self._pause, self._not_before = FIRST_PAUSE, 0.0
         self._seen: View | None = None
+        self._new: View | None = None  # the newest view, until it is taken
+        self._is_untold = False  # whether it came since the last wait
+
+    def take(self, least: int = 0) -> View | None:
+        """The newest view, once, if it has this step. It was pushed, so it is of the same front as the one before it."""
+        view, self._new, self._is_untold = self._new, None, False
+        return view if view is not None and view.settled >= least else None
+
+    def has(self, least: int) -> bool:
+        """Whether the newest view, which was not taken yet, has this step."""
+        return self._new is not None and self._new.settled >= least
+
+    def wait_more(self, seconds: float) -> None:
+        """Waits for further views, at most so long."""
+        for view in self._views(seconds):
+            self._note(view)
+
+    def ask_many(self, requests: Sequence[Request], meanwhile: Callable[[], None] = lambda: None) -> list[str]:
+        """The answers to orders that go over this connection, in their order. `meanwhile` is called while they are on their
+        way. Raises Away, and what `wait` raises; then an order was carried out or not."""
+        try:
+            if self._pushed is None:
+                self._connect(self._seconds)
+            if self._pushed is None:
+                raise Away(f"{self._fronts[self._turn % len(self._fronts)]}: no connection")
+            self._pushed.send(requests)
+            meanwhile()
+            until = time.monotonic() + REPLY_SECONDS
+            while self._pushed.awaited:
+                for view in self._pushed.views(until - time.monotonic()):
+                    self._note(view)
+                if self._pushed.awaited and (self._pushed.is_over or time.monotonic() > until):
+                    raise Away(f"{self._fronts[self._turn % len(self._fronts)]}: no answer")
+            return self._pushed.answers
+        except BaseException as fault:
+            self.close()
+            if isinstance(fault, Away):
+                self._put_off()
+            raise
+
+    def _note(self, view: View) -> None:
+        """Takes a view that is another one than the last."""
+        if view != self._seen:
+            self._seen = self._new = view
+            self._is_untold = True
 
     def wait(self, seconds: float) -> Wake:
         """Waits until a view comes that is not the last one, at most so long. It never answers END. Raises NotTaken
         (Garbled, or Faulted where the policy allows no watch) and Untrusted."""
         until = time.monotonic() + seconds
         while True:
-            for view in self._views(until - time.monotonic()):
-                if view != self._seen:
-                    self._seen = view
-                    return Wake.CAME
+            for view in [] if self._is_untold else self._views(until - time.monotonic()):
+                self._note(view)
+            if self._is_untold:
+                self._is_untold = False
+                return Wake.CAME
             if time.monotonic() >= until:
                 return Wake.QUIET
 
@@ -150,7 +220,8 @@ class Watched:
     def _put_off(self) -> None:
         """The front was away: the next one is tried, after a pause that grows, and what it tells first is new."""
         self._turn += 1
-        self._seen = None
+        self._seen = self._new = None
+        self._is_untold = False
         self._not_before = time.monotonic() + self._pause
         self._pause = min(2 * self._pause, PAUSE)
 

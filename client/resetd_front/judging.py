@@ -11,7 +11,8 @@ from .views import Views
 
 BAD_EPOCH = b'{"name":"BadEpoch","refused":15}'
 UNKNOWN_NODE = b'{"name":"UnknownNode","refused":6}'
-HOLD_SECONDS = 0.1  # for which a confirm waits at most for the end of a reset
+HOLD_SECONDS = 0.5  # for which a confirm waits at most for the end of a reset
+LEAST_GATHER, MOST_GATHER = 0.005, 0.1  # the same for the confirms of others that the same reset has reached, after the last one came
 
 
 class Judging:
@@ -22,17 +23,31 @@ class Judging:
     A confirm waits a little for the end of a reset that its node takes part in. Nobody talks before all have confirmed, so
     nothing is lost by that; and each flight with an order has two syncs of its own, for which the wave would have to wait."""
 
-    def __init__(self, own: OwnOrders, views: Views, is_fresh: bool, now: float) -> None:
+    def __init__(self, own: OwnOrders, views: Views, is_fresh: bool, now: float, confirming: dict[int, float] | None = None,
+                 gather: float = LEAST_GATHER) -> None:
+        """`confirming` has the nodes of all confirms that wait, and when each came; `gather` is how long one waits for others."""
         self._own, self._views, self._is_fresh, self._now = own, views, is_fresh, now
-        self.wants_count = self.wants_look = self.wants_end = False
+        self._confirming, self._gather = confirming or {}, gather
+        self.wants_count = self.wants_look = self.wants_end = self.wants_more = False
 
     def __call__(self, asked: Asked) -> Verdict:
         request = asked.request
         assert isinstance(request, Request)
-        if request.op == "confirm" and request.members["node"] in self._views.in_reset and self._now - asked.since < HOLD_SECONDS:
-            self.wants_end = True
+        if request.op == "confirm" and self._is_held(request.members["node"], self._now - asked.since):
             return Hold.HOLD
         return self._placed(request)
+
+    def _is_held(self, node: int, seconds: float) -> bool:
+        """Whether a confirm that has waited so long waits on."""
+        if node in self._views.in_reset:
+            self.wants_end = self.wants_end or seconds < HOLD_SECONDS
+            return seconds < HOLD_SECONDS
+        behind = self._views.behind(node)
+        last = max([self._confirming[each] for each in behind if each in self._confirming], default=0.0)
+        if seconds < HOLD_SECONDS and self._now - max(last, self._views.since) < self._gather and not behind <= self._confirming.keys():
+            self.wants_more = True
+            return True
+        return False
 
     def _placed(self, request: Request) -> Verdict:
         if request.op == "close":

@@ -37,6 +37,11 @@ class Pairing:
         """Whether nobody awaits anything."""
         return not self._asked
 
+    def confirming(self) -> dict[int, float]:
+        """The nodes of the confirms that wait, and when the last one of each came."""
+        return {asked.request.members["node"]: asked.since for waiting in self._waiting.values() for asked in waiting
+                if isinstance(asked.request, Request) and asked.request.op == "confirm"}
+
     def works(self, asker: Asker) -> int:
         """How many lines of an asker have no answer that was given out."""
         return len(self._asked.get(asker, ()))

@@ -15,7 +15,7 @@ from typing import Any
 from resetd_client import Away, CountNotFound, NotTaken, Refusal
 
 from .building import Asked, Line
-from .judging import Judging
+from .judging import LEAST_GATHER, MOST_GATHER, Judging
 from .own_orders import OwnOrders
 from .pairing import Pairing
 from .requests import LOOKS
@@ -90,6 +90,7 @@ class Upstream:
         self._is_fresh = self._is_held = False  # whether the last flight ended with a look, and whether lines waited for one
         self._count_again = 0.0  # when a count that was not found is looked for again
         self.flights = self.resends = 0
+        self._sent_at, self._gather = 0.0, LEAST_GATHER  # when the last flight with an order went out, and how long the one before took
         self.is_up: bool | None = None  # None until it is known
         self.is_stopped = False
         self.is_holding = False  # whether lines wait for the end of a reset
@@ -136,7 +137,7 @@ class Upstream:
 
     def _send(self) -> None:
         """The next flight goes out, or that whose answers did not come goes once more."""
-        judging = Judging(self._own, self._views, self._is_fresh, self._loop.time())
+        judging = Judging(self._own, self._views, self._is_fresh, self._loop.time(), self._pairing.confirming(), self._gather)
         is_again = self._pairing.in_flight > 0
         lines, answered = self._pairing.take(judging)
         if answered:
@@ -151,6 +152,8 @@ class Upstream:
         self.is_holding = judging.wants_end
         if judging.wants_end:
             self._later("look", LOOK_PAUSE, self.look)
+        if judging.wants_more:
+            self._later("gather", LEAST_GATHER, self.wake)
         self._wants_count = judging.wants_count and self._loop.time() >= self._count_again
         if lines:
             self._write(lines, is_again)
@@ -166,6 +169,7 @@ class Upstream:
             line.sent += 1
         assert self._link and self._link.transport
         self._is_sent = True
+        self._sent_at = self._loop.time() if any(line.request.is_order for line in lines) else 0.0
         self.flights += 1
         self.resends += len(lines) if is_again else 0
         self._link.transport.write(b"".join(line.text for line in lines))
@@ -191,7 +195,7 @@ class Upstream:
         answer = members_of(text)
         self.is_stopped = answer.get("refused") == Refusal.STOPPED
         if line.request.op in LOOKS:
-            is_new = self._views.note(text)
+            is_new = self._views.note(text, self._loop.time())
             self._is_fresh = True
             self._events.answered(self._pairing.give(line, text), line)
             self._events.viewed(is_new)
@@ -213,6 +217,8 @@ class Upstream:
 
     def _flight_over(self) -> None:
         self._is_sent = False
+        if self._sent_at:
+            self._gather = min(max(self._loop.time() - self._sent_at, LEAST_GATHER), MOST_GATHER)
         for outcome in self._own.flight_over():
             self._settle(outcome.line, outcome.answer)
         if self._events.follows() and self._views.is_in_reset:

@@ -17,8 +17,10 @@ class Views:
         self._rows = b""  # of the line, what has nodes and links
         self._view: View | None = None
         self._in_reset: frozenset[int] | None = None
+        self._behind: dict[int, frozenset[int]] = {}
+        self.since = 0.0  # when the last reset was over
 
-    def note(self, line: bytes) -> bool:
+    def note(self, line: bytes, now: float = 0.0) -> bool:
         """Takes a new answer to a look, and answers whether nodes or links differ from before. What is no view is left."""
         rows = rows_of(line)
         if rows is None:
@@ -26,7 +28,10 @@ class Views:
         is_new = rows != self._rows
         self.line = line
         if is_new:
-            self._rows, self._in_reset = rows, None
+            was_in_reset = self.is_in_reset
+            self._rows, self._in_reset, self._behind = rows, None, {}
+            if was_in_reset and not self.is_in_reset:
+                self.since = now
         self._view = None
         return is_new
 
@@ -45,6 +50,12 @@ class Views:
                     found.update(other.node for other in self.view.connected(node.node))
             self._in_reset = frozenset(found)
         return self._in_reset
+
+    def behind(self, number: int) -> frozenset[int]:
+        """The nodes that links connect with a node, itself among them, whose epoch is not confirmed."""
+        if number not in self._behind:
+            self._behind[number] = frozenset(node.node for node in self.view.connected(number) if node.epoch > node.confirmed) if self.view else frozenset()
+        return self._behind[number]
 
     @property
     def view(self) -> View | None:

@@ -93,7 +93,7 @@ class Unread(Case):
             self.fail("it was read")
 
     def test_starts_that_do_not_read(self) -> None:
-        self.write(f"{self.folder}/orders/start-1.json", b"no")
+        self.write(f"{self.folder}/orders/start-1.json", b"no\n")
         with self.assertRaisesRegex(Unreadable, "remove it"):
             Member(self.port, self.orders(), 1, None, lambda _: None)
 

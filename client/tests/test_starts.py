@@ -68,9 +68,9 @@ class Kept(Case):
         self.due(starts, THROUGH)
         shelf.keep()
         starts.note_begin()
-        with mock.patch("os.replace", side_effect=os.replace) as replaced:
-            shelf.keep()
-        self.assertEqual((replaced.call_count, json.loads(read(self.path) or "")), (1, {"1": {"begun": None, "party": None}}))
+        with mock.patch("os.fdatasync", side_effect=os.fdatasync) as synced, mock.patch("os.fsync") as others:
+            shelf.keep(is_synced=True)
+        self.assertEqual((synced.call_count, others.call_count, read(self.path)), (1, 0, ""))
         other = view_of((1, 4, 4), (9, 7, 7))
         self.assertEqual(self.due(Starts(Shelf(self.path), 1, 4), other), Due.RESET)
 
@@ -79,14 +79,14 @@ class Kept(Case):
         self.due(starts, THROUGH)
         starts.note_begun(5)
         shelf.keep()
-        self.assertEqual(json.loads(read(self.path) or ""), {"1": {"begun": 5, "party": None}})
+        self.assertEqual({name: json.loads(read(self.path) or "")["1"][name] for name in ("begun", "party", "loaded")}, {"begun": None, "party": None, "loaded": 5})
 
     def test_what_is_put_twice_is_written(self) -> None:
         shelf, starts = self.begun(4)
         starts.note_begun(5)
         starts.note_begun(5)
         shelf.keep()
-        self.assertEqual(json.loads(read(self.path) or "")["1"]["begun"], 5)
+        self.assertEqual(json.loads(read(self.path) or "")["1"]["loaded"], 5)
 
     def test_an_epoch_is_a_number(self) -> None:
         for begun in ("true", "1.0", '"1"'):
@@ -154,8 +154,11 @@ class Kept(Case):
 
     def test_a_file_that_does_not_read_is_told(self) -> None:
         for text in ("[]", "{", '{"1": {}}', '{"1": {"begun": 4}}', '{"1": {"begun": "4", "party": null}}', '{"1": {"begun": 4, "party": "1 4"}}'):
-            keep(self.path, text)
+            keep(self.path, f"{text}\n")
             self.assertRaises(ValueError, Shelf, self.path)
+        for torn in ("{", '{"1": {"begun": 4, "par'):  # by a power cut
+            keep(self.path, torn)
+            self.assertIsNone(Shelf(self.path).get(1).begun)
 
 
 class Cuts(Case):
@@ -226,11 +229,11 @@ class Cuts(Case):
     def test_a_new_history_stands_in_its_folder(self) -> None:
         """The folder is synced, once, before anything rests on the file."""
         history = History(f"{self.folder}/a.history")
-        for digest, syncs in ((DIGEST, 2), (digest_of(frozenset({"1 9"})), 1)):
+        for digest, syncs in ((DIGEST, (2, 0)), (digest_of(frozenset({"1 9"})), (0, 1))):
             history.add(digest)
-            with mock.patch("os.fsync", side_effect=os.fsync) as synced:
+            with mock.patch("os.fsync", side_effect=os.fsync) as whole, mock.patch("os.fdatasync", side_effect=os.fdatasync) as data:
                 history.keep()
-            self.assertEqual(synced.call_count, syncs)
+            self.assertEqual((whole.call_count, data.call_count), syncs)
 
 
 class Earlier(Case):
