@@ -169,11 +169,12 @@ class Orders:
                 self._send(series, 0)
             return series.outcomes[before:]
 
-    def recover(self, most: int = MOST_TRIED) -> int:
+    def recover(self, most: int = MOST_TRIED, node: int | None = None) -> int:
         """Finds the number of this client's last order, writes it down, and answers it. It gives up an order without
-        an answer: `show` tells whether that was carried out. Raises CountNotFound, Away, Garbled and Untrusted."""
+        an answer: `show` tells whether that was carried out. `node` is one that the client may name (a front's policy may
+        allow it no other). Raises CountNotFound, Away, Garbled and Untrusted."""
         with self._turn:
-            number = find_count(self.port, self.client, self.number, most)
+            number = find_count(self.port, self.client, self.number, most, node)
             if self._is_known and number != self.number:
                 self.told(f"client {self.client}: the last order had number {number}, and not {self.number}")
             self._note(number, [])
@@ -182,7 +183,7 @@ class Orders:
     def _go_on(self, series: Series, above: int) -> None:
         """Sends the next orders of a series, once a count is known and no other orders are without an answer."""
         if not self._is_known:
-            self.recover()
+            self.recover(node=series.rest[0].get("node"))
         rest = series.rest[:AT_ONCE if self._is_proved else 1]
         if self._kept.pending and self._kept.pending != series.rest[:len(self._kept.pending)]:
             self._settle_others()
@@ -197,7 +198,7 @@ class Orders:
                 raise
             series.recoveries += 1
             self.told(f"client {self.client}: number {self._kept.number + 1}{had_no_answer} is {lost}: its count is looked for")
-            self.recover()
+            self.recover(node=series.wanted[0].get("node"))
 
     def _settle_others(self) -> None:
         """Sends earlier orders again. If one is refused it says so, and gives it up."""
@@ -210,7 +211,7 @@ class Orders:
             if not self.recovers:
                 raise
             self.told(f"client {self.client}: {others}, from number {number}, had no answer, and now {lost}: given up")
-            self.recover()
+            self.recover(node=others[0].get("node"))
 
     def _send(self, series: Series, above: int) -> None:
         """Sends what is written down, and notes what comes of each. If an order, or one after it, gets another answer
@@ -279,13 +280,13 @@ def outcome_of(answer: dict[str, Any] | NotTaken, above: int) -> Outcome:
     return reply
 
 
-def find_count(port: Port, client: int, near: int = 0, most: int = MOST_TRIED) -> int:
+def find_count(port: Port, client: int, near: int = 0, most: int = MOST_TRIED, named: int | None = None) -> int:
     """The number of a client's last order, 0 for none, found without harm: the order to confirm epoch 0 is refused
     whatever its number is, as NumberReused where it is the last one's, as BadEpoch (or UnknownNode) where it is the
     next one, else as OutOfTurn. Numbers are tried from `near` outwards, at most so many, and none above the count of
     steps. Raises CountNotFound, Away, Garbled and Untrusted."""
     view = port.show()
-    node = view.nodes[0].node if view.nodes else 1
+    node = named or (view.nodes[0].node if view.nodes else 1)
     greatest = view.accepted + 1
     tried, at_once = 0, FIRST_PROBES
     numbers = outwards(near, greatest)
