@@ -16,13 +16,13 @@ ghost use Rattle.coord_world.specs.protocol.NumberedWorld.{no_world};
 use crate::fault::Fault;
 use crate::founding::{VERSION, founding_steps};
 use coord_config::Topology;
-use coord_disk::Disk;
+use coord_disk::{Disk, Takable};
 use coord_store::Store;
 use std::alloc::Global;
 
 /// Makes a store on an empty disk, which begins with the nodes and links of a topology, committed
 /// at once. Where one of them is refused, the store is left empty.
-pub fn create_store<D: Disk>(
+pub fn create_store<D: Disk + Takable>(
     alloc: Global,
     disk: D,
     topology: &Topology,

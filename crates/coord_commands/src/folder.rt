@@ -4,7 +4,7 @@ ghost use Rattle.std.specs.Prelude.{◌≡◌, Option, List, ℕ, Some, None, If
 ghost use Rattle.coord_commands.specs.Folders.{bytes_of, known_of, reads};
 ghost use Rattle.coord_disk.specs.Model.Present.{Present};
 
-use coord_disk::{Disk, DiskFault, FileDisk};
+use coord_disk::{Disk, DiskFault, FileDisk, Takable};
 use std::fs::File;
 use std::io;
 use std::io::Read;
@@ -15,7 +15,7 @@ use std::rt::Files;
 /// known, of disks in memory all.
 pub trait Folder {
     /// A disk under a name.
-    type Disk: Disk + Send;
+    type Disk: Disk + Send + Takable;
 
     /// A text under a name, as it is read.
     type Text: Read + Drop;

@@ -16,7 +16,7 @@ use crate::folder::Folder;
 use crate::lines::print;
 use crate::status::report;
 use crate::streams::Streams;
-use coord_disk::Disk;
+use coord_disk::{Disk, Takable};
 use coord_store::Store;
 use std::alloc::Global;
 use std::io::{Read, Write};
@@ -84,7 +84,7 @@ fn migrate_named<F: Folder>(alloc: Global, folder: &mut F, file: &str) -> Result
 }
 
 /// Raises the store on a disk, and answers the line that is to be printed.
-fn migrate_disk<D: Disk>(alloc: Global, disk: D) -> (Result<String, Fault>, D)
+fn migrate_disk<D: Disk + Takable>(alloc: Global, disk: D) -> (Result<String, Fault>, D)
     ensures line { IfOk result.0 (λ line. IsMigratedLine (known_of D.model disk)
         (known_of D.model result.1) (string_bytes line)) }
     ensures fault { IfErr result.0 (IsOfRaising (known_of D.model disk)

@@ -14,7 +14,7 @@ use crate::folder::{FileFolder, Folder};
 use crate::lent::Lent;
 use crate::status::report;
 use crate::streams::Streams;
-use coord_disk::Disk;
+use coord_disk::{Disk, Takable};
 use coord_engine::Closed;
 use coord_server::{ServerFault, serve_store};
 use coord_store::Store;
@@ -182,7 +182,7 @@ fn opened<F: Folder>(alloc: Global, folder: &mut F, file: &str) -> Result<Store<
 }
 
 /// The disk of a store that was served.
-fn left<D: Disk>(closed: Closed<D>) -> D
+fn left<D: Disk + Takable>(closed: Closed<D>) -> D
     ensures disk { result ≡ closed.store.disk }
     ensures bytes { has_stopped closed.store ≡ false → IfSome
         (bytes_of D.model result) (λ known. Recovered known closed.store.world) }

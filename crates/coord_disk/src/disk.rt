@@ -41,8 +41,12 @@ pub trait Disk: Drop {
     ghost laws: { IsModel model };
 }
 
+/// A disk that may be taken out of a store. Code that is generic over a disk without this bound reaches the
+/// disk of a store only by the store's own calls, whether or not it returns.
+pub trait Takable {}
+
 /// A disk that can be crashed.
-pub trait CrashDisk: Disk {
+pub trait CrashDisk: Disk + Takable {
     /// What a crash may make of it.
     ghost crashes: { Self → Self → Type 0 };
 

@@ -4,7 +4,7 @@ ghost use Rattle.std.specs.Prelude.{◌≡◌, ◌+◌, ◌<◌, ◌^◌, Bool, 
 ghost use Rattle.coord_disk.specs.Model.Calls.{Crashes, HasBytes, HasCause, Measures, Reads, Syncs, Writes};
 
 use crate::fault::fail;
-use crate::{CrashDisk, Disk, DiskFault};
+use crate::{CrashDisk, Disk, DiskFault, Takable};
 use http_server::Log;
 
 /// A call of a disk.
@@ -151,6 +151,8 @@ impl<D: Disk, R: Rule> Disk for FailingDisk<D, R> {
         self.inner.sync()
     }
 }
+
+impl<D: Takable, R: Rule> Takable for FailingDisk<D, R> {}
 
 impl<D: CrashDisk, R: Rule> CrashDisk for FailingDisk<D, R> {
     ghost use Rattle.coord_disk.specs.Disks.Failing.{inner_of, CrashesInside};

@@ -32,7 +32,7 @@ mod rules;
 mod system;
 
 pub use choice::Choice;
-pub use disk::{CrashDisk, Disk};
+pub use disk::{CrashDisk, Disk, Takable};
 pub use failing::{Call, FailingDisk, Rule};
 pub use fault::DiskFault;
 pub use gate::{Gate, GateDisk};

@@ -9,7 +9,7 @@ ghost use Rattle.coord_disk.specs.Disks.History.{LedTo, Adds};
 use crate::crash::crash_bytes;
 use crate::fault::fail;
 use crate::history::{History, record_sync, write};
-use crate::{Choice, CrashDisk, Disk, DiskFault};
+use crate::{Choice, CrashDisk, Disk, DiskFault, Takable};
 use http_server::Log;
 use std::alloc::{AllocError, Global};
 
@@ -200,6 +200,8 @@ impl Disk for MemDisk {
         }
     }
 }
+
+impl Takable for MemDisk {}
 
 impl CrashDisk for MemDisk {
     ghost use Rattle.coord_disk.specs.Disks.Memory.{CrashesByChoice, in_memory};

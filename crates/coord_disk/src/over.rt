@@ -6,7 +6,7 @@ ghost use Rattle.coord_disk.specs.Model.RawCalls.{StaysEntered};
 ghost use Rattle.coord_disk.specs.Model.RawCalls.RawCall.{Len, Read, Write, SyncData, SyncAll, SyncFolder};
 
 use crate::fault::{counted, fail};
-use crate::{Disk, DiskFault, RawFile};
+use crate::{Disk, DiskFault, RawFile, Takable};
 use http_server::Log;
 use std::io;
 
@@ -87,6 +87,8 @@ fn end_of(at: u64, len: usize) -> io::Result<u64>
         _ => Err(io::ErrorKind::InvalidInput.into()),
     }
 }
+
+impl<F: RawFile> Takable for RawDisk<F> {}
 
 impl<F: RawFile> Disk for RawDisk<F> {
     ghost use Rattle.coord_disk.specs.Disks.Raw.{file_of, failures_of, has_grown, has_lost};

@@ -13,7 +13,7 @@ ghost use Rattle.coord_ledger.specs.code.Holding.{IsCarried};
 ghost use Rattle.coord_ledger.specs.declared.mark.Mark.TheVariants.{New, Good, Torn};
 
 use crate::Mark;
-use coord_disk::Disk;
+use coord_disk::{Disk, Takable};
 use coord_store::{CommitFault, Store};
 use coord_types::Step;
 use coord_world::World;
@@ -154,6 +154,9 @@ impl<D: Disk> Flight<D> {
         (size, mark, store)
     }
 
+}
+
+impl<D: Disk + Takable> Flight<D> {
     // Gives the disk back, and loses what it carried: its ledger stays without its store.
     pub(crate) fn into_disk(self) -> D
         ensures { result ≡ self.disk }
@@ -161,7 +164,9 @@ impl<D: Disk> Flight<D> {
         let (_size, _mark, store) = self.into_parts();
         store.into_disk()
     }
+}
 
+impl<D: Disk> Flight<D> {
     /// Does nothing: its contract is what the type keeps of every flight.
     pub fn lemma_images_give_world(&self)
         ensures some { 1 ≤ length self.now.steps }

@@ -10,7 +10,7 @@ mod commit;
 mod migrate;
 
 use crate::CommitFault;
-use coord_disk::Disk;
+use coord_disk::{Disk, Takable};
 use coord_journal::Journal;
 use coord_world::World;
 use std::alloc::Global;
@@ -41,8 +41,6 @@ impl<D: Disk> Model for Store<D> {
 
 impl<D: Disk> Store<D> {
     ghost use Rattle.coord_store.specs.Kept.{Holds, ImagesGive, IsOnlyWorld, has_stopped};
-    ghost use Rattle.coord_store.specs.Recovered.{Recovered};
-
     // Over a journal whose content gives this world.
     pub(crate) fn over(alloc: Global, journal: Journal<D>, world: World) -> Self
         requires legal { Legal world }
@@ -84,6 +82,10 @@ impl<D: Disk> Store<D> {
     {
         let _ = &self.world;
     }
+}
+
+impl<D: Disk + Takable> Store<D> {
+    ghost use Rattle.coord_store.specs.Recovered.{Recovered};
 
     /// Gives the disk back. Where no commit was torn, opening it gives the world again.
     pub fn into_disk(self) -> D

@@ -13,10 +13,10 @@ ghost use Rattle.coord_world.specs.protocol.Legal.{Legal};
 use super::{Store, conclude};
 use crate::writing::put_in_place;
 use crate::{CommitFault, StoreFault};
-use coord_disk::Disk;
+use coord_disk::{Disk, Takable};
 use coord_world::World;
 
-impl<D: Disk> Store<D> {
+impl<D: Disk + Takable> Store<D> {
     /// Raises a store of version 1 to version 2. Its world stays as it is, and each distance is 0. Each
     /// node has to be Ready. A store of version 2 stays as it is, without a call of the device. It takes
     /// at most four calls of the device.
@@ -56,7 +56,9 @@ impl<D: Disk> Store<D> {
             Err(_) => Err(StoreFault::OutOfMemory),
         }
     }
+}
 
+impl<D: Disk> Store<D> {
     // Puts another world in place of all that is stored, and gives the one from before.
     fn put(&mut self, next: World) -> Result<World, CommitFault>
         requires legal { Legal next }
