@@ -105,7 +105,10 @@ fn migrate_disk<D: Disk + Takable>(alloc: Global, disk: D) -> (Result<String, Fa
 /// Raises an opened store to version 2, and answers the line that is to be printed, with the count
 /// of its steps, which stays. The line is made before the store is raised: without memory for it
 /// the store stays as it was.
-pub fn migrate_store<D: Disk>(alloc: Global, store: &mut Store<D>) -> Result<String, Fault>
+pub fn migrate_store<D: Disk + Takable>(
+    alloc: Global,
+    store: &mut Store<D>,
+) -> Result<String, Fault>
     ensures line { IfOk result (λ line. string_bytes line ≡ migrated_line store.old.world.count) }
     ensures world { OnOk result (store.new.world ≡ risen store.old.world) }
     ensures going { OnOk result (store.new.torn ≡ None) }

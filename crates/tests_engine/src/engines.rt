@@ -17,7 +17,7 @@ use crate::threads::patience::waits_once;
 use crate::threads::ports::Manner;
 use crate::threads::rings::{is_legal, resets_ring};
 use coord_disk::Disk;
-use coord_engine::{CloseFault, Closed, Engine, History, Origin, Share, Writer};
+use coord_engine::{CloseFault, Closed, Engine, History, Origin, Reader, Share, Writer};
 use coord_ledger::{Ledger, Note, Seen};
 use coord_store::Store;
 use coord_types::Step;
@@ -61,6 +61,7 @@ fn done<D: Disk + Send, L: Origin + Send + Sync, R: Threads + Wait + Clock + Syn
     rt: &R,
     alloc: Global,
     engine: &Engine<D, L>,
+    reader: &mut Reader,
     doing: Doing<'_>,
 ) -> Vec<Share<L>> {
     match doing {
@@ -69,15 +70,15 @@ fn done<D: Disk + Send, L: Origin + Send + Sync, R: Threads + Wait + Clock + Syn
         Doing::HandsEach => hands_each(rt, alloc, engine),
         Doing::FlushesAll => flushes_all(rt, alloc, engine),
         Doing::KeepsAll => keeps_all(rt, alloc, engine),
-        Doing::SettlesOne => settles_one(rt, alloc, engine),
+        Doing::SettlesOne => settles_one(rt, alloc, engine, reader),
         Doing::TakesNewFirst => takes_new_first(rt, alloc, engine),
-        Doing::CallTwice => call_twice(rt, alloc, engine),
+        Doing::CallTwice => call_twice(rt, alloc, engine, reader),
         Doing::AcceptsInSync(entered, answered) => {
             accepts_in_sync(rt, alloc, engine, entered, answered)
         }
-        Doing::WaitsOnce => waits_once(rt, alloc, engine),
-        Doing::KeepsInHand => keeps_in_hand(rt, alloc, engine),
-        Doing::LosesInHand(synced) => loses_in_hand(rt, alloc, engine, synced),
+        Doing::WaitsOnce => waits_once(rt, alloc, engine, reader),
+        Doing::KeepsInHand => keeps_in_hand(rt, alloc, engine, reader),
+        Doing::LosesInHand(synced) => loses_in_hand(rt, alloc, engine, reader, synced),
         Doing::ResetsRing(manner) => resets_ring(rt, alloc, engine, manner),
         Doing::ResetsAlone(is_full) => resets_alone(rt, alloc, engine, is_full),
     }
@@ -120,9 +121,10 @@ fn notes_of<L: Origin, R: Abort>(rt: &R, alloc: Global, shares: &[Share<L>]) -> 
 fn seen_of<D: Disk, L: Origin, R: Wait + Abort>(
     rt: &R,
     engine: &Engine<D, L>,
+    reader: &mut Reader,
 ) -> (Seen, Seen, u64) {
     let mut seen = Seen::new();
-    let shown = engine.show(rt, &mut seen).expect(rt, "not shown");
+    let shown = engine.show(rt, &mut seen, reader).expect(rt, "not shown");
     let mut later = Seen::new();
     later.note(shown.settled.saturating_add(1));
     (seen, later, shown.settled)
@@ -133,11 +135,12 @@ fn seen_of<D: Disk, L: Origin, R: Wait + Abort>(
 fn closed_if_settled<D: Disk, L: Origin, R: Wait + Abort>(
     rt: &R,
     engine: Engine<D, L>,
+    reader: &mut Reader,
     shares: Vec<Share<L>>,
 ) -> Closed<D>
     requires { L.parts ≡ 65536 }
 {
-    let (seen, later, settled) = seen_of(rt, &engine);
+    let (seen, later, settled) = seen_of(rt, &engine, reader);
     match engine.close(shares, &later) {
         Err((CloseFault::NotSettled, engine, shares)) => {
             let closed = engine.close(shares, &seen).ok().expect(rt, "no close").0;
@@ -152,17 +155,18 @@ fn closed_if_settled<D: Disk, L: Origin, R: Wait + Abort>(
 fn closed<D: Disk, L: Origin, R: Wait + Abort>(
     rt: &R,
     engine: Engine<D, L>,
+    reader: &mut Reader,
     mut shares: Vec<Share<L>>,
 ) -> Closed<D>
     requires { L.parts ≡ 65536 }
 {
     let Some(last) = shares.pop() else {
-        return closed_if_settled(rt, engine, shares);
+        return closed_if_settled(rt, engine, reader, shares);
     };
     match engine.close(shares, &Seen::new()) {
         Err((CloseFault::SharesMissing, engine, mut shares)) => {
             shares.push(last).expect(rt, "no memory");
-            closed_if_settled(rt, engine, shares)
+            closed_if_settled(rt, engine, reader, shares)
         }
         _ => panic!(rt; "it closes without the last share"),
     }
@@ -186,12 +190,14 @@ fn done_over<D: Disk + Send, L: Origin + Send + Sync, R: Threads + Wait + Clock 
     requires disk { IfSome ledger.disk (IsPastOf D.model L.disk) }
 {
     assert!(rt; !ledger.is_out());
+    let mut writer = writer;
+    let mut reader = writer.reader(&history);
     let engine: Engine<D, L> = Engine::new(alloc, blank, history, writer, ledger);
-    let shares = done(rt, alloc, &engine, doing);
+    let shares = done(rt, alloc, &engine, &mut reader, doing);
     let notes = notes_of(rt, alloc, &shares);
     let closed = match doing {
         Doing::Retires(_, saw, why) => retired(rt, engine, shares, saw, why),
-        _ => closed(rt, engine, shares),
+        _ => closed(rt, engine, &mut reader, shares),
     };
     is_left(rt, doing, &notes, &closed);
     drop(closed);

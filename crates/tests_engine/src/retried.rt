@@ -4,7 +4,7 @@
 use crate::engines::{Doing, does, same};
 use crate::scripts::adding;
 use coord_disk::{Disk, MemDisk};
-use coord_engine::{Engine, Origin, Share};
+use coord_engine::{Engine, Origin, Reader, Share};
 use coord_ledger::Seen;
 use coord_types::Refusal;
 use std::alloc::Global;
@@ -27,6 +27,7 @@ pub(crate) fn settles_one<D: Disk, L: Origin, R: Wait + Clock + Abort>(
     rt: &R,
     alloc: Global,
     engine: &Engine<D, L>,
+    reader: &mut Reader,
 ) -> Vec<Share<L>> {
     let mut share = engine.share(rt).expect(rt, "no share");
     let step = adding(1, 1, 1).expect(rt, "no step");
@@ -37,7 +38,7 @@ pub(crate) fn settles_one<D: Disk, L: Origin, R: Wait + Clock + Abort>(
         &(flushed(rt, engine), flushed(rt, engine)),
         &(Some(0), None),
     );
-    is_shown(rt, engine);
+    is_shown(rt, engine, reader);
     engine.finish(rt);
     let mut other = engine.share(rt).expect(rt, "no share");
     let step = adding(1, 2, 2).expect(rt, "no step");
@@ -50,14 +51,18 @@ pub(crate) fn settles_one<D: Disk, L: Origin, R: Wait + Clock + Abort>(
 
 // The one step is shown to a caller who has seen none, and to no one who has seen a second one. Nothing
 // has to be sent again.
-fn is_shown<D: Disk, L: Origin, R: Wait + Abort>(rt: &R, engine: &Engine<D, L>) {
+fn is_shown<D: Disk, L: Origin, R: Wait + Abort>(
+    rt: &R,
+    engine: &Engine<D, L>,
+    reader: &mut Reader,
+) {
     let mut seen = Seen::new();
-    let shown = engine.show(rt, &mut seen).expect(rt, "not shown");
+    let shown = engine.show(rt, &mut seen, reader).expect(rt, "not shown");
     same(rt, &shown.settled, &1);
     seen.note(2);
     same(
         rt,
-        &engine.show(rt, &mut seen).err(),
+        &engine.show(rt, &mut seen, reader).err(),
         &Some(Refusal::Behind { settled: 1 }),
     );
     let again = engine.resend(rt).expect(rt, "not sent again");

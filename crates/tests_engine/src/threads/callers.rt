@@ -3,7 +3,7 @@
 use crate::engines::{Doing, does, same};
 use crate::scripts::{adding, resetting};
 use coord_disk::{Disk, MemDisk};
-use coord_engine::{Closed, Engine, Origin, Share};
+use coord_engine::{Closed, Engine, Origin, Reader, Share};
 use coord_ledger::{Note, Seen, Ticket};
 use coord_types::{Kind, Reply};
 use std::alloc::Global;
@@ -42,6 +42,7 @@ fn call<D: Disk, L: Origin, R: Wait + Abort>(
 fn are_finished<D: Disk, L: Origin, R: Wait + Abort>(
     rt: &R,
     engine: &Engine<D, L>,
+    reader: &mut Reader,
     tickets: Vec<Ticket>,
 ) {
     let mut left = tickets;
@@ -49,7 +50,7 @@ fn are_finished<D: Disk, L: Origin, R: Wait + Abort>(
     while let Some(ticket) = left.pop() {
         let step = ticket.step();
         let kind = Kind::Finished;
-        match engine.collect(rt, ticket) {
+        match engine.collect(rt, ticket, reader) {
             Ok(reply) => same(rt, &reply, &Reply { step, kind }),
             Err((refusal, _ticket)) => panic!(rt; "step {step}: {refusal:?}"),
         }
@@ -59,10 +60,14 @@ fn are_finished<D: Disk, L: Origin, R: Wait + Abort>(
 
 // All steps and the two nodes are shown to a caller that has seen them all, and nothing has to be sent
 // again.
-fn is_shown<D: Disk, L: Origin, R: Wait + Abort>(rt: &R, engine: &Engine<D, L>) {
+fn is_shown<D: Disk, L: Origin, R: Wait + Abort>(
+    rt: &R,
+    engine: &Engine<D, L>,
+    reader: &mut Reader,
+) {
     let mut seen = Seen::new();
     seen.note(STEPS as u64);
-    let view = engine.show(rt, &mut seen).expect(rt, "not shown");
+    let view = engine.show(rt, &mut seen, reader).expect(rt, "not shown");
     same(
         rt,
         &(view.accepted, view.settled, view.nodes.len()),
@@ -97,7 +102,12 @@ pub(crate) fn call_twice<
     D: Disk + Send,
     L: Origin + Send + Sync,
     R: Threads + Wait + Clock + Sync + Abort,
->(rt: &R, alloc: Global, engine: &Engine<D, L>) -> Vec<Share<L>> {
+>(
+    rt: &R,
+    alloc: Global,
+    engine: &Engine<D, L>,
+    reader: &mut Reader,
+) -> Vec<Share<L>> {
     let one = engine.share(rt).expect(rt, "no share");
     let two = engine.share(rt).expect(rt, "no share");
     let ((one, first), (two, second)) = thread::join(
@@ -110,9 +120,9 @@ pub(crate) fn call_twice<
             releases.lose_rest();
         }
     }
-    is_shown(rt, engine);
-    are_finished(rt, engine, first);
-    are_finished(rt, engine, second);
+    is_shown(rt, engine, reader);
+    are_finished(rt, engine, reader, first);
+    are_finished(rt, engine, reader, second);
     Vec::from_array(alloc, [one, two]).expect(rt, "no memory")
 }
 

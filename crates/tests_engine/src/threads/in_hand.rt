@@ -8,7 +8,7 @@ use super::still::Still;
 use crate::engines::{Doing, does, same};
 use crate::scripts::{pair_steps, resetting};
 use coord_disk::{Disk, MemDisk};
-use coord_engine::{Engine, Origin, Share, hand_over};
+use coord_engine::{Engine, Origin, Reader, Share, hand_over};
 use coord_ledger::{Seen, Ticket};
 use std::alloc::Global;
 use std::process::Abort;
@@ -38,8 +38,12 @@ pub(super) fn order<D: Disk, L: Origin, R: Wait + Abort>(
 }
 
 /// How many steps are settled.
-pub(super) fn settled<D: Disk, L: Origin, R: Wait + Abort>(rt: &R, engine: &Engine<D, L>) -> u64 {
-    let view = engine.show(rt, &mut Seen::new()).expect(rt, "not shown");
+pub(super) fn settled<D: Disk, L: Origin, R: Wait + Abort>(
+    rt: &R,
+    engine: &Engine<D, L>,
+    reader: &mut Reader,
+) -> u64 {
+    let view = engine.show(rt, &mut Seen::new(), reader).expect(rt, "not shown");
     view.settled
 }
 
@@ -47,10 +51,11 @@ pub(super) fn settled<D: Disk, L: Origin, R: Wait + Abort>(rt: &R, engine: &Engi
 pub(super) fn stays_at<D: Disk, L: Origin, R: Wait + Clock + Abort>(
     rt: &R,
     engine: &Engine<D, L>,
+    reader: &mut Reader,
     count: u64,
 ) {
     for _ in 0..LOOKS {
-        same(rt, &settled(rt, engine), &count);
+        same(rt, &settled(rt, engine, reader), &count);
         thread::sleep(rt, Duration::from_millis(1));
     }
 }
@@ -59,12 +64,13 @@ pub(super) fn stays_at<D: Disk, L: Origin, R: Wait + Clock + Abort>(
 fn is_waited_for<D: Disk, L: Origin, R: Wait + Clock + Abort>(
     rt: &R,
     engine: &Engine<D, L>,
+    reader: &mut Reader,
     last: Ticket,
 ) {
-    if let Err((refusal, _ticket)) = engine.collect(rt, last) {
+    if let Err((refusal, _ticket)) = engine.collect(rt, last, reader) {
         panic!(rt; "not settled: {refusal:?}")
     }
-    stays_at(rt, engine, FIRST + FULL);
+    stays_at(rt, engine, reader, FIRST + FULL);
 }
 
 // Accepts as many orders as fill a flight, and one more. The ticket is of the last one that the
@@ -86,6 +92,7 @@ fn fill<D: Disk, L: Origin, R: Wait + Abort>(
 fn flush<D: Disk + Send, L: Origin + Send + Sync, R: Threads + Wait + Clock + Sync + Abort>(
     rt: &R,
     engine: &Engine<D, L>,
+    reader: &mut Reader,
 ) -> Share<L> {
     thread::scope(
         thread::scope_env(),
@@ -96,7 +103,7 @@ fn flush<D: Disk + Send, L: Origin + Send + Sync, R: Threads + Wait + Clock + Sy
             let mut share = engine.share(rt).expect(rt, "no share");
             let last = fill(rt, engine, &mut share);
             let flushing = start_flusher(scope, rt, engine, Sink);
-            is_waited_for(rt, engine, last);
+            is_waited_for(rt, engine, reader, last);
             engine.finish(rt);
             flushing.join(rt);
             share
@@ -110,12 +117,17 @@ pub(crate) fn keeps_in_hand<
     D: Disk + Send,
     L: Origin + Send + Sync,
     R: Threads + Wait + Clock + Sync + Abort,
->(rt: &R, alloc: Global, engine: &Engine<D, L>) -> Vec<Share<L>> {
+>(
+    rt: &R,
+    alloc: Global,
+    engine: &Engine<D, L>,
+    reader: &mut Reader,
+) -> Vec<Share<L>> {
     let flight = engine.flush_once(rt).expect(rt, "no flight");
     let releases = flight.expect(rt, "no releases");
     same(rt, &hand_over(rt, engine, &mut Sink, releases), &1);
-    let share = flush(rt, engine);
-    same(rt, &settled(rt, engine), &(FIRST + FULL + 1));
+    let share = flush(rt, engine, reader);
+    same(rt, &settled(rt, engine, reader), &(FIRST + FULL + 1));
     vec![in alloc; share].expect(rt, "no memory")
 }
 

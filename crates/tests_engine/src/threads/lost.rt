@@ -25,16 +25,17 @@ const LOOKS: u64 = 20_000;
 /// A port that loses a packet, and knows it. Before that it has an order accepted, for which no flight
 /// starts as long as it is looked.
 #[derive(Drop)]
-struct Losing<'a, D: Disk, L: Origin, R> {
+struct Losing<'a, 'r, D: Disk, L: Origin, R> {
     rt: &'a R,
     engine: &'a Engine<D, L>,
+    reader: &'r mut Reader,
     share: Share<L>,
 }
 
-impl<D: Disk, L: Origin, R: Wait + Clock + Abort> Port for Losing<'_, D, L, R> {
+impl<D: Disk, L: Origin, R: Wait + Clock + Abort> Port for Losing<'_, '_, D, L, R> {
     fn carry(&mut self, _to: NodeId, _packet: Packet) -> bool {
         order(self.rt, self.engine, &mut self.share, 2).forget();
-        stays_at(self.rt, self.engine, FIRST + 1);
+        stays_at(self.rt, self.engine, &mut *self.reader, FIRST + 1);
         false
     }
 
@@ -51,10 +52,11 @@ impl<D: Disk, L: Origin, R: Wait + Clock + Abort> Port for Losing<'_, D, L, R> {
 fn gets_to<D: Disk, L: Origin, R: Wait + Clock + Abort>(
     rt: &R,
     engine: &Engine<D, L>,
+    reader: &mut Reader,
     count: u64,
 ) -> bool {
     for _ in 0..LOOKS {
-        if settled(rt, engine) == count {
+        if settled(rt, engine, reader) == count {
             return true;
         }
         thread::sleep(rt, Duration::from_millis(1));
@@ -67,19 +69,26 @@ fn gets_to<D: Disk, L: Origin, R: Wait + Clock + Abort>(
 fn lose<D: Disk, L: Origin, R: Wait + Clock + Abort>(
     rt: &R,
     engine: &Engine<D, L>,
+    reader: &mut Reader,
 ) -> (Share<L>, bool) {
     let mut share = engine.share(rt).expect(rt, "no share");
     order(rt, engine, &mut share, 1).forget();
-    same(rt, &gets_to(rt, engine, FIRST + 1), &true);
-    let mut port = Losing { rt, engine, share };
+    same(rt, &gets_to(rt, engine, reader, FIRST + 1), &true);
+    let mut port = Losing {
+        rt,
+        engine,
+        reader: &mut *reader,
+        share,
+    };
     let releases = engine.resend(rt).expect(rt, "no memory");
     same(rt, &hand_over(rt, engine, &mut port, releases), &1);
-    let is_settled = gets_to(rt, engine, FIRST + 2);
     let Losing {
         rt: _,
         engine: _,
+        reader,
         share,
     } = port;
+    let is_settled = gets_to(rt, engine, reader, FIRST + 2);
     (share, is_settled)
 }
 
@@ -87,6 +96,7 @@ fn lose<D: Disk, L: Origin, R: Wait + Clock + Abort>(
 fn lose_by<D: Disk + Send, L: Origin + Send + Sync, R: Threads + Wait + Clock + Sync + Abort>(
     rt: &R,
     engine: &Engine<D, L>,
+    reader: &mut Reader,
 ) -> (Share<L>, bool) {
     thread::scope(
         thread::scope_env(),
@@ -95,7 +105,7 @@ fn lose_by<D: Disk + Send, L: Origin + Send + Sync, R: Threads + Wait + Clock + 
             requires { IsSend D.row × IsSend L.row × IsSync L.row × IsSync R.row }
         {
             let flushing = start_flusher(scope, rt, engine, Sink);
-            let lost = lose(rt, engine);
+            let lost = lose(rt, engine, reader);
             engine.finish(rt);
             flushing.join(rt);
             lost
@@ -109,11 +119,17 @@ pub(crate) fn loses_in_hand<
     D: Disk + Send,
     L: Origin + Send + Sync,
     R: Threads + Wait + Clock + Sync + Abort,
->(rt: &R, alloc: Global, engine: &Engine<D, L>, synced: &AtomicBool) -> Vec<Share<L>> {
+>(
+    rt: &R,
+    alloc: Global,
+    engine: &Engine<D, L>,
+    reader: &mut Reader,
+    synced: &AtomicBool,
+) -> Vec<Share<L>> {
     let flight = engine.flush_once(rt).expect(rt, "no flight");
     flight.expect(rt, "no releases").lose_rest();
     synced.store(false, Ordering::SeqCst);
-    let (share, is_settled) = lose_by(rt, engine);
+    let (share, is_settled) = lose_by(rt, engine, reader);
     same(rt, &is_settled, &true);
     vec![in alloc; share].expect(rt, "no memory")
 }

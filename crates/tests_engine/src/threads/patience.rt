@@ -59,11 +59,12 @@ pub(super) fn changing(number: u64) -> Option<Step> {
 fn settle<D: Disk, L: Origin, R: Wait + Abort>(
     rt: &R,
     engine: &Engine<D, L>,
+    reader: &mut Reader,
     share: &mut Share<L>,
     step: Step,
 ) {
     let ticket = engine.submit(rt, step, share).expect(rt, "refused");
-    match engine.collect(rt, ticket) {
+    match engine.collect(rt, ticket, reader) {
         Ok(_) => {}
         Err((refusal, _ticket)) => panic!(rt; "not settled: {refusal:?}"),
     }
@@ -73,13 +74,14 @@ fn settle<D: Disk, L: Origin, R: Wait + Abort>(
 fn are_quick<D: Disk, L: Origin, R: Wait + Clock + Abort>(
     rt: &R,
     engine: &Engine<D, L>,
+    reader: &mut Reader,
     share: &mut Share<L>,
     first: u64,
 ) -> bool {
     let start = Instant::now(rt).expect(rt, "no time");
     for at in 0..ORDERS {
         let step = changing(first.wrapping_add(at)).expect(rt, "no step");
-        settle(rt, engine, share, step);
+        settle(rt, engine, reader, share, step);
     }
     start.elapsed(rt).expect(rt, "no time") < Duration::from_millis(MOST)
 }
@@ -88,12 +90,13 @@ fn are_quick<D: Disk, L: Origin, R: Wait + Clock + Abort>(
 fn is_quick_once<D: Disk, L: Origin, R: Wait + Clock + Abort>(
     rt: &R,
     engine: &Engine<D, L>,
+    reader: &mut Reader,
     share: &mut Share<L>,
 ) -> bool {
     let reset = resetting(1, 3, 1).expect(rt, "no step");
-    settle(rt, engine, share, reset);
+    settle(rt, engine, reader, share, reset);
     for tried in 0..TRIES {
-        if are_quick(rt, engine, share, tried * ORDERS + 1) {
+        if are_quick(rt, engine, reader, share, tried * ORDERS + 1) {
             return true;
         }
     }
@@ -105,8 +108,13 @@ pub(crate) fn waits_once<
     D: Disk + Send,
     L: Origin + Send + Sync,
     R: Threads + Wait + Clock + Sync + Abort,
->(rt: &R, alloc: Global, engine: &Engine<D, L>) -> Vec<Share<L>> {
-    let (share, is_quick) = settled_quickly(rt, engine);
+>(
+    rt: &R,
+    alloc: Global,
+    engine: &Engine<D, L>,
+    reader: &mut Reader,
+) -> Vec<Share<L>> {
+    let (share, is_quick) = settled_quickly(rt, engine, reader);
     assert!(rt; is_quick);
     vec![in alloc; share].expect(rt, "no memory")
 }
@@ -116,7 +124,11 @@ fn settled_quickly<
     D: Disk + Send,
     L: Origin + Send + Sync,
     R: Threads + Wait + Clock + Sync + Abort,
->(rt: &R, engine: &Engine<D, L>) -> (Share<L>, bool) {
+>(
+    rt: &R,
+    engine: &Engine<D, L>,
+    reader: &mut Reader,
+) -> (Share<L>, bool) {
     thread::scope(
         thread::scope_env(),
         rt,
@@ -125,7 +137,7 @@ fn settled_quickly<
         {
             let mut share = engine.share(rt).expect(rt, "no share");
             let flushing = start_flusher(scope, rt, engine, Sink);
-            let is_quick = is_quick_once(rt, engine, &mut share);
+            let is_quick = is_quick_once(rt, engine, reader, &mut share);
             engine.finish(rt);
             flushing.join(rt);
             (share, is_quick)
