@@ -85,6 +85,7 @@ nightly: bin/resetd
 
 test:
 	@tools/layers
+	@tools/forms
 	rt ci
 	mkdir -p bin
 	cp crates/resetd/out/resetd bin/resetd
