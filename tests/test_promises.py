@@ -4,9 +4,13 @@ import os
 import pathlib
 import shutil
 import subprocess
+import sys
 
 from support.case import Case, tool
 from support.program import ROOT
+
+sys.path.insert(0, f"{ROOT}/tools")
+from statements.sources import Source, stated_in  # noqa: E402
 
 CONNECTIONS = "crates/coord_admin/specs/Connections.antt"
 
@@ -45,21 +49,20 @@ class Promises(Copied):
         ran = subprocess.run([tool("promises")], capture_output=True, text=True, check=False)
         self.assertEqual(ran.returncode, 0, ran.stdout[-3_000:])
 
-    def test_a_weakened_statement_is_told_by_its_name(self) -> None:
+    def test_a_weakened_statement_is_told_by_its_file(self) -> None:
         copy = self.copy()
         self.change(copy, CONNECTIONS, "AllServed d [] e = e ≡ d", "AllServed d [] e = Unit {0}")
         status, said = self.compare(copy)
         self.assertEqual(status, 1, said)
-        self.assertIn("coord_admin.specs.Connections.AllServed is changed", said)
+        self.assertIn("coord_admin.specs.Connections is changed", said)
 
-    def test_a_clause_that_is_gone_is_told_by_its_name(self) -> None:
+    def test_a_clause_that_is_gone_is_told_by_its_file(self) -> None:
         copy = self.copy()
         self.change(copy, "crates/coord_admin/src/connections.rt",
                      "    ensures failed { OnErr result ((last", "    ensures broken { OnErr result ((last")
         status, said = self.compare(copy)
         self.assertEqual(status, 1, said)
-        self.assertIn("connections::serve_connections ensures failed is gone", said)
-        self.assertIn("connections::serve_connections ensures broken is new", said)
+        self.assertIn("docs/promises.lock: coord_admin connections is changed", said)
 
     def test_a_row_that_names_what_is_not_there(self) -> None:
         copy = self.copy()
@@ -93,6 +96,53 @@ class Promises(Copied):
         self.change(copy, CONNECTIONS, "  AllServed d [] e = e ≡ d", "  -- none\n  AllServed d [] e =   e ≡ d  -- so")
         status, said = self.compare(copy)
         self.assertEqual(status, 0, said)
+
+
+class Weakened(Copied):
+    """Statements that are weakened: each changes the digest of its file. A bound `Wait`, `Net` or `Threads` weakens most, since a call
+    that need not return meets every clause."""
+
+    CASES = (
+        ("a command may wait", "coord_commands/src/running.rt", "pub fn run_in<'a, ", "pub fn run_in<'a, T: Wait, "),
+        ("an append may wait", "coord_journal/src/journal.rt", "pub fn append(", "pub fn append<T: Wait>("),
+        ("a run of events may wait", "coord_ledger/src/event_driver.rt", "pub fn run_events<", "pub fn run_events<T: Wait, "),
+        ("a run of events may use the network", "coord_ledger/src/event_driver.rt", "pub fn run_events<", "pub fn run_events<T: Net, "),
+        ("a flight's commit may start threads", "coord_engine/src/own_flight.rt", "pub(crate) fn commit(", "pub(crate) fn commit<T: Threads>("),
+        ("releases may be dropped", "coord_ledger/src/releases.rt", "pub struct Releases", "#[derive(Drop)]\npub struct Releases"),
+        ("a ticket may be dropped", "coord_ledger/src/ticket.rt", "pub struct Ticket", "#[derive(Drop)]\npub struct Ticket"),
+        ("a flight may be dropped", "coord_ledger/src/flight.rt", "pub struct Flight", "#[derive(Drop)]\npub struct Flight"),
+        ("anybody may make what is released", "coord_engine/src/released.rt", "pub(crate) fn new(", "pub fn new("),
+        ("who serves needs no crew", "coord_server/src/threads.rt", "    _crew: &Crew<L>,\n", ""),
+        ("a crew need not have eight workers", "coord_server/src/threads.rt", "    ghost eight: { vec_len workers ≡ 8 },\n", ""),
+        ("an engine need not begin with empty shares", "coord_server/src/threads.rt", "    pub ghost unused: { own ≡ [] },\n", ""),
+        ("an engine serves more steps", "coord_server/src/serving.rt", "_STEPS: usize = 262_144", "_STEPS: usize = 262_145"),
+        ("a law requires more", "coord_world/src/laws.rt", "pub fn once_per_wave()\n", "pub fn once_per_wave()\n    requires { ⊥ }\n"),
+        ("callers need not fail to fail", "coord_admin/src/callers.rt",
+         "ghost failed: { Self → Self → Type 0 } = { λ _ _. ⊤ };", "ghost failed: { Self → Self → Type 0 } = { λ _ _. ⊥ };"),
+        ("a disk's model promises less", "coord_disk/src/disk.rt", "ghost laws: { IsModel model };", "ghost laws: { ⊤ };"),
+        ("a field is given away", "coord_ledger/src/ticket.rt", "pub(crate) step: u64", "pub step: u64"),
+    )
+    # what changes no statement
+    SAME = (
+        ("layout", "coord_engine/src/closed.rt", "pub store:", "pub store :"),
+        ("a body", "coord_ledger/src/releases.rt", "self.", "self . "),
+        ("a comment", "coord_ledger/src/ticket.rt", "pub struct Ticket", "// It is spent.\npub struct Ticket"),
+    )
+
+    def stated(self, file: str, text: str) -> str:
+        """What a file of the crates states if this is its text."""
+        crate, path = file.split("/")[0], pathlib.Path(self.folder) / "crates" / file
+        path.parent.mkdir(parents=True, exist_ok=True)
+        path.write_text(text)
+        return stated_in(Source(pathlib.Path(self.folder), crate, path))
+
+    def test_each_weakened_statement_is_noticed(self) -> None:
+        for what, file, old, new in self.CASES + self.SAME:
+            with self.subTest(what):
+                text = pathlib.Path(f"{ROOT}/crates/{file}").read_text()
+                self.assertIn(old, text)
+                was, now = self.stated(file, text), self.stated(file, text.replace(old, new, 1))
+                self.assertEqual(was == now, (what, file, old, new) in self.SAME)
 
 
 class Broken(Copied):

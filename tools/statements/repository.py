@@ -4,7 +4,7 @@ from __future__ import annotations
 
 import pathlib
 
-from .sources import WORD, Function, Ghost, Source, definitions_of, functions_of, ghosts_of, types_of
+from .sources import WORD, Function, Ghost, Source, definitions_of, functions_of, ghosts_of, stated_in, types_of
 
 
 class Repository:
@@ -17,6 +17,8 @@ class Repository:
         self.crates = [name for name in names if not name.startswith("tests_")]
         self.functions: list[Function] = []
         self.ghosts: list[Ghost] = []
+        # what each file of Rattle states, by crate and module
+        self.stated: dict[tuple[str, str], str] = {}
         self.specs: dict[str, Source] = {}
         self.definitions: dict[tuple[str, str], str] = {}
         self.types: dict[tuple[str, str], tuple[str, Source]] = {}
@@ -27,6 +29,7 @@ class Repository:
         for path in sorted((self.root / "crates" / crate / "src").rglob("*.rt")):
             source = Source(self.root, crate, path)
             self.functions += functions_of(source)
+            self.stated[crate, source.module] = stated_in(source)
             self.ghosts += ghosts_of(source)
             self.types.update({(crate, name): (text, source) for name, text in types_of(source).items()})
         for path in sorted((self.root / "crates" / crate / "specs").rglob("*.antt")):

@@ -198,6 +198,29 @@ def definitions_of(source: Source) -> dict[str, str]:
     return {name: "\n".join(lines) for name, lines in found.items()}
 
 
+ATTRIBUTE = re.compile(r"^ *#!?\[(?!derive|repr)[^\n]*\]\n", re.M)
+PRIVATE_USE = re.compile(r"^ *(?:use|mod) [^;]*;", re.M)
+TOKEN = re.compile(r"\w+|\S")
+
+
+def stated_in(source: Source) -> str:
+    """What a file of Rattle states: all but its comments, its imports of code, the bodies of its functions, and those private
+    functions that have no clause. So it has the visibility, the parameters, the bounds and the clauses of a function, what a
+    type derives and which fields it has, ghost members, constants and what is exported."""
+    text, at, kept = source.text, 0, list[str]()
+    for match in FUNCTION.finditer(text):
+        if match.start() < at:
+            continue
+        clauses, brace = clauses_of(text, match.end())
+        end = closing(text, brace) if text[brace : brace + 1] == "{" else brace
+        is_stated = bool(clauses or match.group(2)) or any(
+            start < match.start() < stop and (kind == "trait" or " as " in owner) for start, stop, kind, owner in blocks_of(text))
+        kept += [text[at : match.start()], text[match.start() : brace] if is_stated else ""]
+        at = end
+    stated = PRIVATE_USE.sub("", ATTRIBUTE.sub("", "".join([*kept, text[at:]])))
+    return " ".join(TOKEN.findall(stated))
+
+
 def types_of(source: Source) -> dict[str, str]:
     """The types and constants of a file of Rattle by name."""
     found = {}
