@@ -12,6 +12,7 @@ import contextlib
 import os
 import signal
 import socket
+import ssl
 import sys
 from dataclasses import dataclass
 from typing import Any
@@ -67,6 +68,8 @@ def add_serve_words(serve: argparse.ArgumentParser) -> None:
     word("--client", "C", "the client as which the front orders for others, and nobody else (15)", type=int, choices=CLIENTS, default=15)
     word("--patience", "SECONDS", "how long a line waits for its answer (30)", type=float, default=30.0)
     word("--stuck", "SECONDS", "how long a client may take nothing of its answers (10)", type=float, default=10.0)
+    word("--server-silent", "SECONDS", "how long the server may answer nothing, until it is left and the next address is tried (5)", type=float,
+         default=5.0)
     word("--page", "ADDRESS", "unix:PATH or a loopback HOST:PORT, for a page and metrics (read only)")
 
 
@@ -112,18 +115,22 @@ class Process:
     front: Front
 
     def __post_init__(self) -> None:
-        words = self.words
-        self.context = server_context(words.certificate, words.key, words.authority) if words.tls else None
+        """Raises OSError."""
+        self.listeners = Listeners(self.front, self.context())
 
-    def listen(self) -> Listeners:
+    def context(self) -> ssl.SSLContext | None:
+        """By the files as they are now. Raises OSError."""
+        words = self.words
+        return server_context(words.certificate, words.key, words.authority) if words.tls else None
+
+    def listen(self) -> None:
         """Raises OSError, and ValueError."""
-        listeners, words = Listeners(self.front), self.words
+        listeners, words = self.listeners, self.words
         listeners.unix(words.socket, words.mode, words.group)
-        if self.context:
-            listeners.tls(words.tls, self.context)
+        if words.tls:
+            listeners.tls(words.tls)
         if words.tcp:
             listeners.tcp(words.tcp)
-        return listeners
 
     async def show(self) -> Page | None:
         """The page and the metrics, as far as what they need is installed. Raises OSError, and ValueError."""
@@ -154,9 +161,7 @@ class Process:
             complain(f"the old policy stays: {self.words.policy}: {fault}")
             self.front.audit.note("policy", why=f"the old one stays: {fault}")
         try:
-            if self.context:
-                self.context.load_cert_chain(self.words.certificate, self.words.key)
-                self.context.load_verify_locations(self.words.authority)
+            self.listeners.context = self.context()
         except OSError as fault:
             complain(f"the old certificate stays: {fault}")
         if why := self.front.audit.write():
@@ -172,13 +177,13 @@ async def served(words: argparse.Namespace) -> None:
         stack.callback(own.close)
         audit = Audit(words.audit)
         stack.callback(audit.close)
-        front = Front(words.server, own, rules, audit, words.patience, words.stuck)
+        front = Front(words.server, own, rules, audit, words.patience, words.stuck, words.server_silent)
         stack.callback(front.close)
         if words.signals:
             stack.callback(Signals(words.signals, front.signalled).close)
         process = Process(words, front)
-        listeners = process.listen()
-        stack.callback(listeners.close)
+        stack.callback(process.listeners.close)
+        process.listen()
         page = await process.show() if words.page else None
         for number in (signal.SIGTERM, signal.SIGINT):
             loop.add_signal_handler(number, ended.set)

@@ -10,6 +10,7 @@ from collections.abc import Callable
 from dataclasses import dataclass, field
 from typing import Any
 
+from .allowance import SECOND, Allowance
 from .audit import Audit
 from .building import Asked, Line
 from .connection import Connection
@@ -25,6 +26,8 @@ BEAT_SECONDS = 15.0  # after which a watcher gets a view again, whatever was new
 TICK_SECONDS = 1.0
 NOT_ALLOWED = {"fault": "NotAllowed"}
 MOST_RECENT = 50  # lines that the page shows
+MOST_FAULTY = 64  # characters of a faulty line that the audit keeps
+STRANGERS = {"address": "several"}  # who the audit names for handshakes that it only counts
 
 
 @dataclass
@@ -47,19 +50,20 @@ def text_of(answer: dict[str, Any]) -> bytes:
 class Front(Events):
     """All connections, and the server behind them."""
 
-    def __init__(self, addresses: str, own: OwnOrders, policy: Policy, audit: Audit, patience: float, stuck: float) -> None:
+    def __init__(self, addresses: str, own: OwnOrders, policy: Policy, audit: Audit, patience: float, stuck: float, silent: float) -> None:
         """`patience` is for how many seconds a line waits for its answer, `stuck` for how many a client may take nothing of
-        its answers. Raises ValueError."""
+        its answers, `silent` for how many a server may answer nothing. Raises ValueError."""
         self._loop = asyncio.get_running_loop()
         self._own, self.audit, self._patience, self._most_stuck = own, audit, patience, stuck
         self._policy = policy
         self.views, self.watchers, self.counts = Views(), Watchers(), Counts()
         self._pairing = Pairing()
-        self.upstream = Upstream(addresses, self._pairing, own, self.views, self)
+        self.upstream = Upstream(addresses, self._pairing, own, self.views, self, silent)
         self.connections: dict[int, Connection] = {}
         self.recent: deque[dict[str, Any]] = deque(maxlen=MOST_RECENT)
         self.followers: set[Callable[[], None]] = set()  # of the page: what is called when something changed
         self._rules: dict[Connection, tuple[Rule, ...]] = {}
+        self._allowance = Allowance()
         self._touched: dict[Connection, None] = {}  # who may have something to be given
         self._dropped: dict[Connection, str] = {}
         self._stuck: set[Connection] = set()
@@ -72,7 +76,7 @@ class Front(Events):
         self.connections[connection.number] = connection
         self.counts.connections += 1
         self._rules[connection] = self._policy.rules_for(connection.peer)
-        self._note("begins", connection)
+        self._note_connection("begins", connection)
 
     def works(self, connection: Connection) -> int:
         return self._pairing.works(connection)
@@ -104,11 +108,11 @@ class Front(Events):
 
     def gone(self, connection: Connection) -> None:
         self.connections.pop(connection.number, None)
-        self._rules.pop(connection, None)
         self._stuck.discard(connection)
         self.watchers.remove(connection)
         self._note_unanswered(self._pairing.forget(connection))
-        self._note("ends", connection, seconds=self._since(connection.since), why=connection.why)
+        self._note_connection("ends", connection, seconds=self._since(connection.since), why=connection.why)
+        self._rules.pop(connection, None)
 
     # what the server's side tells
 
@@ -172,8 +176,10 @@ class Front(Events):
     def refused_handshake(self, address: str, why: str) -> None:
         """A connection over TLS was not let in."""
         self._count("none", "handshake")
-        self.audit.note("handshake", who={"address": address}, why=why)
+        if self._allowance.takes(None, "refusals", STRANGERS):
+            self.audit.note("handshake", who={"address": address}, why=why)
         self._soon("give", 0.0, self._give)
+        self._soon("second", SECOND, self._second)
 
     def close(self) -> None:
         for connection in list(self.connections.values()):
@@ -258,13 +264,34 @@ class Front(Events):
         answer = json.loads(asked.answer)
         self._count(op, str(answer.get("kind") or answer.get("name") or answer.get("fault")))
         passed = {"client": self._own.client, "number": line.number} if line and line.number else None
-        self._note("denied" if answer == NOT_ALLOWED else "answered", asked.asker, line=told(asked.request), answer=answer,
-                   passed=passed, seconds=seconds)
+        if "fault" not in answer or self._may_note("refusals", asked.asker):
+            self._note("denied" if answer == NOT_ALLOWED else "answered", asked.asker, line=told(asked.request), answer=answer,
+                       passed=passed, seconds=seconds)
 
     def _note_unanswered(self, asked: list[Asked]) -> None:
         for each in asked:
             if not (isinstance(each.request, Request) and each.request.op in LOOKS):
                 self._note("unanswered", each.asker, line=told(each.request), seconds=self._since(each.since))
+
+    def _note_connection(self, event: str, connection: Connection, **members: Any) -> None:
+        """Notes the begin or the end of a connection: each one of a principal that may order, a few a second of the others."""
+        may_order = any(rule.ops.difference(LOOKS) for rule in self._rules.get(connection, ()))
+        if may_order or self._may_note(event, connection):
+            self._note(event, connection, **members)
+
+    def _may_note(self, kind: str, connection: object) -> bool:
+        """Whether the principal of a connection may have one more line of this kind now."""
+        assert isinstance(connection, Connection)
+        self._soon("second", SECOND, self._second)
+        return self._allowance.takes(connection.peer.principal, kind, connection.peer.named)
+
+    def _second(self) -> None:
+        """Notes how many lines were left out in the last second, and of whom."""
+        for who, count in self._allowance.second_over():
+            self.audit.note("more", who=who, count=count)
+            self._soon("give", 0.0, self._give)
+        if not self._allowance.is_full:
+            self._soon("second", SECOND, self._second)
 
     def _note(self, event: str, connection: object, **members: Any) -> None:
         assert isinstance(connection, Connection)
@@ -301,5 +328,5 @@ class Front(Events):
 
 
 def told(request: Request | bytes) -> Any:
-    """A line as the audit says it: an object, or the text of what is no request."""
-    return request.told() if isinstance(request, Request) else request.decode("utf-8", "replace")
+    """A line as the audit says it: an object, or the beginning of a faulty line."""
+    return request.told() if isinstance(request, Request) else request.decode("utf-8", "replace")[:MOST_FAULTY]

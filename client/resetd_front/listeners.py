@@ -11,7 +11,7 @@ import resource
 import socket
 import ssl
 import stat
-from collections.abc import Callable, Coroutine, Sequence
+from collections.abc import Awaitable, Callable, Coroutine, Iterator, Sequence
 from itertools import count
 from typing import Any
 
@@ -24,40 +24,47 @@ from .upstream import address_of
 
 BACKLOG = 1024
 KEPT_FREE = 48  # descriptors for the server, the audit, the page and listeners
+MOST_HANDSHAKES = 64  # under way at once, of strangers too; at most a quarter of all places
 HANDSHAKE_SECONDS = 10.0
 PAUSE_SECONDS = 0.02  # before the next try, where no connection can be taken
 NO_ROOM = (errno.EMFILE, errno.ENFILE, errno.ENOBUFS, errno.ENOMEM)
 PeerOf = Callable[[asyncio.Transport], Peer]
+Accept = Callable[[socket.socket], Awaitable[None]]  # the next connection of a listener
 Place = tuple[str, int] | str  # a host and a port, or fd:NAME of a socket that was passed
 
 
 class Listeners:
-    """Accepts for a front, as many connections as there are places."""
+    """Accepts for a front, as many connections as there are places. Handshakes have separate places, so a stranger never
+    takes the place of a client."""
 
-    def __init__(self, front: Front) -> None:
-        self._front, self._loop = front, asyncio.get_running_loop()
+    def __init__(self, front: Front, context: ssl.SSLContext | None = None) -> None:
+        """`context` is for the next handshake; a reload replaces it."""
+        self._front, self._loop, self.context = front, asyncio.get_running_loop(), context
         self._numbers = count(1)
         self._places = raised_limit() - KEPT_FREE
+        self._most_handshakes = min(MOST_HANDSHAKES, self._places // 4)
+        if context:
+            self._places -= self._most_handshakes
         self._tasks: set[asyncio.Task[None]] = set()
-        self._coming = 0  # connections whose handshake is under way
+        self._handshakes: dict[asyncio.Task[Any], str] = {}  # from where each comes, the oldest one first
         self._path: str | None = None
 
     def unix(self, path: str, mode: int, groups: Sequence[int]) -> None:
         """Listens at a path, which a process that is gone may have left; the mode says what these groups may. Raises OSError."""
         listener = unix_listening(path, mode, groups)
         self._path = path
-        self._begin(listener, f"unix:{path}", None)
+        self._begin(listener, f"unix:{path}", self._accept_client)
 
-    def tls(self, place: Place, context: ssl.SSLContext) -> None:
+    def tls(self, place: Place) -> None:
         """Raises OSError, and ValueError."""
         listener = listening(place)
-        self._begin(listener, f"tls:{name_of(listener.getsockname())}", context)
+        self._begin(listener, f"tls:{name_of(listener.getsockname())}", self._accept_stranger)
 
     def tcp(self, place: Place) -> None:
         """Loopback alone, since whoever comes has no credentials. Raises OSError, and ValueError."""
         listener = listening(place)
         check_loopback(listener)
-        self._begin(listener, f"tcp:{name_of(listener.getsockname())}", None)
+        self._begin(listener, f"tcp:{name_of(listener.getsockname())}", self._accept_client)
 
     def close(self) -> None:
         for task in self._tasks:
@@ -66,59 +73,91 @@ class Listeners:
             with contextlib.suppress(OSError):
                 os.unlink(self._path)
 
-    def _begin(self, listener: socket.socket, name: str, context: ssl.SSLContext | None) -> None:
+    def _begin(self, listener: socket.socket, name: str, accept: Accept) -> None:
         listener.setblocking(False)
-        self._spawn(self._accept(listener, context))
+        self._spawn(self._accept_all(listener, accept))
         complain(f"listening {name}")
 
-    def _spawn(self, work: Coroutine[Any, Any, None]) -> None:
+    def _spawn(self, work: Coroutine[Any, Any, None]) -> asyncio.Task[None]:
         task = self._loop.create_task(work)
         self._tasks.add(task)
         task.add_done_callback(self._tasks.discard)
+        return task
 
-    async def _accept(self, listener: socket.socket, context: ssl.SSLContext | None) -> None:
+    async def _accept_all(self, listener: socket.socket, accept: Accept) -> None:
+        """Accepts one connection in a turn of the loop, however many wait: whoever is connected is served in between."""
         with listener:
             while True:
-                if len(self._front.connections) + self._coming >= self._places:
-                    self._front.make_room()
-                    await asyncio.sleep(PAUSE_SECONDS)
-                    continue
+                await asyncio.sleep(0)
                 try:
-                    client, address = await self._loop.sock_accept(listener)
+                    await accept(listener)
                 except OSError as fault:
                     if fault.errno in NO_ROOM:
                         complain(f"no further connection: {fault.strerror}")
                         await asyncio.sleep(PAUSE_SECONDS)
-                    continue
-                self._coming += 1
-                self._spawn(self._let_in(client, address, context))
 
-    async def _let_in(self, client: socket.socket, address: object, context: ssl.SSLContext | None) -> None:
-        """Makes a connection of a socket, after a handshake where there is one. If that fails the audit has a line."""
+    async def _accept_client(self, listener: socket.socket) -> None:
+        """Accepts who needs no handshake, once there is a place. Raises OSError."""
+        while self._is_full():
+            self._front.make_room()
+            await asyncio.sleep(PAUSE_SECONDS)
+        client, address = await self._loop.sock_accept(listener)
         where = name_of(address) if isinstance(address, tuple) else ""
+        find = (lambda _: Peer.of_tcp(where)) if where else (lambda transport: Peer.of_unix(transport.get_extra_info("socket")))
+        with closed_on_error(client):
+            await self._connect(client, where, find)
+
+    async def _accept_stranger(self, listener: socket.socket) -> None:
+        """Accepts who has to show a certificate. If all places of handshakes are taken, the oldest one ends. Raises OSError."""
+        client, address = await self._loop.sock_accept(listener)
+        if len(self._handshakes) >= self._most_handshakes:
+            oldest, where = next(iter(self._handshakes.items()))
+            del self._handshakes[oldest]
+            oldest.cancel()
+            self._front.refused_handshake(where, "its place was needed")
+        where = name_of(address)
+        self._handshakes[self._spawn(self._shake_hands(client, where))] = where
+
+    async def _shake_hands(self, client: socket.socket, where: str) -> None:
+        """Makes a client of a stranger, or notes in the audit why not."""
+        this = asyncio.current_task()
+        assert this
+
+        def is_let_in(transport: asyncio.Transport) -> Peer:
+            self._handshakes.pop(this, None)
+            return Peer.of_tls(transport.get_extra_info("peercert"), where)
+        try:
+            with closed_on_error(client):
+                connection = await self._connect(client, where, is_let_in, self.context)
+            if self._is_full(1) and not self._front.make_room():
+                connection.drop("there is no place")
+        except (OSError, asyncio.TimeoutError) as fault:
+            self._front.refused_handshake(where, reason_of(fault))
+        finally:
+            self._handshakes.pop(this, None)
+
+    def _is_full(self, but: int = 0) -> bool:
+        """Whether each place is taken, not counting `but` connections."""
+        return len(self._front.connections) - but >= self._places
+
+    async def _connect(self, client: socket.socket, where: str, find: PeerOf, context: ssl.SSLContext | None = None) -> Connection:
+        """Makes a connection of a socket. Raises OSError, and TimeoutError of a handshake."""
         if where:
             client.setsockopt(socket.SOL_SOCKET, socket.SO_KEEPALIVE, 1)
             client.setsockopt(socket.IPPROTO_TCP, socket.TCP_NODELAY, 1)
         timeout = {"ssl_handshake_timeout": HANDSHAKE_SECONDS} if context else {}
-        try:
-            await self._loop.connect_accepted_socket(
-                lambda: Connection(self._front, next(self._numbers), self._loop.time(), peer_of(where, context), bool(context)),
-                client, ssl=context, **timeout)
-        except (OSError, asyncio.TimeoutError) as fault:
-            if context:
-                self._front.refused_handshake(where, reason_of(fault))
-            client.close()
-        finally:
-            self._coming -= 1
+        _, connection = await self._loop.connect_accepted_socket(
+            lambda: Connection(self._front, next(self._numbers), self._loop.time(), find, bool(context)), client, ssl=context, **timeout)
+        return connection
 
 
-def peer_of(where: str, context: ssl.SSLContext | None) -> PeerOf:
-    """How the peer of a connection is found."""
-    if context:
-        return lambda transport: Peer.of_tls(transport.get_extra_info("peercert"), where)
-    if where:
-        return lambda transport: Peer.of_tcp(where)
-    return lambda transport: Peer.of_unix(transport.get_extra_info("socket"))
+@contextlib.contextmanager
+def closed_on_error(client: socket.socket) -> Iterator[None]:
+    try:
+        yield
+    except (OSError, asyncio.TimeoutError):
+        client.close()
+        raise
 
 
 def reason_of(fault: BaseException) -> str:

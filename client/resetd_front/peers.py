@@ -26,6 +26,16 @@ class Peer:
     names: frozenset[str] = frozenset()  # of a certificate
     told: Mapping[str, Any] | None = None  # as the audit says it
 
+    @property
+    def principal(self) -> tuple[int | None, str]:
+        """What all connections of one user, or of one certificate's name, have in common."""
+        return self.uid, self.who
+
+    @property
+    def named(self) -> dict[str, Any]:
+        """The principal as the audit says it."""
+        return {key: value for key, value in (self.told or {}).items() if key in ("user", "uid", "certificate")}
+
     @staticmethod
     def of_unix(connection: socket.socket) -> Peer:
         """By the credentials that the system keeps of who connected. Raises OSError, also for a process of more than 256

@@ -23,7 +23,6 @@ from .views import Views
 
 IDLE_SECONDS = 0.1  # after which the connection is let go
 USE_SECONDS = 1.0  # the same, while lines wait
-CONNECT_SECONDS = 5.0
 FIRST_PAUSE, LONGEST_PAUSE = 0.02, 1.0  # between two tries to connect
 COUNT_SECONDS = 60.0  # until a count that was not found is looked for again
 LOOK_PAUSE = 0.02  # between two looks at a reset under way
@@ -74,10 +73,11 @@ class Link(asyncio.Protocol):
 class Upstream:
     """Sends what waits in a pairing, a flight after the other."""
 
-    def __init__(self, addresses: str, pairing: Pairing, own: OwnOrders, views: Views, events: Events) -> None:
-        """`addresses` are HOST:PORT, one or several of one coordinator with commas between. Raises ValueError."""
+    def __init__(self, addresses: str, pairing: Pairing, own: OwnOrders, views: Views, events: Events, silent: float) -> None:
+        """`addresses` are HOST:PORT, one or several of one coordinator with commas between; one that has answered nothing for
+        `silent` seconds is left. Raises ValueError."""
         self._addresses = [address_of(text) for text in addresses.split(",")]
-        self._words = addresses
+        self._words, self._silent = addresses, silent
         self._pairing, self._own, self._views, self._events = pairing, own, views, events
         self._loop = asyncio.get_running_loop()
         self._link: Link | None = None
@@ -90,6 +90,7 @@ class Upstream:
         self._is_fresh = self._is_held = False  # whether the last flight ended with a look, and whether lines waited for one
         self._count_again = 0.0  # when a count that was not found is looked for again
         self.flights = self.resends = 0
+        self._heard_at = 0.0  # when the flight went out, or its last answer came
         self._sent_at, self._gather = 0.0, LEAST_GATHER  # when the last flight with an order went out, and how long the one before took
         self.is_up: bool | None = None  # None until it is known
         self.is_stopped = False
@@ -168,7 +169,8 @@ class Upstream:
                 line.text = line.request.line(client=self._own.client, number=line.number) if line.number else line.request.line()
             line.sent += 1
         assert self._link and self._link.transport
-        self._is_sent = True
+        self._is_sent, self._heard_at = True, self._loop.time()
+        self._later("silence", self._silent, self._check_silence)
         self._sent_at = self._loop.time() if any(line.request.is_order for line in lines) else 0.0
         self.flights += 1
         self.resends += len(lines) if is_again else 0
@@ -178,6 +180,8 @@ class Upstream:
         if link is not self._link:
             return
         *lines, self._input = (self._input + data).split(b"\n")
+        if lines:
+            self._heard_at = self._loop.time()
         self._pause = FIRST_PAUSE
         self._note_server(True)
         try:
@@ -243,7 +247,7 @@ class Upstream:
         host, port = self._addresses[0]
         link = Link(self._came, self._lost)
         try:
-            await asyncio.wait_for(self._loop.create_connection(lambda: link, host, port), CONNECT_SECONDS)
+            await asyncio.wait_for(self._loop.create_connection(lambda: link, host, port), self._silent)
         except (OSError, asyncio.TimeoutError) as fault:
             self._note_server(False, f"{host}:{port}: {fault or 'no connection'}")
             self._next_address()
@@ -265,6 +269,19 @@ class Upstream:
         except (NotTaken, CountNotFound) as fault:
             self._events.told(f"the number of client {self._own.client} is not found: {fault}")
             self._count_again = self._loop.time() + COUNT_SECONDS
+
+    def _check_silence(self) -> None:
+        """Leaves a silent server. The lines without an answer are sent to the next address."""
+        left = self._heard_at + self._silent - self._loop.time()
+        if not self._is_sent:
+            return
+        if left > 0:
+            self._later("silence", left, self._check_silence)
+            return
+        host, port = self._addresses[0]
+        self._note_server(False, f"{host}:{port}: no answer for {self._silent:g} s")
+        self._next_address()
+        self._break()
 
     def _lost(self, link: Link) -> None:
         if link is self._link:

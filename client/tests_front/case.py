@@ -118,7 +118,8 @@ class Front:
         self.folder = folder
         self.path, self.audit, self.errors = f"{folder}/front.socket", f"{folder}/audit", f"{folder}/front.errors"
         self._words = [*before, python, f"{CLIENT}/resetd-front", "serve", "--server", address, "--socket", self.path,
-                       "--state", f"{folder}/front", "--audit", self.audit, "--patience", "600", "--stuck", "600", *words]
+                       "--state", f"{folder}/front", "--audit", self.audit, "--patience", "600", "--stuck", "600",
+                       "--server-silent", "600", *words]
         self.process: subprocess.Popen[bytes] | None = None
         self.start()
 

@@ -3,15 +3,20 @@
 from __future__ import annotations
 
 import contextlib
+import itertools
+import json
+import os
 import resource
+import signal
 import socket
 import struct
 import subprocess
 import threading
+import time
 import unittest
 from typing import Any
 
-from case import Case, Client, Front, unread, until
+from case import USER, Case, Client, Front, unread, until
 
 SHOW = b'{"op":"show"}\n'
 
@@ -95,6 +100,25 @@ class Beside(Case):
             client.close()
         self.others_are_served()
 
+    def test_one_that_connects_and_closes(self) -> None:
+        """However many connections wait to be accepted, whoever is connected is served in between."""
+        client, number = self.client(), 0
+
+        def is_served_between() -> bool:
+            nonlocal number
+            assert self.front.process
+            number += 1
+            before = len(self.front.audited())
+            self.front.process.send_signal(signal.SIGSTOP)
+            waiting = connected_and_closed(self.front.path)
+            client.send({"op": "reset", "client": 9, "number": number, "node": 1})
+            self.front.process.send_signal(signal.SIGCONT)
+            client.reply()
+            events = [line["event"] for line in self.front.audited()[before:]]
+            return events.index("answered") < waiting / 2
+        client.ask(op="show")
+        until("an answer before the last of them", is_served_between, 60)
+
     def test_bytes_one_by_one_and_many_lines_in_one_write(self) -> None:
         client = self.client()
         for byte in SHOW:
@@ -113,6 +137,56 @@ class Beside(Case):
         for _ in range(200):
             self.assertIn("nodes", client.reply())
         self.assertEqual(client.line(), b"")
+
+
+def connected_and_closed(path: str) -> int:
+    """How many connections it took until a listener that accepts none had no room for more; each is closed at once."""
+    for count in itertools.count():
+        with socket.socket(socket.AF_UNIX) as connection:
+            connection.setblocking(False)
+            try:
+                connection.connect(path)
+            except BlockingIOError:
+                return count
+    raise AssertionError
+
+
+class Lookers(Case):
+    """Clients that may only look."""
+
+    nodes = 2
+    has_front = False
+
+    def setUp(self) -> None:
+        super().setUp()
+        with open(f"{self.folder}/policy", "w", encoding="ascii") as file:
+            file.write(f"[[allow]]\nuser = '{USER}'\nops = ['show']\n")
+        self.front = self.started("--policy", f"{self.folder}/policy")
+
+    def lines_of(self, *events: str) -> tuple[int, int]:
+        """How many lines of these events there are, and how many were counted in place of one."""
+        lines = self.front.audited()
+        return (sum(line["event"] in events for line in lines), sum(line["count"] for line in lines if line["event"] == "more"))
+
+    def test_what_they_send_does_not_fill_the_audit(self) -> None:
+        """Each line is written or counted; a long one is not written whole."""
+        began = time.monotonic()
+        client, bad = self.client(), b"\xff" * 500 + b"\n"
+        for _ in range(50):
+            client.send(b'{"op":"reset","node":1}\n' * 10, bad * 10)
+            self.assertEqual([client.reply() for _ in range(20)], [{"fault": "NotAllowed"}] * 10 + [{"fault": "BadText"}] * 10)
+        until("all", lambda: sum(self.lines_of("denied", "answered")) == 1_000)
+        self.assertLess(self.lines_of("denied", "answered")[0], 10 * (time.monotonic() - began + 2))
+        self.assertLess(max(len(json.dumps(line)) for line in self.front.audited()), 1_000)
+        more = self.front.await_audited("a count", lambda line: line["event"] == "more")
+        self.assertEqual(more["who"], {"user": USER, "uid": os.getuid()})
+
+    def test_their_connections_do_not_fill_the_audit(self) -> None:
+        began = time.monotonic()
+        for _ in range(400):
+            self.front.connect().close()
+        until("all", lambda: sum(self.lines_of("begins", "ends")) == 800)
+        self.assertLess(self.lines_of("begins", "ends")[0], 200 + 20 * (time.monotonic() - began + 2))
 
 
 class FewDescriptors(Case):

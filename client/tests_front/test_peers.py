@@ -291,6 +291,42 @@ class Certificates(Ruled):
             plain.sendall(b'{"op":"show"}\n' * 10)
             until("a fifth line", lambda: len(self.handshakes()) == 5)
 
+    def test_failed_handshakes_do_not_fill_the_audit(self) -> None:
+        """Each is written or counted."""
+        began = time.monotonic()
+        for _ in range(100):
+            with socket.create_connection(self.front.listening("tls:"), DEADLINE) as plain:
+                plain.sendall(b"no handshake\n" * 10)
+                with contextlib.suppress(OSError):
+                    plain.recv(100)
+
+        def counted() -> int:
+            return sum(int(line["count"]) for line in self.front.audited() if line["event"] == "more")
+        until("all", lambda: len(self.handshakes()) + counted() == 100)
+        self.assertLess(len(self.handshakes()), 10 * (time.monotonic() - began + 2))
+
+    def with_the_other_authority(self) -> None:
+        """The front trusts `foreign` from now on. What the clients trust stays."""
+        shutil.copy(f"{self.folder}/authority.pem", f"{self.folder}/old.authority")
+        shutil.copy(f"{self.folder}/foreign.pem", f"{self.folder}/authority.pem")
+        self.front.reload()
+        self.front.await_audited("a reload", lambda line: line["event"] == "policy")
+        shutil.copy(f"{self.folder}/old.authority", f"{self.folder}/authority.pem")
+
+    def test_a_replaced_authority(self) -> None:
+        """After a reload the new one alone is trusted."""
+        self.assertIn("nodes", self.connected("service2").ask(op="show"))
+        self.with_the_other_authority()
+        self.assertEqual(self.connected("stranger").ask(op="show"), {"fault": "NotAllowed"})
+        self.expect_refused("service2", "certificate")
+
+    def test_a_broken_certificate_is_not_taken(self) -> None:
+        with open(f"{self.folder}/front.pem", "w", encoding="ascii") as file:
+            file.write("no certificate\n")
+        self.front.reload()
+        until("a complaint", lambda: "the old certificate stays" in self.front.said())
+        self.assertIn("nodes", self.connected("service2").ask(op="show"))
+
     def test_a_name_that_is_taken_out_of_the_policy(self) -> None:
         client = self.connected("service2")
         self.assertIn("nodes", client.ask(op="show"))
@@ -299,6 +335,30 @@ class Certificates(Ruled):
         self.front.await_audited("a line of it", lambda line: line["event"] == "policy")
         self.assertEqual(client.ask(op="show"), {"fault": "NotAllowed"})
         self.assertEqual(self.connected("service2").ask(op="show"), {"fault": "NotAllowed"})
+
+
+@unittest.skipUnless(shutil.which("prlimit"), "it needs prlimit")
+class Strangers(Certificates):
+    """A front that may open a hundred descriptors, and strangers whose handshakes don't end."""
+
+    def before(self) -> tuple[str, ...]:
+        return ("prlimit", "--nofile=100:100")
+
+    def test_they_end_nobody(self) -> None:
+        clients = [self.client() for _ in range(20)]
+        for client in clients:
+            client.ask(op="show")
+        for _ in range(60):
+            self.addCleanup(socket.create_connection(self.front.listening("tls:"), DEADLINE).close)
+        until("one that made room", lambda: any("place was needed" in line["why"] for line in self.handshakes()))
+        self.assertIn("nodes", self.connected("service2").ask(op="show"))
+        for client in [*clients, self.client()]:
+            self.assertIn("nodes", client.ask(op="show"))
+        self.assertEqual([line for line in self.front.audited() if line["event"] == "ends"], [])
+
+
+for _inherited in [name for name in dir(Certificates) if name.startswith("test_")]:
+    setattr(Strangers, _inherited, None)
 
 
 def namespaces() -> bool:
@@ -370,7 +430,9 @@ class Hosts(Certificates):
                                   f"import socket; socket.create_connection(('{host}', {port}), 120)"], capture_output=True, text=True, check=False)
             self.assertIn("ConnectionRefusedError", ran.stderr)
 
-    test_many_at_once = test_a_certificate_without_a_rule_may_nothing = test_a_name_that_is_taken_out_of_the_policy = None  # type: ignore[assignment]
+
+for _inherited in [name for name in dir(Certificates) if name.startswith("test_") and name not in vars(Hosts)]:
+    setattr(Hosts, _inherited, None)
 
 
 if __name__ == "__main__":

@@ -110,6 +110,8 @@ def came_of(entry: Entry) -> str:
         parts.append("no answer: perhaps carried out")
     if isinstance(passed := entry.get("passed"), dict):
         parts.append(f"as client {passed.get('client')}, number {passed.get('number')}")
+    if "count" in entry:
+        parts.append(f"{entry['count']} lines")
     if "seconds" in entry:
         parts.append(f"{entry['seconds']} s")
     return "; ".join([*parts, *([str(entry["why"])] if "why" in entry else [])])
