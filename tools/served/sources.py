@@ -6,6 +6,8 @@ import sys
 
 sys.dont_write_bytecode = True
 ROOT = os.path.dirname(os.path.dirname(os.path.dirname(os.path.abspath(__file__))))
+# The tests of the crates: no check reads a file that ends in .rtt.
+UNITS = f"{ROOT}/tests/units"
 sys.path.insert(0, f"{ROOT}/refusals")
 import catalogue  # noqa: E402
 import choice  # noqa: E402
@@ -26,6 +28,19 @@ def copy(folder: str) -> None:
     for name in ("crates.txt", "HANDLES"):
         shutil.copy(f"{ROOT}/{name}", folder)
     shutil.copytree(f"{ROOT}/crates", f"{folder}/crates", ignore=shutil.ignore_patterns("out", "must-fail"))
+
+
+def copy_units(folder: str) -> None:
+    """The tests of tests/units as a crate beside the others in a copy of them, over each library that they list."""
+    for at, _, names in os.walk(UNITS):
+        for name in names:
+            inner = os.path.relpath(os.path.join(at, name), UNITS).removesuffix(".rtt")
+            os.makedirs(os.path.dirname(f"{folder}/crates/units/src/{inner}"), exist_ok=True)
+            shutil.copy(os.path.join(at, name), f"{folder}/crates/units/src/{inner}.rt")
+    lines = [line.partition(":") for line in read(f"{folder}/crates.txt").splitlines() if line and not line.startswith("#")]
+    own = [head.split()[0] for head, _, _ in lines if os.path.isfile(f"{folder}/crates/{head.split()[0]}/src/lib.rt")]
+    libraries = {word for _, _, below in lines for word in below.split()} | {name for name in own if name.startswith("coord_")}
+    write(f"{folder}/crates.txt", read(f"{folder}/crates.txt").rstrip("\n") + f"\nunits: {' '.join(sorted(libraries))}\n")
 
 
 def plant(folder: str, word: str) -> None:
