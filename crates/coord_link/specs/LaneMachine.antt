@@ -7,7 +7,7 @@ use Rattle.coord_types.specs.declared.messages.Msg.{Msg}
 use Rattle.coord_types.specs.declared.refusals.Refusal.{Refusal}
 use Rattle.coord_types.specs.declared.refusals.Refusal.TheVariants.{Old, Early, Differs}
 
--- `base` messages are receipted, the queue has those from number base + 1 on, and `got` were taken at the other end
+-- `base` messages are receipted, the queue has the messages from number base + 1 on, and `got` messages were taken at the other end
 pub record Lane : Type 0 where
   pub inc : ℕ
   pub base : ℕ
@@ -17,7 +17,7 @@ pub record Lane : Type 0 where
 abbrev pub new_lane : ℕ → Lane
 new_lane inc = record { inc = inc; base = 0; got = 0; queue = [] }
 
--- messages go behind the others
+-- appends messages to the queue
 abbrev pub sent : List Msg → Lane → Lane
 sent ms l = record l { queue = l.queue ++ ms }
 
@@ -33,7 +33,7 @@ cleared l = record l { base = l.base + 1; queue = behind_front l.queue }
 abbrev pub is_front_taken : Lane → Bool
 is_front_taken l = l.got == l.base + 1
 
--- the messages on the way: not the front, where it was taken
+-- the messages in transit: the queue, without its front if that was taken
 abbrev pub transit : Lane → List Msg
 transit l = if is_front_taken l then behind_front l.queue else l.queue
 
@@ -41,20 +41,20 @@ abbrev pub front_in : ℕ → List Msg → Option (ℕ × Msg)
 front_in base [] = None
 front_in base (m ∷ ms) = Some (base + 1, m)
 
--- the number and the message of the front, which alone travels
+-- the number and the message of the front, the only message that travels
 abbrev pub front_of : Lane → Option (ℕ × Msg)
 front_of l = front_in l.base l.queue
 
--- tests, each with the refusal that it stands for
+-- tests, each with its refusal
 abbrev pub Tests : Type 0
 Tests = List (Bool × Refusal)
 
--- refused by the first test that holds
+-- the refusal of the first test that holds
 abbrev pub refused_or : {V : Type 0} → V → Tests → Result V Refusal
 refused_or v [] = Ok v
 refused_or v (t ∷ ts) = if t.0 then Err t.1 else refused_or v ts
 
--- why a message with this number isn't taken: it was taken already; it isn't the next one, or the one before it isn't receipted; it isn't the front's
+-- why a message with this number is not taken: it was taken already; it is not the next one, or the one before it is not receipted; it differs from the front
 abbrev pub against_take : Lane → ℕ → Msg → Tests
 against_take l number m =
     (nat_le number l.got, Old) ∷ (nat_lt (l.got + 1) number || not (l.got == l.base) || is_nil l.queue, Early)
@@ -63,7 +63,7 @@ against_take l number m =
 abbrev pub judged_take : Lane → ℕ → Msg → Result (Unit {0}) Refusal
 judged_take l number m = refused_or tt (against_take l number m)
 
--- why a receipt with this number clears nothing: its message was cleared already; it wasn't taken, or isn't the front
+-- why a receipt with this number clears nothing: its message was cleared already; it was not taken, or is not the front
 abbrev pub against_clear : Lane → ℕ → Tests
 against_clear l number =
     (nat_le number l.base, Old) ∷ (nat_lt l.got number || nat_lt (l.base + 1) number || is_nil l.queue, Early) ∷ []
@@ -71,11 +71,11 @@ against_clear l number =
 abbrev pub judged_clear : Lane → ℕ → Result (Unit {0}) Refusal
 judged_clear l number = refused_or tt (against_clear l number)
 
--- predicate A: nothing that is in the queue was taken at the other end, or just the front was
+-- predicate A: of the queue nothing, or only the front, was taken at the other end
 abbrev pub has_front_taken_at_most : Lane → Bool
 has_front_taken_at_most l = (l.got == l.base) || ((l.got == l.base + 1) && not (is_nil l.queue))
 
--- the numbers of a lane fit its queue
+-- the numbers of a lane agree with its queue
 abbrev pub Counts : Lane → Type 0
 Counts l = has_front_taken_at_most l ≡ true
 

@@ -1,9 +1,9 @@
--- A lane's array: its queue, and what stands behind it.
+-- A lane's array: its queue, and the padding after it.
 use Rattle.std.specs.Prelude.{List, [], ◌∷◌}
 use Rattle.coord_types.specs.declared.messages.Msg.{Msg}
 use Rattle.coord_types.specs.declared.messages.Msg.TheVariants.{Ack}
 
--- a queue of at most four, in an array of four: what stands behind it is always the same, so that the queue gives the array
+-- a queue of at most four messages in an array of four: the padding is always the same, so that the queue determines the array
 abbrev pub padded : List Msg → List Msg
 padded [] = Ack ∷ Ack ∷ Ack ∷ Ack ∷ []
 padded (a ∷ []) = a ∷ Ack ∷ Ack ∷ Ack ∷ []

@@ -1,4 +1,4 @@
--- The lane from the initiator of a reset to its only neighbour, with packets that come again and too early.
+-- The lane from the initiator of a reset to its only neighbour, with packets that arrive twice or too early.
 use Rattle.std.specs.Prelude.{◌≡◌, List, [], ◌∷◌, Ok, Err}
 use Rattle.coord_types.specs.declared.messages.Msg.TheVariants.{Abort, Ready}
 use Rattle.coord_types.specs.declared.refusals.Refusal.TheVariants.{Old, Early, Differs}

@@ -6,10 +6,10 @@ ghost use Rattle.coord_link.specs.LaneMachine.{new_lane, sent, took, cleared, is
 use coord_types::{Msg, Refusal};
 use std::marker::Model;
 
-/// The most messages that a lane holds.
+/// The maximum number of messages in a lane.
 pub const PLACES: usize = 4;
 
-/// What stands behind the queue in its array, and is never read.
+/// The padding after the queue in its array, which is never read.
 const BEHIND: Msg = Msg::Ack;
 
 /// The messages from one node to its neighbour, numbered from 1 since the link was made. Contracts
@@ -19,7 +19,7 @@ pub struct Lane {
     inc: u64,
     base: u64,
     got: u64,
-    /// The first `len` are the messages that aren't receipted, the oldest first; the others are
+    /// The first `len` are the messages without a receipt, oldest first; the others are
     /// `BEHIND`, so that equal lanes have equal arrays.
     queue: [Msg; PLACES],
     len: usize,
@@ -64,7 +64,7 @@ impl Model for Lane {
 }
 
 impl Lane {
-    /// The empty lane of a link that was made by step number `inc`.
+    /// Returns the empty lane of a link that step number `inc` made.
     pub fn new(inc: u64) -> Self
         ensures { result ≡ new_lane inc }
     {
@@ -77,7 +77,7 @@ impl Lane {
         }
     }
 
-    /// The lane that has these numbers, and these messages in its queue, the oldest first.
+    /// Returns the lane with these numbers and this queue, oldest message first.
     pub fn restore(inc: u64, base: u64, got: u64, queue: &[Msg]) -> Self
         requires { length queue.now ≤ PLACES }
         ensures { result ≡ record { inc = inc; base = base; got = got; queue = queue.now } }
@@ -93,28 +93,28 @@ impl Lane {
         lane
     }
 
-    /// The number of the step that made the link.
+    /// Returns the number of the step that made the link.
     pub fn inc(&self) -> u64
         ensures { result ≡ self.now.inc }
     {
         self.inc
     }
 
-    /// How many messages are receipted.
+    /// Returns the number of receipted messages.
     pub fn base(&self) -> u64
         ensures { result ≡ self.now.base }
     {
         self.base
     }
 
-    /// How many messages were taken at the other end.
+    /// Returns the number of messages taken at the other end.
     pub fn got(&self) -> u64
         ensures { result ≡ self.now.got }
     {
         self.got
     }
 
-    /// The messages that aren't receipted, the oldest first.
+    /// Returns the messages without a receipt, oldest first.
     pub fn queue(&self) -> &[Msg]
         ensures value { result.now ≡ self.now.queue }
         ensures most { length self.now.queue ≤ PLACES }
@@ -122,7 +122,7 @@ impl Lane {
         &self.queue[..self.len]
     }
 
-    /// Whether there is no place for another message.
+    /// Tests whether the queue has no room for another message.
     pub fn is_full(&self) -> bool
         ensures full { IsTrue result ↔ (length self.now.queue ≡ PLACES) }
         ensures most { length self.now.queue ≤ PLACES }
@@ -130,7 +130,7 @@ impl Lane {
         self.len == PLACES
     }
 
-    /// Puts a message behind the others.
+    /// Appends a message to the queue.
     pub fn send(&mut self, msg: Msg)
         requires { length self.old.queue < PLACES }
         ensures { self.new ≡ sent (msg ∷ []) self.old }
@@ -139,7 +139,7 @@ impl Lane {
         self.len += 1;
     }
 
-    /// The number and the message of the front, which alone travels; None where nothing waits.
+    /// Returns the number and the message of the front, or None if the queue is empty.
     pub fn current(&self) -> Option<(u64, Msg)>
         requires { self.now.base < 2 ^ 64 - 1 }
         ensures { result ≡ front_of self.now }
@@ -151,7 +151,7 @@ impl Lane {
         }
     }
 
-    /// What `current` is once the front is cleared.
+    /// Returns the value of `current` after the front is cleared.
     pub fn next(&self) -> Option<(u64, Msg)>
         requires front { 0 < length self.now.queue }
         requires room { self.now.base < 2 ^ 64 - 2 }
@@ -164,9 +164,9 @@ impl Lane {
         }
     }
 
-    /// Whether the message with this number is taken now. It is Old where it was taken already,
-    /// Early where another one comes first or the one before it isn't receipted, and Differs where
-    /// it isn't the front's.
+    /// Judges whether the message with this number is taken now. It is Old if it was taken already,
+    /// Early if it is not the next one or the one before it has no receipt, and Differs if it
+    /// differs from the front.
     pub fn judge_take(&self, number: u64, msg: Msg) -> Result<(), Refusal>
         ensures { result ≡ judged_take self.now number msg }
     {
@@ -182,7 +182,7 @@ impl Lane {
         Ok(())
     }
 
-    /// Notes that the front was taken at the other end, as `judge_take` allowed.
+    /// Records that the front was taken at the other end, as `judge_take` allowed.
     pub fn take(&mut self)
         requires { self.old.got < 2 ^ 64 - 1 }
         ensures { self.new ≡ took self.old }
@@ -190,8 +190,8 @@ impl Lane {
         self.got += 1;
     }
 
-    /// Whether a receipt with this number clears the front. It is Old where its message was cleared
-    /// already, and Early where that message wasn't taken or isn't the front.
+    /// Judges whether a receipt with this number clears the front. It is Old if its message was cleared
+    /// already, and Early if that message was not taken or is not the front.
     pub fn judge_clear(&self, number: u64) -> Result<(), Refusal>
         ensures { result ≡ judged_clear self.now number }
     {
@@ -204,7 +204,7 @@ impl Lane {
         Ok(())
     }
 
-    /// Removes the front, whose receipt came, as `judge_clear` allowed.
+    /// Removes the front, whose receipt arrived, as `judge_clear` allowed.
     pub fn clear(&mut self)
         requires front { 0 < length self.old.queue }
         requires room { self.old.base < 2 ^ 64 - 1 }
@@ -215,14 +215,14 @@ impl Lane {
         self.len -= 1;
     }
 
-    /// Whether the front was taken at the other end: one more message was taken than is receipted.
+    /// Tests whether the front was taken at the other end: one more message is taken than is receipted.
     pub fn is_front_taken(&self) -> bool
         ensures { result ≡ is_front_taken self.now }
     {
         self.got > self.base && self.got - self.base == 1
     }
 
-    /// The messages on the way: those of the queue, without a front that was taken.
+    /// Returns the messages in transit: the queue, without its front if that was taken.
     pub fn transit(&self) -> &[Msg]
         ensures { result.now ≡ transit self.now }
     {

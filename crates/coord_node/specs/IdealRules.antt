@@ -1,4 +1,4 @@
--- The ideal rules: what each step makes of an ideal world.
+-- The ideal rules: the ideal world after each step.
 use Rattle.std.specs.Prelude.{ℕ, ◌==◌, Bool, ◌&&◌, ◌||◌, not, List, [], ◌∷◌, ◌++◌, if◌then◌else◌}
 use Rattle.coord_types.specs.NodeSet as set
 use Rattle.coord_types.specs.Facade.{Ideal, NodeState, behind_front, new_node, no_node}
@@ -10,7 +10,7 @@ use Rattle.coord_types.specs.declared.steps.Step.TheVariants.{Order, Take, Clear
 use Rattle.coord_node.specs.Rules.{Transition, with_neighbour}
 use Rattle.coord_node.specs.Steps.{transitions}
 
--- what a transition sends to y
+-- the messages that a transition sends to y
 abbrev pub added : Transition → ℕ → List Msg
 added d y = if set.contains d.to y then d.message ∷ [] else []
 
@@ -18,19 +18,19 @@ added d y = if set.contains d.to y then d.message ∷ [] else []
 abbrev pub set_state : Ideal → ℕ → NodeState → Ideal
 set_state w u r = record w { state = λ x. if x == u then r else w.state x }
 
--- u does a transition: its state changes, and its messages go behind those on the way
+-- node u makes a transition: its state changes, and its messages join those in transit
 abbrev pub ideal_applied : Ideal → ℕ → Transition → Ideal
 ideal_applied w u d = record w {
   state = λ x. if x == u then d.state else w.state x;
   in_transit = λ x y. if (x == u) && w.linked x y then w.in_transit x y ++ added d y else w.in_transit x y;
 }
 
--- transitions, one after the other
+-- these transitions, one after the other
 abbrev pub ideal_all_applied : Ideal → List (ℕ × Transition) → Ideal
 ideal_all_applied w [] = w
 ideal_all_applied w (d ∷ ds) = ideal_all_applied (ideal_applied w d.0 d.1) ds
 
--- the first message on the way from v to u leaves it
+-- removes the first message in transit from v to u
 abbrev pub headed : Ideal → ℕ → ℕ → Ideal
 headed w v u = record w { in_transit = λ x y. if (x == v) && (y == u) then behind_front (w.in_transit x y) else w.in_transit x y }
 
@@ -38,7 +38,7 @@ headed w v u = record w { in_transit = λ x y. if (x == v) && (y == u) then behi
 abbrev pub is_link : ℕ → ℕ → ℕ → ℕ → Bool
 is_link a b x y = ((x == a) && (y == b)) || ((x == b) && (y == a))
 
--- a and b are linked, with nothing on the way
+-- links a and b, with nothing in transit
 abbrev pub linked_up : Ideal → ℕ → ℕ → Ideal
 linked_up w a b = record w {
   state = λ x. if x == b then with_neighbour (w.state b) a else (if x == a then with_neighbour (w.state a) b else w.state x);
@@ -46,11 +46,11 @@ linked_up w a b = record w {
   in_transit = λ x y. if is_link a b x y then [] else w.in_transit x y;
 }
 
--- the link of a and b vanishes, with all that is on the way
+-- removes the link of a and b, with the messages in transit
 abbrev pub without_link : Ideal → ℕ → ℕ → Ideal
 without_link w a b = record w { linked = λ x y. not (is_link a b x y) && w.linked x y; in_transit = λ x y. if is_link a b x y then [] else w.in_transit x y }
 
--- what a step changes before any node acts on it
+-- the changes of a step that precede any node's transition
 abbrev pub ideal_ordered : Ideal → Command → Ideal
 ideal_ordered w (Add u g) = set_state w u (new_node g)
 ideal_ordered w (Remove u) = set_state w u no_node

@@ -1,4 +1,4 @@
--- Who acts on a step, and how it is answered: a function of the states of all nodes, and of the version of their world.
+-- Which nodes act on a step, and the kind of its reply: functions of the states of all nodes and of the version of their world.
 use Rattle.std.specs.Prelude.{ℕ, List, [], ◌∷◌, if◌then◌else◌}
 use Rattle.coord_types.specs.NodeState.{NodeState}
 use Rattle.coord_types.specs.declared.messages.Mode.{Mode}
@@ -38,7 +38,7 @@ kind_ordered states (Drop a b) = Done
 kind_ordered states (Reset u) = kind_of_request (states u).mode (states u)
 kind_ordered states (Confirm u e) = Done
 
--- what became of a step
+-- the kind of a step's reply
 abbrev pub kind : (ℕ → NodeState) → Step → Kind
 kind states (Order c n x) = kind_ordered states x
 kind states (Take p) = Taken

@@ -1,4 +1,4 @@
-//! What a call at a node leads to.
+//! The effects of a call at a node.
 
 ghost use Rattle.std.specs.Prelude.{◌≡◌, IfOk, false, [], ◌∷◌, map};
 ghost use Rattle.coord_types.specs.NodeSet as set;
@@ -6,17 +6,17 @@ ghost use Rattle.coord_types.specs.NodeSet as set;
 use coord_types::{Msg, NodeId, NodeSet};
 use std::alloc::{AllocError, Global};
 
-/// What is to be sent, and whether the node finished a reset.
+/// The messages to be sent, and whether the node finished a reset.
 #[derive(Drop, Debug)]
 pub struct Effects {
-    /// Whom a message goes to, in ascending order, and the message.
+    /// The receivers, in ascending order, each with its message.
     pub sends: Vec<(NodeId, Msg)>,
     /// Whether the node entered its next epoch.
     pub finished: bool,
 }
 
 impl Effects {
-    /// Nothing is sent.
+    /// Returns effects without messages.
     pub(crate) fn idle(alloc: Global) -> Self
         ensures sends { result.sends.items ≡ [] }
         ensures finished { result.finished ≡ false }
@@ -27,7 +27,7 @@ impl Effects {
         }
     }
 
-    /// An Ack goes to one node.
+    /// Returns an Ack to one node.
     pub(crate) fn answer(alloc: Global, to: NodeId) -> Result<Self, AllocError>
         ensures sends { IfOk result (λ d. d.sends.items ≡ record { 0 = to; 1 = Msg.Ack } ∷ []) }
         ensures finished { IfOk result (λ d. d.finished ≡ false) }
@@ -40,7 +40,7 @@ impl Effects {
     }
 }
 
-/// One message to each of these nodes, in ascending order.
+/// Returns one message to each of these nodes, in ascending order.
 pub(crate) fn sends_to(
     alloc: Global,
     to: NodeSet,

@@ -1,4 +1,4 @@
-//! One node, and the reset rules at it.
+//! One node and its reset rules.
 
 ghost use Rattle.std.specs.Prelude.{◌≡◌, ◌<◌, ◌^◌, ◌-◌, OnOk, OnErr, IfOk, true, false, []};
 ghost use Rattle.coord_types.specs.NodeSet as set;
@@ -11,8 +11,8 @@ use coord_types::{Group, Mode, Msg, NodeId, NodeSet, Version};
 use std::alloc::{AllocError, Global};
 use std::marker::Model;
 
-/// A node: its group, where it stands in a reset, and how many resets it has been through.
-/// Contracts see it as its state, and each call's contract cites the reset rule of its name.
+/// A node: its group, its mode in a reset, and the number of resets that it has finished.
+/// Contracts see it as its state, and each call's contract cites the reset rule of the same name.
 #[derive(Clone, Copy, PartialEq, Eq, Debug)]
 pub struct Node {
     group: Group,
@@ -55,27 +55,27 @@ impl Model for Node {
     } };
 }
 
-/// All that a node keeps, to restore it from.
+/// All fields of a node, to restore it from.
 #[derive(Clone, Copy, Debug)]
 pub struct NodeFields {
     pub group: Group,
     pub mode: Mode,
-    /// The neighbour that is owed the node's acknowledgement.
+    /// The neighbour to which the node owes its acknowledgement.
     pub parent: Option<NodeId>,
-    /// The neighbours whose acknowledgement is awaited.
+    /// The neighbours whose acknowledgement the node awaits.
     pub pend: NodeSet,
     pub neighbours: NodeSet,
-    /// How many resets the node has finished.
+    /// The number of resets that the node has finished.
     pub epoch: u64,
-    /// The last epoch whose signal is known to have been acted on.
+    /// The last epoch whose signal the service is known to have acted on.
     pub confirmed: u64,
-    /// How many links lie between the node and the one that began its reset; 0 where it is Ready, and
+    /// The number of links between the node and the one that began its reset; 0 for a Ready node, and
     /// in version 1.
     pub distance: u64,
 }
 
 impl Node {
-    /// A node as it is added: Ready, without neighbours, in epoch 0.
+    /// Returns a new node: Ready, without neighbours, in epoch 0.
     pub fn new(group: Group) -> Self
         ensures { result ≡ new_node group }
     {
@@ -91,7 +91,7 @@ impl Node {
         }
     }
 
-    /// The node with these fields.
+    /// Returns the node with these fields.
     pub fn restore(fields: NodeFields) -> Self
         ensures { result ≡ record {
           group = fields.group;
@@ -116,63 +116,63 @@ impl Node {
         }
     }
 
-    /// The group, which never changes.
+    /// Returns the group, which never changes.
     pub fn group(&self) -> Group
         ensures { result ≡ self.now.group }
     {
         self.group
     }
 
-    /// Whether a wave is at the node, and which part of it.
+    /// Returns the mode: whether the node is in a reset, and in which phase.
     pub fn mode(&self) -> Mode
         ensures { result ≡ self.now.mode }
     {
         self.mode
     }
 
-    /// The neighbour that is owed this node's acknowledgement.
+    /// Returns the neighbour to which this node owes its acknowledgement, if any.
     pub fn parent(&self) -> Option<NodeId>
         ensures { result ≡ self.now.parent }
     {
         self.parent
     }
 
-    /// The neighbours whose acknowledgement is awaited.
+    /// The neighbours whose acknowledgement the node awaits.
     pub fn pend(&self) -> NodeSet
         ensures { result ≡ self.now.pend }
     {
         self.pend
     }
 
-    /// The nodes that it has links to.
+    /// Returns the nodes that it has links to.
     pub fn neighbours(&self) -> NodeSet
         ensures { result ≡ self.now.neighbours }
     {
         self.neighbours
     }
 
-    /// How many resets it has finished.
+    /// Returns the number of resets that it has finished.
     pub fn epoch(&self) -> u64
         ensures { result ≡ self.now.epoch }
     {
         self.epoch
     }
 
-    /// The last epoch whose signal is known to have been acted on.
+    /// The last epoch whose signal the service is known to have acted on.
     pub fn confirmed(&self) -> u64
         ensures { result ≡ self.now.confirmed }
     {
         self.confirmed
     }
 
-    /// How many links lie between the node and the one that began its reset; 0 where it is Ready.
+    /// Returns the number of links between the node and the one that began its reset; 0 for a Ready node.
     pub fn distance(&self) -> u64
         ensures { result ≡ self.now.distance }
     {
         self.distance
     }
 
-    /// A reset is asked for at this node, in a world of this version.
+    /// Handles a request to reset this node, in a world of this version.
     #[tactic(auto, using(coord_types::proofs::Sets::listed))]
     pub fn request(&mut self, alloc: Global, version: Version) -> Result<Effects, AllocError>
         requires { self.old.epoch < 2 ^ 64 - 1 }
@@ -191,8 +191,8 @@ impl Node {
         self.wave_on(alloc, version, None, others, 0)
     }
 
-    /// An Abort comes from a neighbour, with the distance that a Ready node takes; in version 1 it
-    /// takes 0 whatever comes.
+    /// Handles an Abort from a neighbour, with the distance that a Ready node takes; in version 1 it
+    /// always takes 0.
     #[tactic(auto, using(coord_types::proofs::Sets::listed))]
     pub fn on_abort(
         &mut self,
@@ -225,7 +225,7 @@ impl Node {
         Ok(effects)
     }
 
-    /// An Ack comes from a neighbour.
+    /// Handles an Ack from a neighbour.
     #[tactic(auto, using(coord_types::proofs::Sets::listed))]
     pub fn on_ack(&mut self, alloc: Global, from: NodeId) -> Result<Effects, AllocError>
         requires { self.old.epoch < 2 ^ 64 - 1 }
@@ -248,7 +248,7 @@ impl Node {
         Ok(effects)
     }
 
-    /// A Ready comes from a neighbour.
+    /// Handles a Ready from a neighbour.
     #[tactic(auto, using(coord_types::proofs::Sets::listed))]
     pub fn on_ready(&mut self, alloc: Global, from: NodeId) -> Result<Effects, AllocError>
         requires { self.old.epoch < 2 ^ 64 - 1 }
@@ -264,7 +264,7 @@ impl Node {
         }
     }
 
-    /// The link to a neighbour is dropped.
+    /// Drops the link to a neighbour.
     pub fn lost(&mut self, alloc: Global, other: NodeId) -> Result<Effects, AllocError>
         requires { self.old.epoch < 2 ^ 64 - 1 }
         ensures state { OnOk result (self.new ≡ (lost self.old other).state) }
@@ -280,7 +280,7 @@ impl Node {
         Ok(effects)
     }
 
-    /// A link to another node comes.
+    /// Adds a link to another node.
     pub fn gained(&mut self, alloc: Global, other: NodeId) -> Effects
         ensures state { self.new ≡ with_neighbour self.old other }
         ensures sends { result.sends.items ≡ [] }
@@ -290,14 +290,14 @@ impl Node {
         Effects::idle(alloc)
     }
 
-    /// The signals up to this epoch are known to have been acted on.
+    /// Records that the service has acted on the signals up to this epoch.
     pub fn confirm(&mut self, epoch: u64)
         ensures { self.new ≡ record self.old { confirmed = epoch } }
     {
         self.confirmed = epoch;
     }
 
-    /// Sends Ready to every neighbour but the parent, and enters the next epoch.
+    /// Sends Ready to every neighbour except the parent, and enters the next epoch.
     fn finish(&mut self, alloc: Global) -> Result<Effects, AllocError>
         requires { self.old.epoch < 2 ^ 64 - 1 }
         ensures state { OnOk result (self.new ≡ (finish self.old).state) }
@@ -320,7 +320,7 @@ impl Node {
         })
     }
 
-    /// Takes this distance, passes the abort wave on, and awaits those that it goes to.
+    /// Takes this distance, passes the abort wave on, and awaits the nodes that it sent it to.
     fn wave_on(
         &mut self,
         alloc: Global,
@@ -349,7 +349,7 @@ impl Node {
         })
     }
 
-    /// What an Abort carries that the node sends: the distance of those that it reaches.
+    /// Returns the distance that the node's Aborts carry.
     pub fn carries(&self, version: Version) -> u64
         requires { self.now.distance < 2 ^ 64 - 1 }
         ensures { result ≡ carries version self.now }
@@ -357,7 +357,7 @@ impl Node {
         kept(version, self.distance + 1)
     }
 
-    /// The last acknowledgement that was awaited has come.
+    /// Handles the last awaited acknowledgement.
     #[tactic(auto, using(coord_types::proofs::Sets::listed))]
     fn acknowledged(&mut self, alloc: Global) -> Result<Effects, AllocError>
         requires { self.old.epoch < 2 ^ 64 - 1 }
@@ -378,7 +378,7 @@ impl Node {
         }
     }
 
-    /// The node without a link to this neighbour, in the same mode.
+    /// Removes this neighbour, and keeps the mode.
     fn without(&self, other: NodeId) -> Node
         ensures { result ≡ record self.now {
           parent = without self.now.parent other;
@@ -399,8 +399,8 @@ impl Node {
         }
     }
 
-    /// Goes on after a link was dropped: `awaited` says that its end's acknowledgement was
-    /// awaited, and `child` that its end was the parent.
+    /// Continues after a link was dropped: `awaited` says that the other end's acknowledgement was
+    /// awaited, and `child` that the other end was the parent.
     #[tactic(auto, using(coord_types::proofs::Sets::listed))]
     fn go_on(&mut self, alloc: Global, awaited: bool, child: bool) -> Result<Effects, AllocError>
         requires { self.old.epoch < 2 ^ 64 - 1 }
@@ -420,7 +420,7 @@ impl Node {
     }
 }
 
-/// The distance that stands for this one: in version 1 every distance is 0.
+/// Returns the distance to store for this one: in version 1 it is 0.
 fn kept(version: Version, distance: u64) -> u64
     ensures { result ≡ kept version distance }
 {

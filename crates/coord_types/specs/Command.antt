@@ -1,9 +1,9 @@
--- When two commands are the same, as a test that computes.
+-- Equality of commands, as a test that computes.
 use Rattle.std.specs.Prelude.{◌==◌, ◌&&◌, Bool, false}
 use Rattle.coord_types.specs.declared.steps.Command.{Command}
 use Rattle.coord_types.specs.declared.steps.Command.TheVariants.{Add, Remove, Join, Drop, Reset, Confirm}
 
--- of one form, and naming the same values
+-- both commands have the same form and the same values
 abbrev pub same_command : Command → Command → Bool
 same_command (Add u g) (Add v h) = (u == v) && (g == h)
 same_command (Remove u) (Remove v) = u == v

@@ -1,4 +1,4 @@
--- The definitions in which the proofs and the crates above speak of this crate.
+-- The definitions of this crate that its proofs and the crates above it use.
 pub use Rattle.coord_types.specs.Command.{same_command}
 pub use Rattle.coord_types.specs.Table.{Table, change, code, entries, get, has}
 pub use Rattle.coord_types.specs.NodeSet.{NodeSet, contains}

@@ -1,9 +1,9 @@
--- The ideal world: nodes and what is on the way between them, without numbers and receipts.
+-- The ideal world: nodes and the messages in transit between them, without message numbers and receipts.
 use Rattle.std.specs.Prelude.{ℕ, Bool, List}
 use Rattle.coord_types.specs.NodeState.{NodeState}
 use Rattle.coord_types.specs.declared.messages.Msg.{Msg}
 
--- its version, the state of each node, which nodes are linked, and what is on the way from one to another, the oldest first
+-- its version, the state of each node, which nodes are linked, and the messages in transit from one node to another, oldest first
 pub record Ideal : Type 0 where
   pub version : ℕ
   pub state : ℕ → NodeState

@@ -1,4 +1,4 @@
--- Messages, and lists of them as they stand on the way, the oldest first.
+-- Messages, and lists of messages in transit, oldest first.
 use Rattle.std.specs.Prelude.{◌≡◌, ℕ, zero, suc, ◌==◌, Bool, true, false, List, [], ◌∷◌}
 use Rattle.std.proofs.Common.{refl}
 use Rattle.std.specs.Coded.{Coded, code_by, coded_ℕ}

@@ -1,4 +1,4 @@
--- The words and numbers that are printed.
+-- The printed names and numbers.
 use Rattle.std.specs.Prelude.{ℕ, List, ◌++◌, codes}
 use Rattle.std.specs.Fmt.{decimal}
 use Rattle.coord_types.specs.declared.messages.Mode.{Mode}
@@ -76,6 +76,6 @@ refusal_name PendingFull = codes "PendingFull"
 refusal_name (Behind settled) = codes "Behind"
 refusal_name Stranger = codes "Stranger"
 
--- as in "16 Old"
+-- for example "16 Old"
 abbrev pub refusal_text : Refusal → List ℕ
 refusal_text refusal = decimal (refusal_number refusal) ++ codes " " ++ refusal_name refusal

@@ -4,7 +4,7 @@ use Rattle.std.specs.Int.{bit_at}
 use Rattle.coord_types.specs.declared.limits.TheConstants.{MAX_NODES}
 use Rattle.coord_types.specs.NodeSet as set
 
--- the nodes from 1 to n whose tests hold, the test of node k being at k - 1
+-- the nodes from 1 to n whose tests hold; the test of node k is at index k - 1
 unfoldable pub nodes_where : (ℕ → Bool) → ℕ → set.NodeSet
 nodes_where test zero = set.empty
 nodes_where test (suc n) = if test n then set.insert (nodes_where test n) (suc n) else nodes_where test n
@@ -16,7 +16,7 @@ is_set bits i = bit_at bits i == 1
 abbrev pub nodes_of : ℕ → set.NodeSet
 nodes_of bits = nodes_where (is_set bits) MAX_NODES
 
--- the number whose bits below n are where the tests hold
+-- the number whose bits below n are set where the tests hold
 unfoldable pub bits_where : (ℕ → Bool) → ℕ → ℕ
 bits_where test zero = 0
 bits_where test (suc n) = if test n then bits_where test n + 2 ^ n else bits_where test n

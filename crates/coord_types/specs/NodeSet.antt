@@ -1,4 +1,4 @@
--- A finite set of nodes, by their numbers, whose items have an order.
+-- A finite set of nodes, by their numbers, in ascending order.
 use Rattle.std.specs.Prelude.{ℕ, Bool, List, [], ◌∷◌, Option, Some, None, is_some}
 use Rattle.std.specs.List.{list_all}
 use Rattle.std.specs.Cmp.{nat_cmp_total}
@@ -46,10 +46,10 @@ abbrev pub first_of : List ℕ → Option ℕ
 first_of [] = None
 first_of (k ∷ ks) = Some k
 
--- the member with the least number
+-- the smallest member
 abbrev pub first : NodeSet → Option ℕ
 first s = first_of (items s)
 
--- whether each member of the first set is one of the second
+-- whether the first set is a subset of the second
 abbrev pub is_subset : NodeSet → NodeSet → Bool
 is_subset s t = list_all (λ v. contains t v) (items s)

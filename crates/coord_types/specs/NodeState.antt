@@ -6,12 +6,12 @@ use Rattle.std.specs.Coded.{Coded, code_by, coded×, coded_ℕ, coded_option}
 use Rattle.coord_types.specs.declared.messages.Mode.{Mode}
 use Rattle.coord_types.specs.declared.messages.Mode.TheVariants.{Ready, Abort, Converge}
 
--- `distance` is how many links lie between the node and the one that began its reset, 0 where it is Ready, and in a world of
--- version 1 always 0;
--- `pend` are the neighbours whose acknowledgement is awaited, and `parent` the one that is owed this node's own;
--- `neighbours` is part of the state, so that a reset rule is a function of one state alone; the type `World` keeps that
--- they are just the nodes that it has lanes to (`linked` of coord_world's Ranges);
--- `epoch` counts the signals that it was given, of which those up to `confirmed` are known to have been acted on
+-- `distance` is the number of links between the node and the one that began its reset; it is 0 for a Ready node, and always
+-- in a world of version 1.
+-- `pend` is the set of neighbours whose acknowledgement it awaits, and `parent` the neighbour to which it owes its own.
+-- `neighbours` is part of the state, so that a reset rule is a function of one state; the type `World` guarantees that
+-- they are exactly the nodes that it has lanes to (`linked` in coord_world's Ranges).
+-- `epoch` counts its signals; the service is known to have acted on those up to `confirmed`
 pub record NodeState : Type 0 where
   pub group : ℕ
   pub mode : Mode
@@ -22,11 +22,11 @@ pub record NodeState : Type 0 where
   pub confirmed : ℕ
   pub distance : ℕ
 
--- a node as it is added
+-- a node that was just added
 abbrev pub new_node : ℕ → NodeState
 new_node g = record { group = g; mode = Ready; parent = None; pend = empty; neighbours = empty; epoch = 0; confirmed = 0; distance = 0 }
 
--- what stands where there is no node
+-- the state stored for an absent node
 abbrev pub no_node : NodeState
 no_node = new_node 0
 

@@ -2,6 +2,6 @@
 use Rattle.std.specs.Prelude.{ℕ, ◌+◌, ◌-◌, List}
 use Rattle.std.specs.List.{range_with_len}
 
--- the numbers from one on, up to the greatest
+-- the numbers from the first to the last, in ascending order
 unfoldable pub numbers : ℕ → ℕ → List ℕ
 numbers most u = range_with_len u (most + 1 - u)

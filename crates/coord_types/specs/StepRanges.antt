@@ -1,4 +1,4 @@
--- The ranges of a step's numbers, which the types of the numbers keep.
+-- The ranges of the numbers in a step. The types of these numbers guarantee them.
 use Rattle.std.specs.Prelude.{ℕ, ◌^◌, ◌≤◌, ◌<◌}
 use Rattle.coord_types.specs.declared.limits.TheConstants.{MAX_CLIENTS, MAX_GROUPS, MAX_NODES}
 use Rattle.coord_types.specs.declared.steps.Command.{Command}
@@ -6,11 +6,11 @@ use Rattle.coord_types.specs.declared.steps.Command.TheVariants.{Add, Remove, Jo
 use Rattle.coord_types.specs.declared.steps.Step.{Step}
 use Rattle.coord_types.specs.declared.steps.Step.TheVariants.{Order, Take, Clear}
 
--- nodes are numbered from 1
+-- a node's number is at least 1
 abbrev pub IsNode : ℕ → Type 0
 IsNode u = (1 ≤ u) × (u ≤ MAX_NODES)
 
--- the nodes, the group and the epoch that a command names
+-- the nodes, the group and the epoch of a command are in range
 abbrev pub CommandInRange : Command → Type 0
 CommandInRange (Add u g) = IsNode u × (1 ≤ g) × (g ≤ MAX_GROUPS)
 CommandInRange (Remove u) = IsNode u
@@ -19,7 +19,7 @@ CommandInRange (Drop a b) = IsNode a × IsNode b
 CommandInRange (Reset u) = IsNode u
 CommandInRange (Confirm u e) = IsNode u × (e < 2 ^ 64)
 
--- an order's client and command; of a packet nothing is asked
+-- the client and the command of an order are in range; a packet may hold any numbers
 abbrev pub StepInRange : Step → Type 0
 StepInRange (Order c n x) = (1 ≤ c) × (c ≤ MAX_CLIENTS) × CommandInRange x
 StepInRange (Take p) = Unit {0}

@@ -5,7 +5,7 @@ ghost use Rattle.std.specs.Prelude.{◌≡◌, ◌≤◌, ◌↔◌, IsSome, IfS
 use crate::limits::{MAX_CLIENTS, MAX_GROUPS, MAX_NODES, MAX_VERSIONS};
 use std::marker::Model;
 
-/// A number from 1 to `MOST`, by which a node, a group or a client is named. Contracts see it as
+/// The number of a node, a group or a client, from 1 to `MOST`. Contracts see it as
 /// that number.
 #[derive(Clone, Copy, Debug, PartialEq, Eq, PartialOrd, Ord)]
 pub struct Identifier<const MOST: u8> {
@@ -38,7 +38,7 @@ impl<const MOST: u8> Model for Identifier<MOST> {
 }
 
 impl<const MOST: u8> Identifier<MOST> {
-    /// The one with this number; None outside 1 to `MOST`.
+    /// Returns the identifier with this number, or None outside 1 to `MOST`.
     pub fn new(number: u8) -> Option<Self>
         ensures within { IsSome result ↔ ((1 ≤ number) × (number ≤ MOST)) }
         ensures value { IfSome result (λ id. id ≡ number) }
@@ -50,7 +50,7 @@ impl<const MOST: u8> Identifier<MOST> {
         }
     }
 
-    /// The number, from 1 to `MOST`.
+    /// Returns the number, from 1 to `MOST`.
     pub fn number(self) -> u8
         ensures value { result ≡ self.entry }
         ensures least { 1 ≤ self.entry }

@@ -1,8 +1,8 @@
 //! The plain values of a reset coordinator: identifiers, sets of nodes, messages, packets,
-//! commands, replies and refusals, and the limits (`limits`). Each type keeps its range, so no
-//! function above tests it again.
+//! commands, replies and refusals, and the limits (`limits`). Each type guarantees its range, so no
+//! caller checks it again.
 //!
-//! The definitions that the crates above share stand in `specs/`: the finite table that computes
+//! `specs/` holds the definitions that the crates above share: the finite table that computes
 //! (`Table`), the set of nodes (`NodeSet`), a node's state (`NodeState`), the ideal world
 //! (`IdealWorld`), over which the laws of the protocol are stated, and all printed words and
 //! numbers (`Names`). The main theorem is the contracts of `NodeSet`: a mask of 64 bits

@@ -1,23 +1,23 @@
-//! What nodes are in, and what they send each other.
+//! The modes of nodes, and the messages that nodes send each other.
 
 ghost use Rattle.std.specs.Prelude.{◌≡◌, Some};
 ghost use Rattle.coord_types.specs.Names.{mode_name, msg_name};
 
 use std::fmt;
 
-/// Where a node stands in a reset (`docs/PROTOCOL.md`, "Modes").
+/// The mode of a node in a reset (`docs/PROTOCOL.md`, "Modes").
 #[derive(Clone, Copy, Debug, PartialEq, Eq)]
 pub enum Mode {
-    /// The node takes part in no reset.
+    /// The node is not in a reset.
     Ready,
     /// The node passed the abort wave on and awaits acknowledgements.
     Abort,
-    /// All that it awaited has come, and it waits for its parent's Ready.
+    /// The node has received all acknowledgements, and waits for its parent's Ready.
     Converge,
 }
 
 impl Mode {
-    /// The word for it in printed rows.
+    /// Returns the mode's name in printed rows.
     pub fn name(self) -> &'static str
         ensures { result.now ≡ mode_name self }
     {
@@ -40,17 +40,17 @@ impl fmt::Display for Mode {
 /// A message between neighbours.
 #[derive(Clone, Copy, Debug, PartialEq, Eq)]
 pub enum Msg {
-    /// A reset goes out. In version 2 it carries the distance that its receiver takes: how many
-    /// links lie between it and the node that began the reset. In version 1 that is 0.
+    /// A reset spreads. In version 2 it carries the distance that its receiver takes: the number of
+    /// links between the receiver and the node that began the reset. In version 1 that is 0.
     Abort(u64),
-    /// The sender, and all that it reached, were reached by the reset.
+    /// The reset has reached the sender and all nodes below it.
     Ack,
     /// The reset is over.
     Ready,
 }
 
 impl Msg {
-    /// The word for it in printed packets.
+    /// Returns the message's name in printed packets.
     pub fn name(self) -> &'static str
         ensures { result.now ≡ msg_name self }
     {

@@ -1,4 +1,4 @@
-//! Sets of nodes, kept as masks.
+//! Sets of nodes, stored as masks.
 
 ghost use Rattle.std.specs.Prelude.{◌≡◌, ◌↔◌, IsTrue};
 ghost use Rattle.coord_types.specs.NodeSet as set;
@@ -7,7 +7,7 @@ ghost use Rattle.coord_types.specs.NodeMask.{nodes_of, mask_of, IsMaskable};
 use crate::identifiers::NodeId;
 use std::marker::Model;
 
-/// A set of nodes, kept as a mask: node k is bit k - 1. Contracts see it as the set of their
+/// A set of nodes, stored as a mask: node k is bit k - 1. Contracts see it as the set of their
 /// numbers.
 #[derive(Clone, Copy, Debug)]
 pub struct NodeSet {
@@ -34,21 +34,21 @@ impl Model for NodeSet {
 
 #[tactic(auto, using(crate::proofs::Masks::masks))]
 impl NodeSet {
-    /// The set without members.
+    /// Returns the empty set.
     pub fn new() -> Self
         ensures { result ≡ set.empty }
     {
         NodeSet { bits: 0 }
     }
 
-    /// The set of a mask: node k is a member where bit k - 1 is set.
+    /// Returns the set of a mask: node k is a member if bit k - 1 is set.
     pub fn from_bits(bits: u64) -> Self
         ensures { result ≡ nodes_of bits }
     {
         NodeSet { bits }
     }
 
-    /// The mask of the set: bit k - 1 is set where node k is a member.
+    /// Returns the mask of the set: bit k - 1 is set if node k is a member.
     pub fn bits(self) -> u64
         ensures value { result ≡ mask_of self }
         ensures within { IsMaskable self }
@@ -56,35 +56,35 @@ impl NodeSet {
         self.bits
     }
 
-    /// Whether a node is in the set.
+    /// Tests whether a node is in the set.
     pub fn contains(self, id: NodeId) -> bool
         ensures { result ≡ set.contains self id }
     {
         (self.bits >> (id.number() - 1)) & 1 == 1
     }
 
-    /// How many members it has.
+    /// Returns the number of members.
     pub fn len(self) -> usize
         ensures { result ≡ set.len self }
     {
         self.bits.count_ones() as usize
     }
 
-    /// Whether no node is in the set.
+    /// Tests whether the set is empty.
     pub fn is_empty(self) -> bool
         ensures { IsTrue result ↔ (set.len self ≡ 0) }
     {
         self.bits == 0
     }
 
-    /// Whether each of its members is a member of the other set.
+    /// Tests whether this set is a subset of the other.
     pub fn is_subset(self, other: NodeSet) -> bool
         ensures { result ≡ set.is_subset self other }
     {
         self.bits & !other.bits == 0
     }
 
-    /// The member with the least number. With `without`, a loop meets all members in ascending
+    /// Returns the smallest member. Together with `without`, a loop visits all members in ascending
     /// order.
     pub fn first(self) -> Option<NodeId>
         ensures { result ≡ set.first self }
@@ -92,7 +92,7 @@ impl NodeSet {
         NodeId::new(self.bits.trailing_zeros() as u8 + 1)
     }
 
-    /// This set and `id`.
+    /// Returns this set with `id` added.
     pub fn with(self, id: NodeId) -> NodeSet
         ensures { result ≡ set.insert self id }
     {
@@ -101,7 +101,7 @@ impl NodeSet {
         }
     }
 
-    /// This set but `id`.
+    /// Returns this set without `id`.
     pub fn without(self, id: NodeId) -> NodeSet
         ensures { result ≡ set.remove self id }
     {
@@ -111,7 +111,7 @@ impl NodeSet {
     }
 }
 
-/// Equal sets have the same members.
+/// Two sets are equal if they have the same members.
 impl PartialEq for NodeSet {
     ghost use Rattle.std.specs.Cmp.{partial_equiv_from_equiv};
     ghost use Rattle.std.specs.Cmp.Lexicographic.{on_texts_equal, pointwise};

@@ -1,14 +1,14 @@
-//! What a step gives out beside its reply.
+//! The outputs of a step besides its reply.
 
 use crate::identifiers::NodeId;
 use crate::packets::{DataPacket, ReceiptPacket};
 
-/// Something to be released once the step is settled.
+/// An output that is released once the step is settled.
 #[derive(Clone, Copy, Debug, PartialEq, Eq)]
 pub enum Output {
-    /// The receipt of a packet that was taken.
+    /// The receipt of a taken packet.
     Receipted(ReceiptPacket),
-    /// The reset signal of a node, with the epoch that it entered.
+    /// The reset signal of a node, with the epoch that the node entered.
     Signalled(NodeId, u64),
     /// A data packet to be sent.
     Sent(DataPacket),

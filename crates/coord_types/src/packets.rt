@@ -1,4 +1,4 @@
-//! What travels between nodes.
+//! The packets that travel between nodes.
 
 use crate::identifiers::NodeId;
 use crate::messages::Msg;
@@ -24,7 +24,7 @@ pub struct ReceiptPacket {
     pub number: u64,
 }
 
-/// What a link carries. Data goes to its `to`, a receipt back to its `from`.
+/// A packet on a link. Data travels to its `to`, a receipt back to its `from`.
 #[derive(Clone, Copy, Debug, PartialEq, Eq)]
 pub enum Packet {
     Carried(DataPacket),

@@ -1,11 +1,11 @@
-//! Why something is refused.
+//! The reasons for which a step or a call is refused.
 
 ghost use Rattle.std.specs.Prelude.{◌≡◌, Some};
 ghost use Rattle.coord_types.specs.Names.{refusal_name, refusal_number, refusal_text};
 
 use std::fmt;
 
-/// Why a step or a call is refused (`docs/PROTOCOL.md`, "Acceptance and refusals").
+/// The reason for which a step or a call is refused (`docs/PROTOCOL.md`, "Acceptance and refusals").
 #[derive(Clone, Copy, Debug, PartialEq, Eq)]
 pub enum Refusal {
     Stopped,
@@ -28,16 +28,16 @@ pub enum Refusal {
     Differs,
     NotReleased,
     PendingFull,
-    /// The caller knows of a later step than is settled.
+    /// The caller has seen a later step than the last settled one.
     Behind {
-        /// How many steps are settled.
+        /// The number of settled steps.
         settled: u64,
     },
     Stranger,
 }
 
 impl Refusal {
-    /// The refusal's number, from 1 to 22.
+    /// Returns the refusal's number, from 1 to 22.
     pub fn number(self) -> u8
         ensures { result ≡ refusal_number self }
     {
@@ -67,7 +67,7 @@ impl Refusal {
         }
     }
 
-    /// The refusal's name, as it is printed.
+    /// Returns the refusal's printed name.
     pub fn name(self) -> &'static str
         ensures { result.now ≡ refusal_name self }
     {

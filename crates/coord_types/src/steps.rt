@@ -1,4 +1,4 @@
-//! What may happen to a world, and what is answered.
+//! The steps of a world, and the replies to them.
 
 ghost use Rattle.std.specs.Prelude.{◌≡◌, Some};
 ghost use Rattle.coord_types.specs.Names.{kind_name};
@@ -8,7 +8,7 @@ use crate::identifiers::{Client, Group, NodeId};
 use crate::packets::{DataPacket, ReceiptPacket};
 use std::fmt;
 
-/// What a client orders.
+/// A client's command.
 #[derive(Clone, Copy, Debug, PartialEq, Eq)]
 pub enum Command {
     /// Add a node to a group.
@@ -21,13 +21,13 @@ pub enum Command {
     Drop(NodeId, NodeId),
     /// Start a reset at a node.
     Reset(NodeId),
-    /// Note that a node's signals up to this epoch were acted on.
+    /// Record that the service has acted on the node's signals up to this epoch.
     Confirm(NodeId, u64),
 }
 
 impl Command {
-    /// Says of a command's numbers what their types promise, and computes nothing: a contract sees
-    /// a `NodeId` or a `Group` as a plain number, and learns its range only from a reading of it.
+    /// States the ranges of a command's numbers, and computes nothing: a contract sees
+    /// a `NodeId` or a `Group` as a plain number, and knows its range only after reading it.
     pub fn lemma_in_range(&self)
         ensures { CommandInRange self.now }
     {
@@ -55,14 +55,14 @@ impl Command {
 pub enum Step {
     /// A client's order, with the client's own number for it.
     Order(Client, u64, Command),
-    /// A node takes the data packet that came.
+    /// A node takes the data packet that arrived.
     Take(DataPacket),
     /// A sender clears the message that this receipt names.
     Clear(ReceiptPacket),
 }
 
 impl Step {
-    /// Says of a step's numbers what their types promise, and computes nothing.
+    /// States the ranges of a step's numbers, and computes nothing.
     pub fn lemma_in_range(&self)
         ensures { StepInRange self.now }
     {
@@ -73,7 +73,7 @@ impl Step {
     }
 }
 
-/// What became of a step.
+/// The kind of a reply.
 #[derive(Clone, Copy, Debug, PartialEq, Eq)]
 pub enum Kind {
     /// A command other than Reset was carried out.
@@ -82,7 +82,7 @@ pub enum Kind {
     Started,
     /// A reset of a node without neighbours began and ended.
     Finished,
-    /// The node took part in a reset already.
+    /// The node was already in a reset.
     Joined,
     /// A data packet was taken.
     Taken,
@@ -91,7 +91,7 @@ pub enum Kind {
 }
 
 impl Kind {
-    /// The word for it in printed replies.
+    /// Returns the kind's name in printed replies.
     pub fn name(self) -> &'static str
         ensures { result.now ≡ kind_name self }
     {
@@ -114,14 +114,14 @@ impl fmt::Display for Kind {
     }
 }
 
-/// The answer to a step: its number, counted from 1, and what became of it.
+/// The reply to a step: its number, counted from 1, and its kind.
 #[derive(Clone, Copy, Debug, PartialEq, Eq)]
 pub struct Reply {
     pub step: u64,
     pub kind: Kind,
 }
 
-/// A client's last order and its reply, kept so that a repeat is answered and not carried out.
+/// A client's last order and its reply, kept so that a repeat is answered instead of carried out again.
 #[derive(Clone, Copy, Debug, PartialEq, Eq)]
 pub struct Session {
     pub number: u64,
