@@ -63,7 +63,7 @@ build:
 
 prove:
 	rt all check --jobs $(JOBS)
-	cd crates/resetd && rt run -- drill < ../stored_run/stdin
+	cd crates/resetd && rt run -- drill < stdin
 	mkdir -p bin
 	cp crates/resetd/out/resetd bin/resetd
 
