@@ -1,4 +1,4 @@
--- What a disk is to whoever uses one.
+-- The meaning of a disk for its users.
 pub mod Model
--- What the disks of this crate are, and why each of them keeps the model.
+-- The disks of this crate, and why each of them keeps the model.
 pub mod Disks

@@ -3,10 +3,10 @@
 /// What a crash leaves: a test chooses it.
 #[derive(Drop)]
 pub enum Choice {
-    /// Just what was synced.
+    /// Exactly the synced bytes.
     Lost,
-    /// All that was written, as a read gives it.
+    /// Everything that was written, as a read gives it.
     Kept,
-    /// The length that is read, and these bytes, repeated, at the places that are not synced. No bytes count as one 0.
+    /// The length that a read gives, with these bytes, repeated, at the unsynced places. An empty list counts as one 0.
     Filled(Vec<u8>),
 }

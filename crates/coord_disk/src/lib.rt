@@ -1,17 +1,17 @@
-//! Disks that may crash at any moment: what was synced is left, and at the places that were written
-//! since anything may be.
+//! Disks that may crash at any moment: synced bytes stay, and the places written
+//! since may hold anything.
 //!
-//! `Disk` is the trait that users see. Its meaning stands in `specs/Model`: `Present` says what a
+//! `Disk` is the trait that users see. `specs/Model` defines its meaning: `Present` says what a
 //! disk holds and which bytes a crash may leave of it, `Moments` what holds at each moment of a run
-//! of calls. This is what a reader has to believe; `specs/Disks` is only of the disks in this crate.
+//! of calls. A reader has to trust these definitions; `specs/Disks` only describes the disks in this crate.
 //! The main theorem is that `MemDisk` keeps the model, proved from its own record of its writes and
 //! syncs (`write_at` and `sync`, clauses `crash` and `time`); its `crash` leaves what was chosen.
 //! A `FailingDisk` is any disk with calls that fail by a `Rule`, as a fuse (`FuseDisk`), a blip
 //! (`BlipDisk`) or a gate at which syncs wait (`GateDisk`), and are passed on once otherwise. A
 //! `TornDisk` writes the first bytes of a write that fails.
 //!
-//! `RawFile` is a file as the system has it: the calls that a disk makes of it, and what it may keep.
-//! A `RawDisk` is the disk over such a file. It keeps the model where the file does, and its clauses
+//! `RawFile` is a file of the operating system: the calls that a disk makes, and the model that the file may keep.
+//! A `RawDisk` is the disk over such a file. It keeps the model if the file does, and its clauses
 //! `call` and `none` say which calls it makes. A `MemFile`, in memory, keeps the model and promises
 //! no more; a `SystemFile` claims nothing: that a file of the system keeps the model is the premise.
 //! A `FileDisk` is the disk over one.

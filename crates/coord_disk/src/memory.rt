@@ -1,4 +1,4 @@
-//! A disk in memory, which may be crashed at will.
+//! A disk in memory that a test can crash at will.
 
 ghost use Rattle.std.specs.Prelude.{◌≡◌, ◌↔◌, ◌+◌, ◌<◌, ◌^◌, [], length, Some, None, IsTrue, IfOk, OnOk, OnErr, IsSome};
 ghost use Rattle.std.specs.Option.{ForSome};
@@ -13,7 +13,7 @@ use crate::{Choice, CrashDisk, Disk, DiskFault, Takable};
 use http_server::Log;
 use std::alloc::{AllocError, Global};
 
-/// A disk in memory. It keeps a record of all its writes and syncs, and fails a call where it finds no memory.
+/// A disk in memory. It records all its writes and syncs, and fails a call if memory runs out.
 #[derive(Drop)]
 pub struct MemDisk {
     alloc: Global,
@@ -28,7 +28,7 @@ impl MemDisk {
     ghost use Rattle.coord_disk.specs.Disks.Memory.{CrashesByChoice, in_memory, past_of, present_of, choice_of, failures_of};
     ghost use Rattle.coord_disk.specs.declared.choice.Choice.TheVariants.{Lost};
 
-    /// A disk with nothing on it, that loses what is not synced.
+    /// Returns an empty disk whose crash loses everything that is not synced.
     pub fn new(alloc: Global) -> Self
         ensures present { present_of result ≡ whole [] }
         ensures choice { choice_of result ≡ Lost }
@@ -37,7 +37,7 @@ impl MemDisk {
         MemDisk::over(alloc, Vec::new(alloc))
     }
 
-    /// A disk with these bytes, all of them synced, that loses what is not.
+    /// Returns a disk with these bytes, all synced, whose crash loses everything that is not synced.
     pub fn from_bytes(alloc: Global, bytes: &[u8]) -> Result<Self, AllocError>
         ensures present { IfOk result (λ disk. present_of disk ≡ whole bytes.now) }
         ensures choice { IfOk result (λ disk. choice_of disk ≡ Lost) }
@@ -60,14 +60,14 @@ impl MemDisk {
         }
     }
 
-    /// The bytes as a read gives them.
+    /// Returns the bytes as a read gives them.
     pub fn bytes(&self) -> &[u8]
         ensures { result.now ≡ (present_of self.now).read }
     {
         self.read.as_slice()
     }
 
-    /// Says what the next crash leaves.
+    /// Chooses the bytes that the next crash leaves.
     pub fn choose(&mut self, choice: Choice)
         ensures past { past_of self.new ≡ past_of self.old }
         ensures choice { choice_of self.new ≡ choice }
@@ -76,7 +76,7 @@ impl MemDisk {
         self.choice = choice;
     }
 
-    /// Whether the length is the one that is synced.
+    /// Tests whether the length is the synced one.
     pub(crate) fn is_level(&self) -> bool
         ensures { IsTrue result ↔ (length (present_of self.now).synced ≡
             length (present_of self.now).read) }
@@ -87,7 +87,7 @@ impl MemDisk {
         }
     }
 
-    // From here on what is done is recorded.
+    // From here on, operations are recorded.
     fn begin(&mut self) -> Result<(), AllocError>
         ensures past { past_of self.new ≡ past_of self.old }
         ensures failures { failures_of self.new ≡ failures_of self.old }
@@ -171,7 +171,7 @@ impl Disk for MemDisk {
         Ok(())
     }
 
-    /// Without memory it fails, and nothing changes.
+    /// If memory runs out it fails and changes nothing.
     fn write_at(&mut self, at: u64, bytes: &[u8]) -> Result<(), DiskFault>
         requires { at + length bytes.now < 2 ^ 64 }
         ensures ok { OnOk result (Adds (past_of self.old) (past_of self.new)
@@ -186,7 +186,7 @@ impl Disk for MemDisk {
         }
     }
 
-    /// Without memory it fails, and nothing changes.
+    /// If memory runs out it fails and changes nothing.
     fn sync(&mut self) -> Result<(), DiskFault>
         ensures ok { OnOk result (Adds (past_of self.old) (past_of self.new)
             (whole (present_of self.old).read)) }
@@ -209,7 +209,7 @@ impl CrashDisk for MemDisk {
 
     ghost crashes = { CrashesByChoice };
 
-    /// The crash leaves what was chosen.
+    /// The crash leaves the chosen bytes.
     fn crash(mut self) -> Self
         ensures crashes { CrashesByChoice self result }
         ensures leaves { Crashes in_memory self result }

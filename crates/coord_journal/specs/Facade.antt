@@ -1,4 +1,4 @@
--- The definitions in which the proofs and the crates above speak of this crate.
+-- The definitions of this crate that its proofs and the crates above it use.
 pub use Rattle.coord_journal.specs.Contents.{bodies, content_of}
 pub use Rattle.coord_journal.specs.Faults.{BeginsWithHeader, IsReadFault, RefusesOpen}
 pub use Rattle.coord_journal.specs.Half.{half_number}

@@ -1,10 +1,10 @@
--- When each refusal comes, the device's own faults aside.
+-- When each refusal is returned, apart from faults of the device.
 use Rattle.std.specs.Prelude.{◌≡◌, ◌⊎◌, ℕ, ◌<◌, List, length, Result, Ok, Err}
 use Rattle.coord_journal.specs.Text.{Content, HasHeader, IsHalfSize, IsText}
 use Rattle.coord_journal.specs.declared.fault.JournalFault.{JournalFault}
 use Rattle.coord_journal.specs.declared.fault.JournalFault.TheVariants.{OutOfMemory, Device, NotEmpty, HalfSize, NoMagic, BadRecord, Stopped}
 
--- Formatting a device of these bytes, with halves of this size, is refused with this fault.
+-- Formatting a device with these bytes, with halves of this size, returns this fault.
 abbrev pub RefusesFormat : List ℕ → ℕ → JournalFault → Type 0
 RefusesFormat bytes half_size OutOfMemory = (length bytes ≡ 0) × IsHalfSize half_size
 RefusesFormat bytes half_size Device = Unit {0}
@@ -15,7 +15,7 @@ RefusesFormat bytes half_size fault = ⊥
 abbrev pub BeginsWithHeader : List ℕ → Type 0
 BeginsWithHeader bytes = (selector half_size : ℕ) × (rest : List ℕ) × HasHeader bytes selector half_size rest
 
--- Opening a device of these bytes is refused with this fault.
+-- Opening a device with these bytes returns this fault.
 abbrev pub RefusesOpen : List ℕ → JournalFault → Type 0
 RefusesOpen bytes OutOfMemory = Unit {0}
 RefusesOpen bytes Device = Unit {0}
@@ -39,12 +39,12 @@ IsOpenFault fault = (fault ≡ OutOfMemory) ⊎ ((fault ≡ Device) ⊎ ((fault 
 abbrev pub IsWriteFault : JournalFault → Type 0
 IsWriteFault fault = (fault ≡ Stopped) ⊎ ((fault ≡ OutOfMemory) ⊎ (fault ≡ Device))
 
--- how often the device has failed in a call that is refused so
+-- the number of device failures in a call that returns this fault
 abbrev pub failed_in : JournalFault → ℕ
 failed_in Device = 1
 failed_in _ = 0
 
--- how often it has failed in a call with this answer
+-- the number of device failures in a call with this result
 abbrev pub failures_in : {T : Type 0} → Result T JournalFault → ℕ
 failures_in (Ok value) = 0
 failures_in (Err fault) = failed_in fault

@@ -13,16 +13,16 @@ pub record Content : Type 0 where
 abbrev pub sized : List ℕ → List ℕ
 sized bytes = to_be_bytes w32 (length bytes) ++ bytes
 
--- one byte, a body of at most so many bytes, and what is behind it
+-- one byte, a body of at most this many bytes, and the bytes after it
 abbrev pub BeginsWithBody : ℕ → ℕ → List ℕ → List ℕ → List ℕ → Type 0
 BeginsWithBody limit first body behind bytes = (length body ≤ limit) × (bytes ≡ first ∷ (sized body ++ behind))
 
--- open gates, which are any byte but 0, each with a batch behind it
+-- open gates (any byte but 0), each followed by a batch
 abbrev pub IsOpened : List (List ℕ) → List ℕ → Type 0
 IsOpened [] bytes = bytes ≡ []
 IsOpened (batch ∷ batches) bytes = (gate : ℕ) × (rest : List ℕ) × (gate ≢ 0) × BeginsWithBody MAX_BODY gate batch rest bytes × IsOpened batches rest
 
--- these bytes are open gates with these batches, so many bytes in all, and then a closed gate
+-- these bytes are open gates with these batches, this many bytes in total, and then a closed gate
 abbrev pub ReadsAs : List (List ℕ) → ℕ → List ℕ → Type 0
 ReadsAs batches size bytes = (opened : List ℕ) × (behind : List ℕ) × (bytes ≡ opened ++ 0 ∷ behind) × IsOpened batches opened × (length opened ≡ size)
 
@@ -30,7 +30,7 @@ ReadsAs batches size bytes = (opened : List ℕ) × (behind : List ℕ) × (byte
 abbrev pub half_front : ℕ → List ℕ → List ℕ → List ℕ
 half_front version snapshot opened = version ∷ (sized snapshot ++ opened)
 
--- These bytes are a half that holds this content, and so many of them are used, its closed gate included. What stands behind the gate is not read.
+-- These bytes are a half that holds this content and uses this many of them, including its closed gate. The bytes after the gate are not read.
 pub record IsHalf (bytes : List ℕ) (content : Content) (used : ℕ) : Type 0 where
   pub opened : List ℕ
   pub behind : List ℕ
@@ -48,16 +48,16 @@ pub record IsHalfSize (half_size : ℕ) : Type 0 where
   pub smallest : MIN_HALF ≤ half_size
   pub greatest : half_size ≤ MAX_HALF
 
--- bytes that begin with a header, which has the selector and the size of a half
+-- bytes that begin with a header, which holds the selector and the size of a half
 pub record HasHeader (bytes : List ℕ) (selector half_size : ℕ) (rest : List ℕ) : Type 0 where
   pub spelled : bytes ≡ (selector ∷ magic) ++ (to_be_bytes w64 half_size ++ rest)
   pub size : IsHalfSize half_size
 
--- where a half begins behind the header: the first half is 0, the second 1
+-- where a half begins after the header; the first half has number 0, the second 1
 abbrev pub half_start : ℕ → ℕ → ℕ
 half_start half half_size = half * half_size
 
--- These bytes are the text of this content: a header, what stands in front of the selected half, and that half. An even or an odd selector names it, and so many bytes of it are used, its closed gate included.
+-- These bytes are the text of this content: a header, the bytes before the selected half, and that half. An even or odd selector names the half, which uses this many bytes, including its closed gate.
 pub record IsTextAt (bytes : List ℕ) (content : Content) (half_size half used : ℕ) : Type 0 where
   pub selector : ℕ
   pub skipped : List ℕ
@@ -79,11 +79,11 @@ IsText content bytes = (half_size half used : ℕ) × IsTextAt bytes content hal
 abbrev pub IsTextIn : ℕ → List ℕ → Type 0
 IsTextIn half bytes = (content : Content) × (half_size : ℕ) × (used : ℕ) × IsTextAt bytes content half_size half used
 
--- these bytes are a text in this half, where a body of so many bytes still fits
+-- these bytes are a text in this half, and a body of this many bytes still fits
 abbrev pub HasPlaceIn : ℕ → ℕ → List ℕ → Type 0
 HasPlaceIn half len bytes = (content : Content) × (half_size : ℕ) × (used : ℕ) × IsTextAt bytes content half_size half used × (used + 5 + len ≤ half_size)
 
--- with nothing behind the snapshot
+-- without a batch after the snapshot
 abbrev pub without_batch : ℕ → List ℕ → Content
 without_batch version snapshot = record { version = version; snapshot = snapshot; batches = [] }
 
@@ -94,25 +94,25 @@ with_batch content batch = record { version = content.version; snapshot = conten
 abbrev pub IsEitherText : Content → Content → List ℕ → Type 0
 IsEitherText one other bytes = IsText one bytes ⊎ IsText other bytes
 
--- a journal that was just made: half 0 is selected, and its gate is the last byte
+-- a newly made journal: half 0 is selected, and its gate is the last byte
 abbrev pub formatted : ℕ → ℕ → List ℕ → List ℕ
 formatted half_size version snapshot = (0 ∷ magic) ++ (to_be_bytes w64 half_size ++ (half_front version snapshot [] ++ 0 ∷ []))
 
--- The bytes after an append at the closed gate at this place: a body and a closed gate were written
--- behind it, and then it was opened by a 1.
+-- The bytes after an append at the closed gate at this place: a body and a closed gate were written after
+-- it, and then it was opened by a 1.
 abbrev pub with_body_at : ℕ → List ℕ → List ℕ → List ℕ
 with_body_at gate body bytes = overwritten (overwritten bytes (gate + 1) (sized body ++ 0 ∷ [])) gate (1 ∷ [])
 
--- The bytes after a replace: the other half was written, with nothing behind its snapshot, and
--- selected by its number.
+-- The bytes after a replace: the other half was written, without a batch after its snapshot, and
+-- then selected by its number.
 abbrev pub with_half : ℕ → ℕ → ℕ → List ℕ → List ℕ → List ℕ
 with_half half half_size version snapshot bytes = overwritten (overwritten bytes (17 + half_start half half_size) (half_front version snapshot [] ++ 0 ∷ [])) 0 (half ∷ [])
 
--- how much of a half such batches take
+-- the number of bytes that such batches take
 abbrev pub size_of : List (List ℕ) → ℕ
 size_of [] = 0
 size_of (batch ∷ batches) = 5 + length batch + size_of batches
 
--- how much of a half such a text uses, its closed gate included
+-- the number of bytes of a half that such a text uses, including its closed gate
 abbrev pub used_by : Content → ℕ
 used_by content = 6 + length content.snapshot + size_of content.batches

@@ -1,10 +1,10 @@
-//! What a journal holds.
+//! The content of a journal.
 
-/// What a journal holds, where it stands among the bytes that were read of its device.
+/// The content of a journal, as slices of the bytes that were read from its device.
 #[derive(Debug, Drop, PartialEq, Eq)]
 pub struct Contents<'b> {
     pub version: u8,
     pub snapshot: &'b [u8],
-    /// The bodies, the first one appended first.
+    /// The bodies of the batches, oldest first.
     pub batches: Vec<&'b [u8]>,
 }

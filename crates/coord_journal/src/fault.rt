@@ -1,4 +1,4 @@
-//! Why a call of a journal is refused.
+//! The faults of a journal's calls.
 
 ghost use Rattle.std.specs.Prelude.{◌≡◌, Some};
 ghost use Rattle.coord_journal.specs.Fault.{name_of, number_of};
@@ -9,10 +9,10 @@ use std::alloc::{AllocError, AllocFailed};
 use std::error::Error;
 use std::fmt;
 
-/// Why a call on a journal was refused.
+/// The reason for which a call of a journal was refused.
 #[derive(Clone, Copy, Debug, PartialEq, Eq, Hash)]
 pub enum JournalFault {
-    /// No memory was found.
+    /// Memory ran out.
     OutOfMemory,
     /// The device failed during the call.
     Device,
@@ -22,16 +22,16 @@ pub enum JournalFault {
     HalfSize,
     /// The device does not begin with a journal's header.
     NoMagic,
-    /// The selected half is cut short, or a length in it is over its limit.
+    /// The selected half is truncated, or a length in it exceeds its limit.
     BadRecord,
-    /// Never answered, since `append` asks that the body fits. The number is kept.
+    /// Never returned, because `append` requires that the body fits. The number is reserved.
     JournalFull,
     /// The device has failed before.
     Stopped,
 }
 
 impl JournalFault {
-    /// From 1 to 8.
+    /// Returns the fault's number, from 1 to 8.
     pub fn number(self) -> u8
         ensures { result ≡ number_of self }
     {

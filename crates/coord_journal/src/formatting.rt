@@ -1,4 +1,4 @@
-//! Makes a journal.
+//! Formats a device as a journal.
 
 ghost use Rattle.std.specs.Prelude.{◌≡◌, ◌≢◌, ◌<◌, ◌≤◌, true, length, IfErr, OnOk};
 ghost use Rattle.coord_disk.specs.Model.Present.{whole};
@@ -15,9 +15,9 @@ use crate::synced::write_synced;
 use coord_disk::Disk;
 use std::alloc::Global;
 
-/// Makes a journal of this version and snapshot, with no batch, on an empty device.
+/// Writes a journal with this version and snapshot, and no batch, on an empty device.
 ///
-/// A half has `half_size` bytes, from 32,768 to 16,777,216. After `Device` nothing is promised of
+/// A half has `half_size` bytes, from 32,768 to 16,777,216. After `Device` nothing is promised about
 /// the bytes of the device.
 pub fn format<D: Disk>(
     alloc: Global,

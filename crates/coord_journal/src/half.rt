@@ -13,7 +13,7 @@ pub enum Half {
 impl Half {
     ghost use Rattle.coord_journal.specs.Half.{half_number};
 
-    /// The half that a selector names.
+    /// Returns the half that a selector names.
     pub fn named_by(selector: u8) -> Self
         ensures { half_number result ≡ selector % 2 }
     {
@@ -24,7 +24,7 @@ impl Half {
         }
     }
 
-    /// The selector that names it, 0 or 1.
+    /// Returns the selector of this half, 0 or 1.
     pub fn selector(self) -> u8
         ensures value { result ≡ half_number self }
         ensures names { result % 2 ≡ half_number self }
@@ -35,7 +35,7 @@ impl Half {
         }
     }
 
-    /// The half that is not this one.
+    /// Returns the other half.
     pub fn other(self) -> Self
         ensures { half_number result ≡ 1 - half_number self }
     {
@@ -45,7 +45,7 @@ impl Half {
         }
     }
 
-    /// Where it begins behind the header, with halves of this size.
+    /// Returns its offset after the header, with halves of this size.
     pub fn start(self, half_size: u64) -> u64
         ensures start { result ≡ half_start (half_number self) half_size }
         ensures low { result ≤ half_size }

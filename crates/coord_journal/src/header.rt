@@ -6,7 +6,7 @@ ghost use Rattle.std.specs.Int.{w64, to_be_bytes};
 
 use crate::layout::{HEADER, MAGIC, MAX_HALF, MIN_HALF};
 
-/// The header of a device, and the bytes behind it.
+/// The header of a device, and the bytes after it.
 #[derive(Clone, Copy)]
 pub struct Header<'a> {
     pub selector: u8,
@@ -14,7 +14,7 @@ pub struct Header<'a> {
     pub rest: &'a [u8],
 }
 
-// The number that eight bytes spell.
+// The number that eight bytes encode.
 fn read_size(bytes: &[u8]) -> u64
     requires { length bytes.now ≡ 8 }
     ensures { to_be_bytes w64 result ≡ bytes.now }
@@ -24,7 +24,7 @@ fn read_size(bytes: &[u8]) -> u64
     ])
 }
 
-// Splits bytes at the end of a header, whatever size of a half it names.
+// Splits bytes after a header, whatever size of a half it names.
 fn split_header(bytes: &[u8]) -> Option<Header<'_>>
     ensures some { IfSome result (λ header. bytes.now ≡
         (header.selector ∷ magic) ++ (to_be_bytes w64 header.half_size ++ header.rest.now)) }
@@ -42,7 +42,7 @@ fn split_header(bytes: &[u8]) -> Option<Header<'_>>
     })
 }
 
-/// The header, where the bytes begin with one.
+/// Returns the header if the bytes begin with one.
 pub fn read_header(bytes: &[u8]) -> Option<Header<'_>>
     ensures some { IfSome result (λ header.
         HasHeader bytes.now header.selector header.half_size header.rest.now) }

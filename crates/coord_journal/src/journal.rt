@@ -1,4 +1,4 @@
-//! A journal: a version, a snapshot and the batches that were appended since.
+//! A journal: a version, a snapshot and the batches appended since.
 
 ghost use Rattle.std.specs.Prelude.{◌≡◌, ◌↔◌, ◌+◌, ◌-◌, ◌*◌, ◌≤◌, true, false, length, IsTrue, is_ok, OnOk, if◌then◌else◌};
 ghost use Rattle.coord_disk.specs.Model.Present.{whole};
@@ -19,7 +19,7 @@ pub struct Journal<D> {
     alloc: Global,
     disk: D,
     half_size: u64,
-    // The selected half, and how much of it is used, its closed gate included.
+    // The selected half, and the number of bytes used in it, including its closed gate.
     half: Half,
     used: u64,
     stopped: bool,
@@ -33,7 +33,7 @@ impl<D: Disk> Journal<D> {
     ghost use Rattle.coord_journal.specs.Half.{half_number};
     ghost use Rattle.coord_journal.specs.Writing.{Answers, Rewrites};
 
-    // A journal with so many bytes of this half used.
+    // A journal that uses this many bytes of this half.
     pub(crate) fn at(alloc: Global, disk: D, half_size: u64, half: Half, used: u64) -> Self
         requires smallest { MIN_HALF ≤ half_size }
         requires greatest { half_size ≤ MAX_HALF }
@@ -54,15 +54,15 @@ impl<D: Disk> Journal<D> {
         }
     }
 
-    /// How long a body may be that still fits, in bytes. It is 0 where an empty body fits, and also
-    /// where not even that does: `fits` tells the two apart.
+    /// Returns the length of the longest body that still fits, in bytes. It is 0 if only an empty body fits, and also
+    /// if not even that fits: `fits` distinguishes the two.
     pub fn room(&self) -> u64
         ensures { result ≡ half_size_of self.now - used_of self.now - 5 }
     {
         (self.half_size - self.used).saturating_sub(5)
     }
 
-    /// Whether a body of so many bytes still fits.
+    /// Tests whether a body of this many bytes still fits.
     pub fn fits(&self, len: usize) -> bool
         ensures { IsTrue result ↔ HasRoomFor self.now len }
     {
@@ -70,14 +70,14 @@ impl<D: Disk> Journal<D> {
         5 <= free && len as u64 <= free - 5
     }
 
-    /// Gives the disk back.
+    /// Returns the disk.
     pub fn into_disk(self) -> D
         ensures { result ≡ disk_of self }
     {
         self.disk
     }
 
-    // Where the closed gate of the selected half stands.
+    // The place of the selected half's closed gate.
     fn gate(&self) -> u64
         ensures place { result ≡ gate_place (half_size_of self.now) (half_of self.now)
             (used_of self.now) }
@@ -86,9 +86,9 @@ impl<D: Disk> Journal<D> {
         (HEADER as u64 - 1) + self.half.start(self.half_size) + self.used
     }
 
-    /// Adds a batch with this body, which has at most 8,192 bytes and fits. It takes four calls of the device.
+    /// Appends a batch with this body, which has at most 8,192 bytes and fits. It takes four calls of the device.
     ///
-    /// After `Device` each later call answers `Stopped`, and opening the device tells whether the batch is there.
+    /// After `Device` each later call returns `Stopped`, and opening the device shows whether the batch is there.
     pub fn append(&mut self, body: &[u8]) -> Result<(), JournalFault>
         requires short { length body.now ≤ MAX_BODY }
         requires fits { HasRoomFor self.old (length body.now) }
@@ -115,10 +115,10 @@ impl<D: Disk> Journal<D> {
         Ok(())
     }
 
-    /// Puts a version and a snapshot of at most 16,384 bytes in place of all that the journal holds. It takes four calls of the device.
+    /// Replaces the whole content by a version and a snapshot of at most 16,384 bytes. It takes four calls of the device.
     ///
-    /// They are written to the half that is not selected, which is selected once they are on the disk. After `Device`
-    /// each later call answers `Stopped`, and opening the device tells which of both it holds.
+    /// They are written to the other half, which is selected once they are on disk. After `Device`
+    /// each later call returns `Stopped`, and opening the device shows which of the two contents it holds.
     pub fn replace(&mut self, version: u8, snapshot: &[u8]) -> Result<(), JournalFault>
         requires { length snapshot.now ≤ MAX_SNAPSHOT }
         ensures writes { (content : Content) → IsReady D.model self.old content →

@@ -1,19 +1,19 @@
-//! How a journal lies on a device: a header of 17 bytes, and two halves behind it.
+//! The layout of a journal on a device: a header of 17 bytes, followed by two halves.
 
-/// The name in the header, behind the selector.
+/// The name in the header, after the selector.
 pub const MAGIC: [u8; 8] = *b"ACRRESET";
 
-/// The bytes in front of the halves: the selector, the name and the size of a half.
+/// The number of bytes before the halves: the selector, the name and the size of a half.
 pub const HEADER: usize = 17;
 
-/// The least size of a half, in bytes.
+/// The minimum size of a half, in bytes.
 pub const MIN_HALF: u64 = 32_768;
 
-/// The greatest size of a half, in bytes.
+/// The maximum size of a half, in bytes.
 pub const MAX_HALF: u64 = 16_777_216;
 
-/// The greatest snapshot, in bytes.
+/// The maximum length of a snapshot, in bytes.
 pub const MAX_SNAPSHOT: usize = 16_384;
 
-/// The greatest body of a batch, in bytes.
+/// The maximum length of a batch's body, in bytes.
 pub const MAX_BODY: usize = 8_192;

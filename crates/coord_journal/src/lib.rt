@@ -1,21 +1,21 @@
-//! A journal on a disk that may crash at any moment: a version, a snapshot and the batches that were
+//! A journal on a disk that may crash at any moment: a version, a snapshot and the batches
 //! appended since.
 //!
-//! `specs/Text.antt` says which bytes are the text of a content, apart from any code. `format` makes
-//! such a text, `open` reads it and writes nothing, `Journal::append` adds a batch, and
-//! `Journal::replace` puts a new snapshot in place of everything, in the half that is not selected.
+//! `specs/Text.antt` defines which bytes are the text of a content, independently of the code. `format` writes
+//! such a text, `open` reads it and writes nothing, `Journal::append` appends a batch, and
+//! `Journal::replace` replaces the whole content by a new snapshot, in the half that is not selected.
 //!
-//! Why a batch is there whole or not at all, in five lines:
-//! 1. The text ends at a gate, one byte: 0 is closed, all else open, and a reader stops at a closed one.
-//! 2. `append` writes the batch behind that gate, where whatever part of it a crash leaves is unread.
-//! 3. It syncs: the batch is on the disk, whole, and still unread.
+//! Why a batch is atomic, in five lines:
+//! 1. The text ends at a gate, one byte: 0 is closed, any other value is open, and a reader stops at a closed gate.
+//! 2. `append` writes the batch after that gate, where no reader sees whatever part of it a crash leaves.
+//! 3. It syncs: the whole batch is on disk, and still unread.
 //! 4. It opens the gate by one write of one byte, and syncs: torn or not, that byte is open or closed.
 //! 5. `replace` does the same with the half that is not selected and the one byte that selects it.
 //!
 //! The main theorems are the clauses `any_moment` and `done` of the last two: a crash at any moment
-//! leaves the text of the content from before the call or from after it, and once the call has
-//! returned Ok of the latter alone. Both stand on `synced::write_in_turn`: two writes, the second of
-//! them begun when the first is on the disk.
+//! leaves the text of the old or of the new content, and once the call has
+//! returned Ok only that of the new one. Both rest on `synced::write_in_turn`: two writes, the second of
+//! which begins when the first is on disk.
 #![tactic(auto)]
 
 mod barrier;

@@ -18,7 +18,7 @@ use crate::{Contents, Journal, JournalFault};
 use coord_disk::Disk;
 use std::alloc::Global;
 
-/// Where a text ends on its device: the size of a half, the selected one, and how much of it is used.
+/// Where a text ends on its device: the size of a half, the selected half, and the number of bytes used in it.
 #[derive(Clone, Copy)]
 struct Place {
     half_size: u64,
@@ -26,7 +26,7 @@ struct Place {
     used: u64,
 }
 
-// What the bytes of a device say.
+// The meaning of a device's bytes.
 fn read_text(alloc: Global, bytes: &[u8]) -> Result<(Place, Contents<'_>), JournalFault>
     ensures text { IfOk result (λ read. IsTextAt bytes.now (content_of read.1) read.0.half_size
         (half_number read.0.half) read.0.used) }
@@ -58,16 +58,16 @@ fn read_text(alloc: Global, bytes: &[u8]) -> Result<(Place, Contents<'_>), Journ
     Ok((place, contents))
 }
 
-/// Opens the journal on a device, and gives what it holds, which is lent from `bytes`: the device is read into them. It
-/// begins with a sync, reads, and writes nothing.
+/// Opens the journal on a device and returns its content, which borrows from `bytes`, where the device was read into. It
+/// syncs, reads, and writes nothing.
 ///
-/// A refusal hands the disk back.
+/// A refusal returns the disk.
 pub fn open<'b, D: Disk>(
     alloc: Global,
     mut disk: D,
     bytes: &'b mut Vec<u8>,
 ) -> Result<(Journal<D>, Contents<'b>), (JournalFault, D)>
-    // Where the bytes of the device are the text of a content, it gives that content, or there is no memory or the device fails.
+    // If the bytes of the device are the text of a content, it returns that content, unless memory runs out or the device fails.
     ensures text { D.model.keeps_model disk ≡ true →
         IfOk result (λ opened. IsText (content_of opened.1) (D.model.present disk).read) }
     ensures only { (content : Content) → D.model.keeps_model disk ≡ true →
@@ -77,7 +77,7 @@ pub fn open<'b, D: Disk>(
         IfErr result (λ refused. RefusesOpen (D.model.present disk).read refused.0) }
     ensures named { IfErr result (λ refused. IsOpenFault refused.0) }
 
-    // The journal may be added to, and the device reads as before.
+    // The journal accepts appends, and the device reads as before.
     ensures ready { D.model.keeps_model disk ≡ true →
         IfOk result (λ opened. IsReady D.model opened.0 (content_of opened.1)) }
     ensures bytes { D.model.keeps_model disk ≡ true → IfOk result (λ opened.
@@ -87,7 +87,7 @@ pub fn open<'b, D: Disk>(
         IfErr result (λ refused. refused.0 ≢ Device →
         D.model.present refused.1 ≡ whole (D.model.present disk).read) }
 
-    // A crash at any moment leaves nothing that it could not have left before.
+    // A crash at any moment leaves no bytes that it could not have left before.
     ensures any_moment { MatchResult result (λ opened. AddsNothing D.model disk (disk_of opened.0))
         (λ refused. AddsNothing D.model disk refused.1) }
     ensures runs { MatchResult result (λ opened. Runs D.model disk (disk_of opened.0) 3 0)

@@ -1,4 +1,4 @@
--- A disk that fails calls by a rule of its own.
+-- A disk that fails calls by a rule.
 use Rattle.std.specs.Prelude.{◌≡◌, ℕ, ◌+◌, ◌-◌, ◌^◌, min, length, take, Bool, true, false, List, Option, Some, None, Result, IsErr}
 use Rattle.coord_disk.specs.declared.fault.DiskFault.{DiskFault}
 use Rattle.coord_disk.specs.declared.failing.Call.{Call}
@@ -13,30 +13,30 @@ inner_of disk = disk.inner
 abbrev pub rule_of : {D R : Type 0} → FailingDisk D R → R
 rule_of disk = disk.rule
 
--- one more, up to the greatest u64
+-- one more, saturating at the greatest u64
 abbrev pub one_more : ℕ → ℕ
 one_more n = min (n + 1) (2 ^ 64 - 1)
 
--- how many calls there were
+-- the number of calls
 abbrev pub calls_of : {D R : Type 0} → FailingDisk D R → ℕ
 calls_of disk = disk.calls
 
--- how often it has failed a call itself
+-- the number of calls that the rule failed
 abbrev pub failed_of : {D R : Type 0} → FailingDisk D R → ℕ
 failed_of disk = length disk.failed.items
 
--- how often it has failed, itself or through the disk inside
+-- the number of calls that failed, by the rule or by the disk inside
 abbrev pub failures_of : {D R : Type 0} → DiskModel D → FailingDisk D R → ℕ
 failures_of m disk = m.failures (inner_of disk) + failed_of disk
 
--- over this disk by this rule, and no call was made yet
+-- over this disk, with this rule, before any call
 pub record IsOver {D R : Type 0} (inner : D) (rule : R) (disk : FailingDisk D R) : Type 0 where
   pub inside : inner_of disk ≡ inner
   pub follows : rule_of disk ≡ rule
   pub calls : calls_of disk ≡ 0
   pub failed : failed_of disk ≡ 0
 
--- A disk that fails by a rule means what the disk inside means.
+-- A disk that fails by a rule has the meaning of the disk inside.
 abbrev pub failing : {D R : Type 0} → DiskModel D → DiskModel (FailingDisk D R)
 failing m = seen_through m inner_of (failures_of m)
 
@@ -45,15 +45,15 @@ pub record IsUnreached {D R : Type 0} (old new : FailingDisk D R) : Type 0 where
   pub same : inner_of new ≡ inner_of old
   pub counted : failed_of new ≡ failed_of old + 1
 
--- What a write leaves that is to fail. Where the rule tears it, its first bytes are written, if the
--- disk inside does not fail; else the disk inside stays as it is.
+-- The effect of a write that is to fail. If the rule tears it, its first bytes are written, provided that the
+-- disk inside does not fail; otherwise the disk inside is unchanged.
 abbrev pub IsTorn : {D R : Type 0} → DiskModel D → Option ℕ → ℕ → List ℕ → FailingDisk D R → FailingDisk D R → Type 0
 IsTorn m None at bytes old new = IsUnreached old new
 IsTorn m (Some kept) at bytes old new =
     m.keeps_model (inner_of old) ≡ true → m.failures (inner_of new) ≡ m.failures (inner_of old) → m.present (inner_of new) ≡ written_at at (take kept bytes) (m.present (inner_of old))
 
--- A call through such a disk is counted, and the rule says whether it fails. If it is to fail, this
--- is what it leaves. Else the call is passed on, and fails only where the disk inside fails.
+-- Each call through such a disk is counted, and the rule says whether it fails. If it is to fail, this
+-- is its effect. Otherwise the call is passed on, and fails only if the disk inside fails.
 pub record IsCounted {D R T : Type 0} (m : DiskModel D) (says : R → Call → Bool → R → Type 0) (call : Call) (old new : FailingDisk D R) (result : Result T DiskFault) (leaves : Type 0) : Type 0 where
   pub counted : calls_of new ≡ one_more (calls_of old)
   pub fails : Bool
@@ -61,7 +61,7 @@ pub record IsCounted {D R T : Type 0} (m : DiskModel D) (says : R → Call → B
   pub failed : fails ≡ true → IsErr result × leaves
   pub passed : fails ≡ false → HasCause (m.failures (inner_of old)) (m.failures (inner_of new)) result × (failed_of new ≡ failed_of old)
 
--- the disk inside crashes, and the rule and the counts go on
+-- the disk inside crashes; the rule and the counts are unchanged
 pub record CrashesInside {D R : Type 0} (crashes : D → D → Type 0) (old new : FailingDisk D R) : Type 0 where
   pub inside : crashes (inner_of old) (inner_of new)
   pub rule : rule_of new ≡ rule_of old

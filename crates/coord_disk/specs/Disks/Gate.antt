@@ -1,4 +1,4 @@
--- A gate, at which each sync waits until another thread opens it.
+-- A gate: each sync waits until another thread opens it.
 use Rattle.std.specs.Prelude.{◌≡◌, Bool, true}
 use Rattle.std.specs.declared.alloc.Global.{Global}
 use Rattle.std.specs.declared.sync.Arc.{Arc}
@@ -7,10 +7,10 @@ use Rattle.coord_disk.specs.declared.failing.Call.{Call}
 use Rattle.coord_disk.specs.declared.failing.Call.TheVariants.{Sync}
 use Rattle.coord_disk.specs.declared.gate.Gate.{Gate}
 
--- with the flag that a sync sets, and the one that another thread sets, to let it go on
+-- with the flag that a sync sets, and the flag by which another thread lets it continue
 abbrev pub gate_of : Arc AtomicBool Global → Arc AtomicBool Global → Gate
 gate_of entered answered = record { entered = entered; answered = answered }
 
--- The gate fails syncs alone, where it stays closed, and its flags are the same ones.
+-- The gate fails only syncs, and only if it stays closed; its flags do not change.
 abbrev pub GateSays : Gate → Call → Bool → Gate → Type 0
 GateSays old call fails new = (fails ≡ true → call ≡ Sync) × (new ≡ old)

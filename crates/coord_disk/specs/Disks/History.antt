@@ -1,4 +1,4 @@
--- What a disk in memory is after its writes and syncs, from what it held at first.
+-- The state of a disk in memory after its writes and syncs.
 use Rattle.std.specs.Prelude.{◌≡◌, ℕ, ◌≤◌, List, [], ◌∷◌, ◌++◌, length, take, true, Option, Some, None}
 use Rattle.coord_disk.specs.Model.DiskModel.{DiskModel}
 use Rattle.coord_disk.specs.Model.Present.{Present, IsImage, whole, written_at}
@@ -11,12 +11,12 @@ abbrev pub after : Present → Entry → Present
 after disk (Wrote at bytes) = written_at at bytes.items disk
 after disk Synced = whole disk.read
 
--- the disk after all of these, the first of them first
+-- the disk after all of these operations, in order
 abbrev pub replayed : Present → List Entry → Present
 replayed disk [] = disk
 replayed disk (entry ∷ entries) = replayed (after disk entry) entries
 
--- what a disk held at first, and what was done to it since
+-- the initial content of a disk, and the operations since
 pub record Past : Type 0 where
   pub first : List ℕ
   pub entries : List Entry
@@ -24,12 +24,12 @@ pub record Past : Type 0 where
 abbrev pub present_after : Past → Present
 present_after past = replayed (whole past.first) past.entries
 
--- A crash after the first n of the writes and syncs, or after more than n of them, might have left
+-- A crash after the first n writes and syncs, or after more of them, might have left
 -- these bytes.
 abbrev pub LeftSince : Past → ℕ → List ℕ → Type 0
 LeftSince past t image = (k : ℕ) × (t ≤ k) × (k ≤ length past.entries) × IsImage (replayed (whole past.first) (take k past.entries)) image
 
--- The model of what has such a past. How much was done is its moment.
+-- The model of a disk with such a history. The number of operations is its moment.
 abbrev pub recorded : {D : Type 0} → (D → Past) → (D → ℕ) → DiskModel D
 recorded past failures = record {
   keeps_model = λ _. true;
@@ -39,7 +39,7 @@ recorded past failures = record {
   failures = failures;
 }
 
--- of a disk that reads as these bytes; with no history nothing was done to it
+-- a disk that reads as these bytes, to which nothing was done
 abbrev pub past_with : List ℕ → Option History → Past
 past_with read None = record { first = read; entries = [] }
 past_with read (Some history) = record { first = history.first.items; entries = history.entries.items }
@@ -50,7 +50,7 @@ pub record LedTo (history : History) (read : List ℕ) : Type 0 where
   pub syncs : (present_after (past_with read (Some history))).synced ≡ history.synced.items
   pub image : IsImage (present_after (past_with read (Some history))) read
 
--- one more write or sync, and what is there then
+-- one more write or sync, and the bytes after it
 pub record Adds (old new : Past) (now : Present) : Type 0 where
   pub added : Entry
   pub first : new.first ≡ old.first

@@ -7,7 +7,7 @@ use Rattle.coord_disk.specs.Model.Present.{Present}
 use Rattle.coord_disk.specs.declared.choice.Choice.{Choice}
 use Rattle.coord_disk.specs.declared.memory.MemDisk.{MemDisk}
 
--- what it held at first, or after the last crash, and the writes and syncs since
+-- the content at first, or after the last crash, and the writes and syncs since
 abbrev pub past_of : MemDisk → Past
 past_of disk = past_with disk.read.items disk.history
 
@@ -21,11 +21,11 @@ choice_of disk = disk.choice
 abbrev pub failures_of : MemDisk → ℕ
 failures_of disk = length disk.failed.items
 
--- what it means: it keeps the model
+-- its meaning: it keeps the model
 abbrev pub in_memory : DiskModel MemDisk
 in_memory = recorded past_of failures_of
 
--- what was chosen is left
+-- a crash leaves the chosen bytes
 pub record CrashesByChoice (old new : MemDisk) : Type 0 where
   pub left : IsLeft (choice_of old) (present_of old) (present_of new).read
   pub choice : choice_of new ≡ choice_of old

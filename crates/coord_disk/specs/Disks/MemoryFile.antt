@@ -11,7 +11,7 @@ use Rattle.coord_disk.specs.Model.RawCalls.RawCall.{SyncData, SyncAll, SyncFolde
 abbrev pub disk_of : MemFile → MemDisk
 disk_of file = file.disk
 
--- whether its folder has it
+-- whether its folder's entry is synced
 abbrev pub has_entry : MemFile → Bool
 has_entry file = file.entered
 

@@ -1,4 +1,4 @@
--- What the history of a disk in memory says of it now.
+-- Laws that derive the state of a disk in memory from its history.
 use Rattle.std.specs.Prelude.{ℕ, ◌≤◌, List, length, Option, Some, None, refl}
 use Rattle.std.specs.Option.{ForSome}
 use Rattle.std.proofs.Common.{arith, subst, sym}
@@ -21,7 +21,7 @@ reads_image read None led = record { no_shorter = omega arith; no_longer = omega
 reads_image read (Some history) led =
     let here = led history refl in subst (λ (l : List ℕ). IsImage (present_after (past_with read (Some history))) l) (sym here.reads) here.image
 
--- what was recorded fits what is there
+-- the record agrees with the bytes
 pub recorded_is_model : {D : Type 0} (past : D → Past) (failures : D → ℕ) → ((d : D) → IsImage (present_after (past d)) (present_after (past d)).read) → IsModel (recorded past failures)
 recorded_is_model past failures reads = record {
   counts_now = λ d t image _ le now. counts_now (past d) t image le now;

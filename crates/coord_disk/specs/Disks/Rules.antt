@@ -7,17 +7,17 @@ use Rattle.coord_disk.specs.declared.rules.Tear.{Tear}
 
 -- ---- a fuse, which passes some calls and fails each one after them
 
--- with so many calls to pass
+-- with this number of calls to pass
 abbrev pub fuse_of : ℕ → Fuse
 fuse_of passes = record { left = passes }
 
--- the fuse fails a call where it passes none any more
+-- the fuse fails a call if it has none left to pass
 abbrev pub FuseSays : Fuse → Call → Bool → Fuse → Type 0
 FuseSays old call fails new = (fails ≡ (old.left == 0)) × (new.left ≡ old.left - 1)
 
 -- ---- a blip, which fails one call
 
--- a blip before which so many calls pass; none is left to fail once one was
+-- a blip that passes this many calls, fails the next one, and passes all others
 abbrev pub blip_at : ℕ → Blip
 blip_at fails = record { left = Some fails }
 
@@ -38,7 +38,7 @@ BlipSays old call fails new = (fails ≡ is_due old.left) × (new.left ≡ one_l
 
 -- ---- a tear, which fails one call, and tears it where it is a write
 
--- with so many bytes written before it fails
+-- with this number of bytes written before it fails
 abbrev pub tear_at : ℕ → ℕ → Tear
 tear_at fails kept = record { blip = blip_at fails; kept = kept }
 

@@ -1,13 +1,13 @@
--- What each call on a disk promises: one record for what it does to what the disk holds, and one for
--- what every call keeps to.
+-- The promise of each call on a disk: a record of its effect on the content, and a record of the
+-- rules that every call keeps.
 use Rattle.std.specs.Prelude.{◌≡◌, ℕ, ◌+◌, ◌≤◌, Bool, true, List, length, take, drop, Result, IfOk, OnOk, OnErr}
 use Rattle.coord_disk.specs.Model.DiskModel.{DiskModel}
 use Rattle.coord_disk.specs.Model.Moments.{Passes}
 use Rattle.coord_disk.specs.Model.Present.{Present, IsImage, FitsNoMore, WritesWithin, whole, written_at}
 
--- What every call keeps to. A disk that keeps the model goes on to keep it, at most one moment goes
--- by, and what the disk holds changes as this call promises. Of a disk that does not keep the model,
--- no more is said than that it goes on so.
+-- The rules that every call keeps. A disk that keeps the model continues to keep it, at most one moment
+-- passes, and the content changes as this call promises. Of a disk that does not keep the model,
+-- the record says only that it continues not to.
 pub record Acts (keeps keeps_on : Bool) (Time Change : Type 0) : Type 0 where
   pub model : keeps_on ≡ keeps
   pub time : keeps ≡ true → Time
@@ -16,23 +16,23 @@ pub record Acts (keeps keeps_on : Bool) (Time Change : Type 0) : Type 0 where
 abbrev pub Calls : {D : Type 0} → DiskModel D → D → D → (Present → Present → Type 0) → Type 0
 Calls m old new Changes = Acts (m.keeps_model old) (m.keeps_model new) (Passes m old new) (Changes (m.present old) (m.present new))
 
--- the number of bytes is told, and nothing changes
+-- returns the number of bytes and changes nothing
 pub record Measured {E : Type 0} (result : Result ℕ E) (old new : Present) : Type 0 where
   pub value : IfOk result (λ n. n ≡ length old.read)
   pub same : new ≡ old
 
--- the bytes from a place on are read into a buffer, and nothing changes
+-- reads the bytes from a place on into a buffer and changes nothing
 pub record HasRead {T E : Type 0} (at : ℕ) (buffer filled : List ℕ) (result : Result T E) (old new : Present) : Type 0 where
   pub value : OnOk result (filled ≡ take (length buffer) (drop at old.read))
   pub same : new ≡ old
 
--- Bytes are written at a place. Until a sync a crash may leave any bytes there, also where the write
+-- Writes bytes at a place. Until a sync a crash may leave any bytes there, even if the write
 -- failed.
 pub record Written {T E : Type 0} (at : ℕ) (bytes : List ℕ) (result : Result T E) (old new : Present) : Type 0 where
   pub written : OnOk result (new ≡ written_at at bytes old)
   pub crash : WritesWithin at bytes old new
 
--- A crash leaves what a read gives. Where the sync fails, it leaves no more than before.
+-- After a sync, a crash leaves the bytes that a read gives. A failed sync adds no possible outcome.
 pub record Synced {T E : Type 0} (result : Result T E) (old new : Present) : Type 0 where
   pub durable : OnOk result (new ≡ whole old.read)
   pub crash : FitsNoMore old new
@@ -51,18 +51,18 @@ Writes m at bytes old new result = Calls m old new (Written at bytes result)
 abbrev pub Syncs : {D T E : Type 0} → DiskModel D → D → D → Result T E → Type 0
 Syncs m old new result = Calls m old new (Synced result)
 
--- a disk from which so many bytes can be read from this place on
+-- a disk from which this many bytes can be read from this place on
 abbrev pub HasBytes : {D : Type 0} → DiskModel D → D → ℕ → ℕ → Type 0
 HasBytes m disk at count = m.keeps_model disk ≡ true → at + count ≤ length (m.present disk).read
 
--- A crash leaves one of a disk's images, all of it synced.
+-- A crash leaves one of the disk's images, completely synced.
 pub record Crashes {D : Type 0} (m : DiskModel D) (old new : D) : Type 0 where
   pub model : m.keeps_model new ≡ m.keeps_model old
   pub image : m.keeps_model old ≡ true → IsImage (m.present old) (m.present new).read
   pub synced : m.keeps_model old ≡ true → m.present new ≡ whole (m.present new).read
   pub failures : m.failures new ≡ m.failures old
 
--- the count of failures rises by one where a call fails, and else stays
+-- the count of failures rises by one if a call fails, and is unchanged otherwise
 pub record HasCause {T E : Type 0} (before now : ℕ) (result : Result T E) : Type 0 where
   pub failed : OnErr result (now ≡ before + 1)
   pub unfailed : OnOk result (now ≡ before)

@@ -1,32 +1,32 @@
--- What a disk means, as one value.
+-- The meaning of a disk, as one value.
 use Rattle.std.specs.Prelude.{◌≡◌, ℕ, ◌≤◌, Bool, true, List}
 use Rattle.coord_disk.specs.Model.Present.{Present, IsImage}
 
--- What the disks of a type D mean to whoever uses them. A contract that speaks of a disk speaks of
--- this value, and of nothing else that the disk has.
+-- The meaning of the disks of a type D for their users. A contract about a disk speaks of
+-- this value only.
 pub record DiskModel (D : Type 0) : Type 1 where
-  -- Whether a disk keeps the model: only then do its calls promise anything of bytes, of time and of
-  -- crashes. A disk that claims nothing says no.
+  -- Whether a disk keeps the model: only then do its calls promise anything about bytes, time and
+  -- crashes. A disk that claims no model returns false.
   pub keeps_model : D → Bool
-  -- what is synced, what a read gives, and where was written since
+  -- the synced bytes, the bytes that a read gives, and the places written since the last sync
   pub present : D → Present
-  -- the moment, as a number that does not fall
+  -- the moment, as a number that never decreases
   pub clock : D → ℕ
-  -- what a crash might have left at any moment from this one on, during a call or between two
+  -- the bytes that a crash might have left at any moment since this one, during a call or between two calls
   pub left_since : D → ℕ → List ℕ → Type 0
-  -- how often the disk has failed
+  -- the number of the disk's failures
   pub failures : D → ℕ
 
--- The past of a disk fits its present.
+-- A disk's past agrees with its present.
 pub record IsModel {D : Type 0} (m : DiskModel D) : Type 0 where
-  -- what a crash may leave now counts among what it might have left since any earlier moment
+  -- the bytes that a crash may leave now are among those that it might have left since any earlier moment
   pub counts_now : (disk : D) (t : ℕ) (image : List ℕ) → m.keeps_model disk ≡ true → t ≤ m.clock disk → IsImage (m.present disk) image → m.left_since disk t image
-  -- since the present moment nothing else can have been left than what may be left now
+  -- since the present moment, a crash can have left only the bytes that it may leave now
   pub only_now : (disk : D) (image : List ℕ) → m.keeps_model disk ≡ true → m.left_since disk (m.clock disk) image → IsImage (m.present disk) image
-  -- a disk as it reads is one of its images
+  -- the bytes that a read gives are one of the disk's images
   pub reads_image : (disk : D) → m.keeps_model disk ≡ true → IsImage (m.present disk) (m.present disk).read
 
--- The model of what is made over a disk: it means what the disk inside means, and counts failures in
+-- The model of a disk built over another one: it has the meaning of the disk inside, and counts failures in
 -- its own way.
 abbrev pub seen_through : {D E : Type 0} → DiskModel D → (E → D) → (E → ℕ) → DiskModel E
 seen_through m inner failures = record {

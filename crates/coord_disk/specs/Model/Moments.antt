@@ -1,10 +1,10 @@
--- What holds at each moment of a call, and of a run of calls.
+-- Statements about each moment of a call, and of a list of calls.
 use Rattle.std.specs.Prelude.{◌≡◌, ◌⊎◌, ℕ, ◌+◌, ◌≤◌, List, true, Result, Ok, Err}
 use Rattle.coord_disk.specs.Model.DiskModel.{DiskModel}
 use Rattle.coord_disk.specs.Model.Present.{IsImage}
 
--- Time goes on. What a crash might have left since moment t is what it might have left before, or
--- what it may leave now.
+-- Time advances. The bytes that a crash might have left since moment t are those that it might have left
+-- before, or those that it may leave now.
 pub record Elapses (before now : ℕ) (past since : ℕ → List ℕ → Type 0) (may_leave : List ℕ → Type 0) : Type 0 where
   pub later : before ≤ now
   -- a call is at most one moment
@@ -12,34 +12,34 @@ pub record Elapses (before now : ℕ) (past since : ℕ → List ℕ → Type 0)
   pub nothing_else : (t : ℕ) (image : List ℕ) → t ≤ before → since t image → past t image ⊎ may_leave image
   pub keeps : (t : ℕ) (image : List ℕ) → t ≤ before → past t image → since t image
 
--- one call goes by
+-- one call passes
 abbrev pub Passes : {D : Type 0} → DiskModel D → D → D → Type 0
 Passes m old new = Elapses (m.clock old) (m.clock new) (m.left_since old) (m.left_since new) (IsImage (m.present new))
 
--- A crash at any moment from `old` on, up to now, leaves only bytes that have P.
+-- A crash at any moment from `old` until now leaves only bytes with P.
 pub record LeavesOnly {D : Type 0} (m : DiskModel D) (old new : D) (P : List ℕ → Type 0) : Type 0 where
   pub later : m.clock old ≤ m.clock new
   pub each : (image : List ℕ) → m.left_since new (m.clock old) image → P image
-  -- for a run that began earlier
+  -- for a list of calls that began earlier
   pub before : (t : ℕ) (image : List ℕ) → t ≤ m.clock old → m.left_since new t image → m.left_since old t image ⊎ P image
 
 -- A crash at any moment leaves nothing that it could not have left before.
 abbrev pub AddsNothing : {D : Type 0} → DiskModel D → D → D → Type 0
 AddsNothing m old new = m.keeps_model old ≡ true → LeavesOnly m old new (IsImage (m.present old))
 
--- A run of calls leaves a disk as it was, and a crash at any moment of it adds nothing.
+-- A list of calls leaves a disk unchanged, and a crash at any moment of it leaves no other bytes than before.
 pub record IsUntouched {D : Type 0} (m : DiskModel D) (old new : D) : Type 0 where
   pub same : m.present new ≡ m.present old
   pub any_moment : LeavesOnly m old new (IsImage (m.present old))
 
--- What each run of calls keeps to: a disk that keeps the model goes on to keep it, and it has failed
--- so often in at most so many calls.
+-- The rules of every list of calls: a disk that keeps the model continues to keep it, and it has failed
+-- this often, in at most this many calls.
 pub record Runs {D : Type 0} (m : DiskModel D) (old new : D) (most failed : ℕ) : Type 0 where
   pub model : m.keeps_model new ≡ m.keeps_model old
   pub failures : m.failures new ≡ m.failures old + failed
   pub calls : m.keeps_model old ≡ true → m.clock new ≤ m.clock old + most
 
--- how often a disk has failed in a run that ends with its first failure
+-- the number of failures in a list of calls that ends with its first failure
 abbrev pub failures_of : {T E : Type 0} → Result T E → ℕ
 failures_of (Ok value) = 0
 failures_of (Err fault) = 1

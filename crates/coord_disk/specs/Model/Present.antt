@@ -1,7 +1,7 @@
--- What a disk holds at a moment, what a crash then may leave, and what the calls do to it.
+-- The content of a disk at a moment, the bytes that a crash may then leave, and the effects of the calls.
 use Rattle.std.specs.Prelude.{◌≡◌, ◌⊎◌, ℕ, ◌+◌, ◌<◌, ◌≤◌, ◌-◌, Bool, false, ◌&&◌, ◌||◌, nat_le, nat_lt, List, [], ◌∷◌, ◌++◌, length, take, drop, slice_get, replicate}
 
--- places of a disk: from start on, and below stop
+-- a range of places: from start on, below stop
 pub record Range : Type 0 where
   pub start : ℕ
   pub stop : ℕ
@@ -11,12 +11,12 @@ pub record Present : Type 0 where
   pub read : List ℕ  -- the bytes as a read gives them
   pub written : List Range  -- where was written since, failed writes included
 
--- the place lies in one of the ranges
+-- the place is in one of the ranges
 abbrev pub is_within : List Range → ℕ → Bool
 is_within [] i = false
 is_within (range ∷ ranges) i = nat_le range.start i && nat_lt i range.stop || is_within ranges i
 
--- A crash may leave these bytes: what is synced stays, but for the places written since. All else may be anything.
+-- A crash may leave these bytes: synced bytes stay, except at the places written since; those may be anything.
 pub record IsImage (disk : Present) (image : List ℕ) : Type 0 where
   pub no_shorter : length disk.synced ≤ length image
   pub no_longer : length image ≤ length disk.read
@@ -26,21 +26,21 @@ pub record IsImage (disk : Present) (image : List ℕ) : Type 0 where
 abbrev pub whole : List ℕ → Present
 whole bytes = record { synced = bytes; read = bytes; written = [] }
 
--- old with these bytes at this place, and zeros between where that is past the end
+-- the old bytes with these bytes at this place; if the place is past the end, zeros fill the gap
 abbrev pub overwritten : List ℕ → ℕ → List ℕ → List ℕ
 overwritten old at [] = old
 overwritten old at (byte ∷ bytes) = take at old ++ (replicate (at - length old) 0 ++ (byte ∷ bytes ++ drop (at + length (byte ∷ bytes)) old))
 
--- the places of bytes that are written from this one on
+-- the range of these bytes, written at this place
 abbrev pub range_of : ℕ → List ℕ → Range
 range_of at bytes = record { start = at; stop = at + length bytes }
 
--- the disk once these bytes were written
+-- the disk after these bytes were written
 abbrev pub written_at : ℕ → List ℕ → Present → Present
 written_at at bytes disk = record { synced = disk.synced; read = overwritten disk.read at bytes; written = range_of at bytes ∷ disk.written }
 
--- What a write may do, whether it succeeds or fails: no byte outside its range changes. Where it
--- begins past the end, zeros come to stand in between.
+-- The effect of a write, whether it succeeds or fails: no byte outside its range changes. If it
+-- begins past the end, zeros fill the gap.
 pub record WritesWithin (at : ℕ) (bytes : List ℕ) (old new : Present) : Type 0 where
   pub synced : new.synced ≡ old.synced
   pub written : (i : ℕ) → is_within (range_of at bytes ∷ old.written) i ≡ false → is_within new.written i ≡ false
@@ -48,11 +48,11 @@ pub record WritesWithin (at : ℕ) (bytes : List ℕ) (old new : Present) : Type
   pub no_longer : length new.read ≤ length (overwritten old.read at bytes)
   pub elsewhere : (i : ℕ) → i < length old.read → (i < at) ⊎ (at + length bytes ≤ i) → slice_get new.read i ≡ slice_get old.read i
 
--- a crash leaves nothing that it could not have left before
+-- a crash leaves no bytes that it could not have left before
 abbrev pub FitsNoMore : Present → Present → Type 0
 FitsNoMore old new = (image : List ℕ) → IsImage new image → IsImage old image
 
--- What a crash may leave while these other bytes are written at this place over bytes that are
+-- The bytes that a crash may leave while these bytes are written at this place over bytes that are
 -- synced.
 abbrev pub Torn : List ℕ → ℕ → List ℕ → List ℕ → Type 0
 Torn bytes at new = IsImage (written_at at new (whole bytes))

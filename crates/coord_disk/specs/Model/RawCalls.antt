@@ -1,4 +1,4 @@
--- The calls of a raw file, and what those promise that a disk does not have.
+-- The calls of a raw file, and the promises of those that a disk does not have.
 use Rattle.std.specs.Prelude.{◌≡◌, ℕ, Bool, true, List, Result, OnOk}
 use Rattle.coord_disk.specs.Model.Calls.{Calls}
 use Rattle.coord_disk.specs.Model.DiskModel.{DiskModel}
@@ -6,7 +6,7 @@ use Rattle.coord_disk.specs.Model.Present.{Present, FitsNoMore, whole}
 
 pub data RawCall : Type 0 where
   Len : RawCall
-  -- a read of so many bytes from a place on
+  -- a read of this many bytes from a place on
   Read : ℕ → ℕ → RawCall
   -- these bytes at a place
   Write : ℕ → List ℕ → RawCall
@@ -14,12 +14,12 @@ pub data RawCall : Type 0 where
   SyncAll : RawCall
   SyncFolder : RawCall
 
--- whether the folder's entry is synced stays as it was
+-- whether the folder's entry is synced does not change
 abbrev pub StaysEntered : {F : Type 0} → DiskModel F → (F → Bool) → F → F → Type 0
 StaysEntered m is_entered old new = m.keeps_model old ≡ true → is_entered new ≡ is_entered old
 
--- A crash leaves what a read gives, where the sync reaches as far as that. It never leaves more than
--- before.
+-- After the sync, a crash leaves the bytes that a read gives, as far as the sync reaches. It never adds a
+-- possible outcome.
 pub record BytesSynced {T E : Type 0} (Reaches : Type 0) (result : Result T E) (old new : Present) : Type 0 where
   pub durable : Reaches → OnOk result (new ≡ whole old.read)
   pub crash : FitsNoMore old new
@@ -27,7 +27,7 @@ pub record BytesSynced {T E : Type 0} (Reaches : Type 0) (result : Result T E) (
 abbrev pub SyncsBytes : {F T E : Type 0} → DiskModel F → Type 0 → F → F → Result T E → Type 0
 SyncsBytes m Reaches old new result = Calls m old new (BytesSynced Reaches result)
 
--- the folder's entry is synced, and the bytes stay as they were
+-- the folder's entry is synced, and the bytes do not change
 pub record Enters {F T E : Type 0} (m : DiskModel F) (is_entered : F → Bool) (old new : F) (result : Result T E) : Type 0 where
   pub acts : Calls m old new (λ before now. now ≡ before)
   pub enters : m.keeps_model old ≡ true → OnOk result (is_entered new ≡ true)
