@@ -1,4 +1,4 @@
--- The definitions in which the proofs and the crates above speak of this crate.
+-- The definitions of this crate that its proofs and the crates above it use.
 pub use Rattle.coord_store.specs.Faults.{commit_fault_of, store_fault_of}
 pub use Rattle.coord_store.specs.Halves.{HasHalves, KeepsHalves}
 pub use Rattle.coord_store.specs.Kept.{GivesEither, GivesKept, Holds, ImagesGive, IsJustMade, IsKept, IsOnlyWorld, Kept, has_stopped}

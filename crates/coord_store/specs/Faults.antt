@@ -49,23 +49,23 @@ commit_name commit.Full = codes "Full"
 commit_name commit.Stopped = codes "Stopped"
 commit_name commit.Again = codes "Again"
 
--- the fault of an append or a replace, as a commit tells it
+-- the fault that a commit returns for a fault of an append or a replace
 abbrev pub commit_fault_of : JournalFault → CommitFault
 commit_fault_of journal.OutOfMemory = commit.OutOfMemory
 commit_fault_of journal.Device = commit.Device
 commit_fault_of fault = commit.Stopped
 
--- how often the device has failed in a commit that is refused so
+-- the number of device failures in a commit that returns this fault
 abbrev pub failed_in : CommitFault → ℕ
 failed_in commit.Device = 1
 failed_in fault = 0
 
--- how often it has failed in a commit with this answer
+-- the number of device failures in a commit with this result
 abbrev pub failures_in : {T : Type 0} → Result T CommitFault → ℕ
 failures_in (Ok value) = 0
 failures_in (Err fault) = failed_in fault
 
--- the fault of a formatting or an opening, as a store tells it
+-- the fault that a store returns for a fault of formatting or opening its journal
 abbrev pub store_fault_of : JournalFault → StoreFault
 store_fault_of journal.OutOfMemory = store.OutOfMemory
 store_fault_of journal.Device = store.Device

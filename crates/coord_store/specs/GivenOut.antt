@@ -1,16 +1,16 @@
--- What the steps of a batch ask of the world from before them, which alone is settled.
+-- What the steps of a batch need from the settled world, the one before the batch.
 use Rattle.std.specs.Prelude.{ℕ, zero, suc, Bool, true, List, [], ◌∷◌, if◌then◌else◌}
 use Rattle.coord_types.specs.declared.steps.Step.{Step}
 use Rattle.coord_types.specs.declared.steps.Step.TheVariants.{Order, Take, Clear}
 use Rattle.coord_world.specs.Facade.{World, has_receipted, has_sent, lane}
 
--- whether a settled world has given out the packet that a step names; an order names none
+-- whether a settled world has sent the packet that a step names; an order names none
 abbrev pub has_given_out : World → Step → Bool
 has_given_out settled (Order c n x) = true
 has_given_out settled (Take p) = has_sent (lane settled p.from p.to p.inc) p.number
 has_given_out settled (Clear p) = has_receipted (lane settled p.from p.to p.inc) p.number
 
--- how many steps come before the first one that names a packet that is not out
+-- the number of steps before the first one whose packet was not sent
 abbrev pub how_many_out : World → List Step → ℕ
 how_many_out settled [] = zero
 how_many_out settled (s ∷ steps) = if has_given_out settled s then suc (how_many_out settled steps) else zero

@@ -1,4 +1,4 @@
--- A store: what its disk's images give.
+-- A store, and the worlds that its disk's images give.
 use Rattle.std.specs.Prelude.{◌≡◌, ◌⊎◌, ℕ, Bool, true, List, Option, Some, None, is_some}
 use Rattle.coord_codec.specs.Worlds.{world}
 use Rattle.coord_disk.specs.Model.DiskModel.{DiskModel}
@@ -8,14 +8,14 @@ use Rattle.coord_journal.specs.declared.journal.Journal.{Journal}
 use Rattle.coord_world.specs.Facade.{Legal, World, no_world, rows_of}
 use Rattle.coord_store.specs.Recovered.{Gives, Recovered}
 
--- Its disk, its world, and the world that a torn commit was to make. After a fault inside a
--- checkpoint `torn` has that world too, though only the old world can be on the disk then.
+-- Its disk, its world, and the world that a torn commit was meant to make. After a fault inside a
+-- checkpoint `torn` holds that world too, although only the old world can then be on disk.
 pub record Kept (D : Type 0) : Type 0 where
   pub disk : D
   pub world : World
   pub torn : Option World
 
--- whether a commit was torn: then each later one is refused
+-- whether a commit was torn; then every later one is refused
 abbrev pub has_stopped : {D : Type 0} → Kept D → Bool
 has_stopped kept = is_some kept.torn
 
@@ -23,12 +23,12 @@ has_stopped kept = is_some kept.torn
 abbrev pub GivesEither : World → World → List ℕ → Type 0
 GivesEither v w bytes = Recovered bytes v ⊎ Recovered bytes w
 
--- These bytes give the store's world; after a torn commit perhaps the one that the commit was to
+-- These bytes give the store's world; after a torn commit possibly the one that the commit was meant to
 -- make.
 abbrev pub GivesKept : {D : Type 0} → Kept D → List ℕ → Type 0
 GivesKept kept bytes = Recovered bytes kept.world ⊎ ((w : World) × (kept.torn ≡ Some w) × Recovered bytes w)
 
--- each image of a store's disk gives its world; after a torn commit perhaps the one that the commit was to make
+-- each image of a store's disk gives its world; after a torn commit possibly the one that the commit was meant to make
 abbrev pub ImagesGive : {D : Type 0} → DiskModel D → Kept D → Type 0
 ImagesGive m kept = (image : List ℕ) → IsImage (m.present kept.disk) image → GivesKept kept image
 
@@ -38,7 +38,7 @@ pub record Holds {D : Type 0} (m : DiskModel D) (journal : Journal D) (w : World
   pub ready : IsReady m journal content
   pub gives : Gives content w
 
--- what the type of a store keeps of its parts
+-- the invariant of a store's parts
 pub record IsKept {D : Type 0} (m : DiskModel D) (journal : Journal D) (world : World) (torn : Option World) : Type 0 where
   pub legal : Legal world
   pub stopped : journal_has_stopped journal ≡ is_some torn
@@ -49,11 +49,11 @@ pub record IsKept {D : Type 0} (m : DiskModel D) (journal : Journal D) (world : 
 abbrev pub IsOnlyWorld : World → List ℕ → Type 0
 IsOnlyWorld w bytes = Recovered bytes w
 
--- what a disk holds on which a store was just made
+-- the content of a disk on which a store was just created
 abbrev pub made : ℕ → ℕ → Present
 made half_size version = whole (formatted half_size version ((world version).text (rows_of (no_world version))))
 
--- a store of a version was just made on this disk, with halves of this size: it has no step
+-- a store of this version was just created on this disk, with halves of this size: it has no step
 pub record IsJustMade (half_size version : ℕ) (disk : Present) : Type 0 where
   pub bytes : disk ≡ made half_size version
   pub half : IsHalfSize half_size

@@ -1,4 +1,4 @@
--- What a migration makes, and why it is refused.
+-- The result of a migration, and the reasons to refuse it.
 use Rattle.std.specs.Prelude.{◌≡◌, ℕ, ◌==◌, ◌<◌, false, Result, Ok, Err, if◌then◌else◌}
 use Rattle.coord_types.specs.declared.messages.Mode.TheVariants.{Ready}
 use Rattle.coord_world.specs.laws.Raised.{raised}
@@ -8,11 +8,11 @@ use Rattle.coord_store.specs.Refused.{failed_in}
 use Rattle.coord_store.specs.declared.faults.StoreFault.{StoreFault}
 use Rattle.coord_store.specs.declared.faults.StoreFault.TheVariants.{OutOfMemory, Device, NotQuiet, Stopped}
 
--- the world of version 2 that a world stands for
+-- the world of version 2 that corresponds to a world
 abbrev pub risen : World → World
 risen w = if w.version == 1 then raised w else w
 
--- this node is in a reset, and none below it
+-- this node is in a reset, and no lower one is
 pub record IsFirstBusy (w : World) (u : ℕ) : Type 0 where
   pub busy : is_ready (state w u).mode ≡ false
   pub least : (v : ℕ) → v < u → (state w v).mode ≡ Ready
@@ -22,8 +22,8 @@ pub record IsQuiet (w : World) : Type 0 where
   pub first : w.version ≡ 1
   pub ready : AllReady w
 
--- Why a store of this world is not raised to version 2. Only where the world is quiet can memory or
--- the device fail it.
+-- Why a store of this world is not migrated to version 2. Only if the world is quiet can memory or
+-- the device be the reason.
 abbrev pub RefusesMigration : World → StoreFault → Type 0
 RefusesMigration w OutOfMemory = IsQuiet w
 RefusesMigration w Device = IsQuiet w
@@ -31,7 +31,7 @@ RefusesMigration w (NotQuiet u) = (w.version ≡ 1) × IsFirstBusy w u
 RefusesMigration w Stopped = Unit {0}
 RefusesMigration w fault = ⊥
 
--- how often the device has failed in a migration with this answer
+-- the number of device failures in a migration with this result
 abbrev pub failures_in : {T : Type 0} → Result T StoreFault → ℕ
 failures_in (Ok value) = 0
 failures_in (Err fault) = failed_in fault

@@ -6,34 +6,34 @@ use Rattle.coord_codec.specs.Worlds.{world}
 use Rattle.coord_journal.specs.Text.{Content, IsText}
 use Rattle.coord_world.specs.Facade.{InRange, IsFresh, Legal, World, fold, next, rows_of}
 
--- Each step is fresh over the world that those before it lead to; one world counts as settled for
+-- Each step is fresh over the world after the steps before it; the same world counts as settled for
 -- all of them.
 abbrev pub AllFresh : World → World → List Step → Type 0
 AllFresh settled w [] = Unit {0}
 AllFresh settled w (s ∷ steps) = IsFresh w settled s × AllFresh settled (next w s) steps
 
--- the body spells these steps, numbered from the world's next one on
+-- the body encodes these steps, numbered from the world's next number on
 pub record IsBody (w : World) (body : List ℕ) (steps : List Step) : Type 0 where
   pub numbered : IsBatch w.version (w.count + 1) steps
   pub spelled : body ≡ (batch w.version).text (pair (w.count + 1) steps)
 
--- The world takes the steps that the body spells; it is itself the settled world for all of them.
+-- The world takes the steps that the body encodes, and is the settled world for all of them.
 pub record Takes (w : World) (body : List ℕ) (steps : List Step) : Type 0 where
   pub spells : IsBody w body steps
   pub fresh : AllFresh w w steps
 
--- batch by batch, from one world to another
+-- batch by batch, these bodies lead from one world to another
 abbrev pub Replays : World → List (List ℕ) → World → Type 0
 Replays w [] v = w ≡ v
 Replays w (body ∷ bodies) v = (steps : List Step) × Takes w body steps × Replays (fold w steps) bodies v
 
--- the snapshot spells this world, in its version
+-- the snapshot encodes this world, in its version
 pub record HasSnapshot (content : Content) (w : World) : Type 0 where
   pub known : content.version ≡ w.version
   pub in_range : InRange w
   pub spelled : content.snapshot ≡ (world w.version).text (rows_of w)
 
--- the snapshot spells a legal world, from which the batches lead to this one
+-- the snapshot encodes a legal world, from which the batches lead to this one
 pub record Gives (content : Content) (w : World) : Type 0 where
   pub start : World
   pub snapshot : HasSnapshot content start

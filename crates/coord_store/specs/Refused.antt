@@ -1,4 +1,4 @@
--- Why the bytes of a device give no world, and which refusal comes first.
+-- Why the bytes of a device give no world, and which refusal is returned first.
 use Rattle.std.specs.Prelude.{◌≡◌, ◌⊎◌, ℕ, ◌<◌, List, ◌∷◌, ◌++◌, length, Some}
 use Rattle.coord_types.specs.declared.steps.Step.{Step}
 use Rattle.coord_check.specs.Faults.{faults, first}
@@ -11,7 +11,7 @@ use Rattle.coord_store.specs.Recovered.{AllFresh, HasSnapshot, IsBody, Replays}
 use Rattle.coord_store.specs.declared.faults.StoreFault.{StoreFault}
 use Rattle.coord_store.specs.declared.faults.StoreFault.TheVariants.{OutOfMemory, Device, NotEmpty, HalfSize, NoMagic, BadRecord, BadSnapshot, BadBatch, BadStep, Violated, NotQuiet, Stopped}
 
--- The world takes the first `index` of the steps, and not the one behind them.
+-- The world takes the first `index` steps, but not the next one.
 pub record StopsAt (w : World) (steps : List Step) (index : ℕ) : Type 0 where
   pub front : List Step
   pub refused : Step
@@ -21,14 +21,14 @@ pub record StopsAt (w : World) (steps : List Step) (index : ℕ) : Type 0 where
   pub fresh : AllFresh w w front
   pub stops : ¬ IsFresh (fold w front) w refused
 
--- What the world refuses of a batch with this number: its body spells no steps that are the world's next ones, or
+-- Why the world refuses the batch with this number: its body does not encode the world's next steps, or
 -- the world stops at one of them.
 abbrev pub RefusesBatch : World → ℕ → List ℕ → StoreFault → Type 0
 RefusesBatch w n body fault =
     ((fault ≡ BadBatch) × ((steps : List Step) → IsBody w body steps → ⊥))
     ⊎ ((index : ℕ) × (steps : List Step) × (fault ≡ BadStep n index) × IsBody w body steps × StopsAt w steps index)
 
--- The first n batches lead from one world to another, and this body is the batch behind them.
+-- The first n batches lead from one world to another, and this body is the next batch.
 pub record Reaches (start : World) (bodies : List (List ℕ)) (n : ℕ) (body : List ℕ) (w : World) : Type 0 where
   pub front : List (List ℕ)
   pub rest : List (List ℕ)
@@ -44,24 +44,24 @@ pub record RefusesReplay (start : World) (bodies : List (List ℕ)) (fault : Sto
   pub reaches : Reaches start bodies number body reached
   pub refuses : RefusesBatch reached number body fault
 
--- the snapshot spells no world, or one that is not legal
+-- the snapshot encodes no world, or one that is not legal
 abbrev pub RefusesSnapshot : Content → StoreFault → Type 0
 RefusesSnapshot content fault =
     ((fault ≡ BadSnapshot) × ((w : World) → HasSnapshot content w → ⊥))
     ⊎ ((w : World) × (violation : Violation) × (fault ≡ Violated violation) × HasSnapshot content w × (first (faults w) ≡ Some violation))
 
--- the snapshot spells a legal world, and then a batch is refused
+-- the snapshot encodes a legal world, and then a batch is refused
 abbrev pub RefusesBatches : Content → StoreFault → Type 0
 RefusesBatches content fault = (start : World) × HasSnapshot content start × Legal start × RefusesReplay start content.batches fault
 
--- a journal of this content is refused so
+-- a journal with this content is refused with this fault
 abbrev pub RefusesContent : Content → StoreFault → Type 0
 RefusesContent content fault = RefusesSnapshot content fault ⊎ RefusesBatches content fault
 
 abbrev pub RefusesText : List ℕ → StoreFault → Type 0
 RefusesText bytes fault = (content : Content) × IsText content bytes × RefusesContent content fault
 
--- want of memory, or a failure of the device
+-- out of memory, or a failure of the device
 abbrev pub IsPassing : StoreFault → Type 0
 IsPassing fault = (fault ≡ OutOfMemory) ⊎ (fault ≡ Device)
 
@@ -69,12 +69,12 @@ IsPassing fault = (fault ≡ OutOfMemory) ⊎ (fault ≡ Device)
 abbrev pub RefusesJournal : List ℕ → StoreFault → Type 0
 RefusesJournal bytes fault = (why : JournalFault) × (fault ≡ store_fault_of why) × JournalRefuses bytes why
 
--- Opening a device of these bytes is refused with this fault: memory and the device may fail at any time; else its
--- journal is refused, or what the journal holds.
+-- Opening a device with these bytes returns this fault: memory and the device may fail at any time; otherwise its
+-- journal or the journal's content is refused.
 abbrev pub RefusesOpen : List ℕ → StoreFault → Type 0
 RefusesOpen bytes fault = IsPassing fault ⊎ (RefusesJournal bytes fault ⊎ RefusesText bytes fault)
 
--- Making a store on a device of these bytes, with halves of this size, is refused with this fault.
+-- Creating a store on a device with these bytes, with halves of this size, returns this fault.
 abbrev pub RefusesCreate : List ℕ → ℕ → StoreFault → Type 0
 RefusesCreate bytes half_size OutOfMemory = Unit {0}
 RefusesCreate bytes half_size Device = Unit {0}
@@ -82,7 +82,7 @@ RefusesCreate bytes half_size NotEmpty = 0 < length bytes
 RefusesCreate bytes half_size HalfSize = (length bytes ≡ 0) × ¬ IsHalfSize half_size
 RefusesCreate bytes half_size fault = ⊥
 
--- the faults that an opening may answer, whatever the device does
+-- the faults that an opening may return, whatever the device does
 abbrev pub IsOpenFault : StoreFault → Type 0
 IsOpenFault NotEmpty = ⊥
 IsOpenFault HalfSize = ⊥
@@ -90,8 +90,8 @@ IsOpenFault (NotQuiet node) = ⊥
 IsOpenFault Stopped = ⊥
 IsOpenFault fault = Unit {0}
 
--- The faults that a creation may answer. The last two come of a device that gives back other bytes
--- than were written.
+-- The faults that a creation may return. The last two occur only if the device returns other bytes
+-- than those written.
 abbrev pub IsCreateFault : StoreFault → Type 0
 IsCreateFault OutOfMemory = Unit {0}
 IsCreateFault Device = Unit {0}
@@ -101,7 +101,7 @@ IsCreateFault NoMagic = Unit {0}
 IsCreateFault BadRecord = Unit {0}
 IsCreateFault fault = ⊥
 
--- how often the device has failed in a call that is refused so
+-- the number of device failures in a call that returns this fault
 abbrev pub failed_in : StoreFault → ℕ
 failed_in Device = 1
 failed_in fault = 0

@@ -1,4 +1,4 @@
--- What the parts of a commit promise: of the journal that holds its world, and of what the store keeps.
+-- The promises of a commit's parts, about the journal that holds its world and about the store.
 use Rattle.std.specs.Prelude.{◌≡◌, ◌≢◌, ◌⊎◌, true, false, ℕ, Option, Some, Result, Ok, Err, IfErr, IsErrOf, OnOk}
 use Rattle.coord_disk.specs.Model.DiskModel.{DiskModel}
 use Rattle.coord_disk.specs.Model.Moments.{LeavesOnly, Runs}
@@ -10,18 +10,18 @@ use Rattle.coord_store.specs.Kept.{GivesEither, Holds, IsOnlyWorld}
 use Rattle.coord_store.specs.declared.faults.CommitFault.{CommitFault}
 use Rattle.coord_store.specs.declared.faults.CommitFault.TheVariants.{OutOfMemory, Device}
 
--- The journal holds one world, and another one is written.
+-- The journal holds one world, and a new one is written.
 pub record Follows {D T : Type 0} (m : DiskModel D) (w next : World) (old new : Journal D) (result : Result T CommitFault) : Type 0 where
   pub any_moment : LeavesOnly m (disk_of old) (disk_of new) (GivesEither w next)
   pub done : OnOk result (Holds m new next)
 
--- Where that is refused and the device did not fail, the journal holds the world from before, and no
+-- If that is refused and the device did not fail, the journal holds the old world, and no
 -- crash leaves any other.
 pub record Stays {D T : Type 0} (m : DiskModel D) (w : World) (old new : Journal D) (result : Result T CommitFault) : Type 0 where
   pub any_moment : IfErr result (λ fault. fault ≢ Device → LeavesOnly m (disk_of old) (disk_of new) (IsOnlyWorld w))
   pub held : IfErr result (λ fault. fault ≢ Device → Holds m new w)
 
--- Whatever the journal holds: how often the device is called and fails, and what the journal is then.
+-- Whatever the journal holds: the number of device calls and failures, and the journal afterwards.
 pub record Ends {D T : Type 0} (m : DiskModel D) (most : ℕ) (old new : Journal D) (result : Result T CommitFault) : Type 0 where
   pub runs : Runs m (disk_of old) (disk_of new) most (failures_in result)
   pub half_size : half_size_of new ≡ half_size_of old
@@ -30,8 +30,8 @@ pub record Ends {D T : Type 0} (m : DiskModel D) (most : ℕ) (old new : Journal
   pub still : IfErr result (λ fault. fault ≢ Device → has_stopped new ≡ false)
   pub device : IsErrOf result Device → has_stopped new ≡ true
 
--- What a store keeps once another world was written in place of its own, or was not: its world from then on, and the one
--- that a torn commit was to make.
+-- The store after an attempt to replace its world: its world from then on, and the world
+-- that a torn commit was meant to make.
 pub record Concludes {T : Type 0} (next w v : World) (was now : Option World) (written : Result T CommitFault) : Type 0 where
   pub world : OnOk written (v ≡ next)
   pub same_world : IfErr written (λ fault. v ≡ w)
@@ -39,7 +39,7 @@ pub record Concludes {T : Type 0} (next w v : World) (was now : Option World) (w
   pub same_torn : OnOk written (now ≡ was)
   pub unchanged : IfErr written (λ fault. fault ≢ Device → now ≡ was)
 
--- the same answer, with this world where nothing failed
+-- the same result, with this world on success
 abbrev pub with_world : {T E : Type 0} → World → Result T E → Result World E
 with_world w (Ok value) = Ok w
 with_world w (Err fault) = Err fault

@@ -1,4 +1,4 @@
-//! Makes a store.
+//! Creates a store.
 
 ghost use Rattle.std.specs.Prelude.{◌≡◌, ◌≢◌, ◌⊎◌, ◌<◌, ◌≤◌, true, None, length, MatchResult, IfOk, IfErr};
 ghost use Rattle.coord_codec.specs.Worlds.{world};
@@ -22,7 +22,7 @@ use coord_types::Version;
 use coord_world::World;
 use std::alloc::{AllocError, Global};
 
-/// The snapshot of the world before any step.
+/// Returns the snapshot of the world before any step.
 fn first_snapshot(alloc: Global, version: Version) -> Result<Vec<u8>, AllocError>
     ensures spelled { IfOk result (λ snapshot. snapshot.items ≡
         (world version).text (rows_of (no_world version))) }
@@ -39,12 +39,12 @@ fn first_snapshot(alloc: Global, version: Version) -> Result<Vec<u8>, AllocError
 }
 
 impl<D: Disk> Store<D> {
-    /// Makes a store on an empty device, by at most six calls of it: formats the device and opens
+    /// Creates a store on an empty device, with at most six calls of it: formats the device and opens
     /// it. The store's world is the one before any step.
     ///
     /// A half has `half_size` bytes, from 32,768 to 16,777,216. The version of the world is 1 or 2.
-    /// A refusal hands the disk back. After `Device` nothing is promised of its bytes;
-    /// `OutOfMemory` may leave the store made. A device that gives back other bytes than were
+    /// A refusal returns the disk. After `Device` nothing is promised about its bytes;
+    /// after `OutOfMemory` the store may have been created. A device that returns other bytes than those
     /// written may be refused as `NoMagic` or `BadRecord`.
     pub fn create(
         alloc: Global,
@@ -64,7 +64,7 @@ impl<D: Disk> Store<D> {
             IfErr result (λ refused. RefusesCreate (D.model.present disk).read half_size refused.0) }
         ensures named { IfErr result (λ refused. IsCreateFault refused.0) }
 
-        // What a refusal leaves, where the device itself did not fail.
+        // The device after a refusal, if the device itself did not fail.
         ensures unchanged { D.model.keeps_model disk ≡ true →
             IfErr result (λ refused. (refused.0 ≡ NotEmpty) ⊎ (refused.0 ≡ HalfSize) →
             IsUntouched D.model disk refused.1) }

@@ -1,4 +1,4 @@
-//! Why calls on a store are refused.
+//! The faults of a store's calls.
 
 ghost use Rattle.std.specs.Prelude.{◌≡◌, Some};
 ghost use Rattle.coord_store.specs.Faults.{commit_name, commit_number, store_name, store_number};
@@ -11,38 +11,38 @@ use std::alloc::AllocError;
 use std::error::Error;
 use std::fmt;
 
-/// Why a store was not made or opened.
+/// The reason for which a store was not created or opened.
 #[derive(Clone, Copy, Debug, PartialEq, Eq)]
 pub enum StoreFault {
-    /// No memory was found.
+    /// Memory ran out.
     OutOfMemory,
     /// The device failed during the call.
     Device,
-    /// The device on which a store is to be made is not empty.
+    /// The device on which a store is to be created is not empty.
     NotEmpty,
     /// The size of a half is outside its limits.
     HalfSize,
     /// The device does not begin with a journal's header.
     NoMagic,
-    /// The selected half is cut short, or a length in it is over its limit.
+    /// The selected half is truncated, or a length in it exceeds its limit.
     BadRecord,
-    /// The snapshot spells no world, or its version is unknown.
+    /// The snapshot encodes no world, or its version is unknown.
     BadSnapshot,
-    /// A batch spells no steps, or its first number is not the next one.
+    /// A batch encodes no steps, or its first number is not the next one.
     BadBatch,
-    /// The world does not take a step of this batch as a fresh one. Both are counted from 0.
+    /// The world does not take this step of this batch as fresh. Both are counted from 0.
     BadStep { batch: usize, index: usize },
     /// The world of the snapshot is not legal.
     Violated(Violation),
-    /// This node is in a reset, and none with a lesser number is: so the store is not raised to
-    /// version 2. Only `migrate` answers this fault and `Stopped`.
+    /// This node, the lowest one in a reset, keeps the store from being migrated to
+    /// version 2. Only `migrate` returns this fault and `Stopped`.
     NotQuiet(NodeId),
     /// The device has failed before.
     Stopped,
 }
 
 impl StoreFault {
-    /// From 1 to 12.
+    /// Returns the fault's number, from 1 to 12.
     pub fn number(self) -> u8
         ensures { result ≡ store_number self }
     {
@@ -94,23 +94,23 @@ impl From<AllocError> for StoreFault {
     }
 }
 
-/// Why steps were not committed.
+/// The reason for which steps were not committed.
 #[derive(Clone, Copy, Debug, PartialEq, Eq)]
 pub enum CommitFault {
-    /// No memory was found.
+    /// Memory ran out.
     OutOfMemory,
     /// The device failed during the call.
     Device,
-    /// Never answered, since a store makes room by a checkpoint. The number is kept.
+    /// Never returned, because a store makes room by a checkpoint. The number is reserved.
     Full,
     /// The device has failed before.
     Stopped,
-    /// The steps were committed before. Only a flight of a ledger answers this, never a store.
+    /// The steps were committed before. Only a flight of a ledger returns this, never a store.
     Again,
 }
 
 impl CommitFault {
-    /// From 1 to 5.
+    /// Returns the fault's number, from 1 to 5.
     pub fn number(self) -> u8
         ensures { result ≡ commit_number self }
     {

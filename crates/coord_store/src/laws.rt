@@ -1,22 +1,22 @@
-//! Laws of what bytes give. Its functions do nothing: their contracts are the laws.
+//! Laws of the world that bytes give: functions without a body whose contracts state the laws.
 
 ghost use Rattle.std.specs.Prelude.{◌≡◌};
 ghost use Rattle.coord_journal.specs.declared.layout.TheConstants.{MAX_BODY, MAX_SNAPSHOT};
 ghost use Rattle.coord_store.specs.Laws.{RecoveredIsOne, RecoveredIsOpened};
 ghost use Rattle.coord_types.specs.declared.limits.TheConstants.{MAX_BATCH_BYTES, MAX_SNAPSHOT_BYTES};
 
-/// Bytes give one world at most.
+/// Bytes give at most one world.
 pub fn recovered_is_one()
     ensures { RecoveredIsOne }
 {}
 
-/// A device whose bytes give a world is refused only for want of memory, or where it fails.
+/// A device whose bytes give a world is refused only if memory runs out or the device fails.
 pub fn recovered_is_opened()
     ensures { RecoveredIsOpened }
 {}
 
-/// A journal takes what is written: its greatest body is the greatest batch, and its greatest
-/// snapshot the greatest world.
+/// A journal has room for what a store writes: its longest body is the longest batch, and its longest
+/// snapshot the longest world.
 pub fn limits_are_the_same()
     ensures body { MAX_BODY ≡ MAX_BATCH_BYTES }
     ensures snapshot { MAX_SNAPSHOT ≡ MAX_SNAPSHOT_BYTES }

@@ -1,26 +1,26 @@
-//! A world that outlives the program: it stands on a device as a journal, and each commit of steps
+//! A world that outlives the program: it is stored on a device as a journal, and each commit of steps
 //! appends a batch to it, or first makes room by a checkpoint.
 //!
 //! `specs/Recovered.antt` defines the world that the bytes of a device give, and
-//! `specs/Refused.antt` the first refusal of bytes that give none; `laws` states that there is one
-//! world at most, and that bytes that give one are not refused for a reason of theirs.
-//! `specs/Kept.antt` is what contracts see of a store: its disk, its world, and what a torn commit
-//! was to make.
+//! `specs/Refused.antt` the first refusal of bytes that give none; `laws` states that there is at most one
+//! world, and that bytes that give one are refused only if memory or the device fails.
+//! `specs/Kept.antt` is the view that contracts have of a store: its disk, its world, and the world that a torn
+//! commit was meant to make.
 //!
-//! Why a commit is there whole or not at all, in five lines:
-//! 1. Its steps are one batch, and a batch is one text behind the journal's closed gate.
-//! 2. Until the gate opens, by one byte, the bytes give the world from before.
-//! 3. Once it is open they give that world with all the steps taken, since none was left unwritten.
-//! 4. Where a batch has no room, the world is first written as a snapshot into the other half; one
-//!    byte selects it, and the halves on both sides of that byte give the same world.
-//! 5. But for these single bytes nothing is written where a reader of the device looks.
+//! Why a commit is atomic, in five lines:
+//! 1. Its steps are one batch, and a batch is one text after the journal's closed gate.
+//! 2. Until the gate opens, by one byte, the bytes give the old world.
+//! 3. Once it is open they give that world with all the steps taken.
+//! 4. If a batch has no room, the world is first written as a snapshot into the other half; one
+//!    byte selects it, and both halves give the same world.
+//! 5. Apart from these single bytes, nothing is written where a reader of the device looks.
 //!
-//! `Store::create` makes a store, `Store::open` answers exactly what the bytes of the device give,
-//! and `Store::commit` takes steps; `Store::commit_to` does so with the world after them where its
-//! caller has made it already. The main theorem stands on these: at each moment of a commit, also
-//! inside its checkpoint, whatever a crash may leave gives the world from before it or from after
-//! it, and once it has answered Ok the one from after it. The type `Store` keeps that of its
-//! images, so that the layers above speak of its world alone (`Store::lemma_images_give_world`).
+//! `Store::create` creates a store, `Store::open` returns exactly the world that the bytes of the device give,
+//! and `Store::commit` takes steps; `Store::commit_to` does the same with the world after them if its
+//! caller has already computed it. The main theorem rests on these: at each moment of a commit, even
+//! inside its checkpoint, whatever a crash may leave gives the world before it or after
+//! it, and after it has returned Ok the world after it. The type `Store` guarantees this for its
+//! images, so that the layers above speak only of its world (`Store::lemma_images_give_world`).
 #![tactic(auto)]
 
 mod creation;

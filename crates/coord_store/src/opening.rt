@@ -20,7 +20,7 @@ use coord_journal::{Contents, JournalFault};
 use coord_world::World;
 use std::alloc::Global;
 
-/// The fault of a formatting or an opening, as a store tells it.
+/// Returns the fault of a store for a fault of formatting or opening its journal.
 pub fn fault_of(fault: JournalFault) -> StoreFault
     requires { IsFormatFault fault ⊎ IsJournalFault fault }
     ensures { result ≡ store_fault_of fault }
@@ -36,7 +36,7 @@ pub fn fault_of(fault: JournalFault) -> StoreFault
     }
 }
 
-/// The world that the content of a journal gives.
+/// Returns the world that the content of a journal gives.
 fn read_contents(alloc: Global, contents: &Contents<'_>) -> Result<World, StoreFault>
     ensures gives { IfOk result (Gives (content_of contents.now)) }
     ensures legal { IfOk result (λ world. Legal world) }
@@ -51,14 +51,14 @@ fn read_contents(alloc: Global, contents: &Contents<'_>) -> Result<World, StoreF
 }
 
 impl<D: Disk> Store<D> {
-    /// Opens the store on a device: its world is the one that the bytes of the device give. It begins
-    /// with a sync, reads, and writes nothing.
+    /// Opens the store on a device: its world is the one that the bytes of the device give. It
+    /// syncs, reads, and writes nothing.
     ///
-    /// A refusal hands the disk back. Bytes that give no world are refused by the first of `NoMagic`,
+    /// A refusal returns the disk. Bytes that give no world are refused with the first of `NoMagic`,
     /// `BadRecord`, `BadSnapshot`, `Violated` (of the snapshot's world), and then batch by batch
     /// `BadBatch` and `BadStep`.
     pub fn open(alloc: Global, disk: D) -> Result<Self, (StoreFault, D)>
-        // Where the bytes of the device give a world, it is opened with that world, or there is no memory or the device fails.
+        // If the bytes of the device give a world, it is opened with that world, unless memory runs out or the device fails.
         ensures world { D.model.keeps_model disk ≡ true →
             IfOk result (λ store. Recovered (D.model.present disk).read store.world) }
         ensures only { (w : Numbered) → D.model.keeps_model disk ≡ true →
@@ -68,7 +68,7 @@ impl<D: Disk> Store<D> {
             IfErr result (λ refused. RefusesOpen (D.model.present disk).read refused.0) }
         ensures named { IfErr result (λ refused. IsOpenFault refused.0) }
 
-        // The store may be committed to, and the device reads as before.
+        // The store accepts commits, and the device reads as before.
         ensures going { IfOk result (λ store. store.torn ≡ None) }
         ensures bytes { D.model.keeps_model disk ≡ true → IfOk result (λ store.
             D.model.present store.disk ≡ whole (D.model.present disk).read) }
@@ -76,7 +76,7 @@ impl<D: Disk> Store<D> {
             IfErr result (λ refused. refused.0 ≢ Device →
             D.model.present refused.1 ≡ whole (D.model.present disk).read) }
 
-        // A crash at any moment leaves nothing that it could not have left before.
+        // A crash at any moment leaves no bytes that it could not have left before.
         ensures any_moment { MatchResult result (λ store. AddsNothing D.model disk store.disk)
             (λ refused. AddsNothing D.model disk refused.1) }
         ensures runs { MatchResult result (λ store. Runs D.model disk store.disk 3 0)

@@ -1,4 +1,4 @@
-//! The world that a snapshot spells.
+//! The world that a snapshot encodes.
 
 ghost use Rattle.std.specs.Prelude.{◌≡◌, ◌⊎◌, IfOk, IfErr};
 ghost use Rattle.coord_journal.specs.Contents.{content_of};
@@ -14,7 +14,7 @@ use coord_journal::Contents;
 use coord_world::World;
 use std::alloc::Global;
 
-/// The legal world that the snapshot of a journal spells.
+/// Returns the legal world that the snapshot of a journal encodes.
 pub fn read_snapshot(alloc: Global, contents: &Contents<'_>) -> Result<World, StoreFault>
     ensures spelled { IfOk result (HasSnapshot (content_of contents.now)) }
     ensures legal { IfOk result (λ start. Legal start) }

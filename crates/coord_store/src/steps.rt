@@ -18,8 +18,8 @@ use coord_types::{NodeId, Step};
 use coord_world::{Verdict, World};
 use std::alloc::AllocError;
 
-/// Takes steps, each of them fresh; the world from before them all is the settled one. It is
-/// public, since a ledger makes the world after a flight this way where it can't take its front
+/// Takes fresh steps; the world before all of them is the settled one. It is
+/// public because a ledger computes the world after a flight this way if it cannot use its front
 /// world.
 pub fn take_all(world: &mut World, steps: &[Step]) -> Result<(), AllocError>
     requires legal { Legal world.old }
@@ -33,7 +33,7 @@ pub fn take_all(world: &mut World, steps: &[Step]) -> Result<(), AllocError>
     Ok(())
 }
 
-/// Does nothing: its contract is what the types of steps keep.
+/// Does nothing: its contract states the invariants of the types of steps.
 pub(crate) fn lemma_in_ranges(steps: &[Step])
     ensures { AllByRecursion StepInRange steps.now }
 {
@@ -42,7 +42,7 @@ pub(crate) fn lemma_in_ranges(steps: &[Step])
     }
 }
 
-/// The world after these fresh steps: the one that the caller made of them before, or else a copy
+/// Returns the world after these fresh steps: the one that the caller computed before, or else a copy
 /// that takes them now.
 pub(crate) fn led_to(
     world: &World,
@@ -64,7 +64,7 @@ pub(crate) fn led_to(
     }
 }
 
-/// The lane from one node to another, where it has this incarnation.
+/// Returns the lane from one node to another, if it has this incarnation.
 fn lane_of(world: &World, from: NodeId, to: NodeId, inc: u64) -> Option<&Lane>
     ensures { option_copied result ≡ lane world.now from to inc }
 {
@@ -72,14 +72,14 @@ fn lane_of(world: &World, from: NodeId, to: NodeId, inc: u64) -> Option<&Lane>
     if lane.inc() == inc { Some(lane) } else { None }
 }
 
-/// Whether a lane has given out the data packet with this number.
+/// Tests whether a lane has sent the data packet with this number.
 fn has_sent(lane: &Lane, number: u64) -> bool
     ensures { result ≡ has_sent (Some lane.now) number }
 {
     number > 0 && number - 1 == lane.base() && !lane.queue().is_empty()
 }
 
-/// Whether a settled world has given out the packet that a step names.
+/// Tests whether a settled world has sent the packet that a step names.
 fn has_given_out(settled: &World, step: &Step) -> bool
     ensures { result ≡ has_given_out settled.now step.now }
 {
@@ -96,8 +96,8 @@ fn has_given_out(settled: &World, step: &Step) -> bool
     }
 }
 
-/// How many steps come before the first one that names a packet that the settled world has not
-/// given out.
+/// Returns the number of steps before the first one that names a packet that the settled world has not
+/// sent.
 fn how_many_out(settled: &World, steps: &[Step]) -> usize
     ensures { result ≡ how_many_out settled.now steps.now }
 {
@@ -109,7 +109,7 @@ fn how_many_out(settled: &World, steps: &[Step]) -> usize
     steps.len()
 }
 
-/// Whether a step is among those in front whose packets are out, and the world takes it.
+/// Tests whether a step is among the first ones whose packets were sent, and the world takes it.
 fn is_fresh(world: &World, out: usize, index: usize, step: &Step) -> bool
     ensures { IsTrue result ↔ ((index < out) × IsFresh world.now world.now step.now) }
 {
@@ -123,9 +123,9 @@ fn is_fresh(world: &World, out: usize, index: usize, step: &Step) -> bool
     }
 }
 
-/// Takes the steps of a batch with this number. The world from before them all is the settled one:
-/// before it changes it tells which of their packets it has given out, and that is all that a step
-/// asks of it.
+/// Takes the steps of the batch with this number. The world before all of them is the settled one:
+/// before it changes, the function asks it which of their packets were sent, and nothing else about
+/// the settled world matters to a step.
 pub fn judge_all(world: &mut World, batch: usize, steps: &[Step]) -> Result<(), StoreFault>
     requires legal { Legal world.old }
     ensures world { OnOk result (world.new ≡ fold world.old steps.now) }

@@ -1,4 +1,4 @@
-//! A store: a world, and the disk whose images give it.
+//! A store: a world, and the disk whose images give that world.
 
 ghost use Rattle.std.specs.Prelude.{◌≡◌, true, false, None};
 ghost use Rattle.coord_disk.specs.Model.Moments.{LeavesOnly};
@@ -17,9 +17,9 @@ use std::alloc::Global;
 use std::marker::Model;
 use std::mem::replace;
 
-/// A world that outlives the program. Contracts see its disk, its world, and once a commit was
-/// torn by the device, the world that this one was to make (`specs/Kept.antt`). Its type keeps
-/// that each image of the disk gives the world or, after a torn commit, one of both.
+/// A world that outlives the program. Contracts see its disk, its world, and after a commit that
+/// the device tore, the world that it was meant to make (`specs/Kept.antt`). Its type guarantees
+/// that each image of the disk gives the world or, after a torn commit, either of the two.
 #[derive(Drop)]
 pub struct Store<D: Disk> {
     alloc: Global,
@@ -41,7 +41,7 @@ impl<D: Disk> Model for Store<D> {
 
 impl<D: Disk> Store<D> {
     ghost use Rattle.coord_store.specs.Kept.{Holds, ImagesGive, IsOnlyWorld, has_stopped};
-    // Over a journal whose content gives this world.
+    // Makes a store of a journal whose content gives this world.
     pub(crate) fn over(alloc: Global, journal: Journal<D>, world: World) -> Self
         requires legal { Legal world }
         requires going { journal_has_stopped journal ≡ false }
@@ -58,22 +58,22 @@ impl<D: Disk> Store<D> {
         }
     }
 
-    /// The world, after the last commit that was not refused.
+    /// Returns the world after the last successful commit.
     pub fn world(&self) -> &World
         ensures { result.now ≡ self.now.world }
     {
         &self.world
     }
 
-    /// Whether the device has failed in a commit. Each later commit is refused.
+    /// Tests whether the device has failed in a commit. Then every later commit is refused.
     pub fn stopped(&self) -> bool
         ensures { result ≡ has_stopped self.now }
     {
         self.torn.is_some()
     }
 
-    /// Does nothing: its contract is what the type keeps of every store. While nothing is done to it, a
-    /// crash leaves what gives its world.
+    /// Does nothing: its contract states the invariant of every store. While no call changes it, a
+    /// crash leaves bytes that give its world.
     pub fn lemma_images_give_world(&self)
         ensures legal { Legal self.now.world }
         ensures images { D.model.keeps_model self.now.disk ≡ true → ImagesGive D.model self.now }
@@ -87,7 +87,7 @@ impl<D: Disk> Store<D> {
 impl<D: Disk + Takable> Store<D> {
     ghost use Rattle.coord_store.specs.Recovered.{Recovered};
 
-    /// Gives the disk back. Where no commit was torn, opening it gives the world again.
+    /// Returns the disk. If no commit was torn, opening the disk gives the world again.
     pub fn into_disk(self) -> D
         ensures disk { result ≡ self.disk }
         ensures reopens { D.model.keeps_model self.disk ≡ true → self.torn ≡ None →
@@ -97,8 +97,8 @@ impl<D: Disk + Takable> Store<D> {
     }
 }
 
-/// Keeps what came of writing `next` in place of a store's world: it is the world from then on, or
-/// where the device failed, the one that a torn commit was to make. Gives the world from before.
+/// Records the result of writing `next` in place of a store's world: it is the world from then on, or,
+/// if the device failed, the one that a torn commit was meant to make. Returns the old world.
 fn conclude(
     world: &mut World,
     torn: &mut Option<World>,

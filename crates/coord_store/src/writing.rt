@@ -1,5 +1,5 @@
-//! How a commit writes: it appends the batch. Where the body of the batch does not fit, it first
-//! puts the world from before it in place of all that the journal holds.
+//! How a commit writes: it appends the batch. If the body of the batch does not fit, it first
+//! replaces the journal's content by the old world.
 
 ghost use Rattle.std.specs.Prelude.{◌≡◌, ◌≢◌, ◌+◌, ◌≤◌, true, false, List, length, OnOk, IfErr};
 ghost use Rattle.coord_journal.specs.Faults.{IsWriteFault};
@@ -22,7 +22,7 @@ use coord_journal::{Journal, JournalFault};
 use coord_world::World;
 use std::alloc::Global;
 
-/// The fault of an append or a replace, as a commit tells it.
+/// Returns the fault of a commit for a fault of an append or a replace.
 fn fault_of(fault: JournalFault) -> CommitFault
     requires { IsWriteFault fault }
     ensures { result ≡ commit_fault_of fault }
@@ -35,7 +35,7 @@ fn fault_of(fault: JournalFault) -> CommitFault
     }
 }
 
-/// Puts another world in place of all that a journal holds.
+/// Replaces a journal's content by another world.
 pub fn put_in_place<D: Disk>(
     alloc: Global,
     journal: &mut Journal<D>,
@@ -62,7 +62,7 @@ pub fn put_in_place<D: Disk>(
     }
 }
 
-/// Appends a batch of which the body fits.
+/// Appends a batch whose body fits.
 fn append<D: Disk>(journal: &mut Journal<D>, body: &[u8]) -> Result<(), CommitFault>
     requires short { length body.now ≤ MAX_BODY }
     requires fits { HasRoomFor journal.old (length body.now) }
@@ -82,7 +82,7 @@ fn append<D: Disk>(journal: &mut Journal<D>, body: &[u8]) -> Result<(), CommitFa
     }
 }
 
-/// Puts a batch on the disk of a journal that holds this world.
+/// Writes a batch to the disk of a journal that holds this world.
 pub fn write<D: Disk>(
     alloc: Global,
     journal: &mut Journal<D>,
@@ -107,7 +107,7 @@ pub fn write<D: Disk>(
     if journal.fits(body.len()) {
         return append(journal, body);
     }
-    // A checkpoint: the same world, with nothing behind its snapshot.
+    // A checkpoint: the same world, without a batch after its snapshot.
     match put_in_place(alloc, journal, world) {
         Ok(()) => append(journal, body),
         Err(fault) => Err(fault),

@@ -1,4 +1,4 @@
--- Links in one table, each under its two ends, the lesser first, with the lanes both ways.
+-- Links in one table, each under its two ends, the lesser first, with the lanes in both directions.
 use Rattle.std.specs.Prelude.{◌≡◌, ℕ, ◌<◌, ◌^◌, ◌==◌, ◌&&◌, nat_lt, Bool, true, List, [], ◌∷◌, map, length, slice_index, Option, if◌then◌else◌}
 use Rattle.std.proofs.Common.{refl}
 use Rattle.std.specs.Coded.{Coded, code_by, coded×, coded_ℕ}
@@ -11,7 +11,7 @@ use Rattle.coord_tables.specs.declared.links.LinkRow.{LinkRow}
 use Rattle.coord_tables.specs.Pairs.{pair_cmp, pair_cmp_total}
 use Rattle.coord_tables.specs.Places.{IsIndexOf, noted_place, pair_place}
 
--- the lane from the lesser end to the greater one, and the one back
+-- the lane from the lesser end to the greater one, and the lane back
 pub record Lanes : Type 0 where
   pub forth : Lane
   pub back : Lane
@@ -23,11 +23,11 @@ Links = Table pair_cmp_total Lanes
 abbrev pub ends : ℕ → ℕ → ℕ × ℕ
 ends x y = if nat_lt x y then (x, y) else (y, x)
 
--- the place that is noted for the link of x and y
+-- the place recorded for the link of x and y
 abbrev pub link_place : List ℕ → ℕ → ℕ → Option ℕ
 link_place places x y = noted_place (slice_index places (pair_place (ends x y).0 (ends x y).1))
 
--- of the two lanes of a link the one from x to y
+-- the lane from x to y among the two lanes of a link
 abbrev pub toward : ℕ → ℕ → Lanes → Lane
 toward x y l = if nat_lt x y then l.forth else l.back
 
@@ -35,35 +35,35 @@ toward x y l = if nat_lt x y then l.forth else l.back
 unfoldable pub lane_at : Links → ℕ → ℕ → Option Lane
 lane_at t x y = option_map (toward x y) (get t (ends x y))
 
--- each link stands with its lesser end first
+-- each link has its lesser end first
 abbrev pub Turned : Links → Type 0
 Turned t = (a b : ℕ) → has t (a, b) ≡ true → a < b
 
--- each lane changed, with the nodes at hand that it comes from and goes to
+-- applies a function of the ends and the lane to each lane
 abbrev pub change_lanes : (ℕ × ℕ → Lane → Lane) → Links → Links
 change_lanes f t = change (λ k l. record { forth = f k l.forth; back = f (k.1, k.0) l.back }) t
 
 abbrev pub is_lane : ℕ × ℕ → ℕ → ℕ → Bool
 is_lane k x y = (k.0 == x) && (k.1 == y)
 
--- the lane from x to y changed
+-- changes the lane from x to y
 abbrev pub change_lane : Links → ℕ → ℕ → (Lane → Lane) → Links
 change_lane t x y f = change_lanes (λ k l. if is_lane k x y then f l else l) t
 
--- two nodes linked, with the same lane each way
+-- links two nodes, with the same lane in each direction
 abbrev pub joined : Links → ℕ → ℕ → Lane → Links
 joined t x y l = insert t (ends x y) (record { forth = l; back = l })
 
--- two nodes no more linked
+-- removes the link of two nodes
 abbrev pub parted : Links → ℕ → ℕ → Links
 parted t x y = remove t (ends x y)
 
--- these lanes, and the two of each link
+-- these lanes, and the two lanes of each link
 abbrev pub with_lanes : Table pair_cmp_total Lane → List ((ℕ × ℕ) × Lanes) → Table pair_cmp_total Lane
 with_lanes lanes [] = lanes
 with_lanes lanes (e ∷ es) = with_lanes (insert (insert lanes e.0 e.1.forth) (e.0.1, e.0.0) e.1.back) es
 
--- all lanes in ascending order of the nodes that they come from, and then of those that they go to
+-- all lanes in ascending order of their senders, and then of their receivers
 abbrev pub lanes_in_order : Links → List ((ℕ × ℕ) × Lane)
 lanes_in_order t = entries (with_lanes empty (entries t))
 
@@ -98,7 +98,7 @@ lanes_code = code_by (Lane × Lane) (coded× lane_code lane_code) (λ l. (l.fort
 abbrev pub links_code : Coded Links
 links_code = code (coded× coded_ℕ coded_ℕ) lanes_code
 
--- the table of rows in ascending order, with a table of the places where they stand
+-- the table of rows in ascending order, with a table of their places
 pub record AreIndexed (rows : List LinkRow) (places : List ℕ) : Type 0 where
   pub rise : LinksRise rows
   pub few : length rows < 2 ^ 8

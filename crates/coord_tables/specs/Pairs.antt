@@ -1,4 +1,4 @@
--- Pairs of nodes, as a lane has them: the one that it comes from, and the one that it goes to.
+-- Pairs of nodes, as ends of a lane: the sender and the receiver.
 use Rattle.std.specs.Prelude.{ℕ}
 use Rattle.std.specs.Ordering.{nat_cmp, ordering_then}
 use Rattle.std.specs.declared.cmp.Ordering.{Ordering}

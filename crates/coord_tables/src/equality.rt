@@ -1,4 +1,4 @@
-//! Exact equality of what the tables hold.
+//! Exact equality of the values in the tables.
 
 ghost use Rattle.std.specs.Prelude.{◌≡◌, ◌↔◌, IsTrue};
 
@@ -7,7 +7,7 @@ use coord_link::Lane;
 use coord_node::Node;
 use coord_types::{Msg, Session};
 
-/// Values with an exact comparison: it says yes just where contracts see equal values.
+/// Values with an exact comparison: it returns true exactly if contracts see equal values.
 pub trait Same {
     fn is_same(&self, other: &Self) -> bool
         ensures { IsTrue result ↔ (self.now ≡ other.now) };
@@ -31,14 +31,14 @@ impl Same for Node {
     }
 }
 
-/// Whether two nodes are of one group, and have the same neighbours.
+/// Tests whether two nodes have the same group and the same neighbours.
 fn is_same_member(a: &Node, b: &Node) -> bool
     ensures { IsTrue result ↔ ((a.now.group ≡ b.now.group) × (a.now.neighbours ≡ b.now.neighbours)) }
 {
     a.group() == b.group() && a.neighbours() == b.neighbours()
 }
 
-/// Whether two nodes are alike in a reset: mode, parent, awaited neighbours and distance.
+/// Tests whether two nodes have the same mode, parent, awaited neighbours and distance.
 fn is_same_stand(a: &Node, b: &Node) -> bool
     ensures { IsTrue result ↔ ((a.now.mode ≡ b.now.mode) × (a.now.parent ≡ b.now.parent) ×
         (a.now.pend ≡ b.now.pend) × (a.now.distance ≡ b.now.distance)) }
@@ -49,7 +49,7 @@ fn is_same_stand(a: &Node, b: &Node) -> bool
         && a.distance() == b.distance()
 }
 
-/// Whether two nodes have been through the same resets.
+/// Tests whether two nodes have the same epoch and the same confirmed epoch.
 fn is_same_history(a: &Node, b: &Node) -> bool
     ensures { IsTrue result ↔ ((a.now.epoch ≡ b.now.epoch) × (a.now.confirmed ≡ b.now.confirmed)) }
 {
@@ -74,7 +74,7 @@ impl Same for LinkRow {
     }
 }
 
-/// Whether two lists are as long and have the same elements.
+/// Tests whether two lists are equal.
 pub fn is_same_list<T: Same>(a: &[T], b: &[T]) -> bool
     ensures { IsTrue result ↔ (a.now ≡ b.now) }
 {

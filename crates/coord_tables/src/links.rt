@@ -1,9 +1,9 @@
-//! A link, as it stands in the table of links and in the rows of a world.
+//! A link, as a row of the table of links and of a world.
 
 use coord_link::Lane;
 use coord_types::NodeId;
 
-/// A link's row: its ends, of which `a` is below `b`, and the lane each way.
+/// A link's row: its ends, where `a` is below `b`, and the lane in each direction.
 #[derive(Clone, Copy, Debug)]
 pub struct LinkRow {
     pub a: NodeId,

@@ -1,4 +1,4 @@
-//! Where each link stands in the list of links, by its ends.
+//! The index of each link in the list of links, by its ends.
 
 ghost use Rattle.std.specs.Prelude.{◌≡◌, ◌≤◌, ◌<◌, ◌^◌, ℕ, None, map, length, slice_index, OnOk, OnErr};
 ghost use Rattle.std.specs.FinMap.Entries.{find};
@@ -13,7 +13,7 @@ use coord_types::{NODES, NodeId};
 use std::alloc::AllocError;
 use std::cmp::Ordering;
 
-/// How many ordered pairs of nodes there are.
+/// The number of ordered pairs of nodes.
 pub const PAIRS: usize = NODES * NODES;
 
 /// Two nodes, the lesser first.
@@ -23,7 +23,7 @@ pub fn ends(x: NodeId, y: NodeId) -> (NodeId, NodeId)
     if x < y { (x, y) } else { (y, x) }
 }
 
-/// Where a pair stands among all pairs.
+/// The cell of a pair.
 fn pair_place(a: NodeId, b: NodeId) -> usize
     ensures value { result ≡ pair_place a b }
     ensures within { result < PAIRS }
@@ -33,7 +33,7 @@ fn pair_place(a: NodeId, b: NodeId) -> usize
     (a.number() as usize - 1) * NODES + (b.number() as usize - 1)
 }
 
-/// Where the link of two nodes stands.
+/// Returns the index of the link of two nodes.
 pub fn place_of(places: &[u8], x: NodeId, y: NodeId) -> Option<usize>
     ensures value { result ≡ link_place places.now x y }
     ensures first { IsNode (ends x y).0 }
@@ -52,7 +52,7 @@ pub fn place_of(places: &[u8], x: NodeId, y: NodeId) -> Option<usize>
     }
 }
 
-/// Makes places for all pairs, where there are none yet. What is noted stays.
+/// Allocates the cells of all pairs, if there are none yet. Recorded indexes stay.
 pub fn grow(places: &mut Vec<u8>) -> Result<(), AllocError>
     requires { length places.old.items ≤ PAIRS }
     ensures ok { OnOk result (length places.new.items ≡ PAIRS) }
@@ -63,7 +63,7 @@ pub fn grow(places: &mut Vec<u8>) -> Result<(), AllocError>
     places.resize(PAIRS, 0)
 }
 
-/// Notes where each of these links stands.
+/// Records the index of each of these links.
 pub fn index_all(places: &mut Vec<u8>, links: &[LinkRow])
     requires whole { length places.old.items ≡ PAIRS }
     requires few { length links.now < 2 ^ 8 }
@@ -76,7 +76,7 @@ pub fn index_all(places: &mut Vec<u8>, links: &[LinkRow])
     }
 }
 
-/// Where a new link would stand, of which `a` is the lesser end: behind those with lesser ends.
+/// Returns the index of a new link whose lesser end is `a`: after the links with lesser ends.
 pub fn place_for(links: &[LinkRow], a: NodeId, b: NodeId) -> usize
     requires { find pair_cmp record { 0 = a; 1 = b } (map link_entry links.now) ≡ None }
     ensures { IsGapFor pair_cmp (map link_entry links.now) record { 0 = a; 1 = b } result }

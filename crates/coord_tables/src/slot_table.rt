@@ -13,7 +13,7 @@ use coord_types::{Identifier, MAX_CLIENTS, MAX_NODES, Session};
 use std::alloc::{AllocError, Global};
 use std::marker::Model;
 
-/// Values in slots: that of key k stands in slot k - 1. Contracts see a table.
+/// Values in slots: the value of key k is in slot k - 1. Contracts see a table.
 #[derive(Drop, Debug)]
 pub struct SlotTable<const MOST: u8, V> {
     slots: Vec<Option<V>>,
@@ -42,7 +42,7 @@ impl<const MOST: u8, V> Model for SlotTable<MOST, V> {
 }
 
 impl<const MOST: u8, V: Copy> SlotTable<MOST, V> {
-    /// The empty table. It takes no memory.
+    /// Returns the empty table. It allocates nothing.
     pub fn new(alloc: Global) -> Self
         ensures { result ≡ table.empty }
     {
@@ -51,7 +51,7 @@ impl<const MOST: u8, V: Copy> SlotTable<MOST, V> {
         }
     }
 
-    /// The table of entries in ascending order.
+    /// Returns the table of entries in ascending order.
     pub fn from_sorted(alloc: Global, entries: &[(Identifier<MOST>, V)]) -> Result<Self, AllocError>
         requires { is_sorted nat_cmp entries.now ≡ true }
         ensures { IfOk result (λ made. made ≡ table.from_sorted entries.now) }
@@ -63,28 +63,28 @@ impl<const MOST: u8, V: Copy> SlotTable<MOST, V> {
         Ok(made)
     }
 
-    /// The values with their keys, in ascending order.
+    /// Returns the values with their keys, in ascending order.
     pub fn entries(&self, alloc: Global) -> Result<Vec<(Identifier<MOST>, V)>, AllocError>
         ensures { IfOk result (λ entries. entries.items ≡ table.entries self.now) }
     {
         slots::entries(alloc, &self.slots)
     }
 
-    /// How many values there are.
+    /// Returns the number of values.
     pub fn len(&self) -> u8
         ensures { result ≡ table.len self.now }
     {
         slots::count(&self.slots)
     }
 
-    /// What stands at a key.
+    /// Returns the value at a key.
     pub fn get(&self, key: Identifier<MOST>) -> Option<&V>
         ensures { option_copied result ≡ table.get self.now key.entry }
     {
         slots::value_at(&self.slots, key.number() as usize - 1)
     }
 
-    /// Puts a value at a key, in place of one that is there.
+    /// Stores a value at a key, replacing an existing one.
     pub fn insert(&mut self, key: Identifier<MOST>, value: V) -> Result<(), AllocError>
         ensures ok { OnOk result (self.new ≡ table.insert self.old key.entry value) }
         ensures err { OnErr result (self.new ≡ self.old) }
@@ -92,7 +92,7 @@ impl<const MOST: u8, V: Copy> SlotTable<MOST, V> {
         slots::put(&mut self.slots, key.number(), value)
     }
 
-    /// Puts a value at a key in place of the one that is there.
+    /// Replaces the value at a key.
     pub fn replace(&mut self, key: Identifier<MOST>, value: V)
         requires { IsSome (table.get self.old key) }
         ensures { self.new ≡ table.insert self.old key.entry value }
@@ -100,14 +100,14 @@ impl<const MOST: u8, V: Copy> SlotTable<MOST, V> {
         slots::replace(&mut self.slots, key.number(), value);
     }
 
-    /// Takes out what stands at a key, if anything does.
+    /// Removes the value at a key and returns it, if there is one.
     pub fn remove(&mut self, key: Identifier<MOST>)
         ensures { self.new ≡ table.remove self.old key.entry }
     {
         slots::take_out(&mut self.slots, key.number());
     }
 
-    /// Whether both hold the same values at the same keys.
+    /// Tests whether both hold the same values at the same keys.
     pub fn is_same(&self, other: &Self) -> bool
     where
         V: Same,
@@ -116,7 +116,7 @@ impl<const MOST: u8, V: Copy> SlotTable<MOST, V> {
         slots::is_same_slots(&self.slots, &other.slots)
     }
 
-    /// A table of the same values, in memory of its own.
+    /// Returns a copy of the table.
     pub fn copy(&self) -> Result<Self, AllocError>
         ensures { IfOk result (λ copy. copy ≡ self.now) }
     {

@@ -1,4 +1,4 @@
-//! Values in slots: the value of key k stands in slot k - 1, and a slot may be empty.
+//! Values in slots: the value of key k is in slot k - 1, and a slot may be empty.
 
 ghost use Rattle.std.specs.Prelude.{◌≡◌, ◌<◌, ◌≤◌, ◌-◌, ◌^◌, ◌↔◌, ℕ, Some, None, length, max, IsSome, IsTrue, IfOk, OnOk, OnErr};
 ghost use Rattle.std.specs.Option.{option_copied};
@@ -8,7 +8,7 @@ use crate::equality::Same;
 use coord_types::Identifier;
 use std::alloc::{AllocError, Global};
 
-/// What stands in a slot.
+/// Returns the content of a slot.
 pub fn value_at<V>(slots: &[Option<V>], at: usize) -> Option<&V>
     ensures { option_copied result ≡ slot_at slots.now at }
 {
@@ -19,7 +19,7 @@ pub fn value_at<V>(slots: &[Option<V>], at: usize) -> Option<&V>
     }
 }
 
-/// Puts a value at a key. Slots are made as they are first used.
+/// Stores a value at a key. Slots are allocated at their first use.
 pub fn put<V: Copy>(slots: &mut Vec<Option<V>>, key: u8, value: V) -> Result<(), AllocError>
     requires { 1 ≤ key }
     ensures ok { OnOk result (IsSetAt key (Some value) slots.new.items slots.old.items) }
@@ -33,7 +33,7 @@ pub fn put<V: Copy>(slots: &mut Vec<Option<V>>, key: u8, value: V) -> Result<(),
     Ok(())
 }
 
-/// Puts a value at a key in place of the one that is there.
+/// Replaces the value at a key.
 pub fn replace<V: Copy>(slots: &mut Vec<Option<V>>, key: u8, value: V)
     requires key { 1 ≤ key }
     requires there { IsSome (slot_at slots.old.items (key - 1)) }
@@ -43,7 +43,7 @@ pub fn replace<V: Copy>(slots: &mut Vec<Option<V>>, key: u8, value: V)
     slots[key as usize - 1] = Some(value);
 }
 
-/// Takes out what stands at a key.
+/// Removes the value at a key and returns it.
 pub fn take_out<V: Copy>(slots: &mut Vec<Option<V>>, key: u8)
     requires { 1 ≤ key }
     ensures set { IsSetAt key None slots.new.items slots.old.items }
@@ -54,7 +54,7 @@ pub fn take_out<V: Copy>(slots: &mut Vec<Option<V>>, key: u8)
     }
 }
 
-/// How many slots are not empty.
+/// Returns the number of slots that are not empty.
 pub fn count<V>(slots: &[Option<V>]) -> u8
     requires { length slots.now < 2 ^ 8 }
     ensures { result ≡ length (slot_entries 1 slots.now) }
@@ -68,7 +68,7 @@ pub fn count<V>(slots: &[Option<V>]) -> u8
     count
 }
 
-/// The values with their keys, in ascending order.
+/// Returns the values with their keys, in ascending order.
 pub fn entries<const MOST: u8, V: Copy>(
     alloc: Global,
     slots: &[Option<V>],
@@ -87,7 +87,7 @@ pub fn entries<const MOST: u8, V: Copy>(
     Ok(entries)
 }
 
-/// Whether the same stands in each slot of both.
+/// Tests whether all slots are equal.
 pub fn is_same_slots<V: Same>(a: &[Option<V>], b: &[Option<V>]) -> bool
     ensures { IsTrue result ↔ ((i : ℕ) → slot_at a.now i ≡ slot_at b.now i) }
 {

@@ -1,4 +1,4 @@
--- What is shown of a world.
+-- The view of a world.
 use Rattle.std.specs.Prelude.{ℕ, List, map}
 use Rattle.coord_tables.specs.declared.links.LinkRow.{LinkRow}
 use Rattle.coord_world.specs.declared.rows.parts.NodeRow.{NodeRow}
@@ -18,6 +18,6 @@ node_view r = record { node = r.id; group = r.group; mode = r.mode; parent = r.p
 abbrev pub link_view : LinkRow → LinkView
 link_view r = record { a = r.a; b = r.b; inc = r.forth.inc }
 
--- what is shown where w is the settled world and this is the count of accepted steps
+-- the view if w is the settled world and this is the count of accepted steps
 abbrev pub shown : ℕ → World → Shown
 shown accepted w = record { accepted = accepted; settled = w.count; nodes = map node_view (rows_of w).nodes; links = map link_view (rows_of w).links }

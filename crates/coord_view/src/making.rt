@@ -1,4 +1,4 @@
-//! What is shown of a world.
+//! Makes the view of a world.
 
 ghost use Rattle.std.specs.Prelude.{◌≡◌, map, IfOk};
 ghost use Rattle.coord_view.specs.Shown.{link_view, node_view, shown};
@@ -7,7 +7,7 @@ use crate::view::{LinkView, NodeView, View};
 use coord_world::{LinkRow, NodeRow, World};
 use std::alloc::{AllocError, Global};
 
-/// The nodes as they are shown.
+/// Returns the rows of the nodes.
 fn node_views(alloc: Global, rows: &[NodeRow]) -> Result<Vec<NodeView>, AllocError>
     ensures { IfOk result (λ views. views.items ≡ map node_view rows.now) }
 {
@@ -25,7 +25,7 @@ fn node_views(alloc: Global, rows: &[NodeRow]) -> Result<Vec<NodeView>, AllocErr
     Ok(views)
 }
 
-/// The links as they are shown.
+/// Returns the rows of the links.
 fn link_views(alloc: Global, rows: &[LinkRow]) -> Result<Vec<LinkView>, AllocError>
     ensures { IfOk result (λ views. views.items ≡ map link_view rows.now) }
 {
@@ -40,7 +40,7 @@ fn link_views(alloc: Global, rows: &[LinkRow]) -> Result<Vec<LinkView>, AllocErr
     Ok(views)
 }
 
-/// What is shown where so many steps are accepted, and this is the settled world.
+/// Returns the view of this settled world, with this number of accepted steps.
 pub fn view_of(alloc: Global, accepted: u64, world: &World) -> Result<View, AllocError>
     ensures { IfOk result (λ view. view ≡ shown accepted world.now) }
 {

@@ -6,7 +6,7 @@ ghost use Rattle.coord_view.specs.Printed.{link_line, node_line, view_lines};
 use crate::view::{LinkView, NodeView, View};
 use std::alloc::AllocError;
 
-/// Adds the lines that show a world: how many steps are accepted and settled, and its nodes and links.
+/// Appends the lines of a view: the numbers of accepted and settled steps, the nodes and the links.
 pub fn print_view(text: &mut String, view: &View) -> Result<(), AllocError>
     ensures { OnOk result (string_bytes text.new ≡ string_bytes text.old ++ view_lines view.now) }
 {

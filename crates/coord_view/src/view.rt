@@ -1,9 +1,9 @@
-//! The settled world as it is shown.
+//! The view of a settled world.
 
 use coord_types::{Group, Mode, NodeId};
 use std::marker::Model;
 
-/// A node as it is shown.
+/// A node's row in a view.
 #[derive(Clone, Copy, Debug, PartialEq, Eq)]
 pub struct NodeView {
     pub node: NodeId,
@@ -15,7 +15,7 @@ pub struct NodeView {
     pub confirmed: u64,
 }
 
-/// A link as it is shown, with its lesser end first.
+/// A link's row in a view, lesser end first.
 #[derive(Clone, Copy, Debug, PartialEq, Eq)]
 pub struct LinkView {
     pub a: NodeId,
@@ -24,7 +24,7 @@ pub struct LinkView {
     pub inc: u64,
 }
 
-/// How many steps are accepted and how many are settled, and the nodes and links of the settled
+/// The numbers of accepted and settled steps, and the nodes and links of the settled
 /// world in ascending order. Contracts see it as these four.
 #[derive(Debug, Drop)]
 pub struct View {

@@ -20,7 +20,7 @@ use coord_types::Step;
 use coord_world::World;
 use std::alloc::{AllocError, Global};
 
-/// The world after steps, each of them fresh, and the body of their batch.
+/// The world after fresh steps, and the body of their batch.
 fn next_batch(
     alloc: Global,
     world: &World,
@@ -50,8 +50,8 @@ fn next_batch(
 }
 
 impl<D: Disk> Store<D> {
-    /// Whether a commit may have these steps: each is fresh after those before it, where the
-    /// settled world is the one from before them all.
+    /// Whether a commit may have these steps: each is fresh after those before it, and the
+    /// settled world is the one before all of them.
     pub fn takes(&self, steps: &[Step]) -> Result<bool, AllocError>
         ensures { IfOk result (λ takes. IsTrue takes ↔
             AllFresh self.now.world self.now.world steps.now) }
@@ -68,12 +68,12 @@ impl<D: Disk> Store<D> {
         }
     }
 
-    /// Commits 1 to 256 steps, each fresh after those before it, with the world from before them
-    /// all as the settled one. It takes four calls of the device, or eight where it has to make
+    /// Commits 1 to 256 steps, each fresh after those before it, with the world before all of them
+    /// as the settled one. It takes four calls of the device, or eight if it has to make
     /// room by a checkpoint first.
     ///
-    /// `OutOfMemory` may leave that checkpoint made. After `Device` each later call answers
-    /// `Stopped`, and opening the device tells which of both worlds it holds.
+    /// After `OutOfMemory` that checkpoint may have been made. After `Device` each later call returns
+    /// `Stopped`, and opening the device shows which of the two worlds it holds.
     pub fn commit(&mut self, steps: &[Step]) -> Result<(), CommitFault>
         requires some { (1 ≤ length steps.now) × (length steps.now ≤ MAX_BATCH_STEPS) }
         requires numbered { AllByRecursion IsNumbered steps.now }
@@ -87,9 +87,9 @@ impl<D: Disk> Store<D> {
         }
     }
 
-    /// Commits steps as `commit` does, and gives the world from before them. Where the caller has
-    /// made the world after them before, it hands it in, and nobody has to copy a world; else it is
-    /// made here.
+    /// Commits steps like `commit`, and returns the world before them. If the caller has
+    /// already computed the world after them, it passes it, and no world is copied; otherwise it is
+    /// computed here.
     pub fn commit_to(&mut self, steps: &[Step], made: Option<World>) -> Result<World, CommitFault>
         requires some { (1 ≤ length steps.now) × (length steps.now ≤ MAX_BATCH_STEPS) }
         requires numbered { AllByRecursion IsNumbered steps.now }

@@ -17,11 +17,11 @@ use coord_disk::{Disk, Takable};
 use coord_world::World;
 
 impl<D: Disk + Takable> Store<D> {
-    /// Raises a store of version 1 to version 2. Its world stays as it is, and each distance is 0. Each
-    /// node has to be Ready. A store of version 2 stays as it is, without a call of the device. It takes
+    /// Migrates a store of version 1 to version 2. Its world does not change, and each distance is 0. Each
+    /// node must be Ready. A store of version 2 is unchanged, without a call of the device. It takes
     /// at most four calls of the device.
     ///
-    /// After `Device` each later call answers `Stopped`, and opening the device tells which version it
+    /// After `Device` each later call returns `Stopped`, and opening the device shows which version it
     /// holds.
     pub fn migrate(&mut self) -> Result<(), StoreFault>
         ensures changes { Changes D.model (risen self.old.world) Device self.old self.new result }
@@ -59,7 +59,7 @@ impl<D: Disk + Takable> Store<D> {
 }
 
 impl<D: Disk> Store<D> {
-    // Puts another world in place of all that is stored, and gives the one from before.
+    // Replaces the stored world, and returns the old one.
     fn put(&mut self, next: World) -> Result<World, CommitFault>
         requires legal { Legal next }
         requires going { has_stopped self.old ≡ false }
