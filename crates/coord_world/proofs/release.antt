@@ -1,5 +1,6 @@
 -- What is released, that it stays so, what is sent again, and which reply is kept.
 pub mod ResendList
+pub mod Between
 pub mod Trails
 pub mod LaneFronts
 pub mod TakeablePackets

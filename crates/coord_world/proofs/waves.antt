@@ -3,6 +3,7 @@ pub mod Alone
 pub mod Asked
 pub mod Connected
 pub mod Effect
+pub mod Epochs
 pub mod Modes
 pub mod OncePerWave
 pub mod Running

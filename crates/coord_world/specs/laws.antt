@@ -3,6 +3,7 @@ pub mod Laws
 pub mod Waves
 pub mod Overlaps
 pub mod Trails
+pub mod Between
 pub mod Release
 pub mod KeptReplies
 pub mod WorkedSteps

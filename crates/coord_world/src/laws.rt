@@ -8,7 +8,8 @@ ghost use Rattle.coord_world.specs.laws.Release.{FreshWhereReleased, ReleaseLaw,
 ghost use Rattle.coord_world.specs.laws.Trails.{FoldCounts, TrailGoesOn, TrailIsCut, TrailKeepsWorlds};
 ghost use Rattle.coord_world.specs.laws.Version1.{Version1AsksNoDistance};
 ghost use Rattle.coord_world.specs.laws.Waves.{OncePerWave};
-ghost use Rattle.coord_world.specs.laws.Overlaps.{AloneAsFinished, AskedIsSignalled, NoMoreThanStarted, OnceIfOneStarted, OnceOrMore};
+ghost use Rattle.coord_world.specs.laws.Between.{BoundBetween};
+ghost use Rattle.coord_world.specs.laws.Overlaps.{AllOrNone, AloneAsFinished, AskedIsSignalled, AskedReachesAll, EpochsCountSignals, NoMoreThanStarted, OnceIfOneStarted, OnceOrMore};
 
 /// A step that a world takes over some settled world, it takes over itself.
 #[tactic(auto, using(crate::proofs::Acceptance::itself))]
@@ -81,38 +82,58 @@ pub fn once_per_wave()
     ensures { OncePerWave }
 {}
 
-/// In a list of steps in turn, a node that is asked to reset, whatever the reply, is signalled from
-/// then on at least once if it is Ready in the end.
+/// If a reset of a node is accepted, whatever the reply, and the node is Ready at the end of the steps,
+/// then it was signalled by that step or a later one. Nodes and links may come and go.
 pub fn asked_is_signalled()
     ensures { AskedIsSignalled }
 {}
 
-/// In a list of steps in turn that begins and ends where every node of a part that no link leaves is
-/// Ready, and keeps all nodes and links, each node that a path of links connects with one of the part
-/// where a reset was started is signalled at least once, however many start.
+/// Take a part of the nodes that no link leaves, and steps that begin and end with every node of it
+/// Ready, and add or remove no node and no link. Each node that links connect with one of the part where
+/// a reset was started is signalled at least once, however many were started.
 pub fn once_or_more()
     ensures { OnceOrMore }
 {}
 
-/// In a list of steps in turn that begins where every node of a part that no link leaves is Ready, and
-/// keeps all nodes and links, no node of the part that has a link is signalled more often than resets
-/// were started in the part.
+/// In the same steps, and at any time before their end too, no node of the part that has a link is
+/// signalled more often than resets were started in the part.
 pub fn no_more_than_started()
     ensures { NoMoreThanStarted }
 {}
 
-/// In a list of steps in turn that begins where every node of a part that no link leaves is Ready, and
-/// keeps all nodes and links, a node of the part without a link is signalled just as often as its
-/// resets are answered Finished.
+/// In the same steps a node of the part without a link is signalled exactly as often as its resets are
+/// answered Finished.
 pub fn alone_as_finished()
     ensures { AloneAsFinished }
 {}
 
-/// In a list of steps in turn that begins and ends where every node of a part that no link leaves is
-/// Ready, and keeps all nodes and links, and where just one reset was started in the part, each node
-/// that a path of links connects with its initiator is signalled exactly once.
+/// If exactly one reset was started in the part, each node that links connect with its initiator is
+/// signalled exactly once.
 pub fn once_if_one_started()
     ensures { OnceIfOneStarted }
+{}
+
+/// If every node of the part is Ready again at the end, then of the nodes that links connect with each
+/// other all are signalled or none is.
+pub fn all_or_none()
+    ensures { AllOrNone }
+{}
+
+/// So each node that links connect with one of the part whose reset was accepted, whatever the reply, is
+/// signalled at least once.
+pub fn asked_reaches_all()
+    ensures { AskedReachesAll }
+{}
+
+/// While no node or link is added or removed, a node's epoch rises by one with each of its signals.
+pub fn epochs_count_signals()
+    ensures { EpochsCountSignals }
+{}
+
+/// Both bounds hold of the steps of a history between two moments at which every node of a part that no
+/// link leaves is Ready.
+pub fn bound_between()
+    ensures { BoundBetween }
 {}
 
 /// After any number of its steps, a trail has come to a legal world within its ranges.

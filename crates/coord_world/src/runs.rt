@@ -16,15 +16,15 @@ pub fn stored_wave()
     ensures { StoredWave }
 {}
 
-/// Where both ends of a link start a reset, each is signalled once; where one end starts another
-/// before the other one is Ready, each is signalled twice.
+/// If both ends of a link start a reset, each may be signalled once; if one of them starts another
+/// reset before the other one is Ready, each may be signalled twice.
 #[tactic(auto, using(crate::proofs::waves::WorkedOverlaps::overlaps_compute))]
 pub fn overlaps()
     ensures { Overlaps }
 {}
 
-/// Of three resets on a path the last one is started at one end while the second is still at the node
-/// beside it, and the node at the other end is not signalled after that.
+/// Three resets on a path of three nodes: the last one is started at one end while the node in the
+/// middle is still in the second, and the node at the other end is not signalled after that start.
 #[tactic(auto, using(crate::proofs::waves::WorkedOverlaps::not_all_after_each))]
 pub fn not_all_after_each()
     ensures { NotAllAfterEach }

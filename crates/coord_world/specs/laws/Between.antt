@@ -1,0 +1,30 @@
+-- How often nodes are signalled between two moments of a history at which every node of a part is Ready.
+use Rattle.std.specs.Prelude.{◌≡◌, ℕ, ◌≤◌, Bool, true, false, List, ◌∷◌, ◌++◌, All, count_by}
+use Rattle.coord_types.specs.declared.steps.Command.TheVariants.{Reset}
+use Rattle.coord_types.specs.declared.steps.Step.{Step}
+use Rattle.coord_types.specs.declared.steps.Step.TheVariants.{Order}
+use Rattle.coord_world.specs.protocol.Next.{fold}
+use Rattle.coord_world.specs.protocol.NumberedWorld.{World, is_linked}
+use Rattle.coord_world.specs.protocol.Outputs.{outs}
+use Rattle.coord_world.specs.laws.Overlaps.{IsPart, PartReady}
+use Rattle.coord_world.specs.laws.Trails.{IsTrail}
+use Rattle.coord_world.specs.laws.Waves.{Connected, changes_topology, signals_of, started}
+
+-- every node of a part that no link leaves is Ready after the earlier steps and again after those between, which add or remove no node and no link
+pub record IsReadyAgain (base : World) (earlier between : List Step) (part : ℕ → Bool) : Type 0 where
+  pub same_topology : All (λ s. changes_topology s ≡ false) between
+  pub is_part : IsPart (fold base earlier) part
+  pub ready_before : PartReady (fold base earlier) part
+  pub ready_after : PartReady (fold (fold base earlier) between) part
+
+-- Two bounds for the signals of some steps. By the given count of each node's signals, no node of the part that has a link has more of them
+-- than resets were started in the part. And the steps give out at least one signal of each node that is connected with a node of the part
+-- whose reset was accepted, whatever the reply.
+pub record BoundSignals (w : World) (steps : List Step) (part : ℕ → Bool) (count : ℕ → ℕ) : Type 0 where
+  pub most : (v x : ℕ) → part v ≡ true → is_linked w v x ≡ true → count v ≤ count_by part (started w steps)
+  pub least : (before rest : List Step) (c n u : ℕ) → steps ≡ before ++ Order c n (Reset u) ∷ rest → part u ≡ true → (v : ℕ) → Connected w u v → 1 ≤ signals_of v (outs w steps)
+
+-- both bounds hold of the signals that the steps between give out
+abbrev pub BoundBetween : Type 0
+BoundBetween = (base : World) (earlier between rest : List Step) (part : ℕ → Bool) → IsTrail base (earlier ++ (between ++ rest)) → IsReadyAgain base earlier between part →
+    BoundSignals (fold base earlier) between part (λ v. signals_of v (outs (fold base earlier) between))

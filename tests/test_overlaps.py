@@ -1,0 +1,168 @@
+"""Resets that overlap: two or three members that ask at once, and what the server prints until all are ready again."""
+
+import collections
+import random
+import subprocess
+from collections.abc import Iterable, Sequence
+from typing import Any, NamedTuple
+
+from support.case import Case, tool, until
+from support.served import FINISHED, JOINED, STARTED, Served
+from support.serving import Answer, Serving
+from support.stores import topology
+
+RESETS = 125  # of each graph
+FEWEST_OVERLAPS = 10  # times that two resets or more were started before all nodes were ready again, of each graph
+
+
+class Asked(NamedTuple):
+    """A reset that was accepted: its node, and the kind and the step of the reply."""
+
+    node: int
+    kind: str
+    step: int
+
+
+class Moment(NamedTuple):
+    """A moment at which all nodes of a group are ready: how many steps are settled, and the epoch of each node."""
+
+    settled: int
+    epochs: dict[int, int]
+
+
+class Group:
+    """Nodes that links connect with each other and with no other node, and the last moment at which all of them were ready."""
+
+    def __init__(self, nodes: Iterable[int]) -> None:
+        self.nodes = tuple(nodes)
+        self.last = Moment(0, dict.fromkeys(self.nodes, 0))
+        self.owed = dict[int, int]()  # nodes that asked and were shown in a reset after that, each with the epoch shown
+
+    def rows(self, shown: Answer) -> list[list[Any]]:
+        return [row for row in shown["nodes"] if row[0] in self.nodes]
+
+    def moment(self, shown: Answer) -> Moment | None:
+        """The moment that a view shows; None if a node of the group is in a reset."""
+        rows = self.rows(shown)
+        is_ready = all(row[2] == "ready" for row in rows)
+        return Moment(shown["settled"], {row[0]: row[4] for row in rows}) if is_ready else None
+
+    def note_owed(self, shown: Answer, askers: Sequence[int]) -> None:
+        self.owed |= {row[0]: row[4] for row in self.rows(shown) if row[0] in askers and row[2] != "ready"}
+
+
+def place_behind(epochs: list[int], epoch: int) -> int:
+    """How many of a node's signals were printed up to the last one of this epoch. Epoch 0 has no signal."""
+    return len(epochs) - epochs[::-1].index(epoch) if epoch else 0
+
+
+class Overlaps(Served):
+    takes = 5
+
+    def ask(self, server: Serving, packets: list[list[int]], numbers: collections.Counter[int]) -> list[Asked]:
+        """Asks for a reset of each of these nodes, those of a packet at once: what was accepted. Each node is a client."""
+        asked = []
+        with server.connect() as connection:
+            for nodes in packets:
+                numbers.update(nodes)
+                connection.send(*({"op": "reset", "client": node, "number": numbers[node], "node": node} for node in nodes))
+                replies = [connection.reply() for _ in nodes]
+                asked += [Asked(node, reply["kind"], reply["step"]) for node, reply in zip(nodes, replies)]
+        return asked
+
+    def expect_signals(self, server: Serving, group: Group, now: Moment, asked: list[Asked]) -> bool:
+        """All nodes of a group are ready: checks how many signals of each of them were printed since they last were. Whether two
+        resets or more were started meanwhile."""
+        last, owed, group.last, group.owed = group.last, group.owed, now, {}
+        since = [each for each in asked if each.node in group.nodes and last.settled < each.step <= now.settled]
+        kinds = collections.Counter(each.kind for each in since)
+        printed = until(f"the signals of {now}", lambda: self.printed_up_to(server, now))
+        for node, epoch in now.epochs.items():
+            signals = place_behind(printed[node], epoch) - place_behind(printed[node], last.epochs[node])
+            told = f"node {node} was signalled {signals} times: {since}"
+            if len(group.nodes) == 1:
+                self.assertEqual((signals, kinds.total()), (kinds[FINISHED], kinds[FINISHED]), told)
+            else:
+                self.assertEqual(kinds.total(), kinds[STARTED] + kinds[JOINED], told)
+                self.assertLessEqual(min(1, kinds.total()), signals, told)
+                self.assertLessEqual(signals, kinds[STARTED], told)
+            self.assertGreater(epoch, owed.get(node, -1), told)
+        return kinds[STARTED] > 1
+
+    def printed_up_to(self, server: Serving, now: Moment) -> dict[int, list[int]] | None:
+        """The epochs of the signals of each node, in order, once the signal of each node's present epoch is printed."""
+        signals = server.signals()
+        printed = {node: [epoch for signalled, epoch in signals if signalled == node] for node in now.epochs}
+        return printed if all(epoch in [0, *printed[node]] for node, epoch in now.epochs.items()) else None
+
+    def expect_overlaps(self, groups: list[Group], links: list[tuple[int, int]]) -> None:
+        """Two or three random nodes ask at once, one of them perhaps while the reset of the others runs; and now and then the
+        next ones ask before all are ready."""
+        random.seed(len(links))
+        nodes = [(node, group) for group, members in enumerate(groups, 1) for node in members.nodes]
+        asked, numbers, overlaps, is_at_rest = list[Asked](), collections.Counter[int](), 0, True
+        with Serving(self.made(topology(nodes, links))) as server:
+            def look() -> bool:
+                nonlocal overlaps
+                shown, is_at_rest = server.show(), True
+                for group in groups:
+                    if now := group.moment(shown):
+                        overlaps += self.expect_signals(server, group, now, asked)
+                    else:
+                        is_at_rest = False
+                return is_at_rest
+
+            while len(asked) < RESETS or not is_at_rest:
+                if len(asked) < RESETS:
+                    askers = random.sample([node for node, _ in nodes], random.choice((2, 3)))
+                    split = random.choice((len(askers), len(askers) - 1))
+                    asked += self.ask(server, [askers[:split], askers[split:]], numbers)
+                    shown = server.show()
+                    for group in groups:
+                        group.note_owed(shown, askers)
+                is_at_rest = look() if random.random() < 0.2 else until("the end of the resets", look)
+            self.expect_each_signal_once(server)
+            self.assertGreaterEqual(overlaps, FEWEST_OVERLAPS)
+            self.assertEqual(server.close().status, 0)
+
+    def test_a_path(self) -> None:
+        self.expect_overlaps([Group(range(1, 6))], [(node, node + 1) for node in range(1, 5)])
+
+    def test_a_ring(self) -> None:
+        self.expect_overlaps([Group(range(1, 6))], [(node, node % 5 + 1) for node in range(1, 6)])
+
+    def test_a_star(self) -> None:
+        self.expect_overlaps([Group(range(1, 6))], [(1, node) for node in range(2, 6)])
+
+    def test_two_groups_and_a_node_alone(self) -> None:
+        """One group is ready at moments at which another one is in a reset."""
+        self.expect_overlaps([Group((1, 2, 3)), Group((5, 6, 7)), Group([9])], [(1, 2), (2, 3), (5, 6), (6, 7), (5, 7)])
+
+
+class Searches(Case):
+    """All short runs, in models: of the reset rules, and of members while resets overlap."""
+
+    programs = ()
+    takes = 5
+
+    def search(self, name: str, *words: str) -> subprocess.CompletedProcess[str]:
+        return subprocess.run([tool(name), *words], capture_output=True, text=True, check=False)
+
+    def test_the_rules_with_a_link_that_is_dropped(self) -> None:
+        found = self.search("overlap_search", "--drops", "1")
+        self.assertEqual(found.returncode, 0, found.stdout)
+
+    def test_wrong_rules(self) -> None:
+        for rule in ("pass_on_signals", "silent_child", "start_alone", "joined_when_ready"):
+            found = self.search("overlap_search", "--rule", rule)
+            self.assertEqual(found.returncode, 0, found.stdout)
+
+    def test_two_members_one_of_which_loses_its_files(self) -> None:
+        found = self.search("overlap_members", "--graph", "link", "--losses", "1", "--seconds", "1000")
+        self.assertEqual(found.returncode, 0, found.stdout)
+        self.assertNotIn("cut off", found.stdout)
+
+    def test_members_over_a_wrong_rule(self) -> None:
+        found = self.search("overlap_members", "--graph", "link", "--rule", "joined_when_ready", "--seconds", "1000")
+        self.assertEqual(found.returncode, 1)
+        self.assertIn("talked before a reset was asked for talk on", found.stdout)
