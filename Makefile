@@ -1,5 +1,5 @@
 # What a person would ask for. The toolchain's command `rt` has to be on the PATH.
-.PHONY: help demo drill trial example services soak lives takeover build prove lib test program load refusals bench sweep nightly install install-lib uninstall deb release
+.PHONY: help check demo drill trial example services soak lives takeover build prove lib test program load refusals bench sweep nightly install install-lib uninstall deb release
 
 PREFIX ?= /usr/local
 PROGRAM ?= bin/resetd
@@ -7,6 +7,7 @@ PROGRAM ?= bin/resetd
 JOBS ?= $(shell nproc)
 
 help:
+	@echo 'make check     proves one crate and those that depend on it, and runs their tests (CRATE=NAME)'
 	@echo 'make demo      eight services and a coordinator that is killed in the middle of a reset and started again '
 	@echo 'make drill     one reset of two nodes, each line that the drill reads beside what it prints'
 	@echo 'make trial     builds the program without any proof at bin/resetd-trial, in some 80 seconds; demo, drill, example, services and soak take it where there is no bin/resetd'
@@ -61,6 +62,9 @@ build:
 	  $(MAKE) --no-print-directory prove; \
 	fi
 
+check:
+	@tools/check --jobs $(JOBS) $(CRATE)
+
 prove:
 	rt all check --jobs $(JOBS)
 	cd crates/resetd && rt run -- drill < stdin
@@ -78,7 +82,7 @@ bench: build
 	bench/front bin/resetd
 
 sweep:
-	bench/refused_allocations --seconds $(or $(EACH),12) $$(sed -n 's/^\([a-z][a-z0-9_]*\).*/\1/p' crates.txt)
+	bench/refused_allocations --seconds $(or $(EACH),12) units resetd
 
 nightly: bin/resetd
 	@tools/nightly --jobs $(JOBS)

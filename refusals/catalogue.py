@@ -8,7 +8,7 @@ A catalogue is made of blocks, with an empty line between two:
     - what stands there
     + what the wrong body has in its place
     % print_view
-    ! tests_drill lines::one_of_each
+    ! units drill::lines::one_of_each
 
 `@` names the file of the blocks behind it, up to the next `@`; a block that changes several files names each in its
 midst. `#` gives the block its name, and ` witnessed` behind that says that no clause refuses it. The lines behind `-`
@@ -16,8 +16,8 @@ stand once in the file, the lines behind `+` take their place; a `-` behind a `+
 file (`proofs/..`) the texts are names, and each place of an old one is changed. `%` names a clause that the body breaks,
 one a line, as a row of docs/PROMISES.md does: `World::judge (value)`, with the crate in front where it is another one, and
 without brackets where the clause has no name (`tools/promises --breaks` goes from a row to the bodies). `!` is the
-witness, a test that fails with the body in: its crate (`tests` for those of the folder tests/), its name, and `waits` or
-`refused N` where that is how it fails (refusals/run says what they mean).
+witness, a test that fails with the body in: where it stands (`units` for tests/units, `tests` for those of the folder
+tests/, or a crate), its name, and `waits` where it does not end (refusals/run says what that means).
 
 The edits of the gate (crates/CRATE/must-fail/NAME.edit) are files of their own, since `rt ci` reads them: a line
 `file: PATH`, then pairs of `old: TEXT` and `new: TEXT` with `⏎` for an end of a line, and `witness: CRATE TEST`.

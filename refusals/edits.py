@@ -17,9 +17,9 @@ class Edit:
         every = [(exchange.file, exchange.old, exchange.new) for exchange in body.exchanges]
         self.pairs = [pair for pair in every if not pair[0].startswith("proofs/")]
         self.names_in_proofs = [pair for pair in every if pair[0].startswith("proofs/")]
-        # the crate of its witness (or "tests", a folder) and the test itself, empty where it names none
+        # where its witness stands ("units", "tests" or a crate) and the test itself, empty where it names none
         self.tests, self.test, *how = body.witness.split() or ("", "")
-        self.waits, self.refused = how == ["waits"], how[1] if how[:1] == ["refused"] else None
+        self.waits = how == ["waits"]
 
     def apply(self, folder: str) -> bool:
         """Writes the edit into a copy of the crate. False where an old text does not stand there once."""

@@ -27,9 +27,9 @@ LATE, SEEN = "did not end in time", ("FAILED", "waits")
 def run(edits: list[Edit], depends: Depends, jobs: int) -> int:
     """Runs the witness of each edit. How many of them have not failed."""
     found: list[str] = []
-    alone = [edit for edit in edits if edit.refused or not choice.fits(edit.body)]
+    alone = [edit for edit in edits if edit.tests not in TOGETHER or not choice.fits(edit.body)]
     with tempfile.TemporaryDirectory() as scratch:
-        for tests in sorted({edit.tests for edit in edits}):
+        for tests in sorted({edit.tests for edit in edits} & set(TOGETHER)):
             chosen = [edit for edit in edits if edit.tests == tests and edit not in alone]
             chosen, others = build_together(scratch, tests, chosen)
             alone += others
@@ -61,10 +61,10 @@ def build(scratch: str, tests: str, edits: list[Edit]) -> str:
     """Builds what these tests run. What a build says where it fails, and nothing where it does not."""
     chosen = ["tools/trial_build", "--choose", *(word for edit in edits for word in ("--edit", edit.id))]
     if tests == "tests":
-        wanted = [[*chosen, *words, f"{scratch}/{file}"] for words, file in PROGRAMS.values()]
-        wanted.append(["tools/trial_library", scratch])
+        file_of = {file: f"{scratch}/{file}" for file in FILES.values()}
+        wanted = [[*chosen, *(file_of.get(word, word) for word in PROGRAM)], ["tools/trial_library", scratch]]
     else:
-        wanted = [[*chosen, "--tests", tests, f"{scratch}/{tests}"]]
+        wanted = [[*chosen, "--units", f"{scratch}/{tests}"]]
     making = [subprocess.Popen(words, stdout=subprocess.PIPE, stderr=subprocess.STDOUT, text=True) for words in wanted]
     said = [process.communicate()[0] for process in making]
     return "\n".join(text for process, text in zip(making, said) if process.returncode)
@@ -74,7 +74,7 @@ def what_test_did(scratch: str, tests: str, test: str, number: int, seconds: int
     """Runs a test over a build, with the edit of this number: ok, FAILED, or that it did not end in time."""
     environment = {**os.environ, "WRONG_BODY": str(number)}
     if tests == "tests":
-        files = {variable: f"{scratch}/{file}" for variable, (_, file) in PROGRAMS.items()}
+        files = {variable: f"{scratch}/{file}" for variable, file in FILES.items()}
         environment |= {**files, "RESETD_MEMBER": f"{scratch}/libresetd_member.so"}
         done = subprocess.run(["tests/run", "--jobs", "1", test], env=environment, capture_output=True, text=True)
         return outcome_in(test, done.stdout)
@@ -128,8 +128,6 @@ def try_alone(edit: Edit, copies: Queue[str]) -> str:
         copy_crate(edit.crate, copy)
         if edit.waits and found == LATE:
             found = "waits" if what_copy_did(edit, copy) == "ok" else "did not end without it either"
-        if edit.refused and found == "FAILED" and what_copy_did(edit, copy) != "ok":
-            found = "failed without it too"
         return tell(edit, found)
     finally:
         copies.put(copy)
@@ -137,7 +135,6 @@ def try_alone(edit: Edit, copies: Queue[str]) -> str:
 
 def what_copy_did(edit: Edit, copy: str) -> str:
     """Runs the witness of an edit in a copy of the crates: ok, FAILED, or that it did not end in time."""
-    refused = ["--fail-alloc", edit.refused] if edit.refused else []
-    words = [*RT, "try", "--test", "--seconds", str(WAITS), *refused, "--", edit.test]
+    words = [*RT, "try", "--test", "--seconds", str(WAITS), "--", edit.test]
     done = subprocess.run(words, cwd=os.path.join(copy, "crates", edit.tests), capture_output=True, text=True)
     return outcome_in(edit.test, done.stdout + done.stderr)

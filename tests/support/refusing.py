@@ -15,6 +15,29 @@ from .program import Ended, ran
 
 ALL_THREADS = range(1_000)
 FIRST_THREAD, FLUSHER, WORKERS = range(1), range(2, 3), range(3, 11)  # of a server; its printer is 1
+# Leads a call in a function of the program to another function.
+LEAD = r"""
+#include <link.h>
+#include <string.h>
+#include <sys/mman.h>
+static int first_object(struct dl_phdr_info *info, size_t size, void *base) {
+    *(unsigned char **)base = (unsigned char *)info->dlpi_addr;
+    return 1;
+}
+// Leads the one call in a function, or its jump, to a target, by a jump on a page of its own near the program.
+static void lead(unsigned char *function, int code, void *target) {
+    unsigned char *call = memchr(function, code, 40), *page = (unsigned char *)((long)function & ~4095L), *jump = MAP_FAILED;
+    int all = PROT_READ | PROT_WRITE | PROT_EXEC, how = MAP_PRIVATE | MAP_ANONYMOUS | MAP_FIXED_NOREPLACE;
+    for (long far = 1 << 20; call && jump == MAP_FAILED && far < 1 << 30; far += 1 << 16)
+        jump = mmap(page - far, 4096, all, how, -1, 0);
+    if (jump == MAP_FAILED || mprotect(page, 8192, all)) _exit(99);
+    memcpy(jump, "\xff\x25\0\0\0\0", 6);
+    memcpy(jump + 6, &target, 8);
+    int distance = jump - (call + 5);
+    memcpy(call + 1, &distance, 4);
+    mprotect(page, 8192, PROT_READ | PROT_EXEC);
+}
+"""
 SOURCE = r"""
 #define _GNU_SOURCE
 #include <dlfcn.h>
@@ -72,23 +95,7 @@ static void *counted_realloc(void *kept, size_t size) {
     if (given) __atomic_add_fetch(calls + 4, size_of(given) - before, __ATOMIC_SEQ_CST);
     return given;
 }
-static int first_object(struct dl_phdr_info *info, size_t size, void *base) {
-    *(unsigned char **)base = (unsigned char *)info->dlpi_addr;
-    return 1;
-}
-// Leads the one call in a function, or its jump, to a target, by a jump on a page of its own near the program.
-static void lead(unsigned char *function, int code, void *target) {
-    unsigned char *call = memchr(function, code, 40), *page = (unsigned char *)((long)function & ~4095L), *jump = MAP_FAILED;
-    int all = PROT_READ | PROT_WRITE | PROT_EXEC, how = MAP_PRIVATE | MAP_ANONYMOUS | MAP_FIXED_NOREPLACE;
-    for (long far = 1 << 20; call && jump == MAP_FAILED && far < 1 << 30; far += 1 << 16)
-        jump = mmap(page - far, 4096, all, how, -1, 0);
-    if (jump == MAP_FAILED || mprotect(page, 8192, all)) _exit(99);
-    memcpy(jump, "\xff\x25\0\0\0\0", 6);
-    memcpy(jump + 6, &target, 8);
-    int distance = jump - (call + 5);
-    memcpy(call + 1, &distance, 4);
-    mprotect(page, 8192, PROT_READ | PROT_EXEC);
-}
+@LEAD@
 __attribute__((constructor)) static void begin(void) {
     unsigned char *base = 0;
     // the count stands in a file, since the program ends without a farewell
@@ -132,7 +139,7 @@ class Refusing:
         self.program, self.folder = program, folder
         self.alloc, self.realloc, self.dealloc = places(program, ["rattle_alloc", "rattle_realloc", "rattle_dealloc"])
         with open(f"{folder}/refusing.c", "w", encoding="ascii") as file:
-            file.write(SOURCE)
+            file.write(SOURCE.replace("@LEAD@\n", LEAD))
         subprocess.run(["cc", "-O1", "-shared", "-fPIC", "-o", f"{folder}/refusing.so", f"{folder}/refusing.c"], check=True)
 
     def environment(self, first: int = 0, many: int = 1, threads: range = ALL_THREADS) -> dict[str, str]:
