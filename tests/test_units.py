@@ -19,7 +19,7 @@ def names() -> list[str]:
     for at, _, files in sorted(os.walk(FOLDER)):
         for file in sorted(files):
             with open(os.path.join(at, file), encoding="utf-8") as source:
-                module = os.path.relpath(os.path.join(at, file), FOLDER).removesuffix(".rtt").replace("/", "::")
+                module = os.path.relpath(os.path.join(at, file), FOLDER).removesuffix(".rt.txt").replace("/", "::")
                 found += [f"{module}::{name}" for name in TEST.findall(source.read())]
     return found
 

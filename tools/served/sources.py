@@ -6,7 +6,7 @@ import sys
 
 sys.dont_write_bytecode = True
 ROOT = os.path.dirname(os.path.dirname(os.path.dirname(os.path.abspath(__file__))))
-# The tests of the crates: no check reads a file that ends in .rtt.
+# The tests of the crates: no check reads a file that ends in .rt.txt.
 UNITS = f"{ROOT}/tests/units"
 sys.path.insert(0, f"{ROOT}/refusals")
 import catalogue  # noqa: E402
@@ -34,7 +34,7 @@ def copy_units(folder: str) -> None:
     """The tests of tests/units as a crate beside the others in a copy of them, over each library that they list."""
     for at, _, names in os.walk(UNITS):
         for name in names:
-            inner = os.path.relpath(os.path.join(at, name), UNITS).removesuffix(".rtt")
+            inner = os.path.relpath(os.path.join(at, name), UNITS).removesuffix(".rt.txt")
             os.makedirs(os.path.dirname(f"{folder}/crates/units/src/{inner}"), exist_ok=True)
             shutil.copy(os.path.join(at, name), f"{folder}/crates/units/src/{inner}.rt")
     lines = [line.partition(":") for line in read(f"{folder}/crates.txt").splitlines() if line and not line.startswith("#")]
