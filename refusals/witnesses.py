@@ -17,8 +17,10 @@ import choice
 from copies import RT, Depends, copy_crate, libraries, make_copy
 from edits import Edit
 
-# What a test of the folder tests/ runs, by the variables that name it: the words of its build, and its file.
-PROGRAMS: dict[str, tuple[list[str], str]] = {"RESETD": ([], "resetd"), "RESETD_SHORT": (["--steps", "32"], "resetd_short")}
+# What runs together: the tests of tests/units as one program, and the program that the other tests of tests/ start.
+TOGETHER = ("units", "tests")
+# The words of the program's build, with the files that it leaves, by the variables that name them.
+PROGRAM, FILES = ["--steps", "32", "resetd", "resetd_short"], {"RESETD": "resetd", "RESETD_SHORT": "resetd_short"}
 # Seconds within which a test of a crate ends, and after which one that its edit makes wait counts as waiting.
 LIMIT, WAITS = 600, 60
 LATE, SEEN = "did not end in time", ("FAILED", "waits")
