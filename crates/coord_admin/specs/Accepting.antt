@@ -1,11 +1,11 @@
--- What follows a failure to accept, by accept(2) of Linux.
+-- How the server reacts to a failure to accept, after accept(2) of Linux.
 use Rattle.std.specs.Prelude.{ℕ, ℤ, pos, int_lt, unsigned_abs, List, [], ◌∷◌, Option, Some, None, if◌then◌else◌, ◌==◌}
 use Rattle.std.specs.declared.io.ErrorKind.{ErrorKind}
 use Rattle.std.specs.declared.io.ErrorKind.TheVariants as kind
 use Rattle.coord_admin.specs.declared.accepting.Failure.{Failure}
 use Rattle.coord_admin.specs.declared.accepting.Failure.TheVariants.{OfClient, OfMeans, OfListener}
 
--- What each number of an error asks for. Of a client: EPERM, EINTR, ENONET, EPROTO, ENOPROTOOPT, EOPNOTSUPP, ENETDOWN, ENETUNREACH, ECONNABORTED, ECONNRESET, EHOSTDOWN, EHOSTUNREACH; of means: ENOMEM, ENFILE, EMFILE, ENOBUFS.
+-- The reaction to each error number. Errors of a client: EPERM, EINTR, ENONET, EPROTO, ENOPROTOOPT, EOPNOTSUPP, ENETDOWN, ENETUNREACH, ECONNABORTED, ECONNRESET, EHOSTDOWN, EHOSTUNREACH; lack of resources: ENOMEM, ENFILE, EMFILE, ENOBUFS.
 abbrev pub numbered : List (ℕ × Failure)
 numbered =
     (1, OfClient) ∷ (4, OfClient) ∷ (64, OfClient) ∷ (71, OfClient) ∷ (92, OfClient) ∷ (95, OfClient)
@@ -19,7 +19,7 @@ failure_in (row ∷ rows) code = if code == row.0 then row.1 else failure_in row
 abbrev pub failure_of_number : ℤ → Failure
 failure_of_number code = if int_lt code (pos 0) then OfListener else failure_in numbered (unsigned_abs code)
 
--- of an error that has no number
+-- the reaction to an error without a number
 abbrev pub failure_of_kind : ErrorKind → Failure
 failure_of_kind kind.ConnectionAborted = OfClient
 failure_of_kind kind.ConnectionReset = OfClient

@@ -1,4 +1,4 @@
--- What a server does: one connection after the other, each of them served as a stream of lines.
+-- The work of a server: one connection after the other, each served as a stream of lines.
 use Rattle.std.specs.Prelude.{◌≡◌, ℕ, ◌*◌, List, [], ◌∷◌, ◌++◌, map, Bool, true, false, Result, Ok, Err}
 use Rattle.coord_admin.specs.declared.request.Request.{Request}
 use Rattle.coord_admin.specs.declared.answer.Answer.{Answer}
@@ -8,17 +8,17 @@ use Rattle.coord_admin.specs.declared.session.Ended.TheVariants.{Input, Closed, 
 use Rattle.coord_admin.specs.LifeLimit.{HasKept, HasKeptFewer}
 use Rattle.coord_admin.specs.Stream.{Served}
 
--- what came in and what went out over a connection
+-- the bytes read from a connection and the bytes written to it
 pub record Talk : Type 0 where
   pub bytes_read : List ℕ
   pub bytes_written : List ℕ
 
--- a connection that was served: what was read from it and written to it, and how it ended
+-- a served connection: the bytes read from it and written to it, and how it ended
 pub record Connection : Type 0 where
   pub talk : Talk
   pub ended : Result Ended ServeFault
 
--- what came and went over each
+-- the bytes read and written over each
 abbrev pub talks : List Connection → List Talk
 talks cs = map (λ c. c.talk) cs
 
@@ -29,9 +29,9 @@ has_closed (Ok Input) = false
 has_closed (Ok Cut) = false
 has_closed (Err f) = false
 
--- `keeps d n`: the desk d may keep n steps. Its life has `most`
+-- `keeps d n`: the desk d may keep n steps. Its life has `most` steps
 module _ {D : Type 0} (answers : D → Request → Answer → D → Type 0) (keeps : D → ℕ → Type 0) (most : ℕ) where
-  -- a connection began while the desk kept fewer steps than its life has, was served, and was cut off only once it kept twice as many
+  -- a connection began while the desk kept fewer steps than its life has, was served, and was cut only after it kept twice as many
   abbrev pub IsServed : D → Connection → D → Type 0
   IsServed d c e = HasKeptFewer keeps d most × Served answers d c.talk.bytes_read c.talk.bytes_written c.ended e × (c.ended ≡ Ok Cut → HasKept keeps e (2 * most))
 
@@ -40,12 +40,12 @@ module _ {D : Type 0} (answers : D → Request → Answer → D → Type 0) (kee
   AllServed d [] e = e ≡ d
   AllServed d (c ∷ cs) e = (f : D) × IsServed d c f × (has_closed c.ended ≡ false) × AllServed f cs e
 
-  -- `talked v talks w`: those who call were v, had these talks, and then are w
+  -- `talked v talks w`: the callers were v, had these conversations, and are w afterwards
   module _ {V : Type 0} (talked : V → List Talk → V → Type 0) where
-    -- the connections that there were, the last of which closed the desk
+    -- the connections so far, the last of which closed the desk
     abbrev pub ServedToClose : V → D → V → D → Type 0
     ServedToClose v d w e = (cs : List Connection) × (last : Connection) × (f : D) × talked v (talks (cs ++ last ∷ [])) w × AllServed d cs f × IsServed f last e × (has_closed last.ended ≡ true)
 
-    -- the connections that there were, none of which closed the desk
+    -- the connections so far, none of which closed the desk
     abbrev pub ServedOpen : V → D → V → D → Type 0
     ServedOpen v d w e = (cs : List Connection) × talked v (talks cs) w × AllServed d cs e

@@ -1,4 +1,4 @@
--- How long a life of a desk serves, by the steps that it keeps.
+-- How long a life of a desk serves, measured by the steps that it keeps.
 use Rattle.std.specs.Prelude.{ℕ, ◌*◌, ◌<◌, ◌≤◌, Bool, true, false, Result, Ok, Err}
 use Rattle.coord_admin.specs.declared.fault.ServeFault.{ServeFault}
 use Rattle.coord_admin.specs.declared.life_limit.Age.{Age}
@@ -6,7 +6,7 @@ use Rattle.coord_admin.specs.declared.life_limit.Age.TheVariants.{Young, Old, Ov
 use Rattle.coord_admin.specs.declared.session.Ended.{Ended}
 use Rattle.coord_admin.specs.declared.session.Ended.TheVariants.{Closed, Cut, Input}
 
--- a life of so many steps that has kept these is old once it has kept them all, and over once it has kept twice as many
+-- a life of this many steps is old once it has kept that many, and over once it has kept twice as many
 abbrev pub IsAge : ℕ → ℕ → Age → Type 0
 IsAge most kept Young = kept < most
 IsAge most kept Old = (most ≤ kept) × (kept < 2 * most)
@@ -20,7 +20,7 @@ module _ {D : Type 0} (keeps : D → ℕ → Type 0) where
   abbrev pub HasKeptFewer : D → ℕ → Type 0
   HasKeptFewer d most = (kept : ℕ) × keeps d kept × (kept < most)
 
--- whether a client is given time to read its last answer: the connection was closed or cut from here
+-- whether a client gets time to read its last answer: the server closed or cut the connection
 abbrev pub ends_here : Result Ended ServeFault → Bool
 ends_here (Ok Input) = false
 ends_here (Ok Closed) = true

@@ -1,4 +1,4 @@
--- What is replied, each a line of JSON with no space and its members in the order of their names.
+-- The replies: each is a line of JSON without spaces, with its members in alphabetical order.
 use Rattle.std.specs.Prelude.{ℕ, List, [], ◌∷◌, ◌++◌, map, codes, Option, Some, None, Result, Ok, Err, String, string_bytes}
 use Rattle.std.specs.declared.alloc.Global.{Global}
 use Rattle.std.specs.List.{flat_map}
@@ -19,7 +19,7 @@ use Rattle.coord_admin.specs.declared.writing.ReplyLine.TheVariants as ready
 use Rattle.coord_admin.specs.Faults.{line_fault_name}
 use Rattle.coord_view.specs.Shown as shown
 
--- what a desk's results mean; where it had no memory, that is the line's fault
+-- the answer for a desk's result; if memory ran out, that is the line's fault
 abbrev pub refused : Refusal → Answer
 refused refusal.OutOfMemory = Faulted OutOfMemory
 refused r = Refused r
@@ -77,7 +77,7 @@ abbrev pub line_bytes : ReplyLine → List ℕ
 line_bytes (ready.Fixed text) = text.now
 line_bytes (ready.Made text) = string_bytes text
 
--- a line that could be made, or else that there was no memory
+-- the line, or, if it could not be made, the line for out of memory
 abbrev pub made_bytes : {E : Type 0} → Result (String Global) E → List ℕ
 made_bytes (Ok text) = string_bytes text
 made_bytes (Err e) = reply_line (Faulted OutOfMemory)

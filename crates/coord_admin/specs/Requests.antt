@@ -1,4 +1,4 @@
--- What a line asks for.
+-- The request of a line.
 use Rattle.std.specs.Prelude.{ℕ, suc, ◌==◌, ◌&&◌, nat_le, if◌then◌else◌, List, [], ◌∷◌, length, codes, Option, Some, None, option_and_then, Result, Ok, Err}
 use Rattle.std.specs.Str.{bytes_eq, is_utf8}
 use Rattle.serde_json.specs.Data.{Data, Members}
@@ -31,11 +31,11 @@ named (row ∷ rows) name = if bytes_eq name row.0 then Some row.1 else named ro
 abbrev pub op_named : Name → Option Op
 op_named name = named ops name
 
--- an order's client and number, before what its command names
+-- an order's client and number, before the members of its command
 abbrev pub of_order : List Name → List Name
 of_order names = codes "client" ∷ codes "number" ∷ names
 
--- the members of an op's requests, beside `op`
+-- the members of an op's requests, besides `op`
 abbrev pub members_of : Op → List Name
 members_of Add = of_order (codes "node" ∷ codes "group" ∷ [])
 members_of Remove = of_order (codes "node" ∷ [])
@@ -47,21 +47,21 @@ members_of Show = []
 members_of Resend = []
 members_of Close = []
 
--- the whole number at a name, which is any u64
+-- the whole number at a name: any u64
 abbrev pub number_at : Name → Data → Option ℕ
 number_at name d = option_and_then as_u64 (option_and_then as_number (get name d))
 
 abbrev pub from_1_to : ℕ → ℕ → Option ℕ
 from_1_to most n = if nat_le 1 n && nat_le n most then Some n else None
 
--- the whole number at a name, if it is from 1 to the most
+-- the whole number at a name, if it is between 1 and the maximum
 abbrev pub id_at : Name → ℕ → Data → Option ℕ
 id_at name most d = option_and_then (from_1_to most) (number_at name d)
 
 abbrev pub node_at : Name → Data → Option ℕ
 node_at name d = id_at name MAX_NODES d
 
--- a value of two, where both are there
+-- a value made of two, if both are there
 abbrev pub with_both : {A B C : Type 0} → (A → B → C) → Option A → Option B → Option C
 with_both f (Some a) (Some b) = Some (f a b)
 with_both f a b = None
@@ -78,12 +78,12 @@ command_of Show d = None
 command_of Resend d = None
 command_of Close d = None
 
--- an order, where its client, its number and its command are there
+-- an order, if its client, its number and its command are there
 abbrev pub order_of : Option ℕ → Option ℕ → Option Command → Option Request
 order_of (Some c) (Some n) (Some x) = Some (request.Order c n x)
 order_of c n x = None
 
--- what the members of an op ask for; None where one is missing, no whole number, or out of its range
+-- the request that the members of an op make; None if one is missing, is not a whole number, or is out of range
 abbrev pub request_by : Op → Data → Option Request
 request_by Show d = Some request.Show
 request_by Resend d = Some request.Resend
@@ -94,7 +94,7 @@ abbrev pub len_if : Option Members → ℕ
 len_if None = 0
 len_if (Some ms) = members_len ms
 
--- how many members an object has
+-- the number of an object's members
 abbrev pub member_count : Data → ℕ
 member_count d = len_if (as_object d)
 
@@ -102,7 +102,7 @@ abbrev pub or_bad_request : Option Request → Result Request LineFault
 or_bad_request None = Err BadRequest
 or_bad_request (Some r) = Ok r
 
--- an object has each name once, so it has just the members of its op where it has as many
+-- an object has each name once, so it has exactly the members of its op if it has that many
 abbrev pub request_of_op : Data → Option Op → Result Request LineFault
 request_of_op d None = Err UnknownOp
 request_of_op d (Some op) = if member_count d == suc (length (members_of op)) then or_bad_request (request_by op d) else Err BadRequest
@@ -111,7 +111,7 @@ abbrev pub request_named : Data → Option Name → Result Request LineFault
 request_named d None = Err BadRequest
 request_named d (Some name) = request_of_op d (op_named name)
 
--- what a JSON value asks for; what is no object has no `op`
+-- the request of a JSON value; a value that is not an object has no `op`
 abbrev pub request_of : Data → Result Request LineFault
 request_of d = request_named d (option_and_then as_str (get (codes "op") d))
 
@@ -119,11 +119,11 @@ abbrev pub request_if : Option Data → Result Request LineFault
 request_if None = Err BadJson
 request_if (Some d) = request_of d
 
--- what a text asks for; of a name that an object has twice, the last value counts
+-- the request of a text; if an object has a name twice, the last value counts
 unfoldable pub asked_in : List ℕ → Result Request LineFault
 asked_in text = request_if (read text)
 
--- what a line asks for, or the first fault that applies
+-- the request of a line, or the first fault that applies
 abbrev pub asked_by : Line → Result Request LineFault
 asked_by None = Err TooLong
 asked_by (Some bytes) = if is_utf8 bytes then asked_in bytes else Err BadText

@@ -1,4 +1,4 @@
--- What `serve` writes: a reply to each line of a text, in order, by what a desk may answer.
+-- The output of `serve`: a reply to each line of a text, in order, which the desk may give.
 use Rattle.std.specs.Prelude.{◌≡◌, ◌⊎◌, ℕ, ◌≤◌, Bool, true, false, List, [], ◌∷◌, ◌++◌, length, IsSome, IfSome, Some, Result, Ok, Err}
 use Rattle.std.specs.Str.{IsUtf8}
 use Rattle.coord_lines.specs.Lines.{Line, lines_of}
@@ -21,18 +21,18 @@ abbrev pub is_closed : Answer → Bool
 is_closed Closed = true
 is_closed a = false
 
--- that the desk was closed, and a fault, are told without memory
+-- the reply to a close, and the reply for a fault, need no memory
 abbrev pub takes_memory : Answer → Bool
 takes_memory Closed = false
 takes_memory (Faulted f) = false
 takes_memory a = true
 
--- the last line, which no line feed ended, is answered if it has a byte
+-- the last line, if it has no line feed, is answered if it has a byte
 abbrev pub last_answers : Line → List Answer
 last_answers (Some []) = []
 last_answers line = Faulted Unfinished ∷ []
 
--- of a text a first part went out over a connection, and no more
+-- a prefix of a text was written to a connection, and nothing else
 abbrev pub WritesPart : {C : Type 0} → (C → List ℕ → List ℕ → C → Type 0) → C → C → List ℕ → Type 0
 WritesPart exchanged old new text = (part : List ℕ) × exchanged old [] part new × IsFirstPart part text
 
@@ -41,23 +41,23 @@ abbrev pub has_begun : Line → Bool
 has_begun (Some []) = false
 has_begun line = true
 
--- what is told of an answer: itself, or that there was no memory to write it
+-- the reply for an answer: the answer itself, or out of memory if it could not be written
 abbrev pub IsWritten : Answer → Answer → Type 0
 IsWritten answer told = (told ≡ answer) ⊎ ((told ≡ Faulted OutOfMemory) × (takes_memory answer ≡ true))
 
--- what is told of each answer
+-- the reply for each answer
 abbrev pub AreWritten : List Answer → List Answer → Type 0
 AreWritten [] [] = Unit {0}
 AreWritten (answer ∷ answers) (a ∷ told) = IsWritten answer a × AreWritten answers told
 AreWritten answers told = ⊥
 
--- a line within the limit that is a text
+-- a line within the limit that is valid UTF-8
 abbrev pub IsText : Line → Type 0
 IsText line = IsSome line × IfSome line IsUtf8
 
--- `answers d r a e`: the desk d may answer a to the request r, and then is e
+-- `answers d r a e`: the desk d may answer a to the request r, and is e afterwards
 module _ {D : Type 0} (answers : D → Request → Answer → D → Type 0) where
-  -- a line's fault is its answer, and the desk is not asked
+  -- a line's fault is its answer, and the desk gets no request
   abbrev pub MayAnswer : D → Result Request LineFault → Answer → D → Type 0
   MayAnswer d (Ok r) a e = answers d r a e
   MayAnswer d (Err f) a e = (a ≡ Faulted f) × (e ≡ d)
@@ -65,21 +65,21 @@ module _ {D : Type 0} (answers : D → Request → Answer → D → Type 0) wher
   abbrev pub AnswersLine : D → Line → Answer → D → Type 0
   AnswersLine d line a e = MayAnswer d (asked_by line) a e
 
-  -- there was no memory to read the line, or none to write its answer
+  -- memory ran out while the line was read or its answer was written
   abbrev pub FindsNoMemory : D → Line → D → Type 0
   FindsNoMemory d line e = (IsText line × (e ≡ d)) ⊎ ((a : Answer) × (takes_memory a ≡ true) × AnswersLine d line a e)
 
-  -- what is replied to a line: its answer, or that there was no memory
+  -- the reply to a line: its answer, or out of memory
   abbrev pub Gets : D → Line → Answer → D → Type 0
   Gets d line a e = AnswersLine d line a e ⊎ ((a ≡ Faulted OutOfMemory) × FindsNoMemory d line e)
 
-  -- lines that got replies, one each and in order, none of which closed the desk
+  -- lines with one reply each, in order, none of which closed the desk
   abbrev pub AllGet : D → List Line → List Answer → D → Type 0
   AllGet d [] [] e = e ≡ d
   AllGet d (line ∷ lines) (a ∷ told) e = (f : D) × Gets d line a f × (is_closed a ≡ false) × AllGet f lines told e
   AllGet d lines told e = ⊥
 
-  -- the first of these lines got these replies, and the others are orders that were posted and have none yet
+  -- the first of these lines got these replies, and the others are posted orders without a reply yet
   abbrev pub GoesOn : {P : Type 0} → (D → Request → P → D → Type 0) → D → List Line → List Answer → List P → D → Type 0
   GoesOn posts d lines told posted e = (done : List Line) × (waiting : List Line) × (f : D) × (lines ≡ done ++ waiting) × AllGet d done told f × AwaitReplies posts f waiting posted e
 
@@ -91,28 +91,28 @@ module _ {D : Type 0} (answers : D → Request → Answer → D → Type 0) wher
   abbrev pub Finishes : D → List Line → List ℕ → D → Type 0
   Finishes d lines text e = (told : List Answer) × (last : Line) × Reaches d lines told (last ∷ []) e × (text ≡ reply_lines told ++ reply_lines (last_answers last))
 
-  -- a line that ended has closed the desk; those behind it are left
+  -- a complete line has closed the desk; the lines after it are not answered
   abbrev pub Closes : D → List Line → List ℕ → D → Type 0
   Closes d lines text e =
       (told : List Answer) × (line : Line) × (next : Line) × (left : List Line) × (f : D)
       × Reaches d lines told (line ∷ next ∷ left) f × Gets f line Closed e × (text ≡ reply_lines told ++ reply_line Closed)
 
-  -- no more was read, and each line that ended has its reply
+  -- nothing more was read, and each complete line has its reply
   abbrev pub Stops : D → List Line → List ℕ → D → Type 0
   Stops d lines text e = (told : List Answer) × (last : Line) × Reaches d lines told (last ∷ []) e × (text ≡ reply_lines told)
 
-  -- what a line is replied where it is the last one too
+  -- the reply to a line, which may be the last one
   abbrev pub GetsAtLast : D → Line → Answer → D → Type 0
   GetsAtLast d line a e = Gets d line a e ⊎ ((a ≡ Faulted Unfinished) × (e ≡ d))
 
-  -- The reply to a line was not written whole. Where it was one of orders that were posted together, those behind it were carried out too, and nobody was told.
+  -- The reply to a line was not written completely. If the line was one of several orders posted together, the orders after it were carried out too, and nobody got their replies.
   abbrev pub BreaksOff : D → List Line → List ℕ → D → Type 0
   BreaksOff d lines text e =
       (told : List Answer) × (line : Line) × (behind : List Line) × (left : List Line) × (f : D) × (g : D) × (a : Answer) × (untold : List Answer) × (part : List ℕ)
       × Reaches d lines told (line ∷ behind ++ left) f × GetsAtLast f line a g × AllGet g behind untold e × ((behind ≡ []) ⊎ ArePosted (line ∷ behind))
       × IsFirstPart part (reply_line a) × (text ≡ reply_lines told ++ part)
 
-  -- what was written to a text that was read, and what the desk then is
+  -- the bytes written for a text that was read, and the desk afterwards
   abbrev pub Served : D → List ℕ → List ℕ → Result Ended ServeFault → D → Type 0
   Served d seen text (Ok ended.Input) e = Finishes d (lines_of seen) text e
   Served d seen text (Ok ended.Closed) e = Closes d (lines_of seen) text e

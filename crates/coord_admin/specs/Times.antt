@@ -1,4 +1,4 @@
--- The times that a client is waited for (docs/OPERATING.md names them).
+-- The timeouts of a client (docs/OPERATING.md lists them).
 use Rattle.std.specs.Prelude.{◌≡◌, ℕ, ◌*◌}
 use Rattle.std.specs.Duration.{as_nanos}
 use Rattle.coord_admin.specs.declared.patience.Patience.{Patience}
@@ -10,7 +10,7 @@ seconds n = n * 1000000000
 abbrev pub milliseconds : ℕ → ℕ
 milliseconds n = n * 1000000
 
--- the times of a server: of a line, of a reply, between two lines, of a connection, behind a close, and between two tries to accept
+-- the timeouts of a server: for a line, for a reply, between two lines, for a connection, after a close, and between two attempts to accept
 pub record IsUsual (p : Patience) : Type 0 where
   pub line : as_nanos p.line ≡ seconds 10
   pub reply : as_nanos p.reply ≡ seconds 10
@@ -19,7 +19,7 @@ pub record IsUsual (p : Patience) : Type 0 where
   pub discard : as_nanos p.discard ≡ seconds 1
   pub accept_rest : as_nanos p.accept_rest ≡ milliseconds 100
 
--- how often it is tried again to accept, and how many reads of 512 bytes are made behind a close
+-- the number of further attempts to accept, and the number of reads of 512 bytes after a close
 pub record CountsAreUsual : Type 0 where
   pub tries : ACCEPT_TRIES ≡ 100
   pub reads : DISCARD_READS ≡ 128

@@ -1,4 +1,4 @@
--- Orders that are posted one behind the other before the first of them has its reply, and then replied in turn.
+-- Orders that are posted one after the other before the first of them has its reply, and then replied to in turn.
 use Rattle.std.specs.Prelude.{◌≡◌, ◌≤◌, Bool, true, false, List, [], ◌∷◌, length, map, Result, Ok}
 use Rattle.coord_types.specs.declared.limits.TheConstants.{MAX_BATCH_STEPS}
 use Rattle.coord_types.specs.declared.refusals.Refusal.{Refusal}
@@ -20,19 +20,19 @@ AskFor [] [] = Unit {0}
 AskFor (line ∷ lines) (order ∷ orders) = (asked_by line ≡ Ok order) × (is_order order ≡ true) × AskFor lines orders
 AskFor lines orders = ⊥
 
--- the lines are orders that were posted together: no more than a flight takes
+-- the lines are orders that were posted together, at most as many as fit into a flight
 abbrev pub ArePosted : List Line → Type 0
 ArePosted lines = (length lines ≤ MAX_BATCH_STEPS) × ((orders : List Request) × AskFor lines orders)
 
--- a desk was asked one request after the other
+-- a desk got one request after the other
 abbrev pub AllAnswered : {D : Type 0} → (D → Request → Answer → D → Type 0) → D → List Request → List Answer → D → Type 0
 AllAnswered answers d [] [] e = e ≡ d
 AllAnswered {D} answers d (request ∷ requests) (a ∷ told) e = (f : D) × answers d request a f × AllAnswered answers f requests told e
 AllAnswered answers d requests told e = ⊥
 
--- `posts d r p e`: the desk d may post the order r as p, and then is e
+-- `posts d r p e`: the desk d may post the order r as p, and is e afterwards
 module _ {D P : Type 0} (posts : D → Request → P → D → Type 0) where
-  -- orders were posted, one behind the other
+  -- orders were posted, one after the other
   abbrev pub AllPosted : D → List Request → List P → D → Type 0
   AllPosted d [] [] e = e ≡ d
   AllPosted d (order ∷ orders) (p ∷ posted) e = (f : D) × posts d order p f × AllPosted f orders posted e
@@ -42,15 +42,15 @@ module _ {D P : Type 0} (posts : D → Request → P → D → Type 0) where
   abbrev pub AwaitReplies : D → List Line → List P → D → Type 0
   AwaitReplies d lines posted e = (orders : List Request) × AskFor lines orders × AllPosted d orders posted e
 
--- `replies d p r e`: the desk d may reply r to what was posted as p, and then is e
+-- `replies d p r e`: the desk d may reply r to the order posted as p, and is e afterwards
 module _ {D P : Type 0} (replies : D → P → Result Reply Refusal → D → Type 0) where
-  -- what was posted was replied to, each in turn
+  -- each posted order was replied to, in turn
   abbrev pub AllReplied : D → List P → List (Result Reply Refusal) → D → Type 0
   AllReplied d [] [] e = e ≡ d
   AllReplied d (p ∷ posted) (r ∷ results) e = (f : D) × replies d p r f × AllReplied f posted results e
   AllReplied d posted results e = ⊥
 
--- orders that were posted together and replied in turn were answered as by a desk that was asked one after the other
+-- orders that were posted together and replied to in turn were answered as if the desk had got one after the other
 abbrev pub AnswersInTurn : {D P : Type 0} → (D → Request → Answer → D → Type 0) → (D → Request → P → D → Type 0) → (D → P → Result Reply Refusal → D → Type 0) → Type 0
 AnswersInTurn {D} {P} answers posts replies =
     (d e f : D) (orders : List Request) (posted : List P) (results : List (Result Reply Refusal))

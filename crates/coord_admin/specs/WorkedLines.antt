@@ -1,4 +1,4 @@
--- Worked lines: what they ask for, and what is replied.
+-- Worked examples: lines with their requests and replies.
 use Rattle.std.specs.Prelude.{◌≡◌, [], ◌∷◌, codes, Some, None, Ok, Err}
 use Rattle.coord_types.specs.declared.messages.Mode.TheVariants as mode
 use Rattle.coord_types.specs.declared.steps.Command.TheVariants as command

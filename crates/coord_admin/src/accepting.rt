@@ -1,4 +1,4 @@
-//! What follows a failure to accept.
+//! How the server reacts to a failure to accept.
 
 ghost use Rattle.std.specs.Prelude.{◌≡◌};
 ghost use Rattle.std.specs.IoError.{error_kind, raw_os_error};
@@ -6,19 +6,19 @@ ghost use Rattle.coord_admin.specs.Accepting.{failure_in, failure_of, failure_of
 
 use std::io::{Error, ErrorKind};
 
-/// What a failure to accept asks for.
+/// The reaction to a failure to accept.
 #[derive(Clone, Copy)]
 pub enum Failure {
-    /// A connection has failed before it was accepted. The next one is waited for.
+    /// A connection failed before it was accepted: wait for the next one.
     OfClient,
-    /// Files or memory were short. It may pass.
+    /// Descriptors or memory ran out: retry.
     OfMeans,
-    /// The listener is of no use any more.
+    /// The listener failed permanently.
     OfListener,
 }
 
 impl Failure {
-    /// By the error's number, where the system has given it one, and else by its kind.
+    /// Decides by the error's number if the system gave it one, and else by its kind.
     pub fn of(error: &Error) -> Self
         ensures { result ≡ failure_of (raw_os_error error.now) (error_kind error.now) }
     {
@@ -50,7 +50,7 @@ impl Failure {
     }
 }
 
-/// By the numbers of Linux.
+/// Decides by the error numbers of Linux.
 fn numbered(code: u32) -> Failure
     ensures { result ≡ failure_in numbered code }
 {

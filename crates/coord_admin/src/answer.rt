@@ -7,16 +7,16 @@ use crate::fault::LineFault;
 use coord_types::{Refusal, Reply};
 use coord_view::View;
 
-/// What a line is answered, before it is written.
+/// The answer to a line, before it is written.
 #[derive(Drop)]
 pub enum Answer {
-    /// An order was accepted, now or before; this is its reply.
+    /// An order was accepted, now or earlier; this is its reply.
     Replied(Reply),
     /// The desk refused it.
     Refused(Refusal),
     /// The settled world.
     Shown(View),
-    /// The number of packets that were given out again.
+    /// The number of packets that were sent again.
     Resent(u64),
     /// The desk was closed.
     Closed,
@@ -25,7 +25,7 @@ pub enum Answer {
 }
 
 impl Answer {
-    /// Whether it is that the desk was closed.
+    /// Tests whether the desk was closed.
     pub fn is_closed(&self) -> bool
         ensures { result ≡ is_closed self.now }
     {

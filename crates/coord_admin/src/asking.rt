@@ -1,4 +1,4 @@
-//! Asking the desk what a line asks for.
+//! Passes the request of a line to the desk.
 
 ghost use Rattle.std.specs.Prelude.{◌≡◌};
 ghost use Rattle.coord_admin.specs.Replies.{order_answer, refused};
@@ -10,7 +10,7 @@ use crate::fault::LineFault;
 use crate::request::Request;
 use coord_types::{Refusal, Reply};
 
-/// The answer to what a line asks for, or to its fault, for which the desk is not asked.
+/// Returns the desk's answer to the request of a line, or the line's fault, without the desk.
 pub fn answer_to<D: Desk>(desk: &mut D, asked: Result<Request, LineFault>) -> Answer
     ensures { MayAnswer D.answers desk.old asked result desk.new }
 {
@@ -42,7 +42,7 @@ fn ask<D: Desk>(desk: &mut D, request: Request) -> Answer
     }
 }
 
-/// The answer to an order.
+/// Returns the answer to an order.
 pub fn order_answer(reply: Result<Reply, Refusal>) -> Answer
     ensures { result ≡ order_answer reply }
 {
@@ -52,7 +52,7 @@ pub fn order_answer(reply: Result<Reply, Refusal>) -> Answer
     }
 }
 
-/// A desk that found no memory is told as a fault of the line.
+/// If the desk ran out of memory, the answer is a fault of the line.
 fn refused(refusal: Refusal) -> Answer
     ensures { result ≡ refused refusal }
 {

@@ -1,4 +1,4 @@
-//! Those who call a server.
+//! The callers of a server.
 
 ghost use Rattle.std.specs.Prelude.{◌≡◌, List, [], ◌∷◌, ◌++◌, ℕ, ⊤, Result, Err, Ok, IfOk, OnErr};
 ghost use Rattle.coord_admin.specs.Connections.{Talk};
@@ -24,33 +24,33 @@ use std::{io, thread};
 pub trait Callers {
     type Line: Duplex + Drop;
 
-    /// Between two states of it these connections have ended, in order.
+    /// Between two states of the callers, these connections have ended, in order.
     ghost talked: { Self → List Talk → Self → Type 0 };
 
-    /// It was asked for the next client, who calls over this connection: nothing has come in or gone out over it
-    /// yet. Which connections have ended by then is known only once it is told that this one has.
+    /// The server asked for the next client and got this connection, over which nothing was read or written
+    /// yet. Which connections have ended by then is known only when this one has ended.
     ghost called: { Self → Self.Line → Self → Type 0 };
 
-    /// The callers were asked for the next client, or at which address they call, and could not say: no client
-    /// will come any more.
+    /// The server asked for the next client, or for the address, and the callers failed: no client
+    /// will come.
     ghost failed: { Self → Self → Type 0 } = { λ _ _. ⊤ };
 
-    /// The callers were told that this connection was served, and how that ended.
+    /// The server ended this connection, and said how it ended.
     ghost ended: { Self → Self.Line → Result Ended ServeFault → Self → Type 0 } = { λ _ _ _ _. ⊤ };
 
-    /// At which address they call.
+    /// Returns the address at which they call.
     fn address(&self) -> io::Result<SocketAddr>
         ensures unknown { OnErr result (failed self.now self.now) };
 
-    /// Waits for the next one. After an error no one comes any more.
+    /// Waits for the next client. After an error no client comes.
     fn next(&mut self) -> io::Result<Self::Line>
         ensures called { IfOk result (λ line. called self.old line self.new) }
         ensures failed { OnErr result (failed self.old self.new) }
         ensures none_ended { OnErr result (talked self.old [] self.new) };
 
-    /// Ends a connection that was served so: to the end of its input only where nothing more comes
-    /// in, and with a failed read or write only where one has failed. If it was ended from here, by a
-    /// close or a cut, its client is first given time to read the last answer.
+    /// Ends a served connection. It may be called finished only if nothing more comes
+    /// in, and failed only if a read or write has failed. If the server ended it, by a
+    /// close or a cut, its client first gets time to read the last answer.
     fn end(&mut self, line: Self::Line, served: Result<Ended, ServeFault>)
         requires input { served ≡ Ok Input → Self.Line.has_ended line }
         requires read { served ≡ Err Read → Self.Line.has_failed line }
@@ -66,15 +66,15 @@ pub trait Callers {
         talked a (some ++ more) c };
 }
 
-/// Whether a connection was closed or cut from here.
+/// Tests whether the server closed or cut a connection.
 fn ends_here(served: Result<Ended, ServeFault>) -> bool
     ensures { result ≡ ends_here served }
 {
     matches!(served, Ok(Ended::Closed | Ended::Cut))
 }
 
-/// The connections that a listener accepts, each with a bound on how long its client is waited for.
-/// Contracts see how long that is.
+/// The connections that a listener accepts, each with timeouts for its client.
+/// Contracts see the timeouts.
 #[derive(Drop)]
 pub struct Accepted<'a, L, T: Clock> {
     clock: &'a T,
@@ -114,8 +114,8 @@ impl<'a, S: Read + Write + OpenStream + Drop, L: OpenListener<Stream = S>, T: Cl
         self.listener.local_addr()
     }
 
-    /// A client that has left, or whose stream can't be made ready, is passed over. A failure that
-    /// may pass is tried again `ACCEPT_TRIES` times, `ACCEPT_REST_MILLIS` apart.
+    /// A client that has left, or whose stream cannot be made ready, is skipped. A temporary failure
+    /// is retried `ACCEPT_TRIES` times, `ACCEPT_REST_MILLIS` apart.
     fn next(&mut self) -> io::Result<TimedStream<'a, S, T>> {
         let mut tries = 0;
         for stream in self.listener.incoming() {

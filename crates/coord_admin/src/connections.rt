@@ -14,7 +14,7 @@ use std::alloc::Global;
 use std::io;
 use std::sync::Wait;
 
-/// Why those who call are served no more.
+/// The reason for which serving the callers ended.
 #[derive(Clone, Copy, Debug, PartialEq, Eq)]
 pub enum Stop {
     /// A line has closed the desk.
@@ -23,12 +23,12 @@ pub enum Stop {
     Old,
 }
 
-/// Serves those who call, one after the other, until a line closes the desk or its life is old: it
-/// keeps `most` steps then. A connection that is open at twice as many is cut, once its lines that
-/// have ended have their replies.
+/// Serves the callers one after the other, until a line closes the desk or its life is old: it
+/// then keeps `most` steps. A connection that is still open at twice as many is cut, once its complete
+/// lines have their replies.
 ///
-/// What befalls a connection ends that one alone. An error is that those who call have failed: no one
-/// comes any more, and the desk was not closed.
+/// A fault of a connection ends only that connection. An error means that the callers have failed: no client
+/// comes, and the desk was not closed.
 pub fn serve_connections<C: Callers, D: Desk, R: Wait>(
     rt: &R,
     alloc: Global,
@@ -58,7 +58,7 @@ pub fn serve_connections<C: Callers, D: Desk, R: Wait>(
     unreachable!()
 }
 
-/// Serves one connection, and ends it. Answers how it ended.
+/// Serves one connection, ends it, and returns how it ended.
 fn serve_connection<C: Callers, D: Desk>(
     alloc: Global,
     most: usize,
@@ -78,7 +78,7 @@ fn serve_connection<C: Callers, D: Desk>(
     ended
 }
 
-/// Whether a line closed the desk.
+/// Tests whether a line closed the desk.
 fn has_closed(ended: Result<Ended, ServeFault>) -> bool
     ensures { result ≡ has_closed ended }
 {

@@ -25,7 +25,7 @@ impl Model for CountDesk {
 }
 
 impl CountDesk {
-    /// A desk that has had so many orders.
+    /// Returns a desk that has counted this many orders.
     pub fn new(alloc: Global, count: u64) -> Self
         ensures { result ≡ count }
     {
@@ -33,7 +33,7 @@ impl CountDesk {
     }
 }
 
-/// An order that was counted, with its reply.
+/// A counted order, with its reply.
 pub struct Counted {
     reply: Result<Reply, Refusal>,
 }

@@ -1,4 +1,4 @@
-//! What stands behind the administration.
+//! The desk: the request handler of the administration.
 
 ghost use Rattle.std.specs.Prelude.{ℕ, Result};
 ghost use Rattle.coord_types.specs.declared.refusals.Refusal.{Refusal};
@@ -12,33 +12,33 @@ ghost use Rattle.coord_admin.specs.Replies.{order_answer, show_answer, resend_an
 use coord_types::{Client, Command, Refusal, Reply};
 use coord_view::View;
 
-/// What `serve` asks, as a trait. Its meaning is what it may answer to each request, and what it
-/// may be then.
+/// The handler that `serve` passes requests to. Its ghost members say which answers it may give to each request, and which
+/// states it may then be in.
 ///
-/// An order can be carried out in two halves: it is posted, and its reply is waited for. What is
-/// posted meanwhile changes no reply, so orders that are posted together and replied in turn are
-/// answered as one after the other (`laws::posted_together_answered_in_turn`).
+/// An order is carried out in two halves: the caller posts it, and waits for its reply. Orders that are
+/// posted meanwhile change no reply, so orders that are posted together and replied to in turn are
+/// answered as if they came one after the other (`laws::posted_together_answered_in_turn`).
 pub trait Desk {
-    /// An order that was posted and has no reply yet. It has to be spent, by `reply`.
+    /// A posted order without a reply yet. The caller must pass it to `reply`.
     type Posted;
 
-    /// What it may answer to a request, and what it may then be.
+    /// The answers that it may give to a request, and its states afterwards.
     ghost answers: { Self → Request → Answer → Self → Type 0 };
 
-    /// What a posted order may be kept as, and what the desk may be then.
+    /// The values that may represent a posted order, and the desk's states afterwards.
     ghost posts: { Self → Request → Self.Posted → Self → Type 0 };
 
-    /// What it may reply to a posted order, and what it may then be.
+    /// The replies that it may give to a posted order, and its states afterwards.
     ghost replies: { Self → Self.Posted → Result Reply Refusal → Self → Type 0 };
 
-    /// How many steps it may keep.
+    /// The numbers of steps that it may keep.
     ghost keeps: { Self → ℕ → Type 0 };
 
-    /// How many steps it keeps in memory. By these its life ends (`serve_connections`).
+    /// Returns the number of steps that it keeps in memory, which limits its life (`serve_connections`).
     fn kept(&self) -> usize
         ensures { keeps self.now result };
 
-    /// Submits a client's order, and waits for nothing.
+    /// Submits a client's order without waiting.
     fn post(&mut self, client: Client, number: u64, command: Command) -> Self::Posted
         ensures { posts self.old (request.Order client number command) result self.new };
 
@@ -55,15 +55,15 @@ pub trait Desk {
         self.reply(posted)
     }
 
-    /// Shows the settled world.
+    /// Returns the view of the settled world.
     fn show(&mut self) -> Result<View, Refusal>
         ensures { answers self.old request.Show (show_answer result) self.new };
 
-    /// Gives out again what may have been lost, and answers how many packets that were.
+    /// Sends again the packets that may have been lost, and returns their number.
     fn resend(&mut self) -> Result<u64, Refusal>
         ensures { answers self.old request.Resend (resend_answer result) self.new };
 
-    /// Is told that nothing more is asked.
+    /// Closes the desk: it gets no more requests.
     fn close(&mut self)
         ensures { answers self.old request.Close answer.Closed self.new };
 
@@ -71,13 +71,13 @@ pub trait Desk {
     ghost is_answered: { (a b c : Self) (r : Request) (p : Self.Posted) (x : Result Reply Refusal) →
         posts a r p b → replies b p x c → answers a r (order_answer x) c };
 
-    /// A law: what is replied to a posted order stays the same where another order is posted before
+    /// A law: the reply to a posted order does not change if another order is posted before
     /// the reply.
     ghost stays_apart: { (a b c : Self) (r : Request) (p q : Self.Posted)
         (x : Result Reply Refusal) → posts a r q b → replies b p x c →
         (m : Self) × replies a p x m × posts m r q c };
 
-    /// A law: of the steps that it may keep none is lost where a reply is waited for.
+    /// A law: waiting for a reply loses none of the steps that it may keep.
     ghost loses_none: { (a b : Self) (p : Self.Posted) (x : Result Reply Refusal) (kept : ℕ) →
         replies a p x b → keeps a kept → keeps b kept };
 }

@@ -1,4 +1,4 @@
-//! What lines are read from and replies are written to.
+//! The connection that lines are read from and replies are written to.
 
 ghost use Rattle.std.specs.Prelude.{◌≡◌, ◌<◌, ◌≤◌, ◌++◌, List, [], ℕ, Bool, ⊤, length, take, IfOk, OnErr, OnOk};
 ghost use Rattle.coord_lines.specs.Written.{IsFirstPart};
@@ -7,28 +7,28 @@ ghost use Rattle.coord_lines.specs.Written.{IsFirstPart};
 #[derive(Clone, Copy, Debug, PartialEq, Eq)]
 pub struct NotRead;
 
-/// A text could not be written whole, or not in time.
+/// A text could not be written completely, or not in time.
 #[derive(Clone, Copy, Debug, PartialEq, Eq)]
 pub struct NotWritten;
 
-/// A connection to one client: bytes come in, and replies go out. Code that is generic over it has
-/// to read and write through it, since no other call tells what came and what went.
+/// A connection to one client: requests come in, and replies go out. Code that is generic over it has
+/// to read and write through it, because no other call says which bytes were read and written.
 pub trait Duplex {
-    /// Between two states of it these bytes came in, and these went out.
+    /// Between two states of it, these bytes were read and these were written.
     ghost exchanged: { Self → List ℕ → List ℕ → Self → Type 0 };
 
     /// Nothing more comes in.
     ghost has_ended: { Self → Type 0 };
 
-    /// A read or a write of it has failed.
+    /// A read or a write has failed.
     ghost has_failed: { Self → Type 0 } = { λ _. ⊤ };
 
-    /// The connection was asked for what comes next, and told whether a line has begun.
+    /// The server tried to read, and said whether a line has begun.
     ghost asked: { Self → Bool → Self → Type 0 } = { λ _ _ _. ⊤ };
 
-    /// Reads what has come in next to the front of the buffer, and answers how many bytes that are;
-    /// 0 where nothing more comes. Whoever asks says whether a line has begun that has not ended,
-    /// since then the client has less time.
+    /// Reads the next bytes into the buffer, and returns their number,
+    /// 0 at the end of the input. The caller says whether a line has begun and not ended,
+    /// because the client then has less time.
     fn receive(&mut self, buffer: &mut [u8], is_within_line: bool) -> Result<usize, NotRead>
         ensures fits { IfOk result (λ n. n ≤ length buffer.new) }
         ensures length { length buffer.new ≡ length buffer.old }
@@ -37,12 +37,12 @@ pub trait Duplex {
         ensures failed { OnErr result (exchanged self.old [] [] self.new × has_failed self.new) }
         ensures asked { asked self.old is_within_line self.new };
 
-    /// Whether more has come in already, so that to take it waits for nothing.
+    /// Tests whether more input is already there, so that reading it does not wait.
     fn has_more(&self) -> bool {
         false
     }
 
-    /// Writes replies whole.
+    /// Writes replies completely.
     fn reply(&mut self, text: &[u8]) -> Result<(), NotWritten>
         ensures whole { OnOk result (exchanged self.old [] text.now self.new) }
         ensures part { OnErr result ((part : List ℕ) × exchanged self.old [] part self.new ×

@@ -1,4 +1,4 @@
-//! Why a line is answered by a fault, and why `serve` ends before its input.
+//! The faults of lines, and the faults that end `serve` before its input.
 
 ghost use Rattle.std.specs.Prelude.{◌≡◌, Some};
 ghost use Rattle.coord_admin.specs.Faults.{fault_name, fault_number};
@@ -11,28 +11,28 @@ use std::alloc::AllocError;
 use std::error::Error;
 use std::fmt;
 
-/// Why a line is not carried out, or has no other reply. The first that applies is told.
+/// The reason for which a line is not carried out, or has no other reply. The first that applies is reported.
 #[derive(Clone, Copy, Debug, PartialEq, Eq)]
 pub enum LineFault {
     /// The input ended before the line did.
     Unfinished,
     /// The line has more than 512 bytes.
     TooLong,
-    /// The line is no UTF-8.
+    /// The line is not valid UTF-8.
     BadText,
-    /// The line is no JSON that `serde_json` reads.
+    /// The line is not JSON that `serde_json` reads.
     BadJson,
-    /// The line is no object with a text as its `op`, or its members are not those of its `op`.
+    /// The line is not an object with a string as its `op`, or its members are not those of its `op`.
     BadRequest,
-    /// The line's `op` is none of those that there are.
+    /// The line's `op` does not exist.
     UnknownOp,
-    /// There was not enough memory. Perhaps the request was carried out: the same order with the
-    /// same number tells.
+    /// There was not enough memory. The request may have been carried out: repeat the order with the
+    /// same number to find out.
     OutOfMemory,
 }
 
 impl LineFault {
-    /// The reply line, for which no memory is needed.
+    /// Returns the reply line, which needs no memory.
     pub fn line(self) -> &'static str
         ensures { result.now ≡ reply_line (Faulted self) }
     {
@@ -48,7 +48,7 @@ impl LineFault {
     }
 }
 
-/// What ends a call of `serve` before the end of its input or a close.
+/// The faults that end a call of `serve` before the end of its input or a close.
 #[derive(Clone, Copy, Debug, PartialEq, Eq)]
 pub enum ServeFault {
     /// There was not enough memory to begin.
@@ -57,12 +57,12 @@ pub enum ServeFault {
     Read,
     /// A reply could not be written.
     Write,
-    /// The end of the input was not met within `MOST_READS` reads.
+    /// `MOST_READS` reads did not reach the end of the input.
     Turns,
 }
 
 impl ServeFault {
-    /// The fault's number, from 1 to 4.
+    /// Returns the fault's number, from 1 to 4.
     pub fn number(self) -> u8
         ensures { result ≡ fault_number self }
     {
@@ -74,7 +74,7 @@ impl ServeFault {
         }
     }
 
-    /// The fault's name, as it is printed.
+    /// Returns the fault's printed name.
     pub fn name(self) -> &'static str
         ensures { result.now ≡ fault_name self }
     {

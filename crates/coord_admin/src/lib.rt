@@ -1,12 +1,12 @@
 //! The administration of a reset coordinator: requests as lines of JSON, each with one reply line.
 //!
-//! `serve` reads lines from a `Duplex`, asks a `Desk`, and writes the replies. Its contract is the
-//! main theorem: each line that was read has its reply, in order, and nothing else is written.
-//! `specs/Requests.antt` says what a line asks for, `specs/Replies.antt` the replies, and
-//! `specs/Stream.antt` what `serve` writes to a whole text, over what its desk may answer.
-//! `serve_connections` does so for one connection after the other of those who call, until the life of
+//! `serve` reads lines from a `Duplex`, passes requests to a `Desk`, and writes the replies. Its contract is the
+//! main theorem: each line that was read gets its reply, in order, and nothing else is written.
+//! `specs/Requests.antt` defines the request of a line, `specs/Replies.antt` the replies, and
+//! `specs/Stream.antt` the output of `serve` for a whole text, given the answers that its desk may give.
+//! `serve_connections` serves one connection of its callers after the other, until the life of
 //! the desk is old (`specs/Connections.antt`, `specs/LifeLimit.antt`). `Halves` is a reader and a writer as one connection, `Accepted` the
-//! connections of a listener, with bounds on how long a client is waited for. `CountDesk` is a desk
+//! connections of a listener, with timeouts for each client. `CountDesk` is a desk
 //! that only counts.
 #![tactic(auto)]
 

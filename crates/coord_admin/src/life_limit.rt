@@ -1,4 +1,4 @@
-//! How long a life of a desk serves, by the steps that it keeps.
+//! How long a life of a desk serves, measured by the steps that it keeps.
 
 ghost use Rattle.std.specs.Prelude.{◌≡◌, ◌≢◌, ◌*◌, ◌<◌, ◌≤◌, [], Err, length, take, IfNone, IfOk, IfSome, OnErr};
 ghost use Rattle.coord_admin.specs.LifeLimit.{HasKept, HasKeptFewer, IsAge};
@@ -9,14 +9,14 @@ use crate::desk::Desk;
 use crate::duplex::{Duplex, NotRead};
 use std::io;
 
-/// How old a life is.
+/// The age of a life.
 #[derive(Clone, Copy)]
 pub enum Age {
-    /// Connections begin.
+    /// New connections are accepted.
     Young,
-    /// No connection begins any more.
+    /// No new connection is accepted.
     Old,
-    /// Nothing more is read from the open connection either.
+    /// The open connection is not read either.
     Over,
 }
 
@@ -33,7 +33,7 @@ fn age_of(most: usize, kept: usize) -> Age
     }
 }
 
-/// Waits for the next one who calls, as long as the desk's life is young. None once it is old.
+/// Waits for the next caller while the desk's life is young. Returns None once it is old.
 pub fn next_in_life<C: Callers, D: Desk>(
     most: usize,
     callers: &mut C,
@@ -55,16 +55,16 @@ pub fn next_in_life<C: Callers, D: Desk>(
     }
 }
 
-/// Why nothing more was read from a connection.
+/// The reason for which nothing more was read from a connection.
 #[derive(Clone, Copy)]
 pub enum Unread {
-    /// What comes next could not be read.
+    /// The next bytes could not be read.
     Failed,
     /// The life of the desk is over.
     Over,
 }
 
-/// Reads what has come in, as [`Duplex::receive`] does, as long as the desk's life is not over.
+/// Reads input like [`Duplex::receive`], as long as the desk's life is not over.
 pub fn receive_in_life<C: Duplex, D: Desk>(
     most: usize,
     connection: &mut C,

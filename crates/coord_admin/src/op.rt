@@ -8,7 +8,7 @@ use crate::request::Request;
 use coord_types::{Command, Identifier};
 use serde_json::Value;
 
-/// What a request names by its `op`.
+/// The `op` of a request.
 #[derive(Clone, Copy)]
 pub enum Op {
     Add,
@@ -23,7 +23,7 @@ pub enum Op {
 }
 
 impl Op {
-    /// The op of this name.
+    /// Returns the op of this name.
     pub fn named(name: &str) -> Option<Op>
         ensures { result ≡ op_named name.now }
     {
@@ -41,7 +41,7 @@ impl Op {
         }
     }
 
-    /// How many members a request of this op has beside its `op`.
+    /// Returns the number of members that a request of this op has besides its `op`.
     pub fn member_count(self) -> usize
         ensures { result ≡ length (members_of self) }
     {
@@ -52,7 +52,7 @@ impl Op {
         }
     }
 
-    /// The request that these members make; None where one of them is missing, no whole number, or
+    /// Returns the request that these members make; None if one of them is missing, is not a whole number, or is
     /// out of its range.
     pub fn request(self, members: &Value) -> Option<Request>
         ensures { result ≡ request_by self (view members.now) }
@@ -96,7 +96,7 @@ impl Op {
     }
 }
 
-/// The whole number at a key, which is any u64.
+/// Returns the whole number at a key: any u64.
 fn number_at(members: &Value, key: &str) -> Option<u64>
     ensures { result ≡ number_at key.now (view members.now) }
 {

@@ -1,37 +1,37 @@
-//! How long a client is waited for.
+//! The timeouts of a client.
 
 ghost use Rattle.coord_admin.specs.Times.{IsUsual};
 
 use std::time::Duration;
 
-/// Within how many seconds from its first byte a line has to end. What the server takes to answer
+/// The number of seconds from its first byte within which a line has to end. The time that the server takes to answer
 /// the lines before it is not counted.
 pub const LINE_SECONDS: u64 = 10;
 
-/// Within how many seconds in all a client has to take a reply, once it is ready.
+/// The number of seconds within which a client has to take a reply, once it is ready.
 pub const REPLY_SECONDS: u64 = 10;
 
-/// For how many seconds a client may say nothing between two lines.
+/// The number of seconds that a client may be silent between two lines.
 pub const SILENCE_SECONDS: u64 = 15;
 
-/// For how many seconds a connection may last. It is looked at between lines alone, so that no reply
+/// The number of seconds that a connection may last. It counts only between lines, so that no reply
 /// that waits for its step is cut off.
 pub const CONNECTION_SECONDS: u64 = 600;
 
-/// Behind a close, for how many milliseconds in all what the client has sent is discarded, so that
+/// After a close, the number of milliseconds for which the client's input is discarded, so that
 /// it can still read the answer.
 pub const DISCARD_MILLIS: u64 = 1_000;
 
-/// Behind a close, the most reads of what the client has sent, of 512 bytes each.
+/// After a close, the maximum number of reads of the client's input, of 512 bytes each.
 pub const DISCARD_READS: u64 = 128;
 
-/// How often in turn a failure to accept that may pass is tried again.
+/// The number of times that a temporary failure to accept is retried in a row.
 pub const ACCEPT_TRIES: u64 = 100;
 
-/// After how many milliseconds `accept` is tried again.
+/// The number of milliseconds between two attempts to accept.
 pub const ACCEPT_REST_MILLIS: u64 = 100;
 
-/// How long a client is waited for, for each thing that it does.
+/// The timeouts of a client, for each of its actions.
 #[derive(Clone, Copy, Debug, PartialEq, Eq, Drop)]
 pub struct Patience {
     pub line: Duration,
@@ -43,7 +43,7 @@ pub struct Patience {
 }
 
 impl Patience {
-    /// By the constants above.
+    /// Returns the timeouts of the constants above.
     pub fn usual() -> Self
         ensures { IsUsual result }
     {

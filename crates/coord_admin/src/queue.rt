@@ -1,4 +1,4 @@
-//! Orders that were posted and wait for their replies.
+//! Posted orders that wait for their replies.
 
 ghost use Rattle.std.specs.Prelude.{◌≡◌, ◌+◌, ◌<◌, ◌≤◌, ◌++◌, ◌∷◌, false, true, [], List, ℕ, map, IfOk, OnErr, OnOk, Result, nat_lt, vec_capacity, vec_len};
 ghost use Rattle.std.specs.VecDeque.{deque_capacity, deque_len};
@@ -21,11 +21,11 @@ use coord_types::MAX_BATCH_STEPS;
 use std::alloc::{AllocError, Global};
 use std::collections::VecDeque;
 
-/// Orders that were posted and have no replies yet, no more than a flight takes. It takes its memory
+/// Posted orders without replies yet, at most as many as fit into a flight. It allocates its memory
 /// when it is made.
 pub struct Queue<D: Desk> {
     pub(crate) posted: VecDeque<D::Posted>,
-    /// Room for their answers. It is empty but while they are written.
+    /// Room for their answers. It is empty except while they are written.
     answers: Vec<Answer>,
     ghost few: { deque_len posted ≤ MAX_BATCH_STEPS },
     ghost has_room: { (MAX_BATCH_STEPS ≤ deque_capacity posted) ×
@@ -33,7 +33,7 @@ pub struct Queue<D: Desk> {
 }
 
 impl<D: Desk> Queue<D> {
-    /// Without an order.
+    /// Returns an empty queue.
     pub fn new(alloc: Global) -> Result<Self, AllocError>
         ensures { IfOk result (λ queue. queue.posted.items ≡ []) }
     {
@@ -42,7 +42,7 @@ impl<D: Desk> Queue<D> {
         Ok(Queue { posted, answers })
     }
 
-    /// Is let go, where no order waits for its reply. Nothing is left of which a clause could speak.
+    /// Drops an empty queue. Nothing is left of which a clause could speak.
     pub fn destroy(self)
         requires { self.posted.items ≡ [] }
     {
@@ -67,14 +67,14 @@ impl<D: Desk> Queue<D> {
         }
     }
 
-    /// Whether they are fewer than a flight takes.
+    /// Tests whether another order fits.
     fn has_room(&self) -> bool
         ensures { result ≡ nat_lt (deque_len self.now.posted) MAX_BATCH_STEPS }
     {
         self.posted.len() < MAX_BATCH_STEPS
     }
 
-    /// Answers all, unless more has come already and there is room for its orders.
+    /// Answers all orders, unless more input is already there and has room in the queue.
     pub fn answer_unless_more<C: Duplex>(
         &mut self,
         more: bool,
@@ -101,8 +101,8 @@ impl<D: Desk> Queue<D> {
         self.answer_all(alloc, connection, desk)
     }
 
-    /// Waits for the reply to each order, in turn, and writes the replies. Where they can't be
-    /// written, all of them were waited for all the same.
+    /// Waits for the reply to each order, in turn, and writes the replies. Even if they cannot be
+    /// written, it waits for all of them.
     pub fn answer_all<C: Duplex>(
         &mut self,
         alloc: Global,

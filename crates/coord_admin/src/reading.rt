@@ -1,4 +1,4 @@
-//! The reading of a line.
+//! Reads a line.
 
 ghost use Rattle.std.specs.Prelude.{◌≡◌, ◌≢◌, Err, Some};
 ghost use Rattle.std.specs.Option.{option_copied};
@@ -15,7 +15,7 @@ use serde_json::Value;
 use std::alloc::Global;
 use std::str;
 
-/// What a line asks for, or its fault. A line over the limit is None.
+/// Returns the request of a line, or its fault. A line over the limit is None.
 pub fn read_line(alloc: Global, line: Option<&[u8]>) -> Result<Request, LineFault>
     ensures value { result ≢ Err OutOfMemory → result ≡ asked_by (option_copied line.entry) }
     ensures memory { result ≡ Err OutOfMemory → IsText (option_copied line.entry) }
@@ -65,7 +65,7 @@ fn read_request(value: &Value) -> Result<Request, LineFault>
     }
 }
 
-/// How many members an object has; anything else has none.
+/// Returns the number of an object's members, 0 for any other value.
 fn member_count(value: &Value) -> usize
     ensures { result ≡ member_count (view value.now) }
 {

@@ -11,7 +11,7 @@ use coord_view::{LinkView, NodeView, View};
 use serde_json::{Value, json};
 use std::alloc::{AllocError, Global};
 
-/// The line of an order's reply.
+/// Returns the line of an order's reply.
 pub fn replied(alloc: Global, reply: Reply) -> Result<String, AllocError>
     ensures { IfOk result (λ line. string_bytes line ≡ reply_line (answer.Replied reply)) }
 {
@@ -21,7 +21,7 @@ pub fn replied(alloc: Global, reply: Reply) -> Result<String, AllocError>
     )
 }
 
-/// The line of a refusal.
+/// Returns the line of a refusal.
 pub fn refused(alloc: Global, refusal: Refusal) -> Result<String, AllocError>
     ensures { IfOk result (λ line. string_bytes line ≡ reply_line (answer.Refused refusal)) }
 {
@@ -31,14 +31,14 @@ pub fn refused(alloc: Global, refusal: Refusal) -> Result<String, AllocError>
     )
 }
 
-/// The line of packets that were given out again.
+/// Returns the line for packets that were sent again.
 pub fn resent(alloc: Global, count: u64) -> Result<String, AllocError>
     ensures { IfOk result (λ line. string_bytes line ≡ reply_line (answer.Resent count)) }
 {
     line_of(alloc, &json!(in alloc; {"count": count, "kind": "resent"})?)
 }
 
-/// The line of a world that is shown.
+/// Returns the line of a view.
 pub fn shown(alloc: Global, world: &View) -> Result<String, AllocError>
     ensures { IfOk result (λ line. string_bytes line ≡ reply_line (answer.Shown world.now)) }
 {

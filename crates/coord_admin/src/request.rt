@@ -1,4 +1,4 @@
-//! What a line asks for.
+//! The requests of lines.
 
 ghost use Rattle.std.specs.Prelude.{◌≡◌};
 ghost use Rattle.coord_admin.specs.Together.{is_order};
@@ -10,16 +10,16 @@ use coord_types::{Client, Command};
 pub enum Request {
     /// A client's order with its number, which is any u64.
     Order(Client, u64, Command),
-    /// To show the settled world.
+    /// Show the settled world.
     Show,
-    /// To give out again what may have been lost.
+    /// Send again the packets that may have been lost.
     Resend,
-    /// To close the desk.
+    /// Close the desk.
     Close,
 }
 
 impl Request {
-    /// Whether it is an order.
+    /// Tests whether it is an order.
     pub fn is_order(&self) -> bool
         ensures { result ≡ is_order self.now }
     {

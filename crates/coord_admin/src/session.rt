@@ -1,4 +1,4 @@
-//! Lines read from a connection, each answered to it.
+//! Serves one connection: reads lines and replies to each.
 
 ghost use Rattle.std.specs.Prelude.{◌≡◌, ◌*◌, ◌++◌, ◌∷◌, ◌<◌, [], length, List, ℕ, Err, Ok, OnOk, OnErr, IfOk, IfSome, IfNone, true, false, vec_len};
 ghost use Rattle.std.specs.Option.{option_copied};
@@ -25,33 +25,33 @@ use crate::writing::write_answer;
 use coord_lines::{LineBuffer, MOST_READS};
 use std::alloc::{AllocError, Global};
 
-/// The most bytes that one read asks for.
+/// The maximum number of bytes of one read.
 const READ_LEN: usize = 512;
 
-/// How a call of `serve` ends well.
+/// How a successful call of `serve` ends.
 #[derive(Clone, Copy, Debug, PartialEq, Eq)]
 pub enum Ended {
     /// The input has ended.
     Input,
-    /// A line has closed the desk. What stands behind it is not answered.
+    /// A line has closed the desk. The lines after it are not answered.
     Closed,
     /// The life of the desk is over. Nothing more was read.
     Cut,
 }
 
 /// Reads lines from a connection up to the end of its input or a line that closes the desk, and
-/// writes to each its reply, before anything more is waited for.
+/// writes the reply to each before it waits for more input.
 ///
-/// Orders that have come in already are posted one behind the other, no more than a flight takes, and
-/// their replies are written together once all are there. Any other line is answered behind those
+/// Orders that have already arrived are posted one after the other, at most as many as fit into a flight, and
+/// their replies are written together once all are there. Any other line is answered after the lines
 /// before it.
 ///
-/// It reads no more once the desk keeps twice `most` steps.
+/// It stops reading once the desk keeps twice `most` steps.
 ///
-/// Each line that was read has its reply, in order, and nothing else is written; for want of memory
-/// a line may be told so in place of its answer. `OutOfMemory` comes before anything is read, `Turns`
+/// Each line that was read gets its reply, in order, and nothing else is written; if memory runs out,
+/// the reply may say so instead. `OutOfMemory` is returned before anything is read, `Turns`
 /// after `MOST_READS` reads, and `Read` and `Write` with a failed read and write. What the desk
-/// accepted until then stays accepted; of orders that were posted together, all may be where the
+/// accepted until then stays accepted; of orders that were posted together, all may have been accepted if the
 /// reply to one was not written.
 pub fn serve<C: Duplex, D: Desk>(
     alloc: Global,
@@ -80,7 +80,7 @@ pub fn serve<C: Duplex, D: Desk>(
     ended
 }
 
-/// What `serve` takes of memory before it reads: a buffer, and a queue without orders.
+/// Allocates what `serve` needs before it reads: a buffer, and an empty queue.
 fn room<D: Desk>(alloc: Global) -> Result<(Vec<u8>, Queue<D>), AllocError>
     ensures buffer { IfOk result (λ room. 0 < vec_len room.0) }
     ensures queue { IfOk result (λ room. room.1.posted.items ≡ []) }
@@ -90,7 +90,7 @@ fn room<D: Desk>(alloc: Global) -> Result<(Vec<u8>, Queue<D>), AllocError>
     Ok((buffer, queue))
 }
 
-/// Reads into a buffer, as often as `serve` may.
+/// Reads into a buffer, at most `MOST_READS` times.
 fn serve_lines<C: Duplex, D: Desk>(
     alloc: Global,
     most: usize,
@@ -138,7 +138,7 @@ fn serve_lines<C: Duplex, D: Desk>(
     Err(ServeFault::Turns)
 }
 
-/// Whether the line has a byte.
+/// Tests whether the line has a byte.
 fn has_begun(line: &LineBuffer) -> bool
     ensures { result ≡ has_begun line.now }
 {
@@ -148,8 +148,8 @@ fn has_begun(line: &LineBuffer) -> bool
     }
 }
 
-/// Takes a piece of the input: each line that it ends is posted, or answered behind those that
-/// were. Whether one closed the desk.
+/// Handles a piece of the input: each line that it completes is posted, or answered after the lines that
+/// were. Returns whether one closed the desk.
 fn take<C: Duplex, D: Desk>(
     alloc: Global,
     queue: &mut Queue<D>,
@@ -189,8 +189,8 @@ fn take<C: Duplex, D: Desk>(
     Ok(false)
 }
 
-/// Posts the order of a line that a line feed ended, or answers it behind those that were posted.
-/// Whether it closed the desk.
+/// Posts the order of a complete line, or answers the line after those that were posted.
+/// Returns whether it closed the desk.
 fn end_line<C: Duplex, D: Desk>(
     alloc: Global,
     queue: &mut Queue<D>,
@@ -233,7 +233,7 @@ fn end_line<C: Duplex, D: Desk>(
     }
 }
 
-/// The order that a line asks for, if it is one.
+/// Returns the order of a line, if it is one.
 fn order_of(asked: &Result<Request, LineFault>) -> Option<Request>
     ensures some { IfSome result (λ order. (asked.now ≡ Ok order) × (is_order order ≡ true)) }
     ensures none { IfNone result (IfOk asked.now (λ request. is_order request ≡ false)) }
@@ -244,7 +244,7 @@ fn order_of(asked: &Result<Request, LineFault>) -> Option<Request>
     }
 }
 
-/// Ends the input. A last line that no line feed ended is unfinished, if it has a byte.
+/// Handles the end of the input. A last line without a line feed is unfinished if it has a byte.
 fn finish<C: Duplex>(line: &LineBuffer, connection: &mut C) -> Result<(), NotWritten>
     ensures printed { OnOk result
         (C.exchanged connection.old [] (reply_lines (last_answers line.now)) connection.new) }

@@ -1,4 +1,4 @@
-//! A connection over a socket, with bounds on how long its client is waited for.
+//! A connection over a socket, with timeouts for its client.
 
 ghost use Rattle.std.specs.Prelude.{◌≡◌, ◌≤◌, ⊤, length, IfOk};
 
@@ -10,8 +10,8 @@ use std::io::{ErrorKind, Read, Write};
 use std::net::{OpenStream, Shutdown};
 use std::time::{Clock, Duration, Instant};
 
-/// A stream whose reads and writes wait no longer than its patience allows. No clause can say which
-/// bytes a socket gives and takes: so whoever reads and writes through it is generic over
+/// A stream whose reads and writes wait no longer than its timeouts allow. No clause can say which
+/// bytes a socket gives and takes: so its users are generic over
 /// [`Duplex`].
 #[derive(Drop)]
 pub struct TimedStream<'a, S, T: Clock> {
@@ -19,16 +19,16 @@ pub struct TimedStream<'a, S, T: Clock> {
     stream: S,
     patience: Patience,
     opened: Instant,
-    /// Since when the end of a line is waited for.
+    /// When it began to wait for the end of a line.
     line_begun: Option<Instant>,
-    /// How long a read and a write wait, as the system was told last.
+    /// The timeouts of reads and writes, as last set in the system.
     read_wait: Option<Duration>,
     write_wait: Option<Duration>,
-    /// Whether the last read filled its buffer: only then more may have been there.
+    /// Whether the last read filled its buffer; only then may more input be there.
     has_filled: bool,
 }
 
-/// How much of a span of time is left since its start; None once it is over.
+/// Returns the rest of a span of time since its start; None if it is over.
 fn left<T: Clock>(clock: &T, start: Instant, span: Duration) -> Option<Duration> {
     let passed = start.elapsed(clock).ok()?;
     match span.checked_sub(passed) {
@@ -37,8 +37,8 @@ fn left<T: Clock>(clock: &T, start: Instant, span: Duration) -> Option<Duration>
     }
 }
 
-/// Reads what comes within a span of time. A wait that is interrupted, as by a stop of the process,
-/// goes on for what is left of the span.
+/// Reads input within a span of time. If the wait is interrupted, for example by a stop of the process,
+/// it continues for the rest of the span.
 fn read_within<S: Read + OpenStream, T: Clock>(
     clock: &T,
     stream: &mut S,
@@ -72,7 +72,7 @@ fn read_within<S: Read + OpenStream, T: Clock>(
 }
 
 impl<'a, S: Read + Write + OpenStream + Drop, T: Clock> TimedStream<'a, S, T> {
-    /// Over a stream whose writes go out at once.
+    /// Makes a connection over a stream that sends writes at once.
     pub fn new(clock: &'a T, stream: S, patience: Patience) -> io::Result<Self>
         ensures { IfOk result (λ line. line.patience ≡ patience) }
     {
@@ -90,8 +90,8 @@ impl<'a, S: Read + Write + OpenStream + Drop, T: Clock> TimedStream<'a, S, T> {
         })
     }
 
-    /// How long the next bytes are waited for. The time of the whole connection is looked at only
-    /// before a line, or where a line has just begun.
+    /// Returns the timeout of the next read. The limit of the whole connection counts only
+    /// before a line, or when a line has just begun.
     fn waits(&mut self, is_within_line: bool) -> Option<Duration> {
         if !is_within_line {
             self.line_begun = None;
@@ -110,9 +110,9 @@ impl<'a, S: Read + Write + OpenStream + Drop, T: Clock> TimedStream<'a, S, T> {
         left(self.clock, begun, self.patience.line)
     }
 
-    /// Says that no more goes out, and discards what comes in, for a while: a connection that is
-    /// closed before all was read may lose what its client has not read yet. What is read then no clause
-    /// can say.
+    /// Shuts down writing, and discards input for a while: if a connection is
+    /// closed before its input was read, its client may lose bytes that it has not read yet. No clause can say which
+    /// bytes these reads return.
     pub fn discard(&mut self)
         ensures { self.new.patience ≡ self.old.patience }
     {
@@ -149,7 +149,7 @@ impl<'a, S: Read + Write + OpenStream + Drop, T: Clock> Duplex for TimedStream<'
         let read = read_within(self.clock, &mut self.stream, told, buffer, wait);
         self.has_filled = read == Ok(buffer.len());
         if let Ok(count) = read {
-            // what a line leaves behind its line feed is another line, which has its own time
+            // bytes after a line feed belong to another line, which has its own timeout
             if buffer[..count].contains(&b'\n') {
                 self.line_begun = None;
             }
@@ -157,8 +157,8 @@ impl<'a, S: Read + Write + OpenStream + Drop, T: Clock> Duplex for TimedStream<'
         read
     }
 
-    /// Looks without waiting, unless the last read has shown that nothing is there. A stream that can't
-    /// be made to wait again fails at the next read.
+    /// Checks without waiting, unless the last read has shown that nothing is there. If a stream cannot
+    /// be made blocking again, its next read fails.
     fn has_more(&self) -> bool {
         if !self.has_filled || self.stream.set_nonblocking(true).is_err() {
             return false;

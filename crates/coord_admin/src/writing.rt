@@ -1,4 +1,4 @@
-//! Writing of replies.
+//! Writes replies.
 
 ghost use Rattle.std.specs.Prelude.{◌≡◌, ◌++◌, [], List, ℕ, OnErr, OnOk};
 ghost use Rattle.coord_lines.specs.Written.{IsFirstPart};
@@ -12,13 +12,13 @@ use crate::fault::LineFault;
 use crate::replies::{refused, replied, resent, shown};
 use std::alloc::{AllocError, Global};
 
-/// The reply line of a desk that was closed.
+/// The reply line of a close.
 const CLOSED_LINE: &str = "{\"kind\":\"closed\"}\n";
 
 /// A reply line.
 #[derive(Drop)]
 pub enum ReplyLine {
-    /// One that takes no memory.
+    /// A line that needs no memory.
     Fixed(&'static str),
     Made(String),
 }
@@ -34,7 +34,7 @@ impl ReplyLine {
     }
 }
 
-/// Writes the reply line of an answer, or else that there was no memory for it.
+/// Writes the reply line of an answer, or the line for out of memory if it cannot be made.
 pub fn write_answer<C: Duplex>(
     alloc: Global,
     connection: &mut C,
@@ -50,7 +50,7 @@ pub fn write_answer<C: Duplex>(
     connection.reply(line.as_bytes())
 }
 
-/// Writes the reply lines of answers in order, in one write where there is memory for that.
+/// Writes the reply lines of answers in order, in one write if there is memory for that.
 pub fn write_answers<C: Duplex>(
     alloc: Global,
     connection: &mut C,
@@ -73,7 +73,7 @@ pub fn write_answers<C: Duplex>(
     connection.reply(&text)
 }
 
-/// Adds a line to a text that is to be written. Where there is no memory for that, it writes the
+/// Appends a line to a text that is to be written. If memory runs out, it writes the
 /// text and then the line.
 fn add_line<C: Duplex>(
     connection: &mut C,
@@ -98,7 +98,7 @@ fn add_line<C: Duplex>(
     connection.reply(line)
 }
 
-/// That the desk was closed, and each fault, is told without memory.
+/// The reply to a close and the reply for a fault need no memory.
 fn line_of_answer(alloc: Global, answer: &Answer) -> ReplyLine
     ensures { (told : Answer) × IsWritten answer.now told × (line_bytes result ≡ reply_line told) }
 {
