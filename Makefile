@@ -15,19 +15,19 @@ help:
 	@echo 'make services  tries what services rest on: restores, members that come again, a work queue, torn and lost lines, 64 members, messages'
 	@echo 'make build     proves every crate, and leaves the program at bin/resetd; nothing is proved again while that is newer than every source'
 	@echo 'make lib       proves the members'"'"' library for C and other languages, and leaves it in lib/: libresetd_member.a, .so, its header and a file for pkg-config'
-	@echo 'make test      the gate: every crate from nothing (some kits keep what passed here before), the must-fail edits, every test and both programs, then make program; it leaves the program at bin/resetd too'
-	@echo 'make program   tries the program as people run it (tests/), over a trial build of it, in some minutes'
+	@echo 'make test      what every change has to pass: every crate is proved from nothing (some kits keep what passed here before), the must-fail edits, the program, then make program; it leaves the program at bin/resetd too'
+	@echo 'make program   runs the tests of the crates and of the program as people run it (tests/), over trial builds, in some minutes'
 	@echo 'make load      the same ten times on a busy machine, where none may fail (TIMES=N for N)'
-	@echo 'make refusals  tries the other wrong bodies, which the prover has to refuse (CRATE=NAME for one crate)'
+	@echo 'make refusals  tries the mutants, which the prover has to refuse (CRATE=NAME for one crate)'
 	@echo 'make bench     measures the drill, its parts, the store, the ledger, the engine and the server, and writes the tables of docs/MEASURES.md'
 	@echo 'make soak      kills a coordinator 200 times and 50 migrations, and looks for what was lost (ROUNDS=N for N kills)'
 	@echo 'make lives     a trial build whose lives are short, which change in the midst of resets: kills it there 100 times (ROUNDS=N)'
 	@echo 'make takeover  a coordinator on a replicated volume of three hosts, each in namespaces; hosts and bricks are lost'
 	@echo 'make sweep     refuses each allocation of every test and of the programs in turn, for 12 seconds each (EACH=N for N, 0 for all)'
-	@echo 'make nightly   what is too long for the gate (soak, lives, services, load, takeover, sweep, refusals), with a line for each in docs/nightly.tsv'
+	@echo 'make nightly   what is too long for make test (soak, lives, services, load, takeover, sweep, refusals), with a line for each in docs/nightly.tsv'
 	@echo 'make install   copies the program, resetctl, the client library, examples, documents and manual pages below PREFIX (/usr/local); make uninstall takes them away (with PROGRAM=bin/resetd-trial the trial build)'
 	@echo 'make deb       builds a Debian package of all that with dpkg-deb'
-	@echo 'make release   makes what a release has in dist/, of the file GATE into which make test has printed (without one of the trial build)'
+	@echo 'make release   makes what a release has in dist/, of the file LOG into which make test has printed (without one of the trial build)'
 	@echo 'make help      prints this'
 
 demo:
@@ -153,7 +153,7 @@ deb: $(PROGRAM)
 	@PROGRAM=$(PROGRAM) tools/deb
 
 release:
-	@tools/release $(or $(GATE),--trial)
+	@tools/release $(or $(LOG),--trial)
 
 bin/resetd:
 	@echo 'there is no proved program yet: make build makes it in some 30 minutes.' >&2

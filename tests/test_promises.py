@@ -21,7 +21,7 @@ class Copied(Case):
     def copy(self) -> pathlib.Path:
         """A copy of what the list is made of."""
         copy = pathlib.Path(self.folder) / "repository"
-        for part in ("crates.txt", "docs/PROMISES.md", "docs/names.txt", "docs/promises.lock", "tools/names", "tools/promises"):
+        for part in ("crates.txt", "docs/PROMISES.md", "docs/names.txt", "docs/retired.txt", "docs/promises.lock", "tools/names", "tools/promises"):
             (copy / part).parent.mkdir(parents=True, exist_ok=True)
             shutil.copy(f"{ROOT}/{part}", copy / part)
         for part in ("refusals", "tools/statements"):
@@ -238,3 +238,14 @@ class Names(Copied):
         self.assertEqual(status, 1, said)
         self.assertIn("docs/names.txt: next_size is no double any more", said)
         self.assertIn("docs/names.txt: next_size has no reason", said)
+
+    def test_a_retired_term_is_refused(self) -> None:
+        copy = self.copy()
+        with open(copy / "docs/retired.txt", "a", encoding="utf-8") as retired:
+            retired.write("crates\t(?i)\\bthingum\\w*\tthe thing's name\ndocs\tnowhere\tnothing\n")
+        self.assertEqual(self.compare(copy, "names")[0], 0)
+        with open(copy / CONNECTIONS, "a", encoding="utf-8") as specs:
+            specs.write("-- A Thingummy.\n")
+        status, said = self.compare(copy, "names")
+        self.assertEqual(status, 1, said)
+        self.assertRegex(said, r"Connections\.antt:\d+: Thingummy: write the thing's name \(docs/retired\.txt\)")

@@ -1,5 +1,8 @@
 """In which function of a source file a wrong body stands, and how the environment chooses one of many."""
 
+import glob
+import importlib.machinery
+import importlib.util
 import os
 import sys
 
@@ -10,6 +13,12 @@ sys.path.insert(0, f"{ROOT}/refusals")
 import choice  # noqa: E402
 from catalogue import Body, Exchange  # noqa: E402
 from places import function_at, is_of_trait  # noqa: E402
+
+loader = importlib.machinery.SourceFileLoader("plants", f"{ROOT}/refusals/plant")
+spec = importlib.util.spec_from_loader("plants", loader)
+assert spec
+plants = importlib.util.module_from_spec(spec)
+loader.exec_module(plants)
 
 
 class Heads(Case):
@@ -112,3 +121,45 @@ fn next_right(count: u64, of: &[(u64, u64)]) -> Option<u64>
             self.folder = f"{self.folder}/{number}"
             with self.subTest(old), self.assertRaisesRegex(choice.Unfit, "low/body_"):
                 self.plant((old, new))
+
+
+class Planted(Case):
+    """What `rt plant` lets through, beside the reviewed list."""
+
+    TEXT = """proves      src/book.rt:41 OrderBook::hear: { None }
+proves      src/book.rt:60 OrderBook::line: { first(book, 0) }  (and in 2 more impls)
+no-ensures  src/meaning.rt:8 name
+note: some plants may not have been tried: raise --max or --minutes, or give --only
+plants crate=low planted-in=3 untested=0 no-ensures=1 proves=2 same=0 refused=7 elsewhere=0 not-judged=0 not-source=1 not-run=0
+"""
+
+    def test_what_is_let_through(self) -> None:
+        found = plants.let_through("low", self.TEXT)
+        self.assertEqual(found, [("low", "src/book.rt OrderBook::hear", "{ None }"),
+                                 ("low", "src/book.rt OrderBook::line", "{ first(book, 0) }"),
+                                 ("low", "src/meaning.rt name", "any body")])
+
+    def test_what_the_list_does_not_have_is_new(self) -> None:
+        found = plants.let_through("low", self.TEXT)
+        known = {found[0]: "it means the same", plants.Mutant("low", "src/meaning.rt name", "*"): "no promise",
+                 plants.Mutant("low", "src/old.rt gone", "{ 0 }"): "none"}
+        self.assertEqual(plants.compare(found, known, "low", True), ([found[1]], [plants.Mutant("low", "src/old.rt gone", "{ 0 }")]))
+        self.assertEqual(plants.compare(found, known, "low", False), ([found[1]], []))
+
+    def test_each_mutant_of_the_list_has_a_reason(self) -> None:
+        self.assertTrue(all(plants.reviewed(plants.LIST).values()))
+
+
+class OfCi(Case):
+    """The edits that CI tries."""
+
+    def test_a_crate_has_at_most_two_each_of_which_stands_for_a_promise(self) -> None:
+        with open(f"{ROOT}/docs/PROMISES.md", encoding="utf-8") as promises:
+            rows = {line.split("|")[1].strip() for line in promises if line.startswith("| ")}
+        for folder in glob.glob(f"{ROOT}/crates/*/must-fail"):
+            edits = sorted(os.listdir(folder))
+            self.assertLessEqual(len(edits), 2, folder)
+            for name in edits:
+                with open(f"{folder}/{name}", encoding="utf-8") as edit:
+                    named = [line.removeprefix("promise: ").strip() for line in edit if line.startswith("promise: ")]
+                self.assertTrue(named and named[0] in rows, f"{folder}/{name}: no line `promise: ROW` of docs/PROMISES.md")
