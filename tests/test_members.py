@@ -15,7 +15,8 @@ import threading
 from collections.abc import Iterable, Iterator
 from typing import Self
 
-from support.case import Case, tool
+from support.case import tool
+from support.library_case import OfLibrary
 from support.memberlib import PATH, Library, Order, Orders, Refused
 from support.program import PROGRAM, ROOT
 
@@ -146,14 +147,6 @@ class Shows:
         if self.looks > 1:
             self.looked_twice.set()
         return self.line
-
-
-class OfLibrary(Case):
-    programs: tuple[str, ...] = ("RESETD_MEMBER",)
-
-    def setUp(self) -> None:
-        super().setUp()
-        self.needs("the members' library, which a C compiler makes", os.path.exists(PATH))
 
 
 class Members(OfLibrary):

@@ -1,0 +1,124 @@
+"""The members' library with orders, answers, texts and numbers of every kind and size: no call reports a lack of memory where
+none was refused."""
+
+import hashlib
+import json
+import sys
+
+from support.library_case import OfLibrary
+from support.memberlib import Library, Order, Orders
+from support.program import ROOT
+
+sys.path.insert(0, f"{ROOT}/client")
+from resetd_client.party import Party, tag_of  # noqa: E402
+
+CLIENTS, NODES, GROUPS = range(1, 17), range(1, 65), range(1, 17)
+MOST = 2**64 - 1
+NUMBERS = [0, *(10**power + off for power in range(1, 20) for off in (-1, 0)), 2**32, 2**53, 2**63, MOST - 1]
+OPS = {1: ("add", "node", "group"), 2: ("remove", "node"), 3: ("join", "a", "b"), 4: ("drop", "a", "b"), 5: ("reset", "node"),
+       6: ("confirm", "node", "epoch")}
+KINDS = ("done", "started", "finished", "joined")
+DONE, NOT_DONE, SEND_AGAIN, COUNT_LOST = 1, 2, 3, 4
+MEANINGS = {
+    **dict.fromkeys(("Exhausted", "UnknownNode", "NodeExists", "HasLinks", "SameNode", "OtherGroup", "LinkExists", "NoLink",
+                     "DegreeFull", "LinksFull", "BadEpoch"), NOT_DONE),
+    **dict.fromkeys(("Stopped", "OutOfMemory", "PendingFull"), SEND_AGAIN),
+    **dict.fromkeys(("OutOfTurn", "NumberReused"), COUNT_LOST),
+}
+
+
+def show_line(epoch: int, nodes: int = 2, accepted: int = 9) -> bytes:
+    """The line that shows a row of nodes that are ready at this epoch. Of 64 nodes it shows 128 links, the most there can be."""
+    rows = [[node, 1, "ready", 0, epoch, epoch] for node in range(1, nodes + 1)]
+    links = [[node, node + 1, 100 + node] for node in range(1, nodes)]
+    if nodes == 64:
+        links += [[node, node + 2, 2**40 - node] for node in range(1, nodes - 1)] + [[node, node + 3, 2**40] for node in (1, 2, 3)]
+    shown = {"accepted": accepted, "links": links, "nodes": rows, "settled": accepted}
+    return (json.dumps(shown, separators=(",", ":")) + "\n").encode()
+
+
+class Limits(OfLibrary):
+    takes = 15
+
+    def setUp(self) -> None:
+        super().setUp()
+        self.library = Library()
+
+    def line_of(self, last: int, order: Order, client: int) -> dict[str, object]:
+        orders = Orders(last=last)
+        self.library.write_down(orders, order)
+        line: dict[str, object] = json.loads(self.library.order_line(orders, client))
+        return line
+
+    def test_each_order_of_each_client_under_each_number(self) -> None:
+        for op, (name, *words) in OPS.items():
+            values = {"node": 5, "a": 5, "b": 2, "group": 2, "epoch": 9}
+            wanted: dict[str, object] = {"op": name, **{word: values[word] for word in words}}
+            for client in CLIENTS:
+                for last in NUMBERS:
+                    order = Order(op, 5, 2 if "b" in words or "group" in words else 0, 9 if "epoch" in words else 0)
+                    self.assertEqual(self.line_of(last, order, client), {**wanted, "client": client, "number": last + 1})
+
+    def test_an_order_of_each_node_group_and_epoch(self) -> None:
+        for node in NODES:
+            for group in GROUPS:
+                self.assertEqual(self.line_of(7, Order(1, node, group, 0), 3),
+                                 {"op": "add", "client": 3, "number": 8, "node": node, "group": group})
+            for epoch in [*NUMBERS, MOST]:
+                self.assertEqual(self.line_of(7, Order(6, node, 0, epoch), 3),
+                                 {"op": "confirm", "client": 3, "number": 8, "node": node, "epoch": epoch})
+
+    def test_each_answer(self) -> None:
+        for last in NUMBERS:
+            for kind in KINDS:
+                for step in NUMBERS[1:]:
+                    orders = Orders(last, Order(5, 1, 0, 0))
+                    self.assertEqual(self.library.hear(orders, json.dumps({"kind": kind, "step": step}).encode()), DONE)
+                    self.assertEqual((orders.last, orders.in_hand.op), (last + 1, 0))
+            for number, (name, meaning) in enumerate(MEANINGS.items()):
+                orders = Orders(last, Order(5, 1, 0, 0))
+                self.assertEqual(self.library.hear(orders, json.dumps({"name": name, "refused": number}).encode()), meaning, name)
+                self.assertEqual((orders.last, orders.in_hand.op), (last, 0 if meaning == NOT_DONE else 5))
+
+    def test_long_histories(self) -> None:
+        """Of this length, of which a line is that of the shown party, or none is."""
+        first = self.library.judge(show_line(5), 1, self.library.begun(1, 5), b"", 5)
+        lines = [hashlib.sha256(str(number).encode()).hexdigest() + "\n" for number in range(2_000)]
+        for count in (0, 1, 2, 63, 64, 65, 66, 500, 2_000):
+            history = "".join(lines[:count]).encode()
+            judged = self.library.judge(show_line(5), 1, self.library.begun(1, 5), history, 5)
+            self.assertEqual((judged.due, judged.history_size), ("TALK", 65 * count))
+            judged = self.library.judge(show_line(5), 1, first.start, history + first.line, 5)
+            self.assertEqual((judged.due, judged.line, judged.history_size), ("TALK", b"", 65 * (count + 1)))
+            self.assertEqual(self.library.judge(show_line(5), 1, b"", first.line + history).due, "RESET")
+
+    def test_long_words(self) -> None:
+        start = self.library.judge(show_line(5), 1, self.library.begun(1, 5), b"", 5).start
+        party: Party = frozenset({"1 5", "2 5", "1 2 101"})
+        for size in (*range(0, 130), 512, 4_096, 65_536):
+            self.assertEqual(self.library.tag(show_line(5), 1, start, b"w" * size).decode(), tag_of(party, party, "w" * size))
+
+    def test_each_epoch_up_to_a_million(self) -> None:
+        """Of a start that begins."""
+        for epoch in range(1_000_001):
+            if self.library.begun(7, epoch) != f'{{"7": {{"begun": {epoch}, "party": null}}}}\n'.encode():
+                self.fail(f"epoch {epoch}")
+
+    def test_each_node_and_great_epochs(self) -> None:
+        for node in NODES:
+            for epoch in [*NUMBERS, MOST]:
+                self.assertEqual(json.loads(self.library.begun(node, epoch)), {str(node): {"begun": epoch, "party": None}})
+
+    def test_each_epoch_and_count_that_is_shown(self) -> None:
+        for size in NUMBERS:
+            judged = self.library.judge(show_line(size, accepted=size), 1, self.library.begun(1, size), b"", size)
+            self.assertEqual((judged.due, judged.epoch), ("TALK", size))
+
+    def test_a_full_world(self) -> None:
+        """Each member of 64 nodes with 128 links: the texts fit the room of the header."""
+        for epoch in (5, 2**40):
+            for node in NODES:
+                judged = self.library.judge(show_line(epoch, 64), node, self.library.begun(node, epoch), b"", epoch)
+                self.assertEqual((judged.due, len(judged.line)), ("TALK", 65))
+                self.assertEqual(len(json.loads(judged.start)[str(node)]["party"]), 64 + 128)
+                self.assertEqual(len(self.library.tag(show_line(epoch, 64), node, judged.start)), 65)
