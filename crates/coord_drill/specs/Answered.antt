@@ -1,4 +1,4 @@
--- What a drill prints to what is asked of it. Each line comes from the call of the ledger that it tells of.
+-- The output of a drill for each request. Each line comes from the call of the ledger that it reports.
 use Rattle.std.specs.Prelude.{◌≡◌, ◌≢◌, ℕ, nat_le, List, [], ◌∷◌, ◌++◌, take, Option, Some, None, Result, Ok, Err, if◌then◌else◌}
 use Rattle.std.specs.List.{AllByRecursion}
 use Rattle.coord_types.specs.declared.refusals.Refusal.{Refusal}
@@ -21,9 +21,9 @@ use Rattle.coord_drill.specs.declared.asked.Asked.{Asked}
 use Rattle.coord_drill.specs.declared.asked.Asked.TheVariants.{Submit, Refuse, Nothing, Resend, Check, Show, Hold, Flush, Crash, Version2}
 use Rattle.coord_drill.specs.declared.request.Request.{Request}
 
--- ---- flights: begin_flush, commit, end_flush, and for each step that is settled collect and the releases
+-- ---- flights: begin_flush, commit, end_flush, and for each settled step collect and the releases
 
--- a flight of the next steps settles them, or tells why it was not committed
+-- a flight of the next steps settles them, or reports why it was not committed
 abbrev pub flight_lines : Log → List Answer → List ℕ
 flight_lines log (Begun b ∷ Committed ∷ given) = settled_lines (settled_world log).version (outs (settled_world log) (take (next_size log) (pending log)))
 flight_lines log (Begun b ∷ Failed fault ∷ given) = commit_line fault
@@ -31,7 +31,7 @@ flight_lines log given = []
 
 -- ---- steps: submit, and for a repeat collect
 
--- a kept reply is told once its step is settled
+-- a kept reply is printed once its step is settled
 abbrev pub kept_line : ℕ → Reply → List ℕ
 kept_line count reply = if nat_le reply.step count then reply_line reply else pending_line reply.step
 
@@ -46,7 +46,7 @@ step_lines s x (Repeated n ∷ given) = repeat_line (settled_count s.log) (verdi
 step_lines s x (Refused refusal ∷ given) = refusal_line refusal
 step_lines s x given = []
 
--- ---- all that may be asked
+-- ---- all requests
 
 -- the settled world, unless the ledger has stopped
 abbrev pub shown_lines : Log → List ℕ
@@ -68,18 +68,18 @@ asked_lines s Flush given = flight_lines s.log given ++ count_line (settled_worl
 asked_lines s Crash given = opened_lines given
 asked_lines s Version2 given = []
 
--- ---- what may be answered
+-- ---- possible answers
 
--- What is asked may print this and leave the drill so, where its events were answered so: the event machine allows it,
--- and memory did not lack.
+-- With these answers to its events, the request may print this and leave this drill: the event machine allows it,
+-- and memory did not run out.
 pub record IsAnswered (s : DrillState) (a : Asked) (given : List Answer) (told : List ℕ) (t : DrillState) : Type 0 where
   pub answered : Answered (machine_of s) (line_events s.holds a given) given
   pub with_memory : AllByRecursion (λ answer. answer ≢ Refused OutOfMemory) given
   pub printed : told ≡ asked_lines s a given
   pub goes_on : t ≡ after_asked s a given
 
--- the line of this number, by what it asks for, may print this with these answers and leave the drill so; a bad line asks
--- for nothing
+-- the line with this number may, with these answers, print this and leave this drill; a bad line makes no
+-- request
 abbrev pub Responds : DrillState → ℕ → Option Request → List Answer → List ℕ → DrillState → Type 0
 Responds s n None given told t = (given ≡ []) × (told ≡ bad_line n) × (t ≡ s)
 Responds s n (Some r) given told t = IsAnswered s (asked (front_world s.log) r) given told t

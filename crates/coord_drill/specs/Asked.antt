@@ -1,4 +1,4 @@
--- What a request asks of a drill, by the front world of its ledger.
+-- The meaning of a request for a drill with this front world.
 use Rattle.std.specs.Prelude.{ℕ, ◌+◌, List, [], ◌∷◌, Option, Some, None, Result, Ok, Err}
 use Rattle.coord_types.specs.Table.{get}
 use Rattle.coord_types.specs.declared.messages.Msg.{Msg}
@@ -23,7 +23,7 @@ abbrev pub packet_on : ℕ → ℕ → Option Lane → Result (Option DataPacket
 packet_on u v None = Err NoLink
 packet_on u v (Some l) = Ok (packet_of u v l l.queue)
 
--- the packet that travels from u to v; an error where they are not linked
+-- the packet that travels from u to v; an error if they are not linked
 unfoldable pub front : World → ℕ → ℕ → Result (Option DataPacket) Refusal
 front w u v = packet_on u v (lane_at w.links u v)
 
@@ -39,7 +39,7 @@ operator = 1
 unfoldable pub next_number : World → ℕ → ℕ
 next_number w c = last_number (get w.sessions c) + 1
 
--- what a request asks for
+-- the meaning of a request
 abbrev pub asked : World → Request → Asked
 asked w (request.Next x) = Submit (step.Order operator (next_number w operator) x)
 asked w (request.Order c n x) = Submit (step.Order c n x)

@@ -1,19 +1,19 @@
--- What a drill's disk goes through while the drill reads its input.
+-- The course of a drill and its disk while the drill reads its input.
 --
--- A drill stands at a place: its state, the lines that were carried out, what they have printed, the steps of which that
--- told a reply, a packet or a signal, the event machine since it began, and its disk. The trail of that machine has the
--- steps that were accepted, but for those that a crash has lost, from the empty world on.
+-- A drill is at a place: its state, the lines carried out so far, their output, the steps whose
+-- reply, packet or signal that output shows, the event machine since it began, and its disk. The trail of that machine has the
+-- accepted steps, from the empty world on, without those that a crash has lost.
 --
--- A line leads from one place to the next (`LineGoes`). What it prints and the state that it leaves go by just the answers
+-- A line leads from one place to the next (`LineGoes`). Its output and the state that it leaves depend only on the answers
 -- to its events. These events are a run of the ledger's machine on the disk (`RunsOn`), with the headline at each of its
--- moments (`EachMoment`). Each step that was told of is settled behind its line (`settled`), before the writer gets a
--- byte of it, so whatever a crash may leave from there on has that step (`PrintedSurvives`). The line `version 2` is no
--- event: it raises the empty store, and at each moment of that the bytes give the empty world of one version or the other.
+-- moments (`EachMoment`). Each step with visible output is settled after its line (`settled`), before the writer gets a
+-- byte of it, so whatever a crash may leave from then on has that step (`PrintedSurvives`). The line `version 2` is not an
+-- event: it migrates the empty store, and at each moment of that the bytes give the empty world of one version or the other.
 --
--- `Goes` is so for lines one after the other, and `Course` from the store that was made on the disk that was given. Where
--- a drill ends, its course has all the lines of its input, all that they print was written, and the disk that is given
--- back is where that has led (`DrillEnded`). Where it fails, the course has the lines that were carried out, and `StopsDrill` says
--- why it has no more, what was written of what these have printed, and which disk is given back (`BrokeOff`).
+-- `Goes` says the same for lines one after the other, and `Course` from the store that was created on the given disk. If
+-- a drill ends, its course has all lines of its input, all their output was written, and the disk that it returns
+-- is the one at the end of the course (`DrillEnded`). If it fails, the course has the lines carried out, and `StopsDrill` says
+-- why there are no more, how much of their output was written, and which disk the drill returns (`BrokeOff`).
 use Rattle.std.specs.Prelude.{◌≡◌, ◌⊎◌, ℕ, ◌+◌, ◌≤◌, true, List, [], ◌∷◌, ◌++◌, length, take, option_map, Option, Some, None, if◌then◌else◌}
 use Rattle.std.specs.List.{AllByRecursion}
 use Rattle.coord_disk.specs.Model.Moments.{IsUntouched, LeavesOnly}
@@ -49,7 +49,7 @@ pub record Place (D : Type 0) : Type 0 where
   pub machine : Machine  -- since the drill began, or since its line `version 2`
   pub disk : D
 
--- where a drill begins, once its store stands on this disk
+-- the place where a drill begins, after its store was created on this disk
 abbrev pub start : {D : Type 0} → D → Place D
 start disk = record { state = drill_over (no_world 1); lines = 0; printed = []; told = []; machine = adopted (no_world 1); disk = disk }
 
@@ -57,9 +57,9 @@ start disk = record { state = drill_over (no_world 1); lines = 0; printed = []; 
 abbrev pub IsSettled : Machine → List ℕ → Type 0
 IsSettled s told = AllByRecursion (λ n. n ≤ settled_count s.log) told
 
--- ---- what is asked
+-- ---- requests
 
--- what a line asks for; None where it is skipped or bad
+-- the request of a line; None if the line is skipped or bad
 abbrev pub asked_in : DrillState → Line → Option Asked
 asked_in s None = None
 asked_in s (Some line) = if is_skipped line then None else option_map (asked (front_world s.log)) (asked_by s line)
@@ -68,8 +68,8 @@ abbrev pub told_in : DrillState → Option Asked → List Answer → List ℕ
 told_in s None given = []
 told_in s (Some a) given = told_by s a given
 
--- Events with answers that the machine may give are a run of it on a disk, from one state of that to another. The disk
--- has failed where a commit tells so, and nowhere else.
+-- Events with answers that the machine may give are a run of it on a disk, from one state of the disk to another. The disk
+-- has failed exactly where a commit reports it.
 pub record RunsOn {D : Type 0} (disk : DiskModel D) (crashes : D → D → Type 0) (s : Machine) (events : List Event) (given : List Answer) (old new : D) : Type 0 where
   pub in_range : AllByRecursion EventInRange events
   pub answered : Answered s events given
@@ -84,11 +84,11 @@ RunsTo disk crashes events given p q = (q.machine ≡ run p.machine events given
 abbrev pub GivesEmpty : ℕ → List ℕ → Type 0
 GivesEmpty version bytes = Recovered bytes (no_world version) × Legal (no_world version)
 
--- the empty store is raised: at each moment the disk gives the empty world of one version or the other
+-- the empty store is migrated: at each moment the disk gives the empty world of one version or the other
 abbrev pub RaisesEmpty : {D : Type 0} → DiskModel D → D → D → Type 0
 RaisesEmpty disk old new = LeavesOnly disk old new (λ bytes. GivesEmpty 1 bytes ⊎ GivesEmpty 2 bytes)
 
--- what is asked leads from one place to the other
+-- the request leads from one place to the other
 abbrev pub Moves : {D : Type 0} → DiskModel D → (D → D → Type 0) → Option Asked → List Answer → Place D → Place D → Type 0
 Moves disk crashes None given p q = RunsTo disk crashes [] given p q
 Moves disk crashes (Some Version2) given p q = (q.machine ≡ adopted (no_world 2)) × RaisesEmpty disk p.disk q.disk × (disk.failures q.disk ≡ disk.failures p.disk)
@@ -107,12 +107,12 @@ pub record LineGoes {D : Type 0} (disk : DiskModel D) (crashes : D → D → Typ
   pub settled : IsSettled q.machine q.told
   pub moves : Moves disk crashes (asked_in p.state line) given p q
 
--- lines lead from one place to another, where whatever a crash may leave survives
+-- lines lead from one place to another, at which whatever a crash may leave survives
 abbrev pub Goes : {D : Type 0} → DiskModel D → (D → D → Type 0) → Place D → List Line → Place D → Type 0
 Goes disk crashes p [] q = (q ≡ p) × CrashPrefix p.machine true (disk.present p.disk)
 Goes {D} disk crashes p (l ∷ ls) q = (next : Place D) × LineGoes disk crashes p l next × Goes disk crashes next ls q
 
--- so from a store that was just made on the disk that was given
+-- the same from a store that was just created on the given disk
 pub record Course {D : Type 0} (disk : DiskModel D) (crashes : D → D → Type 0) (given : D) (lines : List Line) (place : Place D) : Type 0 where
   pub begun : D
   pub made : disk.present begun ≡ made HALF_SIZE 1
@@ -121,21 +121,21 @@ pub record Course {D : Type 0} (disk : DiskModel D) (crashes : D → D → Type 
 
 -- ---- the end
 
--- All lines of the input were carried out, what they print was written, and this disk is given back.
+-- All lines of the input were carried out, their output was written, and this disk is returned.
 pub record DrillEnded {D : Type 0} (disk : DiskModel D) (crashes : D → D → Type 0) (given : D) (input written : List ℕ) (last : D) : Type 0 where
   pub place : Place D
   pub course : Course disk crashes given (lines_of input) place
   pub wrote : written ≡ place.printed
   pub given_back : last ≡ place.disk
 
--- What is asked is cut short, and this disk given up: behind some of its events, which left the machine and the disk so;
--- in a crash perhaps behind the taking of an image, and in `version 2` at a moment of the raising.
+-- The request was cut short, and the drill gives up this disk: after some of its events, which left this machine and disk;
+-- in a crash possibly after an image was chosen, and in `version 2` at a moment of the migration.
 abbrev pub IsLeftBy : {D : Type 0} → DiskModel D → (D → D → Type 0) → Asked → Machine → D → D → Type 0
 IsLeftBy disk crashes Crash s mid lost = (lost ≡ mid) ⊎ Reopens disk crashes (Survives s) mid lost
 IsLeftBy disk crashes Version2 s mid lost = RaisesEmpty disk mid lost
 IsLeftBy disk crashes a s mid lost = lost ≡ mid
 
--- It was so for the fault that stands beside the disk, and the disk has failed in it where that tells so.
+-- The reason is the fault beside the disk, and the disk has failed if that fault says so.
 pub record CutShort {D : Type 0} (disk : DiskModel D) (crashes : D → D → Type 0) (p : Place D) (a : Asked) (refused : Fault × D) : Type 0 where
   pub cause : MayCutShort (opens_disk a) refused.0
   pub none_told : a ≡ Version2 → IsSettled (adopted (no_world 2)) p.told  -- of no step, for the world is empty
@@ -145,32 +145,32 @@ pub record CutShort {D : Type 0} (disk : DiskModel D) (crashes : D → D → Typ
   pub left : IsLeftBy disk crashes a (run p.machine (take (length given) (line_events p.state.holds a given)) given) mid refused.1
   pub failed : disk.failures refused.1 ≡ disk.failures mid + failed_by refused.0
 
--- a line that asks for this; where it asks for nothing, there was no memory for what it prints
+-- a line with this request; if it has no request, memory ran out for its output
 abbrev pub LineCutShort : {D : Type 0} → DiskModel D → (D → D → Type 0) → Place D → Option Asked → Fault × D → Type 0
 LineCutShort disk crashes p None refused = IsOfMemory refused.0 × (refused.1 ≡ p.disk)
 LineCutShort disk crashes p (Some a) refused = CutShort disk crashes p a refused
 
--- the first of these lines was
+-- the first of these lines was cut short
 abbrev pub FirstCutShort : {D : Type 0} → DiskModel D → (D → D → Type 0) → Place D → List Line → Fault × D → Type 0
 FirstCutShort disk crashes p [] refused = ⊥
 FirstCutShort disk crashes p (l ∷ ls) refused = LineCutShort disk crashes p (asked_in p.state l) refused
 
--- ---- why the lines behind a place were not carried out, and which disk is given back
+-- ---- why the lines after a place were not carried out, and which disk is returned
 
--- The input could not be read, or not to its end. All that was printed is written, and only the last line is left, whose
--- line feed did not come.
+-- The input could not be read to its end. All output is written, and only the last line is left, whose
+-- line feed did not arrive.
 pub record StopsReading {D : Type 0} (p : Place D) (others : List Line) (written : List ℕ) (refused : Fault × D) : Type 0 where
   pub cause : (refused.0 ≡ Read) ⊎ (refused.0 ≡ TooManyReads)
   pub wrote : written ≡ p.printed
   pub unended : length others ≡ 1
   pub same : refused.1 ≡ p.disk
 
--- The first of them was cut short, and that is told. All that was printed before it is written.
+-- The first of them was cut short, and the fault reports it. All output before it is written.
 pub record StopsAtLine {D : Type 0} (disk : DiskModel D) (crashes : D → D → Type 0) (p : Place D) (others : List Line) (written : List ℕ) (refused : Fault × D) : Type 0 where
   pub wrote : written ≡ p.printed
   pub cut : FirstCutShort disk crashes p others refused
 
--- Not all that was printed could be written. By then the first of them may have been cut short, for another fault.
+-- Some of the output could not be written. By then the first of them may have been cut short, by another fault.
 pub record StopsWriting {D : Type 0} (disk : DiskModel D) (crashes : D → D → Type 0) (p : Place D) (others : List Line) (written : List ℕ) (refused : Fault × D) : Type 0 where
   pub cause : IsOfWriting refused.0
   pub wrote : IsShortPart written p.printed
@@ -191,7 +191,7 @@ StopsWork disk crashes p others written refused = StopsAtLine disk crashes p oth
 abbrev pub StopsDrill : {D : Type 0} → DiskModel D → (D → D → Type 0) → Place D → List Line → List ℕ → Fault × D → Type 0
 StopsDrill disk crashes p others written refused = StopsReading p others written refused ⊎ (StopsFlushing p others written refused ⊎ StopsWork disk crashes p others written refused)
 
--- Some first lines of the input were carried out, and for this reason no more of them; this was written.
+-- A prefix of the input's lines was carried out, and for this reason no more; this was written.
 pub record BrokeOff {D : Type 0} (disk : DiskModel D) (crashes : D → D → Type 0) (given : D) (input written : List ℕ) (refused : Fault × D) : Type 0 where
   pub lines : List Line
   pub others : List Line
@@ -200,7 +200,7 @@ pub record BrokeOff {D : Type 0} (disk : DiskModel D) (crashes : D → D → Typ
   pub course : Course disk crashes given lines place
   pub why : StopsDrill disk crashes place others written refused
 
--- no store was made on the disk that was given; one that was not empty stays as it was
+-- no store was created on the given disk; a disk that was not empty is unchanged
 pub record NotMade {D : Type 0} (disk : DiskModel D) (given : D) (refused : Fault × D) : Type 0 where
   pub why : StoreFault
   pub fault_is : refused.0 ≡ store_fault why
@@ -208,14 +208,14 @@ pub record NotMade {D : Type 0} (disk : DiskModel D) (given : D) (refused : Faul
   pub untouched : why ≡ NotEmpty → IsUntouched disk given refused.1
   pub failed : disk.failures refused.1 ≡ disk.failures given + failed_by refused.0
 
--- ---- a whole drill, by its reader and its writer before and after it
+-- ---- a whole drill, with its reader and its writer before and after it
 
--- what was read was carried out to its end and written, and this disk is given back
+-- the input was carried out to its end, its output was written, and this disk is returned
 abbrev pub Drills : {D : Type 0} → DiskModel D → (D → D → Type 0) → D → InOut → InOut → D → Type 0
 Drills disk crashes given old new last = Exchanges old new (λ seen written. DrillEnded disk crashes given seen written last)
 
--- It failed: behind some lines of what was read, in too many reads of so many bytes at least; or no store was made, and
--- then nothing was read and nothing written.
+-- It failed: after some lines of the input, or in too many reads of at least this many bytes; or no store was created, and
+-- then nothing was read or written.
 abbrev pub DrillFails : {D : Type 0} → DiskModel D → (D → D → Type 0) → D → InOut → InOut → Fault × D → Type 0
 DrillFails disk crashes given old new refused =
     Exchanges old new (λ seen written. BrokeOff disk crashes given seen written refused × (refused.0 ≡ TooManyReads → MOST_READS ≤ length seen))

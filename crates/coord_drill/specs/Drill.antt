@@ -1,8 +1,8 @@
--- The state of a drill, and what becomes of it.
+-- The state of a drill, and its transitions.
 --
--- A drill is the event machine, of which only the log is seen here: it holds a ticket for each pending step. A line is a
--- few events of the machine. Where the machine may give several answers to one of these, memory, the
--- device or the crash has chosen, and the answer tells what was chosen.
+-- A drill is the event machine, seen here by its log only: it holds a ticket for each pending step. A line is a
+-- few events of the machine. If the machine may give several answers to an event, memory, the
+-- device or the crash chooses, and the answer says which choice was made.
 use Rattle.std.specs.Prelude.{ℕ, Bool, false, true, List, [], ◌∷◌, if◌then◌else◌}
 use Rattle.coord_types.specs.declared.steps.Step.{Step}
 use Rattle.coord_world.specs.protocol.NumberedWorld.{World, no_world}
@@ -20,25 +20,25 @@ pub record DrillState : Type 0 where
   pub holds : Bool  -- accepted steps are not settled at once
   pub has_begun : Bool  -- a step was accepted, be it lost since
 
--- what is seen of a machine
+-- the visible part of a machine
 abbrev pub seen_as : Machine → Bool → Bool → DrillState
 seen_as m holds begun = record { log = m.log; holds = holds; has_begun = begun }
 
--- the machine before a line: no flight is out of it, and nothing was given out in this line
+-- the machine before a line: no flight is out, and this line has released nothing yet
 abbrev pub machine_of : DrillState → Machine
 machine_of s = machine_over s.log
 
--- over a ledger of this world, that goes on
+-- over a running ledger with this world
 abbrev pub drill_over : World → DrillState
 drill_over w = seen_as (adopted w) false false
 
--- a drill is of its world's version
+-- a drill has its world's version
 abbrev pub version_of : DrillState → ℕ
 version_of s = (front_world s.log).version
 
--- ---- the events of a line, by what they are answered
+-- ---- the events of a line, by their answers
 
--- a flight that is out is committed and comes back
+-- a flight that is out is committed and returns
 abbrev pub landing_events : List Event
 landing_events = event.Commit ∷ event.Finish ∷ []
 
@@ -46,21 +46,21 @@ abbrev pub flight_events : List Answer → List Event
 flight_events (Begun b ∷ given) = event.Begin ∷ landing_events
 flight_events given = event.Begin ∷ []
 
--- a step that is accepted is settled at once, unless steps are held
+-- an accepted step is settled at once, unless steps are held
 abbrev pub step_events : Bool → Step → List Answer → List Event
 step_events holds x (Accepted n ∷ given) = event.Submit x ∷ (if holds then [] else flight_events given)
 step_events holds x given = event.Submit x ∷ []
 
--- what changes nothing is no event
+-- a request that changes nothing has no event
 abbrev pub line_events : Bool → Asked → List Answer → List Event
 line_events holds (Submit x) given = step_events holds x given
 line_events holds Flush given = flight_events given
 line_events holds Crash given = event.Crash ∷ []
 line_events holds asked given = []
 
--- ---- what a line leaves
+-- ---- the state after a line
 
--- what is only told of: no step, no flight, no crash
+-- requests that only print: no step, no flight, no crash
 abbrev pub changes_nothing : Asked → Bool
 changes_nothing (Refuse refusal) = true
 changes_nothing Nothing = true
@@ -69,11 +69,11 @@ changes_nothing Check = true
 changes_nothing Show = true
 changes_nothing asked = false
 
--- the same machine, its log seen from the settled world
+-- the same machine, with its log seen from the settled world
 abbrev pub from_settled : Machine → Machine
 from_settled m = rebased_machine m m.log.settled
 
--- after a crash it is seen from the world that was opened; a drill of version 2 begins before any step
+-- after a crash its log is seen from the opened world; a drill of version 2 begins before any step
 abbrev pub machine_after : DrillState → Asked → List Answer → Machine
 machine_after s Crash given = from_settled (run (machine_of s) (event.Crash ∷ []) given)
 machine_after s Version2 given = adopted (no_world 2)

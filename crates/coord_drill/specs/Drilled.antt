@@ -1,4 +1,4 @@
--- What a drill may print to a whole input.
+-- The possible outputs of a drill for a whole input.
 use Rattle.std.specs.Prelude.{◌≡◌, ℕ, ◌+◌, ◌==◌, Bool, true, false, List, [], ◌∷◌, ◌++◌, Option, Some, None, if◌then◌else◌}
 use Rattle.std.specs.Str.{is_utf8}
 use Rattle.coord_lines.specs.Lines.{Line, lines_of}
@@ -16,16 +16,16 @@ abbrev pub is_skipped : List ℕ → Bool
 is_skipped [] = true
 is_skipped (c ∷ cs) = c == 35
 
--- what a line spells in a drill of this version; None for a bad line
+-- the request that a line encodes in a drill of this version; None for a bad line
 abbrev pub parsed : ℕ → List ℕ → Option Request
 parsed version line = if is_utf8 line then request_of version line else None
 
--- version 2 is chosen before the first accepted step, and never later
+-- version 2 can be chosen only before the first accepted step
 abbrev pub unless_late : DrillState → Request → Option Request
 unless_late s Version2 = if s.has_begun then None else Some Version2
 unless_late s request = Some request
 
--- what a line asks for; None for a bad line
+-- the request of a line; None for a bad line
 abbrev pub asked_by : DrillState → List ℕ → Option Request
 asked_by s line = parsed (version_of s) line >>= unless_late s
 
@@ -34,13 +34,13 @@ abbrev pub UnlessSkipped : Bool → DrillState → List Answer → List ℕ → 
 UnlessSkipped true s given told t Otherwise = (given ≡ []) × (told ≡ []) × (t ≡ s)
 UnlessSkipped false s given told t Otherwise = Otherwise
 
--- With these answers to its events the line of this number may print this and leave the drill so; a line over the limit
--- is bad, be it a comment or not.
+-- With these answers to its events, the line with this number may print this and leave this drill; a line over the limit
+-- is bad, even if it is a comment.
 abbrev pub LineResponds : DrillState → ℕ → Line → List Answer → List ℕ → DrillState → Type 0
 LineResponds s n None given told t = Responds s n None given told t
 LineResponds s n (Some line) given told t = UnlessSkipped (is_skipped line) s given told t (Responds s n (asked_by s line) given told t)
 
--- a text that is what a line prints, and behind it what is printed to the drill that it leaves
+-- a text that is the output of a line, followed by the output of the drill that it leaves
 pub record PrintsOn (Line : List Answer → List ℕ → DrillState → Type 0) (Behind : DrillState → List ℕ → Type 0) (text : List ℕ) : Type 0 where
   pub given : List Answer
   pub told : List ℕ
@@ -50,11 +50,11 @@ pub record PrintsOn (Line : List Answer → List ℕ → DrillState → Type 0) 
   pub behind : Behind after rest
   pub whole : text ≡ told ++ rest
 
--- lines of which the first has this number may print this
+-- lines, the first of which has this number, may print this
 abbrev pub Prints : DrillState → ℕ → List Line → List ℕ → Type 0
 Prints s n [] text = text ≡ []
 Prints s n (l ∷ ls) text = PrintsOn (LineResponds s n l) (λ t rest. Prints t (n + 1) ls rest) text
 
--- a drill may print this to its input; it begins in version 1
+-- a drill may print this for its input; it begins in version 1
 abbrev pub IsDrilled : List ℕ → List ℕ → Type 0
 IsDrilled input text = Prints (drill_over (no_world 1)) 1 (lines_of input) text

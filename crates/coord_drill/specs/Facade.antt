@@ -1,4 +1,4 @@
--- The definitions in which the proofs and the crates above speak of this crate.
+-- The definitions of this crate that its proofs and the crates above it use.
 pub use Rattle.coord_types.specs.declared.refusals.Refusal.{Refusal}
 pub use Rattle.coord_types.specs.declared.steps.Reply.{Reply}
 pub use Rattle.coord_types.specs.declared.steps.Step.{Step}

@@ -1,4 +1,4 @@
--- Which faults may come, and how they are told.
+-- The possible faults, and how they are reported.
 use Rattle.std.specs.Prelude.{◌≡◌, ◌≢◌, ◌⊎◌, ℕ, Bool, true, false, Result, Ok, IsErr, MatchResult}
 use Rattle.coord_store.specs.Refused.{failed_in}
 use Rattle.coord_store.specs.declared.faults.StoreFault.{StoreFault}
@@ -10,29 +10,29 @@ use Rattle.coord_drill.specs.declared.asked.Asked.TheVariants.{Crash, Version2}
 use Rattle.coord_drill.specs.declared.fault.Fault.{Fault}
 use Rattle.coord_drill.specs.declared.fault.Fault.TheVariants.{OutOfMemory, Read, Store, TooManyReads, Write}
 
--- want of memory
+-- out of memory
 abbrev pub IsOfMemory : Fault → Type 0
 IsOfMemory fault = fault ≡ OutOfMemory
 
--- the fault is want of memory, or that the store is refused on the drill's disk
+-- the fault is out of memory, or a refusal of the store on the drill's disk
 abbrev pub IsOfDisk : Fault → Type 0
 IsOfDisk fault = IsOfMemory fault ⊎ ((why : StoreFault) × (fault ≡ Store why))
 
--- the fault is want of memory, or one of the writer
+-- the fault is out of memory, or one of the writer
 abbrev pub IsOfWriting : Fault → Type 0
 IsOfWriting fault = IsOfMemory fault ⊎ (fault ≡ Write)
 
--- any but those of the reader
+-- any fault except those of the reader
 abbrev pub IsOfWork : Fault → Type 0
 IsOfWork fault = (fault ≢ Read) × (fault ≢ TooManyReads)
 
--- what is asked may raise a store, or open one again
+-- a request that may migrate a store, or open one again
 abbrev pub opens_disk : Asked → Bool
 opens_disk Crash = true
 opens_disk Version2 = true
 opens_disk asked = false
 
--- only then a refused store may end it
+-- only then may a refused store end it
 abbrev pub MayEndBy : Bool → Fault → Type 0
 MayEndBy true fault = IsOfDisk fault
 MayEndBy false fault = IsOfMemory fault
@@ -40,30 +40,30 @@ MayEndBy false fault = IsOfMemory fault
 abbrev pub MayEnd : Asked → Fault → Type 0
 MayEnd a fault = MayEndBy (opens_disk a) fault
 
--- how a refused store is told
+-- how a refused store is reported
 abbrev pub store_fault : StoreFault → Fault
 store_fault store.OutOfMemory = OutOfMemory
 store_fault why = Store why
 
--- a crash whose disk was not opened again lacked memory, or is told as its store's fault
+-- a crash whose disk was not opened again is reported as out of memory, or as its store's fault
 abbrev pub reopen_fault : RunFaultKind → Fault
 reopen_fault of_run.OutOfMemory = OutOfMemory
 reopen_fault (of_run.Store fault) = store_fault fault
 
--- how often the disk has failed in what is told so
+-- the number of the disk's failures for this fault
 abbrev pub failed_by : Fault → ℕ
 failed_by (Store why) = failed_in why
 failed_by fault = 0
 
--- want of memory, or the disk failed
+-- out of memory, or a failure of the disk
 abbrev pub IsPassingFault : Fault → Type 0
 IsPassingFault fault = IsOfMemory fault ⊎ (fault ≡ Store store.Device)
 
--- on a disk that keeps the model a line is cut short so, and only where it raises a store, or opens one again, by the disk
+-- on a disk that keeps the model only these faults cut a line short, and the disk does so only if the line migrates a store or opens one again
 abbrev pub MayCutShort : Bool → Fault → Type 0
 MayCutShort true why = IsPassingFault why
 MayCutShort false why = IsOfMemory why
 
--- of a write's answer the bytes that were taken are told; a fault is one where none were, and so may none be
+-- the result of a write: the number of bytes taken; a fault takes no bytes, and a success may take none
 abbrev pub TellsOfWrite : {E : Type 0} → Result ℕ E → Result ℕ Fault → Type 0
 TellsOfWrite answer told = MatchResult told (λ count. (answer ≡ Ok count) ⊎ (IsErr answer × (count ≡ 0))) (λ _. (answer ≡ Ok 0) ⊎ IsErr answer)

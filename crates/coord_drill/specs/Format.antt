@@ -1,4 +1,4 @@
--- Formats of words: one description of how values are spelled in words, from which come the spelling and the reading from the front.
+-- Formats of words: one description of how values are written as words, which gives both the writer and the reader.
 use Rattle.std.specs.Prelude.{◌≡◌, ℕ, List, [], ◌∷◌, ◌++◌, bytes_eq, Option, Some, None, option_and_then, if◌then◌else◌}
 
 infixl 10 ◌>>=◌
@@ -8,11 +8,11 @@ o >>= f = option_and_then f o
 abbrev pub Word : Type 0
 Word = List ℕ
 
--- reading gives a value and the words behind it, or None
+-- reading gives a value and the remaining words, or None
 abbrev pub Read : Type 0 → Type 0
 Read A = Option (A × List Word)
 
--- a value that has no spelling has None for it
+-- a value that cannot be written has None
 pub record Format (A : Type 0) : Type 0 where
   pub spell : A → Option (List Word)
   pub read : List Word → Read A
@@ -37,14 +37,14 @@ f & g = record {
   read = λ ws. f.read ws >>= λ x. g.read x.1 >>= λ y. Some ((x.0, y.0), y.1);
 }
 
--- a value by its parts
+-- a value made of its parts
 abbrev pub made : {A B : Type 0} → (A → B) → (B → Option A) → Format A → Format B
 made make parts f = record {
   spell = λ y. parts y >>= f.spell;
   read = λ ws. f.read ws >>= λ x. Some (make x.0, x.1);
 }
 
--- a row of a table: a verb, and the fields behind it
+-- a row of a table: a verb and its fields
 pub record Row (A : Type 0) : Type 0 where
   pub verb : Word
   pub fields : Format A
@@ -60,7 +60,7 @@ abbrev pub spell_by : {A : Type 0} → List (Row A) → A → Option (List Word)
 spell_by [] x = None
 spell_by (row ∷ rows) x = or_else (spell_row row x) (spell_by rows x)
 
--- the row of this verb reads what stands behind it
+-- the row of this verb reads the words after it
 abbrev pub read_by : {A : Type 0} → List (Row A) → Word → List Word → Read A
 read_by [] verb ws = None
 read_by (row ∷ rows) verb ws = if bytes_eq verb row.verb then row.fields.read ws else read_by rows verb ws
@@ -73,7 +73,7 @@ read_first rows (verb ∷ ws) = read_by rows verb ws
 abbrev pub one_of : {A : Type 0} → List (Row A) → Format A
 one_of rows = record { spell = spell_by rows; read = read_first rows }
 
--- what a reader in the program says: what it answers, and the words that it leaves
+-- the result of a reader in the program: its answer, and the words that it leaves
 abbrev pub ReadsWords : {A : Type 0} → Read A → Option A → List Word → Type 0
 ReadsWords read None left = read ≡ None
 ReadsWords read (Some x) left = read ≡ Some (x, left)

@@ -1,4 +1,4 @@
--- The grammar of a drill's lines: a table of verbs and the fields behind them. An Abort has its distance behind it in version 2 alone.
+-- The grammar of a drill's lines: a table of verbs and their fields. Only in version 2 is an Abort followed by its distance.
 use Rattle.std.specs.Prelude.{ℕ, ◌^◌, ◌==◌, ◌&&◌, nat_le, nat_lt, Bool, List, [], ◌∷◌, ◌++◌, length, map, codes, decimal, bytes_eq, Option, Some, None, if◌then◌else◌}
 use Rattle.std.specs.List.{slice_split, join_with_byte}
 use Rattle.std.specs.Str.{all_ascii_digits}
@@ -17,13 +17,13 @@ use Rattle.coord_drill.specs.Format.{◌>>=◌, Word, Format, field, nothing, �
 abbrev pub is_space : ℕ → Bool
 is_space c = c == 32
 
--- what stands before, between and behind the spaces of a line
+-- the words of a line: the parts before, between and after its spaces
 abbrev pub words_of : List ℕ → List Word
 words_of line = slice_split is_space line
 
 -- ---- fields
 
--- one or more decimal digits, of a value that fits 64 bits
+-- one or more decimal digits, with a value that fits into 64 bits
 abbrev pub is_number : Word → Bool
 is_number word = all_ascii_digits word && (nat_lt 0 (length word) && nat_lt (digits_value 10 word) (2 ^ 64))
 
@@ -49,7 +49,7 @@ group = number_to MAX_GROUPS
 unfoldable pub client : Format ℕ
 client = number_to MAX_CLIENTS
 
--- the distance behind an Abort: a number in version 2, and no word in version 1, where it is 0
+-- the distance of an Abort: a number in version 2, and no word in version 1, where it is 0
 unfoldable pub distance : ℕ → Format ℕ
 distance version = record {
   spell = λ k. if version == 2 then number.spell k else (if k == 0 then Some [] else None);
@@ -58,7 +58,7 @@ distance version = record {
 
 -- ---- the tables
 
--- a row by its verb, what its fields make, and the fields of what it makes
+-- a row: its verb, the request made of its fields, and the fields of such a request
 abbrev pub row : {A B : Type 0} → Word → Format A → (A → B) → (B → Option A) → Row B
 row verb fields make parts = record { verb = verb; fields = made make parts fields }
 
@@ -79,7 +79,7 @@ commands =
     ∷ row (codes "confirm") (node & number) (λ p. Confirm p.0 p.1) (λ x. elim x [ Confirm u e ↦ Some (u, e) | _ ↦ None ])
     ∷ []
 
--- a command alone is an order of the operator
+-- a bare command is an order of the operator
 abbrev pub next_row : Row Command → Row Request
 next_row r = row r.verb r.fields Next (λ x. elim x [ Next c ↦ Some c | _ ↦ None ])
 
@@ -96,7 +96,7 @@ receipt_fields = made (λ p. Receipt (record { from = p.0; to = p.1.0; inc = p.1
     (λ x. elim x [ Receipt r ↦ Some (r.from, (r.to, (r.inc, r.number))) | _ ↦ None ])
     (node & (node & (number & number)))
 
--- the word 2, and no other spelling of it
+-- the word 2, in no other spelling
 unfoldable pub version_fields : Format Request
 version_fields = made (λ _. Version2) (λ x. elim x [ Version2 ↦ Some tt | _ ↦ None ])
     (field (λ _. Some (codes "2")) (λ word. if bytes_eq word (codes "2") then Some (tt {0}) else None))
@@ -126,10 +126,10 @@ abbrev pub all_read : {A : Type 0} → A × List Word → Option A
 all_read (x, []) = Some x
 all_read (x, w ∷ ws) = None
 
--- the request that a line spells in a drill of this version; None for a bad line
+-- the request that a line encodes in a drill of this version; None for a bad line
 unfoldable pub request_of : ℕ → List ℕ → Option Request
 request_of version line = (one_of (requests version)).read (words_of line) >>= all_read
 
--- the spelling of a request: its words, with one space between each two
+-- the line of a request: its words, separated by single spaces
 unfoldable pub spelled : ℕ → Request → Option (List ℕ)
 spelled version request = (one_of (requests version)).spell request >>= λ words. Some (join_with_byte 32 words)

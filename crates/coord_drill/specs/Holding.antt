@@ -1,4 +1,4 @@
--- What the code holds: a ledger with its store at home, and a ticket for each pending step; and what it prints of these.
+-- The state of the code: a ledger with its store at home, and a ticket for each pending step; and its output.
 use Rattle.std.specs.Prelude.{◌≡◌, ◌⊎◌, ℕ, ◌-◌, ◌==◌, nat_le, List, [], ◌∷◌, ◌++◌, Option, Some, None, if◌then◌else◌, Bool}
 use Rattle.std.specs.List.{AllByRecursion}
 use Rattle.coord_types.specs.declared.steps.Step.{Step}
@@ -22,7 +22,7 @@ claims_of w (s ∷ ss) = claimed s (reply w s) ∷ claims_of (next w s) ss
 abbrev pub IsHeld : {D : Type 0} → LedgerState D → List Claim → Type 0
 IsHeld l claims = claims ≡ claims_of (settled_world l.log) (pending l.log)
 
--- a driver with these tickets, of which no flight is out
+-- a driver with these tickets and no flight out
 abbrev pub IsReadyWith : {D : Type 0} → DriverState D → List Claim → Type 0
 IsReadyWith v claims = (v.flight ≡ None) × IsHeld v.ledger claims
 
@@ -39,18 +39,18 @@ state_of d = drill_of d.driver.ledger d.holds d.has_begun
 abbrev pub front_of : {D : Type 0} → Drill D → World
 front_of d = front_world d.driver.ledger.log
 
--- ---- what calls make of a ledger
+-- ---- the effects of calls on a ledger
 
 -- no step was accepted: it is over the world of version 1 or 2 before any step
 abbrev pub IsEmptyLog : Log → Type 0
 IsEmptyLog log = (log ≡ log_over (no_world 1)) ⊎ (log ≡ log_over (no_world 2))
 
--- the steps of a flight are settled: the base stays, and what is released is what they give
+-- the steps of a flight are settled: the base is unchanged, and their outputs are released
 pub record Settles (old : Log) (releases : List Release) (new : Log) : Type 0 where
   pub base : new.base ≡ old.base
   pub released : releases ≡ settling_releases old (new.settled - old.settled)
 
--- a flight that was out lands so
+-- the landing of a flight that was out
 abbrev pub Lands : Log → Flown → Log → Type 0
 Lands old flown.Nothing new = ⊥
 Lands old (flown.Settled releases) new = Settles old releases new
@@ -61,24 +61,24 @@ abbrev pub FlownTo : Log → Flown → Log → Type 0
 FlownTo old flown.Nothing new = new ≡ old
 FlownTo old r new = Lands old r new
 
--- what the commit of a flight and its return were answered, where so many steps are settled then
+-- the answers to a flight's commit and its return, after which this many steps are settled
 abbrev pub landed_answers : Flown → ℕ → List Answer
 landed_answers flown.Nothing count = []
 landed_answers (flown.Settled releases) count = Committed ∷ Finished count ∷ []
 landed_answers (flown.Failed fault) count = Failed fault ∷ Finished count ∷ []
 
--- what the departure of a flight of so many steps, its commit and its return were answered
+-- the answers to the departure of a flight of this many steps, its commit and its return
 abbrev pub flown_answers : Flown → ℕ → ℕ → List Answer
 flown_answers flown.Nothing b count = Nothing ∷ []
 flown_answers r b count = Begun b ∷ landed_answers r count
 
 -- ---- texts
 
--- a text goes on with one of these
+-- a text continues with one of these
 abbrev pub Tells : List ℕ → List ℕ → (List ℕ → Type 0) → Type 0
 Tells old new P = (told : List ℕ) × ((new ≡ old ++ told) × P told)
 
--- the release that was looked at and those behind it
+-- the current release and those after it
 abbrev pub left : Option Release → List Release → List Release
 left None rs = []
 left (Some r) rs = r ∷ rs
@@ -88,34 +88,34 @@ abbrev pub released_lines : ℕ → ℕ → List Release → List ℕ
 released_lines version n [] = []
 released_lines version n (r ∷ rs) = if r.step == n then output_line version r.output ++ released_lines version n rs else []
 
--- the releases behind those of this step
+-- the releases after those of this step
 abbrev pub behind : ℕ → List Release → List Release
 behind n [] = []
 behind n (r ∷ rs) = if r.step == n then behind n rs else r ∷ rs
 
--- the lines of the first claims, as long as their steps are among the first so many: of each its reply, and its releases
+-- the lines of the first claims, as long as their steps are among the first ones: for each its reply, and its releases
 abbrev pub collected_lines : ℕ → ℕ → List Claim → List Release → List ℕ
 collected_lines version count [] rs = []
 collected_lines version count (c ∷ cs) rs = if nat_le c.step count then reply_line (reply_of c) ++ (released_lines version c.step rs ++ collected_lines version count cs (behind c.step rs)) else []
 
--- the claims whose steps are not among the first so many
+-- the claims whose steps are not among the first ones
 abbrev pub waiting : ℕ → List Claim → List Claim
 waiting count [] = []
 waiting count (c ∷ cs) = if nat_le c.step count then waiting count cs else c ∷ cs
 
--- ---- what is printed of a flight, with this settled world behind it
+-- ---- the output for a flight that ends with this settled world
 
 abbrev pub flown_lines : World → Flown → List Claim → List ℕ
 flown_lines w flown.Nothing claims = []
 flown_lines w (flown.Settled releases) claims = collected_lines w.version w.count claims releases
 flown_lines w (flown.Failed fault) claims = commit_line fault
 
--- the claims that are left
+-- the remaining claims
 abbrev pub left_by : World → Flown → List Claim → List Claim
 left_by w (flown.Settled releases) claims = waiting w.count claims
 left_by w r claims = claims
 
--- all are granted, where any is collected
+-- if any is collected, all are granted
 abbrev pub AreGranted : Log → Flown → List Claim → Type 0
 AreGranted log (flown.Settled releases) claims = AllByRecursion (IsGranted log) claims
 AreGranted log r claims = Unit {0}

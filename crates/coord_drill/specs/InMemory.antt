@@ -7,13 +7,13 @@ use Rattle.coord_disk.specs.declared.memory.MemDisk.{MemDisk}
 use Rattle.coord_drill.specs.Course.{DrillFails, Drills}
 use Rattle.coord_drill.specs.declared.fault.Fault.{Fault}
 
--- nothing stands on it, no call of it has failed, and a crash of it keeps what a read gives
+-- it is empty, no call of it has failed, and a crash keeps the bytes that a read gives
 pub record IsBlank (disk : MemDisk) : Type 0 where
   pub present : present_of disk ≡ whole []
   pub failures : failures_of disk ≡ 0
   pub choice : choice_of disk ≡ Kept
 
--- a drill began on such a disk, and what was read was carried out to its end
+-- a drill began on such a disk, and its input was carried out to the end
 abbrev pub DrillsInMemory : Option (List ℕ) → Option (List ℕ) → Option (List ℕ) → Option (List ℕ) → Type 0
 DrillsInMemory unread rest written now = (given last : MemDisk) × IsBlank given × Drills in_memory CrashesByChoice given (record { unread = unread; written = written }) (record { unread = rest; written = now }) last
 

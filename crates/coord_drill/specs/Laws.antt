@@ -1,4 +1,4 @@
--- The laws of the drill: of its grammar, of what it prints, and of what it has printed.
+-- The laws of the drill: about its grammar, its possible output, and the durability of its output.
 use Rattle.std.specs.Prelude.{◌≡◌, ℕ, ◌≤◌, List, Some}
 use Rattle.std.specs.List.{AllByRecursion}
 use Rattle.coord_ledger.specs.declared.events.Answer.{Answer}
@@ -12,21 +12,21 @@ use Rattle.coord_drill.specs.declared.fault.Fault.{Fault}
 use Rattle.coord_drill.specs.declared.request.Request.{Request}
 use Rattle.coord_drill.specs.Grammar.{request_of, spelled}
 
--- what is spelled is read so, in a drill of either version
+-- a written request is read as itself, in a drill of either version
 abbrev pub SpelledIsRead : Type 0
 SpelledIsRead = (version : ℕ) (request : Request) (line : List ℕ) → spelled version request ≡ Some line → request_of version line ≡ Some request
 
--- what a drill over a disk has printed to an input that was carried out to its end may be printed to it
+-- if the input was carried out to its end, its output is one that a drill may print for it
 abbrev pub EndedIsDrilled : {D : Type 0} → DiskModel D → (D → D → Type 0) → Type 0
 EndedIsDrilled {D} disk crashes = (given last : D) (input written : List ℕ) → DrillEnded disk crashes given input written last → IsDrilled input written
 
--- and where the drill broke off, a first part of what may be printed to it
+-- and if the drill broke off, a prefix of such an output
 abbrev pub BrokenIsDrilled : {D : Type 0} → DiskModel D → (D → D → Type 0) → Type 0
 BrokenIsDrilled {D} disk crashes =
     (given : D) (input written : List ℕ) (refused : Fault × D) → BrokeOff disk crashes given input written refused → (text : List ℕ) × IsDrilled input text × IsFirstPart written text
 
--- At any moment of a run that goes on from here, what survives has each of the steps that are settled here, as each is
--- of which something was printed.
+-- At any moment of a run that continues from here, the surviving steps include each step that is settled here, as is each
+-- step with visible output.
 abbrev pub PrintedSurvives : Type 0
 PrintedSurvives =
     (s : Machine) (events : List Event) (given : List Answer) (told bytes : List ℕ) → IsConsistent s → AllByRecursion EventInRange events → Answered s events given → IsSettled s told →

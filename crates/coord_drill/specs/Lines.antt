@@ -1,4 +1,4 @@
--- What the code's functions say of lines that were carried out, wherever the drill stood before them.
+-- The statements of the code's functions about lines that were carried out, from any place of the drill.
 use Rattle.std.specs.Prelude.{◌≡◌, ℕ, ◌+◌, List, [], ◌∷◌, ◌++◌}
 use Rattle.coord_disk.specs.Model.DiskModel.{DiskModel}
 use Rattle.coord_lines.specs.Lines.{Line, lines_on}
@@ -10,30 +10,30 @@ use Rattle.coord_drill.specs.declared.fault.Fault.{Fault}
 
 -- ---- one line
 
--- the line of this number was carried out, and is to print this
+-- the line with this number was carried out, and has this output
 abbrev pub CarriesLine : {D : Type 0} → DiskModel D → (D → D → Type 0) → Drill D → ℕ → Line → List ℕ → Drill D → Type 0
 CarriesLine {D} disk crashes d n line text new = (p : Place D) → Stands disk d p → n ≡ p.lines + 1 → (q : Place D) × Stands disk new q × (q.printed ≡ p.printed ++ text) × LineGoes disk crashes p line q
 
--- it was cut short, and this disk given up
+-- it was cut short, and this disk was given up
 abbrev pub CutsLine : {D : Type 0} → DiskModel D → (D → D → Type 0) → Drill D → Line → Fault × D → Type 0
 CutsLine {D} disk crashes d line refused = (p : Place D) → Stands disk d p → FirstCutShort disk crashes p (line ∷ []) refused
 
--- ---- lines, and what was written of what they print
+-- ---- lines, and the written part of their output
 
--- it stands at this place, behind so many lines
+-- it is at this place, after this many lines
 abbrev pub StandsAt : {D : Type 0} → DiskModel D → Console D → Place D → Type 0
 StandsAt disk c p = Stands disk c.drill p × (p.lines ≡ c.number)
 
--- these lines were carried out, and what they print was written
+-- these lines were carried out, and their output was written
 abbrev pub CarriesOut : {D : Type 0} → DiskModel D → (D → D → Type 0) → Console D → List Line → List ℕ → Console D → Type 0
 CarriesOut {D} disk crashes c lines text new = (p : Place D) → StandsAt disk c p → (q : Place D) × StandsAt disk new q × (q.printed ≡ p.printed ++ text) × Goes disk crashes p lines q
 
--- and the disk was given back
+-- and the disk was returned
 abbrev pub EndsWith : {D : Type 0} → DiskModel D → (D → D → Type 0) → Console D → List Line → List ℕ → D → Type 0
 EndsWith {D} disk crashes c lines text last = (p : Place D) → StandsAt disk c p → (q : Place D) × (last ≡ q.disk) × (q.printed ≡ p.printed ++ text) × Goes disk crashes p lines q
 
--- The first of these lines were carried out, and no more of them, for a reason that names the place where the drill then
--- stands, the lines that are left and all that was written.
+-- A prefix of these lines was carried out, and no more, for a reason that names the place where the drill then
+-- is, the remaining lines and everything that was written.
 pub record Breaks {D : Type 0} (disk : DiskModel D) (crashes : D → D → Type 0) (c : Console D) (lines : List Line) (text : List ℕ) (Why : Place D → List Line → List ℕ → Type 0) : Type 0 where
   pub ended : List Line
   pub others : List Line
@@ -48,7 +48,7 @@ LinesBreakOff disk crashes c lines refused text = Breaks disk crashes c lines te
 abbrev pub EndsEarly : {D : Type 0} → DiskModel D → (D → D → Type 0) → Console D → List Line → Fault × D → List ℕ → Type 0
 EndsEarly disk crashes c lines refused text = Breaks disk crashes c lines text (λ q others written. StopsDrill disk crashes q others written refused)
 
--- A piece of the input was taken, but for this rest: the lines that have ended in it were carried out, from a line so far
+-- A piece of the input was handled, except for this rest: the lines that it completed were carried out, from one partial line
 -- to another.
 pub record TakesPiece {D : Type 0} (disk : DiskModel D) (crashes : D → D → Type 0) (c : Console D) (piece rest text : List ℕ) (new : Console D) : Type 0 where
   pub ended : List Line

@@ -1,8 +1,8 @@
--- What a line does to the drill's disk, moment by moment, as the code's functions say it of each other.
+-- The effect of a line on the drill's disk, moment by moment, in the terms of the code's functions.
 --
--- The events of a line lead from one driver to another, whatever machine the first one represents: with just the answers
--- that the line's text and the drill's new state go by. The answers are that machine's, the other driver represents it,
--- and the headline's chain of moments (`EachMoment`) leads from the disk as it was before the line to the disk then.
+-- The events of a line lead from one driver to another, whatever machine the first one represents, with exactly the answers
+-- on which the line's text and the drill's new state depend. The answers are that machine's, the other driver represents it,
+-- and the headline's chain of moments (`EachMoment`) leads from the disk before the line to the disk after it.
 use Rattle.std.specs.Prelude.{◌≡◌, ◌≢◌, ◌⊎◌, ℕ, ◌+◌, List, [], ◌∷◌, length, take, false, true, Option, Some, Result}
 use Rattle.std.specs.List.{AllByRecursion}
 use Rattle.coord_disk.specs.Model.Moments.{LeavesOnly}
@@ -52,18 +52,18 @@ pub record Begins {D : Type 0} (d : DriverState D) : Type 0 where
   pub consistent : IsConsistent (started d.ledger)
   pub represents : Represents d (started d.ledger)
 
--- a flight does
+-- a flight represents it
 abbrev pub GoesBy : {D : Type 0} → DiskModel D → (D → D → Type 0) → DriverState D → List Answer → DriverState D → Type 0
 GoesBy disk crashes d given new = Leads disk crashes d (flight_events given) given new
 
--- Of these events, by their answers, a first part was answered, and the disk was given up as it was then.
+-- A prefix of these events was answered, and then the drill gave up its disk.
 pub record LeadsPart {D : Type 0} (disk : DiskModel D) (crashes : D → D → Type 0) (d : DriverState D) (events : List Answer → List Event) (lost : D) : Type 0 where
   pub given : List Answer
   pub mid : DriverState D
   pub moments : Leads disk crashes d (take (length given) (events given)) given mid
   pub left : disk_held mid ≡ Some lost
 
--- a driver is handed a step
+-- a step is submitted to a driver
 pub record Hands {D : Type 0} (disk : DiskModel D) (crashes : D → D → Type 0) (d : DriverState D) (x : Step) (answer : Result Handed Refusal) (new : DriverState D) : Type 0 where
   pub handed : HandedTo d.ledger x answer new.ledger
   pub flight : new.flight ≡ d.flight
@@ -76,7 +76,7 @@ pub record Hands {D : Type 0} (disk : DiskModel D) (crashes : D → D → Type 0
 abbrev pub GivesRaised : {D : Type 0} → DriverState D → List ℕ → Type 0
 GivesRaised d = GivesEither (settled_world d.ledger.log) (risen (settled_world d.ledger.log))
 
--- the store at home, which has not stopped, was raised, and is the new ledger's
+-- the store at home, which has not stopped, was migrated, and is the new ledger's store
 pub record RaisesTo {D : Type 0} (disk : DiskModel D) (crashes : D → D → Type 0) (d new : DriverState D) : Type 0 where
   pub begins : MayBegin disk crashes new
   pub old : D
@@ -88,7 +88,7 @@ pub record RaisesTo {D : Type 0} (disk : DiskModel D) (crashes : D → D → Typ
   pub failed : disk.failures raised ≡ disk.failures old
   pub moments : has_stopped d.ledger.log ≡ false → disk.keeps_model old ≡ true → LeavesOnly disk old raised (GivesRaised d)
 
--- it was given up at a moment of that, for this fault
+-- the disk was given up at a moment of that, for this fault
 pub record RaisesPart {D : Type 0} (disk : DiskModel D) (d : DriverState D) (refused : Fault × D) : Type 0 where
   pub old : D
   pub there : disk_held d ≡ Some old
@@ -96,37 +96,37 @@ pub record RaisesPart {D : Type 0} (disk : DiskModel D) (d : DriverState D) (ref
   pub cause : IsEmptyLog d.ledger.log → IsPassingFault refused.0
   pub failed : disk.failures refused.1 ≡ disk.failures old + failed_by refused.0
 
--- ---- what is asked
+-- ---- requests
 
--- events, or the raising of the store
+-- events, or the migration of the store
 abbrev pub LeadsBy : {D : Type 0} → DiskModel D → (D → D → Type 0) → Asked → Drill D → List Answer → Drill D → Type 0
 LeadsBy disk crashes Version2 d given new = RaisesTo disk crashes d.driver new.driver
 LeadsBy disk crashes a d given new = Leads disk crashes d.driver (line_events d.holds a given) given new.driver
 
--- what is asked prints this and leaves this drill: text, state and disk go by the same answers to its events
+-- the request prints this and leaves this drill: text, state and disk depend on the same answers to its events
 pub record Carries {D : Type 0} (disk : DiskModel D) (crashes : D → D → Type 0) (d : Drill D) (a : Asked) (told : List ℕ) (new : Drill D) : Type 0 where
   pub given : List Answer
   pub answered : IsAnswered (state_of d) a given told (state_of new)
   pub moments : LeadsBy disk crashes a d given new
 
--- What is said of a line's moments: on a disk that keeps the model, and of `version 2` before any step.
+-- A statement about a line's moments: on a disk that keeps the model, and for `version 2` before any step.
 abbrev pub LineIsPromised : {D : Type 0} → DiskModel D → Drill D → Asked → Type 0
 LineIsPromised disk d a = (model_held disk d.driver ≡ Some true) × (a ≡ Version2 → IsEmptyLog d.driver.ledger.log)
 
 abbrev pub CarriesIf : {D : Type 0} → DiskModel D → (D → D → Type 0) → Drill D → Asked → List ℕ → Drill D → Type 0
 CarriesIf disk crashes d a told new = LineIsPromised disk d a → Carries disk crashes d a told new
 
--- the disk was given up in a crash, behind the taking of an image
+-- the disk was given up in a crash, after an image was chosen
 pub record GivesUpInCrash {D : Type 0} (disk : DiskModel D) (crashes : D → D → Type 0) (d : DriverState D) (refused : Fault × D) : Type 0 where
   pub moments : (s : Machine) → IsConsistent s → Represents d s → (old : D) → disk_held d ≡ Some old → disk.keeps_model old ≡ true → Reopens disk crashes (Survives s) old refused.1
   pub cause : model_held disk d ≡ Some true → IsPassingFault refused.0
   pub failed : (n : ℕ) → HasFailed disk.failures (disk_held d) n → disk.failures refused.1 ≡ n + failed_by refused.0
 
--- for want of memory behind a part of its events
+-- memory ran out after a prefix of its events
 abbrev pub LacksMemory : {D : Type 0} → DiskModel D → (D → D → Type 0) → Asked → Drill D → Fault × D → Type 0
 LacksMemory disk crashes a d refused = IsOfMemory refused.0 × LeadsPart disk crashes d.driver (line_events d.holds a) refused.1
 
--- what is asked was cut short for the fault that stands beside the disk that was given up
+-- the request was cut short by the fault beside the disk that was given up
 abbrev pub Cuts : {D : Type 0} → DiskModel D → (D → D → Type 0) → Asked → Drill D → Fault × D → Type 0
 Cuts disk crashes Version2 d refused = RaisesPart disk d.driver refused
 Cuts disk crashes Crash d refused = LacksMemory disk crashes Crash d refused ⊎ GivesUpInCrash disk crashes d.driver refused
@@ -135,7 +135,7 @@ Cuts disk crashes a d refused = LacksMemory disk crashes a d refused
 abbrev pub CutsIf : {D : Type 0} → DiskModel D → (D → D → Type 0) → Asked → Drill D → Fault × D → Type 0
 CutsIf disk crashes a d refused = LineIsPromised disk d a → Cuts disk crashes a d refused
 
--- a flight prints this and leaves this drill, whatever tickets the machine has given before it
+-- a flight prints this and leaves this drill, whatever tickets the machine has issued before it
 pub record Flies {D : Type 0} (disk : DiskModel D) (crashes : D → D → Type 0) (d : Drill D) (told : List ℕ) (new : Drill D) : Type 0 where
   pub given : List Answer
   pub with_memory : AllByRecursion (λ answer. answer ≢ Refused OutOfMemory) given
@@ -143,9 +143,9 @@ pub record Flies {D : Type 0} (disk : DiskModel D) (crashes : D → D → Type 0
   pub goes_on : (tickets : List (Option Reply)) → state_of new ≡ seen_as (run (record (machine_of (state_of d)) { tickets = tickets }) (flight_events given) given) d.holds d.has_begun
   pub moments : GoesBy disk crashes d.driver given new.driver
 
--- ---- where the code's drill is
+-- ---- the place of the code's drill
 
--- It stands at this place, on a disk that keeps the model, of which whatever a crash may leave survives. What was told of
+-- It is at this place, on a disk that keeps the model; whatever a crash may leave survives. Every step with visible output
 -- is settled, and as long as no step was accepted its world is empty.
 pub record Stands {D : Type 0} (disk : DiskModel D) (d : Drill D) (p : Place D) : Type 0 where
   pub state : p.state ≡ state_of d
@@ -157,7 +157,7 @@ pub record Stands {D : Type 0} (disk : DiskModel D) (d : Drill D) (p : Place D) 
   pub empty : p.state.has_begun ≡ false → IsEmptyLog p.state.log
   pub survives : CrashPrefix p.machine true (disk.present p.disk)
 
--- a ledger over a store that was made on this disk
+-- a ledger over a store that was created on this disk
 pub record IsMade {D : Type 0} (disk : DiskModel D) (given : D) (l : LedgerState D) : Type 0 where
   pub begun : D
   pub is : l ≡ ledger_over (no_world 1) begun
@@ -165,7 +165,7 @@ pub record IsMade {D : Type 0} (disk : DiskModel D) (given : D) (l : LedgerState
   pub unfailed : disk.failures begun ≡ disk.failures given
   pub made : disk.keeps_model given ≡ true → disk.present begun ≡ made HALF_SIZE 1
 
--- a store was just made on the disk that was given
+-- a store was just created on the given disk
 pub record IsBegun {D : Type 0} (disk : DiskModel D) (given : D) (d : Drill D) : Type 0 where
   pub begun : D
   pub made : disk.present begun ≡ made HALF_SIZE 1

@@ -1,4 +1,4 @@
--- The steps of which a drill prints something: a reply, a packet or a signal.
+-- The steps whose reply, packet or signal a drill prints.
 use Rattle.std.specs.Prelude.{ℕ, nat_le, List, [], ◌∷◌, map, take, Result, Ok, Err, if◌then◌else◌}
 use Rattle.coord_types.specs.declared.refusals.Refusal.{Refusal}
 use Rattle.coord_types.specs.declared.steps.Step.{Step}
@@ -12,12 +12,12 @@ use Rattle.coord_drill.specs.Drill.{DrillState}
 use Rattle.coord_drill.specs.declared.asked.Asked.{Asked}
 use Rattle.coord_drill.specs.declared.asked.Asked.TheVariants.{Submit, Flush, Resend}
 
--- a flight that is committed: its steps
+-- for a committed flight: its steps
 abbrev pub flight_told : Log → List Answer → List ℕ
 flight_told log (Begun b ∷ Committed ∷ given) = map (λ o. o.reply.step) (outs (settled_world log) (take (next_size log) (pending log)))
 flight_told log given = []
 
--- a repeat: the step of its reply, once that is settled
+-- for a repeat: the step of its reply, once that is settled
 abbrev pub repeat_told : ℕ → Result Verdict Refusal → List ℕ
 repeat_told count (Ok (Repeat reply)) = if nat_le reply.step count then reply.step ∷ [] else []
 repeat_told count (Ok (Fresh kind)) = []
@@ -28,7 +28,7 @@ step_told s x (Accepted n ∷ given) = if s.holds then [] else flight_told (with
 step_told s x (Repeated n ∷ given) = repeat_told (settled_count s.log) (verdict s.log x)
 step_told s x given = []
 
--- The steps that the answer to a request tells of. What is sent again was given out by settled steps, and counts for the last of them.
+-- The steps that the answer to a request shows. Resent packets come from settled steps, and count for the last of them.
 unfoldable pub told_by : DrillState → Asked → List Answer → List ℕ
 told_by s (Submit x) given = step_told s x given
 told_by s Flush given = flight_told s.log given

@@ -1,4 +1,4 @@
--- Worked lines: one of each verb, as it is spelled, and read again.
+-- Worked examples: one line of each verb, written and read again.
 use Rattle.std.specs.Prelude.{◌≡◌, ℕ, List, codes, Some}
 use Rattle.coord_types.specs.declared.messages.Msg.TheVariants as msg
 use Rattle.coord_types.specs.declared.steps.Command.TheVariants.{Add, Remove, Join, Drop, Reset, Confirm}
@@ -6,7 +6,7 @@ use Rattle.coord_drill.specs.declared.request.Request.{Request}
 use Rattle.coord_drill.specs.declared.request.Request.TheVariants.{Next, Order, Take, Clear, Data, Receipt, Resend, Check, Show, Hold, Flush, Crash, Version2}
 use Rattle.coord_drill.specs.Grammar.{request_of, spelled}
 
--- in a drill of this version a request is spelled so, and the line is read as it
+-- in a drill of this version the request is written as this line, and the line is read as the request
 abbrev pub IsSpelledIn : ℕ → Request → List ℕ → Type 0
 IsSpelledIn version request line = (spelled version request ≡ Some line) × (request_of version line ≡ Some request)
 

@@ -1,24 +1,24 @@
--- What a drill's reader and writer pass on.
+-- The bytes that pass through a drill's reader and writer.
 use Rattle.std.specs.Prelude.{◌≡◌, ℕ, ◌≤◌, List, ◌++◌, length, Option}
 use Rattle.std.specs.Io.KnownBytes.{Appends, Consumes}
 
--- a first part of a text, and not all of it
+-- a proper prefix of a text
 abbrev pub IsShortPart : List ℕ → List ℕ → Type 0
 IsShortPart part text = (rest : List ℕ) × (text ≡ part ++ rest) × (1 ≤ length rest)
 
--- a writer got a text that has P
+-- the writer got a text with P
 abbrev pub WritesPart : Option (List ℕ) → Option (List ℕ) → (List ℕ → Type 0) → Type 0
 WritesPart old new P = (part : List ℕ) × Appends old new part × P part
 
--- a first part of a text, and no more
+-- a prefix of a text, and nothing else
 abbrev pub WritesShort : Option (List ℕ) → Option (List ℕ) → List ℕ → Type 0
 WritesShort old new text = WritesPart old new (λ part. IsShortPart part text)
 
--- what is known of a reader and a writer at one moment
+-- the known state of a reader and a writer at one moment
 pub record InOut : Type 0 where
   pub unread : Option (List ℕ)
   pub written : Option (List ℕ)
 
--- bytes were read, and a text written, that have P
+-- bytes were read and a text was written that satisfy P
 abbrev pub Exchanges : InOut → InOut → (List ℕ → List ℕ → Type 0) → Type 0
 Exchanges old new P = (seen : List ℕ) × Consumes old.unread new.unread seen × WritesPart old.written new.written (P seen)

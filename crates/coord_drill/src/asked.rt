@@ -1,4 +1,4 @@
-//! What requests ask for.
+//! The meanings of requests.
 
 ghost use Rattle.std.specs.Prelude.{◌≡◌};
 ghost use Rattle.coord_world.specs.protocol.Outputs.{receipt};
@@ -8,32 +8,32 @@ use crate::request::Request;
 use coord_types::{Client, DataPacket, NodeId, ReceiptPacket, Refusal, Step};
 use coord_world::World;
 
-/// What a request asks of a drill.
+/// The meaning of a request for a drill.
 #[derive(Clone, Copy)]
 pub enum Asked {
-    /// To take a step.
+    /// Take a step.
     Submit(Step),
-    /// Nothing: it names a lane that is not there.
+    /// Nothing: the request names an absent lane.
     Refuse(Refusal),
-    /// Nothing: no message waits on its lane.
+    /// Nothing: the lane has no message.
     Nothing,
-    /// To send again what may have been lost.
+    /// Send again the packets that may have been lost.
     Resend,
-    /// To check the front world.
+    /// Check the front world.
     Check,
-    /// To show the settled world.
+    /// Show the settled world.
     Show,
-    /// To hold accepted steps back.
+    /// Hold accepted steps back.
     Hold,
-    /// To settle pending steps in one flight.
+    /// Settle pending steps in one flight.
     Flush,
-    /// To crash the disk and open it again.
+    /// Crash the disk and open it again.
     Crash,
-    /// To begin again over an empty store of version 2.
+    /// Begin again over an empty store of version 2.
     Version2,
 }
 
-/// What a request asks of a drill whose front world is this.
+/// Returns the meaning of a request for a drill with this front world.
 pub fn wanted_by(front: &World, request: &Request) -> Asked
     ensures { result ≡ asked front.now request.now }
 {
@@ -68,7 +68,7 @@ pub fn wanted_by(front: &World, request: &Request) -> Asked
     }
 }
 
-/// The number after a client's last one.
+/// Returns the number after a client's last one.
 #[tactic(auto, unfolding(crate::specs::Asked::next_number))]
 fn next_number(world: &World, client: Client) -> u64
     ensures { result ≡ next_number world.now client }
@@ -81,7 +81,7 @@ fn next_number(world: &World, client: Client) -> u64
     }
 }
 
-/// The packet at the front of a lane; None where nothing waits there.
+/// Returns the packet at the front of a lane; None if the lane is empty.
 #[tactic(auto, unfolding(crate::specs::Asked::front))]
 fn front_packet(world: &World, from: NodeId, to: NodeId) -> Result<Option<DataPacket>, Refusal>
     ensures { result ≡ front world.now from to }
@@ -103,7 +103,7 @@ fn front_packet(world: &World, from: NodeId, to: NodeId) -> Result<Option<DataPa
     }))
 }
 
-/// The client of orders that name none, as `reset 3`.
+/// The client of orders that name none, such as `reset 3`.
 fn operator() -> Client
     ensures { result ≡ operator }
 {

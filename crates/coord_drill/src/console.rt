@@ -25,12 +25,12 @@ use coord_lines::{LineBuffer, MOST_READS};
 use std::alloc::Global;
 use std::io::{Read, Write};
 
-/// The most bytes that one read asks for.
+/// The maximum number of bytes of one read.
 const READ_LEN: usize = 512;
 
-/// Reads requests to the end of the input, a line each, and prints what becomes of each: the drill
-/// over a disk in memory that was just made, of which a crash keeps what a read gives. What is
-/// printed of a whole input is what `printed_is_drilled` says; where the drill fails, a first part of
+/// Reads requests to the end of the input, one in each line, and prints their results: the drill
+/// over a new disk in memory, whose crash keeps the bytes that a read gives.
+/// `printed_is_drilled` describes the output for a whole input; if the drill fails, the output is a prefix of
 /// that.
 pub fn coord_drill<R: Read, W: Write>(
     alloc: Global,
@@ -49,12 +49,12 @@ pub fn coord_drill<R: Read, W: Write>(
     }
 }
 
-/// Reads requests to the end of the input, a line each, and prints what becomes of each; its store
-/// is made on the disk, which has to be empty. The disk is given back, where it fails too.
+/// Reads requests to the end of the input, one in each line, and prints their results; its store
+/// is created on the disk, which must be empty. It returns the disk even if it fails.
 ///
 /// The main theorem, over a disk that keeps the model: at each moment of the whole input, between
 /// its lines and inside them, until the end or the fault, whatever a crash may leave of the disk is
-/// the world after a first part of the accepted steps, a legal one, and that part holds every step
+/// the legal world after a prefix of the accepted steps, which holds every step
 /// whose reply, packet or signal was printed (`specs/Course.antt`).
 pub fn coord_drill_on<R: Read, W: Write, D: CrashDisk>(
     alloc: Global,
@@ -74,7 +74,7 @@ pub fn coord_drill_on<R: Read, W: Write, D: CrashDisk>(
     Console::new(alloc, disk)?.run(alloc, reader, writer)
 }
 
-/// A disk in memory with nothing on it, of which a crash keeps what a read gives.
+/// Returns an empty disk in memory, whose crash keeps the bytes that a read gives.
 fn new_disk(alloc: Global) -> MemDisk
     ensures { IsBlank result }
 {
@@ -83,14 +83,14 @@ fn new_disk(alloc: Global) -> MemDisk
     disk
 }
 
-/// A drill that takes its input in pieces of any length. It has to be spent, by `into_disk`. A call
-/// that fails gives the disk back.
+/// A drill that takes its input in pieces of any length. The caller must end it with `into_disk`. A call
+/// that fails returns the disk.
 struct Console<D: CrashDisk> {
     drill: Drill<D>,
     line: LineBuffer,
-    /// How many lines have ended.
+    /// The number of complete lines.
     number: u64,
-    /// What is printed for one line.
+    /// The output of one line.
     text: String,
 }
 
@@ -113,7 +113,7 @@ impl<D: CrashDisk> Console<D> {
         })
     }
 
-    /// Reads to the end of the input, and gives the disk back.
+    /// Reads to the end of the input, and returns the disk.
     fn run<R: Read, W: Write>(
         self,
         alloc: Global,
@@ -148,8 +148,8 @@ impl<D: CrashDisk> Console<D> {
         Err((Fault::TooManyReads, console.into_disk()))
     }
 
-    /// Takes a piece of the input, and prints in one write what its lines print. Where a line fails,
-    /// what was printed before it is written.
+    /// Handles a piece of the input, and writes the output of its lines at once. If a line fails,
+    /// the output before it is written.
     fn answer<W: Write>(
         self,
         alloc: Global,
@@ -179,7 +179,7 @@ impl<D: CrashDisk> Console<D> {
         }
     }
 
-    /// Ends the input, and gives the disk back. Its last line may lack its line feed.
+    /// Ends the input, and returns the disk. The last line may lack its line feed.
     fn finish<W: Write>(self, writer: &mut W) -> Result<D, (Fault, D)>
         requires ready { IsReadyDrill self.drill }
         requires number { self.number < 2 ^ 64 - 1 }
@@ -198,7 +198,7 @@ impl<D: CrashDisk> Console<D> {
         }
     }
 
-    /// Ends the drill, and gives its disk back.
+    /// Ends the drill, and returns its disk.
     fn into_disk(self) -> D
         ensures { disk_held self.drill.driver ≡ Some result }
     {

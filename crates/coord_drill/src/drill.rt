@@ -28,11 +28,11 @@ use coord_store::Store;
 use std::alloc::Global;
 use std::collections::VecDeque;
 
-/// The bytes of a half of the drill's disk.
+/// The size of a half of the drill's disk, in bytes.
 const HALF_SIZE: u64 = 65_536;
 
 /// The driver of a ledger, and a ticket for each pending step, in order. `into_disk` ends it. A
-/// call that fails gives the disk back.
+/// call that fails returns the disk.
 pub struct Drill<D: CrashDisk> {
     alloc: Global,
     driver: Driver<D>,
@@ -44,8 +44,8 @@ pub struct Drill<D: CrashDisk> {
 }
 
 impl<D: CrashDisk> Drill<D> {
-    /// A drill in the world before any step: its store, with halves of 65,536 bytes, is made on the
-    /// disk. A refusal gives the disk back.
+    /// Makes a drill in the world before any step: it creates its store, with halves of 65,536 bytes, on the
+    /// disk. A refusal returns the disk.
     pub fn new(alloc: Global, disk: D) -> Result<Self, (Fault, D)>
         ensures ready { IfOk result IsReadyDrill }
         ensures begun { D.model.keeps_model disk ≡ true → IfOk result (IsBegun D.model disk) }
@@ -65,7 +65,7 @@ impl<D: CrashDisk> Drill<D> {
         })
     }
 
-    /// What a line asks for; None for a bad line.
+    /// Returns the request of a line; None for a bad line.
     pub fn read(&self, line: &[u8]) -> Option<Request>
         ensures { result ≡ asked_by (state_of self.now) line.now }
     {
@@ -75,8 +75,8 @@ impl<D: CrashDisk> Drill<D> {
         }
     }
 
-    /// Carries out what a request asks for, and adds the answer's lines to a text. At each moment of
-    /// it the headline holds of the drill's disk. A call that fails gives the disk back.
+    /// Carries out a request, and appends the answer's lines to a text. At each moment of
+    /// it the headline holds for the drill's disk. A call that fails returns the disk.
     pub fn answer(self, request: &Request, text: &mut String) -> Result<Self, (Fault, D)>
         requires ready { IsReadyDrill self }
         ensures ready { IfOk result IsReadyDrill }
@@ -91,7 +91,7 @@ impl<D: CrashDisk> Drill<D> {
         self.carry_out(wanted, text)
     }
 
-    /// Carries out what is asked, and adds the answer's lines to a text.
+    /// Carries out the request, and appends the answer's lines to a text.
     fn carry_out(self, wanted: Asked, text: &mut String) -> Result<Self, (Fault, D)>
         requires ready { IsReadyDrill self }
         ensures ready { IfOk result IsReadyDrill }
@@ -112,7 +112,7 @@ impl<D: CrashDisk> Drill<D> {
         }
     }
 
-    /// Ends the drill, and gives its disk back. What is pending is lost.
+    /// Ends the drill, and returns its disk. Pending steps are lost.
     pub fn into_disk(self) -> D
         ensures { disk_held self.driver ≡ Some result }
     {
@@ -127,7 +127,7 @@ impl<D: CrashDisk> Drill<D> {
         driver.into_disk()
     }
 
-    /// Drops a driver that ran out of memory, and gives its disk back.
+    /// Drops a driver that ran out of memory, and returns its disk.
     pub fn lost(self) -> (Fault, D)
         ensures fault { result.0 ≡ OutOfMemory }
         ensures disk { disk_held self.driver ≡ Some result.1 }
@@ -136,7 +136,7 @@ impl<D: CrashDisk> Drill<D> {
     }
 }
 
-/// Makes a store of version 1 on a disk, and a ledger over it.
+/// Creates a store of version 1 on a disk, and a ledger over it.
 fn new_ledger<D: CrashDisk>(alloc: Global, disk: D) -> Result<Ledger<D>, (Fault, D)>
     ensures made { IfOk result (IsMade D.model disk) }
     ensures fault { IfErr result (λ refused. IsOfDisk refused.0) }
@@ -149,7 +149,7 @@ fn new_ledger<D: CrashDisk>(alloc: Global, disk: D) -> Result<Ledger<D>, (Fault,
     }
 }
 
-/// Makes a ledger over a store that has not stopped. Without memory for it, gives the disk back.
+/// Makes a ledger over a store that has not stopped. If memory runs out, returns the disk.
 fn adopt<D: CrashDisk>(alloc: Global, store: Store<D>) -> Result<Ledger<D>, (Fault, D)>
     requires { store.torn ≡ None }
     ensures adopted { IfOk result (λ ledger. ledger ≡ ledger_over store.world store.disk) }
@@ -167,7 +167,7 @@ fn forget(mut tickets: VecDeque<Ticket>) {
     tickets.destroy_empty();
 }
 
-/// Gives the tickets of a list up.
+/// Gives up the tickets of a list.
 fn forget_all(tickets: &mut VecDeque<Ticket>)
     ensures { tickets.new.items ≡ [] }
 {

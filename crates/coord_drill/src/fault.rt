@@ -1,18 +1,18 @@
-//! Why a drill ends before the end of its input.
+//! The faults that end a drill before the end of its input.
 
 use coord_store::StoreFault;
 use std::alloc::AllocError;
 
-/// What ends a drill early.
+/// A fault that ends a drill early.
 #[derive(Clone, Copy, Debug, PartialEq, Eq)]
 pub enum Fault {
     /// The input could not be read.
     Read,
-    /// What is printed could not be written.
+    /// The output could not be written.
     Write,
-    /// The end of the input was not met within `MOST_READS` reads.
+    /// `MOST_READS` reads did not reach the end of the input.
     TooManyReads,
-    /// The store was not made on the disk, not opened after a crash, or not raised.
+    /// The store was not created on the disk, not opened after a crash, or not migrated.
     Store(StoreFault),
     /// There was not enough memory.
     OutOfMemory,

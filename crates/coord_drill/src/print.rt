@@ -9,14 +9,14 @@ use coord_store::CommitFault;
 use coord_types::{DataPacket, Msg, Output, ReceiptPacket, Refusal, Reply, Version};
 use std::alloc::AllocError;
 
-/// Adds the line for a bad line, of which the number is given, counted from 1.
+/// Appends the line for a bad line with this number, counted from 1.
 pub fn print_bad_line(text: &mut String, number: u64) -> Result<(), AllocError>
     ensures { OnOk result (string_bytes text.new ≡ string_bytes text.old ++ bad_line number) }
 {
     writeln!(text, "bad line {number}")
 }
 
-/// Adds the line of a reply: its kind and its step.
+/// Appends the line of a reply: its kind and its step.
 pub fn print_reply(text: &mut String, reply: Reply) -> Result<(), AllocError>
     ensures { OnOk result (string_bytes text.new ≡ string_bytes text.old ++ reply_line reply) }
 {
@@ -25,7 +25,7 @@ pub fn print_reply(text: &mut String, reply: Reply) -> Result<(), AllocError>
     writeln!(text, "{kind} {step}")
 }
 
-/// Adds what a check found: `legal`, or the predicate that fails and where.
+/// Appends the result of a check: `legal`, or the predicate that fails and where.
 pub fn print_fault(text: &mut String, fault: Option<Violation>) -> Result<(), AllocError>
     ensures { OnOk result (string_bytes text.new ≡ string_bytes text.old ++ fault_line fault) }
 {
@@ -35,28 +35,28 @@ pub fn print_fault(text: &mut String, fault: Option<Violation>) -> Result<(), Al
     }
 }
 
-/// Adds the line for a step that waits for a flight.
+/// Appends the line for a step that waits for a flight.
 pub fn print_pending(text: &mut String, step: u64) -> Result<(), AllocError>
     ensures { OnOk result (string_bytes text.new ≡ string_bytes text.old ++ pending_line step) }
 {
     writeln!(text, "pending {step}")
 }
 
-/// Adds the line of a refusal: its number and its name.
+/// Appends the line of a refusal: its number and its name.
 pub fn print_refusal(text: &mut String, refusal: Refusal) -> Result<(), AllocError>
     ensures { OnOk result (string_bytes text.new ≡ string_bytes text.old ++ refusal_line refusal) }
 {
     writeln!(text, "no {refusal}")
 }
 
-/// Adds the line for a lane that has nothing to take or to clear.
+/// Appends the line for a lane that has nothing to take or to clear.
 pub fn print_idle(text: &mut String) -> Result<(), AllocError>
     ensures { OnOk result (string_bytes text.new ≡ string_bytes text.old ++ idle_line) }
 {
     text.push_str("idle\n")
 }
 
-/// Adds the line for a commit that failed.
+/// Appends the line for a failed commit.
 pub fn print_commit_fault(text: &mut String, fault: CommitFault) -> Result<(), AllocError>
     ensures { OnOk result (string_bytes text.new ≡ string_bytes text.old ++ commit_line fault) }
 {
@@ -64,21 +64,21 @@ pub fn print_commit_fault(text: &mut String, fault: CommitFault) -> Result<(), A
     writeln!(text, "commit {number} {fault}")
 }
 
-/// Adds the line of how many steps are settled.
+/// Appends the line with the number of settled steps.
 pub fn print_count(text: &mut String, settled: u64) -> Result<(), AllocError>
     ensures { OnOk result (string_bytes text.new ≡ string_bytes text.old ++ count_line settled) }
 {
     writeln!(text, "settled {settled}")
 }
 
-/// Adds the line for a store that was opened again, with its count of steps.
+/// Appends the line for a store that was opened again, with its count of steps.
 pub fn print_opened(text: &mut String, count: u64) -> Result<(), AllocError>
     ensures { OnOk result (string_bytes text.new ≡ string_bytes text.old ++ opened_line count) }
 {
     writeln!(text, "opened {count}")
 }
 
-/// Adds the line of a packet or a signal that goes out in a world of this version.
+/// Appends the line of a packet or a signal that is sent in a world of this version.
 pub fn print_output(text: &mut String, version: Version, output: &Output) -> Result<(), AllocError>
     ensures { OnOk result (string_bytes text.new ≡
         string_bytes text.old ++ output_line version output.now) }

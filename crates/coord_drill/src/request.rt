@@ -1,23 +1,23 @@
-//! What the lines of a drill ask for.
+//! The requests of a drill's lines.
 
 use coord_types::{Client, Command, DataPacket, NodeId, ReceiptPacket};
 
-/// What a line asks for.
+/// The request of a line.
 #[derive(Clone, Copy)]
 pub enum Request {
     /// An order of the operator, with the operator's next number.
     Next(Command),
-    /// An order of a client, with the number that the line gives.
+    /// An order of a client, with the number in the line.
     Order(Client, u64, Command),
     /// The packet at the front of the lane from one node to another is taken.
     Take(NodeId, NodeId),
     /// The front message of the lane from one node to another is cleared.
     Clear(NodeId, NodeId),
-    /// Just this data packet comes.
+    /// This data packet arrives.
     Data(DataPacket),
-    /// Just this receipt comes.
+    /// This receipt arrives.
     Receipt(ReceiptPacket),
-    /// What may have been lost is sent again.
+    /// Packets that may have been lost are sent again.
     Resend,
     /// The front world is checked.
     Check,
@@ -29,6 +29,6 @@ pub enum Request {
     Flush,
     /// The disk crashes and is opened again; pending steps are lost.
     Crash,
-    /// The drill is one of version 2, which is chosen before its first accepted step.
+    /// The drill switches to version 2, before its first accepted step.
     Version2,
 }

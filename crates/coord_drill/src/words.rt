@@ -1,4 +1,4 @@
-//! The words of a line, read one after the other.
+//! Reads the words of a line one after the other.
 
 ghost use Rattle.std.specs.Prelude.{◌≡◌, MatchOption, ◌∷◌, [], Some, None, nat_lt, option_and_then, if◌then◌else◌};
 ghost use Rattle.coord_drill.specs.Format.{ReadsWords};
@@ -7,7 +7,7 @@ ghost use Rattle.coord_drill.specs.Grammar.{words_of, number_of, number, node, g
 use coord_types::{Client, Group, NodeId, Version};
 use std::marker::Model;
 
-/// The words of a line that are still to be read.
+/// The remaining words of a line.
 #[derive(Drop)]
 pub struct Words<'a> {
     rest: Option<&'a str>,
@@ -24,14 +24,14 @@ impl<'a> Model for Words<'a> {
 }
 
 impl<'a> Words<'a> {
-    /// The words of a line, none of which was read.
+    /// Returns the words of a line, none of them read yet.
     pub fn of(line: &'a str) -> Self
         ensures { result ≡ words_of line.entry.now }
     {
         Words { rest: Some(line) }
     }
 
-    /// The next word.
+    /// Returns the next word.
     pub fn next(&mut self) -> Option<&'a str>
         ensures { MatchOption result (self.old ≡ []) (λ word. self.old ≡ word.now ∷ self.new) }
     {
@@ -48,7 +48,7 @@ impl<'a> Words<'a> {
         }
     }
 
-    /// The next word as a number: decimal digits alone, below 2^64.
+    /// Returns the next word as a number: only decimal digits, below 2^64.
     #[tactic(auto, unfolding(crate::specs::Grammar::number))]
     pub fn number(&mut self) -> Option<u64>
         ensures { ReadsWords (number.read self.old) result self.new }
@@ -56,7 +56,7 @@ impl<'a> Words<'a> {
         number_in(self.next()?)
     }
 
-    /// The next word as the number of a node, 1 to 64.
+    /// Returns the next word as the number of a node, 1 to 64.
     #[tactic(auto, unfolding(crate::specs::Grammar::node))]
     pub fn node(&mut self) -> Option<NodeId>
         ensures { ReadsWords (node.read self.old) result self.new }
@@ -64,7 +64,7 @@ impl<'a> Words<'a> {
         NodeId::new(small_number_in(self.next()?)?)
     }
 
-    /// The next word as the number of a group, 1 to 16.
+    /// Returns the next word as the number of a group, 1 to 16.
     #[tactic(auto, unfolding(crate::specs::Grammar::group))]
     pub fn group(&mut self) -> Option<Group>
         ensures { ReadsWords (group.read self.old) result self.new }
@@ -72,7 +72,7 @@ impl<'a> Words<'a> {
         Group::new(small_number_in(self.next()?)?)
     }
 
-    /// The next word as the number of a client, 1 to 16.
+    /// Returns the next word as the number of a client, 1 to 16.
     #[tactic(auto, unfolding(crate::specs::Grammar::client))]
     pub fn client(&mut self) -> Option<Client>
         ensures { ReadsWords (client.read self.old) result self.new }
@@ -80,7 +80,7 @@ impl<'a> Words<'a> {
         Client::new(small_number_in(self.next()?)?)
     }
 
-    /// The distance behind an Abort: in version 2 the next word as a number, and in version 1 no word.
+    /// Returns the distance of an Abort: in version 2 the next word as a number, and in version 1 no word.
     #[tactic(auto, unfolding(crate::specs::Grammar::distance))]
     pub fn distance(&mut self, version: Version) -> Option<u64>
         ensures { ReadsWords ((distance version).read self.old) result self.new }
@@ -93,18 +93,18 @@ impl<'a> Words<'a> {
     }
 }
 
-/// The value of one or more decimal digits, if it is below 2^64.
+/// Returns the value of one or more decimal digits, if it is below 2^64.
 fn number_in(word: &str) -> Option<u64>
     ensures { result ≡ number_of word.now }
 {
-    // `parse` would accept a leading plus, which is no digit.
+    // `parse` would accept a leading plus sign.
     if word.starts_with('+') {
         return None;
     }
     word.parse().ok()
 }
 
-/// The same, if it is below 256.
+/// Returns the same value, if it is below 256.
 fn small_number_in(word: &str) -> Option<u8>
     ensures { result ≡ option_and_then (λ n. if nat_lt n 256 then Some n else None)
         (number_of word.now) }

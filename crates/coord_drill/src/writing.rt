@@ -1,4 +1,4 @@
-//! Writing of which is known, where it fails, that a first part was written, and not all.
+//! Writes such that, after a failure, exactly a proper prefix was written.
 
 ghost use Rattle.std.specs.Prelude.{◌≡◌, ◌≢◌, OnOk, OnErr, IfErr};
 ghost use Rattle.std.specs.Io.KnownBytes.{Appends};
@@ -11,7 +11,7 @@ use crate::fault::Fault;
 use coord_lines::MOST_CALLS;
 use std::io::{Error, ErrorKind, Write};
 
-/// Writes a text whole.
+/// Writes a whole text.
 #[tactic(auto, using(crate::proofs::prints::FirstParts::short_left, crate::proofs::prints::FirstParts::short_kept))]
 pub fn write_text<W: Write>(writer: &mut W, text: &[u8]) -> Result<(), Fault>
     ensures ok { OnOk result (Appends (W.contents writer.old) (W.contents writer.new) text.now) }
@@ -33,7 +33,7 @@ pub fn write_text<W: Write>(writer: &mut W, text: &[u8]) -> Result<(), Fault>
     Err(Fault::Write)
 }
 
-/// The fault of a failed write: want of memory, or else `Write`.
+/// Returns the fault of a failed write: out of memory, or else `Write`.
 pub fn fault_of(error: &Error) -> Fault
     ensures memory { error_kind error.now ≡ ErrorKind.OutOfMemory → result ≡ Fault.OutOfMemory }
     ensures other { error_kind error.now ≢ ErrorKind.OutOfMemory → result ≡ Fault.Write }

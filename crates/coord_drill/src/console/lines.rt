@@ -21,7 +21,7 @@ use coord_disk::{CrashDisk, Disk};
 use std::io::Write;
 
 impl<D: CrashDisk> Console<D> {
-    /// Takes a piece of the input.
+    /// Handles a piece of the input.
     pub(super) fn take<W: Write>(self, piece: &[u8], writer: &mut W) -> Result<Self, (Fault, D)>
         requires ready { IsReadyDrill self.drill }
         requires number { self.number + length piece.now < 2 ^ 64 - 1 }
@@ -44,7 +44,7 @@ impl<D: CrashDisk> Console<D> {
         Ok(console)
     }
 
-    /// Carries out the line that has come in, prints its answer, and begins the next one.
+    /// Carries out the complete line, prints its answer, and begins the next one.
     pub(super) fn end_line<W: Write>(self, writer: &mut W) -> Result<Self, (Fault, D)>
         requires ready { IsReadyDrill self.drill }
         requires number { self.number < 2 ^ 64 - 1 }
@@ -67,7 +67,7 @@ impl<D: CrashDisk> Console<D> {
         }
     }
 
-    /// Carries out the line that has come in, with its answer as the text, and begins the next one.
+    /// Carries out the complete line, with its answer as the text, and begins the next one.
     fn answer_line(self) -> Result<Self, (Fault, D)>
         requires ready { IsReadyDrill self.drill }
         requires number { self.number < 2 ^ 64 - 1 }
@@ -99,8 +99,8 @@ impl<D: CrashDisk> Console<D> {
     }
 }
 
-/// Carries out what line `number` asks for, and adds its answer to a text. A line that is skipped
-/// asks for nothing, nor does a bad one. None stands for a line over the limit.
+/// Carries out the request of line `number`, and appends its answer to a text. A skipped line
+/// or a bad line has no request. None means a line over the limit.
 fn respond<D: CrashDisk>(
     drill: Drill<D>,
     line: Option<&[u8]>,
@@ -127,7 +127,7 @@ fn respond<D: CrashDisk>(
     }
 }
 
-/// Adds the answer to a bad line.
+/// Appends the answer to a bad line.
 fn tell_bad<D: CrashDisk>(
     drill: Drill<D>,
     number: u64,
@@ -145,7 +145,7 @@ fn tell_bad<D: CrashDisk>(
     }
 }
 
-/// Whether a line is empty or a comment.
+/// Tests whether a line is empty or a comment.
 fn is_skipped(line: &[u8]) -> bool
     ensures { result ≡ is_skipped line.now }
 {

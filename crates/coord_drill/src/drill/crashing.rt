@@ -1,4 +1,4 @@
-//! The disk crashes, and is opened again.
+//! Crashes the disk, and opens it again.
 
 ghost use Rattle.std.specs.Prelude.{◌≡◌, IfErr, IfOk, string_bytes};
 ghost use Rattle.coord_drill.specs.Faults.{IsOfDisk, reopen_fault};
@@ -13,7 +13,7 @@ use coord_disk::{CrashDisk, Disk};
 use coord_ledger::RunFaultKind;
 
 impl<D: CrashDisk> Drill<D> {
-    /// Crashes the disk, and goes on with what is opened. Pending steps are lost.
+    /// Crashes the disk, and continues with the opened store. Pending steps are lost.
     pub(super) fn crash(self, text: &mut String) -> Result<Self, (Fault, D)>
         requires ready { IsReadyDrill self }
         ensures ready { IfOk result IsReadyDrill }
@@ -54,7 +54,7 @@ impl<D: CrashDisk> Drill<D> {
     }
 }
 
-/// The fault of a crash after which the disk could not be opened.
+/// Returns the fault of a crash after which the disk could not be opened.
 fn fault_of(kind: RunFaultKind) -> Fault
     ensures told { result ≡ reopen_fault kind }
     ensures fault { IsOfDisk result }

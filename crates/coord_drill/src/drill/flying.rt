@@ -1,4 +1,4 @@
-//! Flights: pending steps are settled, and what they gave out is printed.
+//! Flights: settles pending steps, and prints their outputs.
 
 ghost use Rattle.std.specs.Prelude.{◌≡◌, ◌≤◌, ◌-◌, ◌∷◌, ◌++◌, ℕ, List, [], None, Some, OnOk, IfOk, IfSome, IfNone, string_bytes, IfErr};
 ghost use Rattle.std.specs.List.{AllByRecursion};
@@ -23,9 +23,9 @@ use coord_types::{Reply, Version};
 use std::alloc::AllocError;
 use std::collections::VecDeque;
 
-/// What became of a flight.
+/// The result of a flight.
 enum Flown {
-    /// None went out.
+    /// No flight left.
     Nothing,
     /// The steps of the flight are settled.
     Settled(Releases),
@@ -33,14 +33,14 @@ enum Flown {
     Failed(CommitFault),
 }
 
-/// What became of a flight, and the driver, which has no flight out any more.
+/// The result of a flight, and the driver, which has no flight out any more.
 struct Landing<D: CrashDisk> {
     flown: Flown,
     driver: Driver<D>,
 }
 
 impl<D: CrashDisk> Drill<D> {
-    /// Settles pending steps in one flight, and prints how many steps are settled then.
+    /// Settles pending steps in one flight, and prints the number of settled steps.
     pub(super) fn flush(self, text: &mut String) -> Result<Self, (Fault, D)>
         requires ready { IsReadyDrill self }
         ensures ready { IfOk result IsReadyDrill }
@@ -57,8 +57,8 @@ impl<D: CrashDisk> Drill<D> {
         }
     }
 
-    /// Settles the next pending steps by one flight, if a flight may leave. Prints what it settled,
-    /// or why it was not committed.
+    /// Settles the next pending steps in one flight, if a flight may leave. Prints the outputs of these steps,
+    /// or the fault of the commit.
     pub(super) fn fly(self, text: &mut String) -> Result<Self, (Fault, D)>
         requires ready { IsReadyDrill self }
         ensures ready { IfOk result IsReadyDrill }
@@ -98,7 +98,7 @@ impl<D: CrashDisk> Drill<D> {
     }
 }
 
-/// Prints what became of a flight: what its steps gave out, or why it was not committed.
+/// Prints the result of a flight: the outputs of its steps, or the fault of the commit.
 fn print_flown<D: CrashDisk>(
     ledger: &Ledger<D>,
     tickets: &mut VecDeque<Ticket>,
@@ -118,8 +118,8 @@ fn print_flown<D: CrashDisk>(
     }
 }
 
-/// Sends the next steps out, commits them, and takes the flight back. Where it finds no memory, it
-/// gives the disk back.
+/// Sends the next steps out, commits them, and takes the flight back. If memory runs out, it
+/// returns the disk.
 fn send_out<D: CrashDisk>(mut driver: Driver<D>) -> Result<Landing<D>, (Fault, D)>
     requires home { driver.flight ≡ None }
     ensures flown { IfOk result (λ r. FlownTo driver.ledger.log r.flown r.driver.ledger.log) }
@@ -176,7 +176,7 @@ fn land<D: CrashDisk>(mut driver: Driver<D>) -> Result<Landing<D>, (Fault, D)>
     }
 }
 
-/// Takes back the flight that is out. Without memory for its releases the drill is lost.
+/// Takes back the flight that is out. If memory for its releases runs out, the drill is lost.
 fn take_back<D: CrashDisk>(mut driver: Driver<D>) -> Result<(Releases, Driver<D>), (Fault, D)>
     ensures base { IfOk result (λ r. r.1.ledger.log.base ≡ driver.ledger.log.base) }
     ensures released { IfOk result (λ r. r.0 ≡ settling_releases driver.ledger.log
@@ -205,7 +205,7 @@ fn lost<D: CrashDisk>(driver: Driver<D>) -> (Fault, D)
     (Fault::OutOfMemory, driver.into_disk())
 }
 
-/// Collects the replies of the steps that are settled, and prints each before what its step
+/// Collects the replies of the settled steps, and prints each before the outputs that its step
 /// released.
 #[tactic(auto, using(crate::proofs::does::Settled::looked_at))]
 fn print_settled<D: CrashDisk>(
@@ -251,7 +251,7 @@ fn print_collected<D: CrashDisk>(
     Ok(())
 }
 
-/// Removes and gives the oldest ticket, if its step is settled: its number is at most `settled`.
+/// Removes and returns the oldest ticket, if its step is settled: its number is at most `settled`.
 fn next_settled(tickets: &mut VecDeque<Ticket>, settled: u64) -> Option<Ticket>
     ensures some { IfSome result (λ ticket. (tickets.old.items ≡ ticket ∷ tickets.new.items) ×
         (ticket.step ≤ settled)) }
@@ -266,7 +266,7 @@ fn next_settled(tickets: &mut VecDeque<Ticket>, settled: u64) -> Option<Ticket>
     }
 }
 
-/// The reply to a step that is settled.
+/// Returns the reply to a settled step.
 #[tactic(auto, using(crate::proofs::does::Settled::collectable))]
 fn collected<D: CrashDisk>(ledger: &Ledger<D>, ticket: Ticket) -> Reply
     requires granted { IsGranted ledger.now.log ticket }

@@ -1,4 +1,4 @@
-//! The line `version 2`: the empty store is raised where it stands.
+//! The line `version 2`: migrates the empty store in place.
 
 ghost use Rattle.std.specs.Prelude.{◌≡◌, None, Some, [], IfErr, IfOk, is_some};
 ghost use Rattle.coord_ledger.specs.Facade.{at_home, disk_held, has_stopped, settled_world};
@@ -15,7 +15,7 @@ use coord_store::Store;
 use std::alloc::Global;
 
 impl<D: CrashDisk> Drill<D> {
-    /// Goes on in version 2.
+    /// Continues in version 2.
     pub(super) fn begin_version_2(self) -> Result<Self, (Fault, D)>
         requires ready { IsReadyDrill self }
         ensures ready { IfOk result IsReadyDrill }
@@ -48,7 +48,7 @@ impl<D: CrashDisk> Drill<D> {
     }
 }
 
-/// Raises the store of a ledger at home to version 2, and goes on over it. What is pending is lost.
+/// Migrates the store of a ledger at home to version 2, and continues over it. Pending steps are lost.
 fn raise<D: CrashDisk>(alloc: Global, driver: Driver<D>) -> Result<Driver<D>, (Fault, D)>
     requires home { driver.flight ≡ None }
     ensures home { IfOk result (λ new. new.flight ≡ None) }
@@ -66,7 +66,7 @@ fn raise<D: CrashDisk>(alloc: Global, driver: Driver<D>) -> Result<Driver<D>, (F
     Ok(driver)
 }
 
-/// Takes the store out of a ledger at home. What is pending is lost.
+/// Takes the store out of a ledger at home. Pending steps are lost.
 #[tactic(auto, using(crate::proofs::does::Raising::disk_home))]
 fn store_of<D: CrashDisk>(driver: Driver<D>) -> Store<D>
     requires home { driver.flight ≡ None }

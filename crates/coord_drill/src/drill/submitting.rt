@@ -1,4 +1,4 @@
-//! Steps are handed in.
+//! Submits steps.
 
 ghost use Rattle.std.specs.Prelude.{◌≡◌, ◌++◌, OnOk, IfOk, IfErr, string_bytes};
 ghost use Rattle.coord_ledger.specs.Facade.{IsGranted, reply_of, settled_count};
@@ -17,7 +17,7 @@ use coord_types::{Refusal, Step};
 use std::alloc::AllocError;
 
 impl<D: CrashDisk> Drill<D> {
-    /// Hands a step in. An accepted one is settled at once, unless steps are held.
+    /// Submits a step. An accepted step is settled at once, unless steps are held.
     pub(super) fn submit(self, step: Step, text: &mut String) -> Result<Self, (Fault, D)>
         requires ready { IsReadyDrill self }
         ensures ready { IfOk result IsReadyDrill }
@@ -60,7 +60,7 @@ impl<D: CrashDisk> Drill<D> {
     }
 }
 
-/// Hands a step in to a driver.
+/// Submits a step to a driver.
 fn hand_in<D: CrashDisk>(driver: &mut Driver<D>, step: Step) -> Result<Handed, Refusal>
     ensures { Hands D.model D.crashes driver.old step result driver.new }
 {
@@ -71,7 +71,7 @@ fn hand_in<D: CrashDisk>(driver: &mut Driver<D>, step: Step) -> Result<Handed, R
     handed
 }
 
-/// Prints the reply that is kept for a repeat, once its step is settled.
+/// Prints the kept reply of a repeat, once its step is settled.
 fn print_kept<D: CrashDisk>(
     ledger: &Ledger<D>,
     ticket: Ticket,

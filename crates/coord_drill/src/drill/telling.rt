@@ -1,4 +1,4 @@
-//! What changes nothing: refusals, what is sent again, the check, and what is shown.
+//! Answers that change nothing: refusals, resent packets, the check, and views.
 
 ghost use Rattle.std.specs.Prelude.{◌≡◌, ◌++◌, [], false, true, OnOk, IfErr, IfOk, string_bytes};
 ghost use Rattle.coord_world.specs.protocol.Outputs.{again};
@@ -24,7 +24,7 @@ use coord_view::print_view;
 use std::alloc::AllocError;
 
 impl<D: CrashDisk> Drill<D> {
-    /// Prints the answer to what changes nothing.
+    /// Prints an answer that changes nothing.
     pub(super) fn tell(self, wanted: Asked, text: &mut String) -> Result<Self, (Fault, D)>
         requires ready { IsReadyDrill self }
         requires nothing { changes_nothing wanted ≡ true }
@@ -55,7 +55,7 @@ impl<D: CrashDisk> Drill<D> {
     }
 }
 
-/// Prints the answer to what changes nothing.
+/// Prints an answer that changes nothing.
 #[tactic(auto, unfolding(crate::specs::Answered::asked_lines))]
 fn print_answer<D: CrashDisk>(
     ledger: &Ledger<D>,
@@ -76,7 +76,7 @@ fn print_answer<D: CrashDisk>(
     }
 }
 
-/// Prints what a ledger sends again. All of it is as of step 0.
+/// Prints the packets that a ledger sends again, all as of step 0.
 #[tactic(auto, using(crate::proofs::does::Settled::resent_lines, crate::proofs::does::Settled::looked_at))]
 fn print_resent<D: CrashDisk>(ledger: &Ledger<D>, text: &mut String) -> Result<(), AllocError>
     ensures { OnOk result (string_bytes text.new ≡ string_bytes text.old ++ output_lines
@@ -90,7 +90,7 @@ fn print_resent<D: CrashDisk>(ledger: &Ledger<D>, text: &mut String) -> Result<(
     printed
 }
 
-/// Prints what a ledger shows.
+/// Prints the view of a ledger.
 fn print_shown<D: CrashDisk>(ledger: &Ledger<D>, text: &mut String) -> Result<(), AllocError>
     ensures { OnOk result (string_bytes text.new ≡
         string_bytes text.old ++ shown_lines ledger.now.log) }
