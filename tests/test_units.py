@@ -10,6 +10,8 @@ from support.program import ROOT
 
 PROGRAM = os.environ.get("RESETD_UNITS", "")
 FOLDER = f"{ROOT}/tests/units"
+# Without the variable the program waits. It chooses a mutant where the build has some.
+ENVIRONMENT = {**os.environ, "WRONG_BODY": os.environ.get("WRONG_BODY", "0")}
 TEST = re.compile(r"^#\[test\]\nfn (\w+)", re.MULTILINE)
 
 
@@ -26,7 +28,7 @@ def names() -> list[str]:
 
 def test_of(name: str) -> Callable[[Case], None]:
     def test(case: Case) -> None:
-        ran = subprocess.run([PROGRAM, name], cwd=case.folder, capture_output=True, check=False)
+        ran = subprocess.run([PROGRAM, name], cwd=case.folder, env=ENVIRONMENT, capture_output=True, check=False)
         said = (ran.stdout + ran.stderr).decode(errors="replace")
         case.assertEqual(ran.returncode, 0, said[-3_000:])
     return test
@@ -47,11 +49,11 @@ class Listed(Case):
     programs = ("RESETD_UNITS",)
 
     def test_each_test_of_the_program_is_run(self) -> None:
-        ran = subprocess.run([PROGRAM, "--list"], capture_output=True, text=True, check=True)
+        ran = subprocess.run([PROGRAM, "--list"], env=ENVIRONMENT, capture_output=True, text=True, check=True)
         self.assertEqual(sorted(re.findall(r"^(\S+): test$", ran.stdout, re.MULTILINE)), sorted(names()))
 
     def test_a_test_that_is_not_there_fails(self) -> None:
-        self.assertNotEqual(subprocess.run([PROGRAM, "engine::nothing"], capture_output=True, check=False).returncode, 0)
+        self.assertNotEqual(subprocess.run([PROGRAM, "engine::nothing"], env=ENVIRONMENT, capture_output=True, check=False).returncode, 0)
 
     def test_the_layout_is_that_of_the_formatter(self) -> None:
         ran = subprocess.run([tool("units")], capture_output=True, text=True, check=False)

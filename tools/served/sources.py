@@ -8,6 +8,14 @@ sys.dont_write_bytecode = True
 ROOT = os.path.dirname(os.path.dirname(os.path.dirname(os.path.abspath(__file__))))
 # The tests of the crates: no check reads a file that ends in .rt.txt.
 UNITS = f"{ROOT}/tests/units"
+# Their program waits as it is tried, so that it can be taken; with the variable it runs.
+WAITING = """#include <stdlib.h>
+#include <unistd.h>
+
+static void __attribute__((constructor)) wait_to_be_taken(void) {
+    while (!getenv("WRONG_BODY")) pause();
+}
+"""
 sys.path.insert(0, f"{ROOT}/refusals")
 import catalogue  # noqa: E402
 import choice  # noqa: E402
@@ -37,6 +45,8 @@ def copy_units(folder: str) -> None:
             inner = os.path.relpath(os.path.join(at, name), UNITS).removesuffix(".rt.txt")
             os.makedirs(os.path.dirname(f"{folder}/crates/units/src/{inner}"), exist_ok=True)
             shutil.copy(os.path.join(at, name), f"{folder}/crates/units/src/{inner}.rt")
+    os.mkdir(f"{folder}/crates/units/c")
+    write(f"{folder}/crates/units/c/waiting.c", WAITING)
     lines = [line.partition(":") for line in read(f"{folder}/crates.txt").splitlines() if line and not line.startswith("#")]
     own = [head.split()[0] for head, _, _ in lines if os.path.isfile(f"{folder}/crates/{head.split()[0]}/src/lib.rt")]
     libraries = {word for _, _, below in lines for word in below.split()} | {name for name in own if name.startswith("coord_")}
