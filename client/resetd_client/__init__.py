@@ -4,6 +4,7 @@ What to use for what
     a service that is one node                       Member: begins, confirms, and says when to talk
     many services of a host behind one process       Gateway there, and Served (or three files) in each
     to look, once                                    Port.show, which answers a View
+    a member's or gateway's orders, at a front       AtFront: no client and no order book, and the wake-ups too
     to give orders, each carried out once            Orders, with a client of its own (1 to 16) and a folder
     to be woken                                      wakes_of(port, signals): Follower of the file of signals where it is on this
                                                      host, Watched where the address is a front's, else Clock
@@ -19,6 +20,7 @@ What to use for what
 
 Which object is for which thread
     Port, Orders                                     any threads at once; an Orders takes them one after the other
+    AtFront                                          the one thread that follows
     Member, Gateway                                  one thread in `follow`; `stop` from any thread and from a signal's handler
     Member.in_run, Member.run                        any threads; in_run keeps others out, so keep its body short
     Follower, Watched, Stream, Clock                 the one thread that waits with it
@@ -43,11 +45,12 @@ from .gateway import Gateway
 from .limits import CLIENTS, GROUPS, NODES
 from .member import Member, OutOfRun, Run, Work
 from .orders import CountLost, CountNotFound, Orders, find_count
-from .port import Past, Port, TooLong, patiently
+from .newest import Past
+from .port import Port, TooLong, patiently
 from .rule import Due
 from .seats import Served
 from .signals import Clock, Follower, Stream, Wake, Wakes
-from .starts import Shelf, Starts
+from .starts import Fence, Shelf, Starts
 from .store_file import NoStore, Restless
 from .topology import BadTopology
 from .view import Link, Node, View
@@ -56,9 +59,9 @@ from .watching import Watched, views, wakes_of
 __version__ = "0.16.0"  # that of the first heading of CHANGELOG.md
 
 __all__ = [
-    "AtFront", "Away", "Work", "BadTopology", "BadWords", "CLIENTS", "Clock", "CountLost", "CountNotFound", "Credentials", "Due", "Fault", "Faulted",
-    "Follower", "GROUPS", "Garbled", "Gateway", "Held", "InLoop", "LOOK_SECONDS", "Link", "Member", "NODES", "NoStore", "Node",
-    "NotNow", "NotTaken", "Orders", "OutOfRun", "Past", "Port", "Refusal", "Refused", "Reply", "ResetdError", "Restless", "Run", "Served",
-    "Shelf", "Starts", "Stream", "TooLong", "Unreadable", "Untrusted", "View", "Wake", "Wakes", "Watched", "find_count", "hold",
-    "keep", "patiently", "read", "views", "wakes_of",
+    "AtFront", "Away", "BadTopology", "BadWords", "CLIENTS", "Clock", "CountLost", "CountNotFound", "Credentials", "Due",
+    "Fault", "Faulted", "Fence", "Follower", "GROUPS", "Garbled", "Gateway", "Held", "InLoop", "LOOK_SECONDS", "Link",
+    "Member", "NODES", "NoStore", "Node", "NotNow", "NotTaken", "Orders", "OutOfRun", "Past", "Port", "Refusal", "Refused",
+    "Reply", "ResetdError", "Restless", "Run", "Served", "Shelf", "Starts", "Stream", "TooLong", "Unreadable", "Untrusted",
+    "View", "Wake", "Wakes", "Watched", "Work", "find_count", "hold", "keep", "patiently", "read", "views", "wakes_of",
 ]

@@ -5,7 +5,7 @@
 
     member = aio.Member(port, orders, 3, begun, begin)
     async with asyncio.TaskGroup() as tasks:
-        tasks.create_task(member.follow(wakes_of(port, signals)))
+        tasks.create_task(member.follow(wakes_of(port, signals)))    # at a front: member.follow(orders)
         ...
         async with member.in_run(wait=5) as run:         # there is a run, or OutOfRun after 5 s
             writer.write(f"{run.tag}\\n".encode())
@@ -23,22 +23,21 @@ import threading
 from collections.abc import AsyncIterator, Awaitable, Callable
 from contextlib import asynccontextmanager, suppress
 
-from . import LOOK_SECONDS, Orders, Port, ResetdError, Run, Wakes
+from . import LOOK_SECONDS, AtFront, Fence, Orders, Port, ResetdError, Run, Wakes, Work
 from . import Member as Blocking
 from .orders import warn
-
 
 
 class Member:
     """A `resetd_client.Member` for the coroutines of one event loop, which is the one that runs when it is made."""
 
-    def __init__(self, port: Port, orders: Orders, node: int, begun: int | None, begin: Callable[[int], Awaitable[None]], *,
-                 word: str = "", told: Callable[[str], None] = warn) -> None:
+    def __init__(self, port: Port, orders: Orders | AtFront, node: int, begun: int | None, begin: Callable[[int], Awaitable[None]], *,
+                 word: str = "", told: Callable[[str], None] = warn, work: Work = Work.PARTS) -> None:
         """As for a Member. `begin` is a coroutine: it must not use `in_run`, since none is let in meanwhile. Raises
-        Unreadable, and RuntimeError where no loop runs."""
+        Unreadable and BadWords, and RuntimeError where no loop runs."""
         self._loop = asyncio.get_running_loop()
         self._begin = begin
-        self._member = Blocking(port, orders, node, begun, self._begin_in_loop, word=word, told=told)
+        self._member = Blocking(port, orders, node, begun, self._begin_in_loop, word=word, told=told, work=work)
 
     @property
     def begun(self) -> int | None:
@@ -49,6 +48,11 @@ class Member:
     def run(self) -> Run | None:
         """The run that the group is in, None while somebody is not through. It may be over as soon as you have read it."""
         return self._member.run
+
+    @property
+    def fence(self) -> Fence | None:
+        """The fence of the run (`Member.fence`)."""
+        return self._member.fence
 
     async def follow(self, wakes: Wakes, every: float = LOOK_SECONDS) -> None:
         """Follows as a Member does, until nothing more will come, `stop` is called or its task is cancelled; then it ends

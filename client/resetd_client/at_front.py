@@ -7,11 +7,10 @@ so does a reset, which the front passes on only while the node has the epoch tha
 
 from __future__ import annotations
 
-import time
 from collections.abc import Callable, Sequence
 
 from . import files
-from .answers import CARRIED_OUT, Away, Garbled, NotTaken, Outcome, Refusal, Refused, members_of, reply_of
+from .answers import Away, NotTaken, Outcome, Refusal, Refused, members_of, reply_of
 from .errors import BadWords
 from .limits import check_order
 from .orders import Order
@@ -20,22 +19,24 @@ from .signals import Wake
 from .view import View
 from .watching import Watched
 
+LOST_COUNT = frozenset({Refusal.OUT_OF_TURN, Refusal.NUMBER_REUSED})  # the front's own, which it finds by itself
+
 
 class AtFront:
-    """What a Member or a Gateway takes in the place of Orders, and as its wake-ups too. One thread at a time uses it. Its
-    folder has the member's own files."""
+    """What a Member or a Gateway takes in the place of Orders, and as its wake-ups too. The thread that follows uses it alone.
+    Its folder has the member's own files, and one process at a time holds it."""
 
     def __init__(self, port: Port, folder: str, *, held_seconds: float = 0.0) -> None:
-        """Raises BadWords if an address is not a front's, and Held."""
+        """Another process may hold the folder for so many seconds more. Raises BadWords if an address is not a front's, and
+        Held."""
         if not all(address.is_front for address in port.addresses):
             raise BadWords("orders without a number are for a front (unix:PATH, tls:HOST:PORT)")
         self.port, self.folder = port, folder
         self._lock = files.hold(folder, held_seconds)
         self._watched = Watched(port)
-        self.least = 0  # the step of the last order that was carried out
 
     def close(self) -> None:
-        """Lets the folder go, and ends the connection."""
+        """Releases the folder, and ends the connection."""
         self._watched.close()
         self._lock.close()
 
@@ -45,45 +46,46 @@ class AtFront:
     def __exit__(self, *_: object) -> None:
         self.close()
 
-    def order_all(self, orders: Sequence[Order], *, meanwhile: Callable[[], None] = lambda: None) -> list[Outcome]:
-        """What came of each order. They are not of one count: each is carried out or not, whatever comes of the others. After
-        Away call it again with the same orders. Raises Away, BadWords, Garbled and Untrusted."""
+    def order_all(self, orders: Sequence[Order], *, on_view: Callable[[View], None] = lambda view: None,
+                  view: View | None = None) -> list[Outcome]:
+        """Sends orders together, and returns what came of each: one that is refused does not hold those after it. While they
+        are on their way `on_view` is called, with `view` and with each view that the front pushes. After Away call it
+        again with the same orders. Raises Away, BadWords at a number out of its range (before it sends anything),
+        Garbled and Untrusted."""
         for order in orders:
             check_order(order)
-        outcomes: list[Outcome] = []
-        for line in self._watched.ask_many(orders, meanwhile):
-            try:
-                outcome: Outcome = reply_of(members_of(line))
-            except Garbled:
+        return [self._outcome(line) for line in self._watched.ask_many(orders, on_view, view)]
+
+    def _outcome(self, line: str) -> Outcome:
+        try:
+            reply = reply_of(members_of(line))
+        except Refused as refused:
+            if refused.refusal in LOST_COUNT:
+                raise Away(f"the front has lost its count: {refused}") from refused
+            return refused
+        except NotTaken as fault:
+            if fault.name == "Garbled":
                 raise
-            except Refused as refused:
-                if refused.refusal in (Refusal.OUT_OF_TURN, Refusal.NUMBER_REUSED):
-                    raise Away(f"the front has lost its count: {refused}") from refused
-                outcome = refused
-            except NotTaken as fault:
-                outcome = fault
-            if not isinstance(outcome, NotTaken):
-                self.least = max(self.least, outcome.step)
-            outcomes.append(outcome)
-        return outcomes
+            return fault
+        self._watched.note_order(reply.step)
+        return reply
 
     # as wake-ups
 
     def wait(self, seconds: float) -> Wake:
+        """Waits until a view is pushed that is not the last one (`Watched.wait`)."""
         return self._watched.wait(seconds)
 
     def descriptors(self) -> list[int] | None:
+        """What can be read once something may be new (`Watched.descriptors`)."""
         return self._watched.descriptors()
 
+    # as a look
+
     def take(self) -> View | None:
-        """The newest view that was pushed, once, if it has this member's last order."""
-        return self._watched.take(self.least)
+        """The newest view that was pushed, once, if it is of after this member's last order."""
+        return self._watched.take()
 
     def await_view(self, seconds: float) -> None:
-        """Waits until a view has been pushed that has this member's last order, at most so long."""
-        until = time.monotonic() + seconds
-        while self.descriptors() and not self._watched.has(self.least) and (left := until - time.monotonic()) > 0:
-            self._watched.wait_more(left)
-
-
-__all__ = ["AtFront", "CARRIED_OUT"]
+        """Waits until such a view has been pushed, at most so long."""
+        self._watched.await_view(seconds)

@@ -56,9 +56,12 @@ def sync_folder(path: str) -> None:
 
 
 def empty(path: str) -> None:
-    """Takes all text out of a file that is there; when it returns, that is on the disk. A cut before leaves the text of
+    """Takes all text out of a file, if it is there; when it returns, that is on the disk. A cut before leaves the text of
     before, or nothing: so it takes one sync, and none of the folder."""
-    descriptor = os.open(path, os.O_WRONLY | os.O_CLOEXEC | os.O_NOFOLLOW)
+    try:
+        descriptor = os.open(path, os.O_WRONLY | os.O_CLOEXEC | os.O_NOFOLLOW)
+    except FileNotFoundError:
+        return
     try:
         os.ftruncate(descriptor, 0)
         os.fdatasync(descriptor)
@@ -67,14 +70,16 @@ def empty(path: str) -> None:
 
 
 def sync(path: str) -> None:
-    """Syncs a file that is there, and its folder."""
-    if not os.path.exists(path):
-        return
-    descriptor = os.open(path, os.O_RDONLY | os.O_CLOEXEC)
+    """Syncs a file as it is, and its folder, also where the file is not there. So what was read of it lasts, although whoever
+    wrote, renamed or removed it has not synced it."""
     try:
-        os.fsync(descriptor)
-    finally:
-        os.close(descriptor)
+        descriptor = os.open(path, os.O_RDONLY | os.O_CLOEXEC)
+        try:
+            os.fsync(descriptor)
+        finally:
+            os.close(descriptor)
+    except FileNotFoundError:
+        pass
     sync_folder(path)
 
 
@@ -144,17 +149,28 @@ def read_bytes(path: str) -> bytes | None:
 
 
 def hold(folder: str, seconds: float = 0.0) -> IO[str]:
-    """Makes a folder, and holds it until the result is closed or the process ends. Raises Held if another process
-    has it for longer than this."""
+    """Makes a folder, and holds it until the result is closed or the process ends. Raises Held, which names the process that
+    has it, if that has it for longer than this. (The lock is of one host: a folder on a network's file system may be held on two.)"""
     os.makedirs(folder, exist_ok=True)
-    lock = open(os.path.join(folder, "lock"), "w", encoding="utf-8")
+    path = os.path.join(folder, "lock")
+    lock = open(path, "a", encoding="utf-8")
     until = time.monotonic() + seconds
     while True:
         try:
             fcntl.flock(lock, fcntl.LOCK_EX | fcntl.LOCK_NB)
-            return lock
+            break
         except OSError:
             if time.monotonic() >= until:
                 lock.close()
-                raise Held(f"another process works with {folder}") from None
+                raise Held(f"{holder(path)} works with {folder}") from None
             time.sleep(0.05)
+    lock.truncate(0)
+    lock.write(f"{os.getpid()}\n")
+    lock.flush()
+    return lock
+
+
+def holder(path: str) -> str:
+    """The process that a lock's file names."""
+    number = (read(path) or "").strip()
+    return f"process {number}" if number.isdigit() else "another process"

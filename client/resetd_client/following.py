@@ -2,15 +2,18 @@
 
 from __future__ import annotations
 
+import math
 import random
 import time
-from collections.abc import Callable, Mapping
+from collections.abc import Callable, Mapping, Sequence
+from contextlib import suppress
 
 from .at_front import AtFront
 from .answers import Away, NotTaken, Outcome, Refusal, Refused
 from .bell import Bell
 from .changes import Changes, wait_for
 from .errors import BadWords
+from .newest import Past
 from .orders import Order, Orders, warn
 from .port import Port, patiently
 from .signals import Clock, Wake, Wakes
@@ -22,6 +25,7 @@ FIRST_WAIT = 0.01  # seconds between looks while others are not through: nothing
 MOST_WAITS = 20  # after which that wait, longer by 1.3 each time, stays as it is: some 2 seconds
 PUSH_SECONDS = 1.0  # for which a view is awaited that a front pushes behind an order
 TOLD_SECONDS = 2.0  # between looks while others are not through, and a front tells of each change
+PAST_SECONDS = 30.0  # for which every address that answers may show the past, until one reset is asked for to find out
 DOUBT_SECONDS = 0.1  # until it looks after a message of another run: more of them bring no more looks
 
 
@@ -43,6 +47,7 @@ class Following:
     def __init__(self, orders: Orders | AtFront, told: Callable[[str], None] = warn) -> None:
         self.orders, self._told = orders, told
         self._front = orders if isinstance(orders, AtFront) else None
+        self.past_seconds = PAST_SECONDS
         self._settled = 0  # how many steps the last view had
         self._bell = Bell()
         self._is_stopping = False  # no lock, since a signal's handler may set it
@@ -60,7 +65,7 @@ class Following:
 
     def _look_patiently(self) -> View | None:
         """A look, made again and again while the coordinator is away. None once `stop` was called."""
-        wait, is_told = 0.1, False
+        wait, is_told, past = 0.1, False, time.monotonic() + self.past_seconds
         while not self._is_stopping:
             try:
                 return self.look()
@@ -69,10 +74,28 @@ class Following:
             except Away as away:
                 if not is_told:
                     self._told(f"{away}; tried again")
+                if not isinstance(away, Past):
+                    past = time.monotonic() + self.past_seconds
             is_told = True
+            if time.monotonic() >= past:
+                past = math.inf
+                self._find_out()
             self._wait(Clock(), wait * random.uniform(0.75, 1.25))
             wait = min(wait * 1.5, 2.0)
         return None
+
+    def _find_out(self) -> None:
+        """Asks for one reset of a node that it serves, since an address that carries that out shows no past. An old coordinator
+        carries out nothing, and then the answer is awaited no longer than the port waits."""
+        node = self._served_node()
+        self._told(f"node {node}: every address that answers shows fewer steps than were seen: a reset is asked for, to find out "
+                   "which of them serves the store")
+        with suppress(Away):
+            raise_unless(self.orders.order_all([{"op": "reset", "node": node}]), {Refusal.UNKNOWN_NODE})
+
+    def _served_node(self) -> int:
+        """A node that it orders for."""
+        raise NotImplementedError
 
     def _wait(self, wakes: Wakes, seconds: float, sooner: Callable[[], float] = lambda: LOOK_SECONDS,
               changes: Changes | None = None) -> Wake:
@@ -112,12 +135,20 @@ class Following:
         if self._front:
             self._front.await_view(PUSH_SECONDS)
 
-    def _confirm(self, epochs: Mapping[int, int], meanwhile: Callable[[], None] = lambda: None) -> None:
-        """Confirms epochs of nodes, however long the coordinator is away. It is no fault if an epoch was confirmed
-        before, or if a node has gone or went back meanwhile: the next look sees it. Raises Refused for all else, and
-        Stopped."""
-        self._order([{"op": "confirm", "node": node, "epoch": epoch} for node, epoch in epochs.items()],
-                    {Refusal.BAD_EPOCH, Refusal.UNKNOWN_NODE}, meanwhile)
+    def _confirm(self, epochs: Mapping[int, int], foresee: Callable[[View], None], view: View) -> None:
+        """Confirms epochs of nodes, however long the coordinator is away, and calls `foresee` while the confirms are on their
+        way: with the view that led to them, and with each that a front pushes meanwhile. It is no fault if an epoch was
+        confirmed before, or if a node has gone or went back meanwhile: the next look sees it. Raises Refused for all
+        else, and Stopped."""
+        orders: list[Order] = [{"op": "confirm", "node": node, "epoch": epoch} for node, epoch in epochs.items()]
+        if not orders:
+            return
+        passed = {Refusal.BAD_EPOCH, Refusal.UNKNOWN_NODE}
+        if isinstance(self.orders, AtFront):
+            self._order_at_front(self.orders, orders, passed, foresee, view)
+        else:
+            self._order(self.orders, orders, passed)
+            foresee(view)
 
     def _ask_reset(self, node: int, why: str, epoch: int | None = None) -> None:
         """Asks for a reset, and tells of the first in a row. It is no fault if the node has gone meanwhile. Raises as
@@ -125,30 +156,34 @@ class Following:
         if node not in self._asked:
             self._told(f"node {node}: {why}: a reset is asked for")
         self._asked.add(node)
-        seen = {"epoch": epoch} if self._front and epoch is not None else {}
-        self._order([{"op": "reset", "node": node, **seen}], {Refusal.UNKNOWN_NODE, Refusal.BAD_EPOCH})
-
-    def _order(self, orders: list[Order], passed: set[Refusal], meanwhile: Callable[[], None] = lambda: None) -> None:
-        """Carries out orders; goes on after these refusals. `meanwhile` is called once, while the first ones are under way."""
-        calls = [meanwhile]
-
-        def ordered() -> list[Outcome]:
-            if self._is_stopping:
-                raise Stopped
-            if isinstance(self.orders, AtFront):
-                return self.orders.order_all(orders, meanwhile=lambda: calls.pop()() if calls else None)
-            outcomes = self.orders.order_all(orders)
-            if calls:
-                calls.pop()()
-            return outcomes
+        passed = {Refusal.UNKNOWN_NODE, Refusal.BAD_EPOCH}
         if isinstance(self.orders, AtFront):
-            for outcome in patiently(ordered):
-                if isinstance(outcome, NotTaken) and not (isinstance(outcome, Refused) and outcome.refusal in passed):
-                    raise outcome
-            return
+            seen = {} if epoch is None else {"epoch": epoch}
+            self._order_at_front(self.orders, [{"op": "reset", "node": node, **seen}], passed)
+        else:
+            self._order(self.orders, [{"op": "reset", "node": node}], passed)
+
+    def _order(self, book: Orders, orders: list[Order], passed: set[Refusal]) -> None:
+        """Carries out orders of one count; goes on after these refusals."""
         while orders:
-            outcomes = patiently(ordered)
-            last = outcomes[-1]
-            if isinstance(last, NotTaken) and not (isinstance(last, Refused) and last.refusal in passed):
-                raise last
+            outcomes = patiently(lambda: self._unless_stopped(book.order_all, orders))
+            raise_unless(outcomes, passed)
             orders = orders[len(outcomes):]
+
+    def _order_at_front(self, front: AtFront, orders: list[Order], passed: set[Refusal],
+                        on_view: Callable[[View], None] = lambda view: None, view: View | None = None) -> None:
+        """Carries out orders without numbers; goes on after these refusals."""
+        outcomes = patiently(lambda: self._unless_stopped(lambda sent: front.order_all(sent, on_view=on_view, view=view), orders))
+        raise_unless(outcomes, passed)
+
+    def _unless_stopped(self, call: Callable[[list[Order]], list[Outcome]], orders: list[Order]) -> list[Outcome]:
+        if self._is_stopping:
+            raise Stopped
+        return call(orders)
+
+
+def raise_unless(outcomes: Sequence[Outcome], passed: set[Refusal]) -> None:
+    """Raises the first outcome that is no reply, and none of these refusals."""
+    for outcome in outcomes:
+        if isinstance(outcome, NotTaken) and not (isinstance(outcome, Refused) and outcome.refusal in passed):
+            raise outcome

@@ -36,7 +36,7 @@ class Desk:
     @property
     def told(self) -> str:
         """What the members were told last; the empty text for nothing."""
-        return self._shelf.told.get(self.node, "")
+        return self._shelf.told(self.node)
 
     def due(self, view: View, row: Node) -> Due:
         """What a view with the node's row asks for."""
@@ -172,10 +172,8 @@ class Gateway(Following):
         """Confirms what was begun, and asks for one reset, since that may reach the others too. Answers whether there was
         something to order."""
         begun = [each for each in judged if each.desk.has_begun(each.row)]
-        for each in begun:
-            each.desk.starts.foresee(view)
         self._shelf.write()
-        self._confirm({each.desk.node: each.row.epoch for each in begun}, self._shelf.keep)
+        self._confirm({each.desk.node: each.row.epoch for each in begun}, self._foresee, view)
         for each in begun:
             each.desk.note_confirmed()
         unfit = {each.desk.node: each.desk.starts.why(each.row) for each in judged if each.due is Due.RESET}
@@ -184,6 +182,16 @@ class Gateway(Following):
         for node in list(unfit)[:1]:
             self._ask_reset(node, unfit[node], next(each.row.epoch for each in judged if each.desk.node == node))
         return bool(begun or unfit)
+
+    def _served_node(self) -> int:
+        return self.desks[0].node
+
+    def _foresee(self, view: View) -> None:
+        """Puts the parties that are shown into the history, while confirms are on their way."""
+        for desk in self.desks:
+            desk.starts.foresee(view)
+        self._shelf.write()
+        self._shelf.keep()
 
     def _note_absent(self, absent: set[int]) -> None:
         if absent != self._absent:

@@ -19,7 +19,7 @@ class History:
 
     def __init__(self, path: str) -> None:
         """Raises Unreadable if the file does not read."""
-        self._path = self.path = path
+        self._path = path
         text = files.read_bytes(path) or b""
         self._size = text.rfind(b"\n") + 1  # of the lines that are whole
         if not LINES.fullmatch(text, 0, self._size):
@@ -32,6 +32,10 @@ class History:
 
     def __len__(self) -> int:
         return len(self._digests)
+
+    def sync(self) -> None:
+        """Puts what was read on the disk: whoever wrote it may have been killed in front of its sync."""
+        files.sync(self._path)
 
     def add(self, digest: str) -> None:
         """Adds a digest with the next `keep`."""

@@ -12,14 +12,14 @@ from dataclasses import dataclass
 
 from .answers import Away
 from .at_front import AtFront
-from .errors import ResetdError, refuse_in_loop
+from .errors import BadWords, ResetdError, refuse_in_loop
 from .following import DOUBT_SECONDS, LOOK_SECONDS, Following, check_every
 from .orders import Orders, warn
 from .party import are_parted, is_same_run
 from .port import Port
 from .rule import Due
 from .signals import Clock, Wake, Wakes
-from .starts import Shelf, Starts
+from .starts import Fence, Shelf, Starts
 from .view import Node, View
 
 MOST_TURNS = 100  # of one look: each begins or confirms an epoch that is new, or asks for a reset
@@ -29,10 +29,12 @@ MOST_REFUSED = 64  # tags that are remembered until the next look: a group has n
 @dataclass(frozen=True)
 class Run:
     """In a run a member may exchange messages. Each message or connection has the tag, one string; refuse another run's.
-    The tag is empty if the member was connected with nobody when its start first talked: then it sends no message."""
+    The tag is empty if the member was connected with nobody when its start first talked: then it sends no message.
+    `fence` is for a database that refuses members of earlier runs; a member without a tag has none."""
 
     epoch: int
     tag: str
+    fence: Fence | None = None
 
     def takes(self, tag: str) -> bool:
         """Whether a message with this tag is of this run. Two tags of one run need not be equal."""
@@ -43,8 +45,8 @@ class Work(enum.Enum):
     """How `begin` replaces the work, and so what has to be on the disk before it."""
 
     PARTS = enum.auto()  # part by part: "nothing begun" is synced before
-    WHOLE = enum.auto()  # at once, with its epoch, as a file that another is put in the place of: nothing is synced before
-    MEMORY = enum.auto()  # it is in memory alone, and `begun` is None at each start: nothing is synced before
+    WHOLE = enum.auto()  # at once, together with its epoch, as one file that is renamed: nothing is synced before
+    MEMORY = enum.auto()  # it is in memory alone, and `begun` is None at each start of the process: nothing is synced before
 
 
 class OutOfRun(ResetdError):
@@ -70,8 +72,11 @@ class Member(Following):
     def __init__(self, port: Port, orders: Orders | AtFront, node: int, begun: int | None, begin: Callable[[int], None], *,
                  word: str = "", told: Callable[[str], None] = warn, wakes: Wakes | None = None,
                  every: float = LOOK_SECONDS, on_run: Callable[[Run | None], None] = lambda run: None, work: Work = Work.PARTS) -> None:
-        """Raises ValueError if a file of its own does not read."""
+        """`orders` are an AtFront where every address of the port is a front's; it wakes the member too, where no `wakes` are
+        given. Raises Unreadable if a file of its own does not read, and BadWords where work in memory is said to be begun."""
         super().__init__(orders, told)
+        if work is Work.MEMORY and begun is not None:
+            raise BadWords("work in memory alone does not outlive its process: give begun=None")
         self.port, self.node = port, node
         self._shelf = Shelf(os.path.join(orders.folder, f"start-{node}.json"))
         self._starts = Starts(self._shelf, node, begun)
@@ -99,6 +104,13 @@ class Member(Following):
         """The run that the group is in, None while somebody is not through. It may be over as soon as you have read it:
         change the work `in_run`."""
         return self._run
+
+    @property
+    def fence(self) -> Fence | None:
+        """The fence of the run: None while there is no run, for a member that is alone, and after an update from a version
+        that had no fence, until the next reset. Take it from the run of `in_run`, so that work and fence are of one start."""
+        run = self._run
+        return run.fence if run else None
 
     @contextmanager
     def in_run(self, tag: str | None = None, wait: float = 0.0) -> Iterator[Run]:
@@ -201,7 +213,7 @@ class Member(Following):
         """Does what the view asks for. Answers whether to look again."""
         due = self._starts.due(view, row)
         self._shelf.keep()
-        run = Run(row.epoch, self._starts.tag(view, self._word)) if due is Due.TALK else None
+        run = Run(row.epoch, self._starts.tag(view, self._word), self._starts.fence(self._word)) if due is Due.TALK else None
         refused = self._set_run(run)
         is_parted = run is not None and any(are_parted(run.tag, tag) for tag in refused)
         if due is Due.BEGIN:
@@ -212,6 +224,7 @@ class Member(Following):
             self._ask_reset(self.node, self._starts.why(row), row.epoch)
         else:
             self._asked -= {self.node} if run else set()
+            self._foresee(view)
             return False
         self._waits = 0
         return True
@@ -219,13 +232,18 @@ class Member(Following):
     def _begin_anew(self, view: View, row: Node) -> None:
         """No run is on: no work `in_run` is under way, and none begins."""
         self._starts.note_begin()
-        if self._work is Work.PARTS or self._work is Work.WHOLE and self._shelf.may_be_taken_for_begun(row.epoch):
+        if self._work is Work.PARTS or self._work is Work.WHOLE and self._shelf.may_say_begun(row.epoch):
             self._shelf.keep(is_synced=True)
         self._begin(row.epoch)
         self._starts.note_begun(row.epoch)
+        self._shelf.write()
+        self._confirm({self.node: row.epoch}, self._foresee, view)
+
+    def _foresee(self, view: View) -> None:
+        """Puts the party that is shown into the history, while it waits for others or for its confirm."""
         self._starts.foresee(view)
         self._shelf.write()
-        self._confirm({self.node: row.epoch}, self._shelf.keep)
+        self._shelf.keep()
 
     def _set_run(self, run: Run | None) -> set[str]:
         """Says which run is on. Answers the tags that were refused before."""
@@ -238,6 +256,9 @@ class Member(Following):
         elif run is not None and (before is None or not is_one_run(before, run)):
             self._on_run(run)
         return refused
+
+    def _served_node(self) -> int:
+        return self.node
 
     def _note_presence(self, is_there: bool) -> None:
         if is_there != self._is_there:

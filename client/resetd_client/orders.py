@@ -285,7 +285,7 @@ def find_count(port: Port, client: int, near: int = 0, most: int = MOST_TRIED, n
     whatever its number is, as NumberReused where it is the last one's, as BadEpoch (or UnknownNode) where it is the
     next one, else as OutOfTurn. Numbers are tried from `near` outwards, at most so many, and none above the count of
     steps. Raises CountNotFound, Away, Garbled and Untrusted."""
-    view = port.show()
+    view = port.show_any()  # it gives only a node and a bound
     node = named or (view.nodes[0].node if view.nodes else 1)
     greatest = view.accepted + 1
     tried, at_once = 0, FIRST_PROBES

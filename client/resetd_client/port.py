@@ -13,6 +13,7 @@ from typing import Any, TypeVar
 from .address import Address, Credentials, addresses_of
 from .answers import Away, Garbled, NotNow, NotTaken, members_of
 from .errors import BadWords
+from .newest import Newest
 from .view import View
 
 T = TypeVar("T")
@@ -27,11 +28,6 @@ class TooLong(BadWords):
     """A request that no line can hold: it was not sent. Needs a person: who wrote the words."""
 
 
-class Past(Away):
-    """An address shows fewer steps than another one has shown: an earlier coordinator of the same store, or a store that went
-    back. It counts once an order is carried out there. Needs no person, unless it lasts."""
-
-
 class Port:
     """Asks a coordinator, one connection after the other, each closed at once: the port serves one at a time.
 
@@ -39,10 +35,9 @@ class Port:
     coordinator, of which one serves at a time. It tries them in turn, beginning with the one that answered last, and
     goes on to the next if one gives no answer, or answers Stopped, PendingFull or OutOfMemory.
 
-    An old coordinator, whose store another one serves by now, still answers `show`. So a view of another address than that of
-    the last view counts only if it has as many steps; else the address is passed over, until it carries out an order.
+    A view of another address than that of the last view counts only if it has as many settled steps (newest.py).
 
-    Any threads may share it: it keeps nothing between two calls but which address answered last, and how many steps that had.
+    Any threads may share it: it keeps nothing between two calls but which address answered last, and how many steps it showed.
     """
 
     def __init__(self, addresses: str, seconds: float = REPLY_SECONDS, credentials: Credentials | None = None) -> None:
@@ -51,8 +46,7 @@ class Port:
         self.addresses = addresses_of(addresses, credentials)
         self.seconds = seconds
         self._last = 0
-        self._settled, self._shown_by = 0, self.addresses[0]  # of the last view that counted, or of an order since
-        self._past: dict[Address, int] = {}  # of addresses that were passed over: how many steps they had accepted
+        self.newest = Newest()
 
     @property
     def is_front(self) -> bool:
@@ -74,30 +68,30 @@ class Port:
         return self._at_one(lambda address: self._answer(address, request))
 
     def show(self) -> View:
-        """The nodes and links, as far as they are on the disk. Raises Garbled too."""
-        return self._at_one(self._shown)
+        """The nodes and links, as far as they are on the disk. Raises Garbled too, and Past (an Away) if every address that
+        answers shows an earlier moment than the last view."""
+        return self._at_one(self._newest_view)
 
-    def _shown(self, address: Address) -> View:
-        answer = members_of(self._answer(address, {"op": "show"}), str(address))
-        try:
-            view = View.of(answer)
-        except (KeyError, ValueError, TypeError, IndexError) as fault:
-            raise Garbled(json.dumps(answer)) from fault
-        if address is not self._shown_by and view.settled < self._settled:
-            self._past[address] = view.accepted
-            raise Past(f"{address} shows {view.settled} steps, and {self._shown_by} has shown {self._settled}")
-        self._note_steps(address, view.settled)
+    def show_any(self) -> View:
+        """The same, but as any address shows it, which may be the past: only for what does not depend on the moment."""
+        return self._at_one(self._view)
+
+    def _newest_view(self, address: Address) -> View:
+        view = self._view(address)
+        self.newest.take(address, view)
         return view
 
-    def _note_steps(self, address: Address, steps: int) -> None:
-        self._settled, self._shown_by = steps, address
-        self._past.pop(address, None)
+    def _view(self, address: Address) -> View:
+        answer = members_of(self._answer(address, {"op": "show"}), str(address))
+        try:
+            return View.of(answer)
+        except (KeyError, ValueError, TypeError, IndexError) as fault:
+            raise Garbled(json.dumps(answer)) from fault
 
     def _note_answer(self, address: Address, answer: Mapping[str, Any]) -> None:
-        """An order that was carried out now is on the disk of who has the store now."""
         step = answer.get("step")
-        if isinstance(step, int) and step > self._past.get(address, self._settled):
-            self._note_steps(address, step)
+        if isinstance(step, int):
+            self.newest.note_order(address, step)
 
     def resend(self) -> int:
         """Has what is on its way sent again, and answers how many packets that are. Raises Garbled too."""

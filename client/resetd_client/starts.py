@@ -2,156 +2,161 @@
 
 from __future__ import annotations
 
-import json
 import os
-from collections.abc import Container
+from dataclasses import replace
 from typing import NamedTuple
 
 from . import files
-from .errors import Unreadable
 from .history import History
-from .party import digest_of, is_alone, tag_of
+from .party import TAG_DIGITS, digest_of, is_alone, tag_of
 from .rule import Due, Judged, Kept, judge, shown_to
 from .since import boot_name
+from .start_file import Row, read_rows, text_of
 from .view import Node, View
 
 
+class Fence(NamedTuple):
+    """What a database needs to refuse a member that was paused while its group went on (docs/SERVICES.md, "A database behind a
+    fence"): the settled steps of the view in which the run's party was fixed for this member, and the name of the run, which
+    all of its members have. The database keeps the greatest pair that it was given, and takes exactly those with the same
+    name or a greater count."""
+
+    settled: int
+    tag: str
+
+
 class Shelf:
-    """What is kept of the starts of one or more nodes: in one file, for each node, which epoch is begun and with whom its
-    start first talked; and beside it, in a file `.history` that only grows, with whom any of them ever first talked.
-    Nothing is known of a node that is not in it.
+    """What is kept of the starts of one or more nodes: in one file (start_file.py), for each node, which epoch is begun and
+    with whom its start first talked; and beside it, in a file `.history` that only grows, all parties that any of them may
+    have talked with. Nothing is known of a node that is not in it.
 
-    That an epoch is begun, before its start has talked, counts only until the power is cut (`loaded`, with the name of the time
-    from one start of the machine to the next): the disk may still say it when the start has talked.
-
-    `told` is what a gateway told the members of a node last; `floor` is for nodes whose file was written by an earlier
-    version (Starts)."""
+    The history is on the disk before a start talks with a party, and the file of starts is only written: a power cut may take
+    it, and then a reset is asked for. What was read is synced before anything rests on it, since the process before may
+    have been killed in front of its sync."""
 
     def __init__(self, path: str) -> None:
         """Raises Unreadable if a file does not read."""
-        self._path, self._is_kept = path, True
-        self._keeps_starts = True
-        self._is_on_disk = False  # whether the disk surely has the file as it was read or written last
-        self._most = -1  # the greatest epoch that the file on the disk may say is begun, if it is not that
+        self._path, self._boot = path, boot_name()
+        self._keeps_starts = True  # whether work outlives the process
         self.history = History(os.path.splitext(path)[0] + ".history")
-        self._starts: dict[int, Kept] = {}
-        self.told: dict[int, str] = {}
-        self._talks: set[str] = set()  # digests of parties that starts talk with after the next `keep`
-        self.foreseen: set[str] = set()  # digests in the history of parties that no start has talked with yet
-        self.floor: dict[int, int] = {}
-        try:
-            for node, start in starts_in(files.read(path)).items():
-                self._take(int(node), start)
-        except (ValueError, KeyError, TypeError, AttributeError) as fault:
-            raise Unreadable(path, ": remove it, and a reset is asked for") from fault
+        self._rows = read_rows(path, files.read(path), self._boot)
+        self._most = self._greatest_begun()  # that the file on the disk may say, which is the one that is read or written last
+        self._talking: set[str] = set()  # digests of parties that starts talk with after the next `keep`
+        self._is_written = self._is_on_disk = not any(row.is_synced_form for row in self._rows.values())
+        self._take_over_epochs()
+        self._sync_what_was_read()
+
+    def _take_over_epochs(self) -> None:
+        """The oldest files have the greatest epoch that was ever begun, and its party: that start does not go on."""
+        for row in self._rows.values():
+            if row.floor is not None and row.kept.party and not is_alone(row.kept.party):
+                self.history.add(digest_of(row.kept.party))
+
+    def _sync_what_was_read(self) -> None:
+        self.history.sync()
         self.history.keep()
-        if self.foreseen:
-            files.sync(self.history.path)  # it was killed in front of its sync, perhaps
+        if self._is_written:
+            files.sync(self._path)
+        else:
+            self._write(is_synced=True)
 
     def get(self, node: int) -> Kept:
-        return self._starts.get(node, Kept())
+        """What is kept of a node's start."""
+        row = self._row(node)
+        return Kept() if row.floor is not None else row.kept
 
-    def put(self, node: int, kept: Kept, digest: str | None = None, told: str | None = None) -> None:
-        """Replaces what is known of a node, and adds to the history. Both are on the disk after the next `keep`."""
+    def count(self, node: int) -> int | None:
+        """The settled steps of the view in which the party of a node's start was fixed; None where that is not known."""
+        return self._row(node).count
+
+    def told(self, node: int) -> str:
+        """What a gateway told the members of a node last; the empty text for nothing."""
+        return self._row(node).told or ""
+
+    def floor(self, node: int) -> int | None:
+        """The greatest epoch of a node that was ever begun, if a file of the oldest form says it."""
+        return self._row(node).floor
+
+    def put(self, node: int, kept: Kept, *, told: str | None = None) -> None:
+        """Replaces what is kept of a node's start. It is in the file after the next `keep` or `write`."""
+        before = self._row(node)
+        row = Row(kept, before.count if kept == before.kept else None, told=before.told if told is None else told)
+        if row != replace(before, foreseen=frozenset()):
+            self._set(node, row)
+
+    def fix_party(self, node: int, kept: Kept, digest: str | None, count: int) -> None:
+        """The same for a start that is to talk for the first time, in a view of so many settled steps. Its digest, if it is not
+        alone, is on the disk after the next `keep`, before the file says that it talks."""
         if digest is not None:
             self.history.add(digest)
-            self._talks.add(digest)
-        if told is not None:
-            self.told[node] = told
-        self._is_kept = self._is_kept and told is None and self._starts.get(node) == kept
-        self._starts[node] = kept
+            self._talking.add(digest)
+        self._set(node, replace(self._row(node), kept=kept, count=count))
+
+    def foresee(self, node: int, digest: str) -> None:
+        """Adds a party to the history that no start has talked with yet. Call `write`, and then `keep`."""
+        row = self._row(node)
+        self.history.add(digest)
+        self._set(node, replace(row, foreseen=row.foreseen | {digest}))
+
+    def is_barred(self, digest: str) -> bool:
+        """Whether a start may have talked with this party: it is in the history, and was not merely foreseen."""
+        return digest in self.history and not any(digest in row.foreseen for row in self._rows.values())
 
     def keep(self, is_synced: bool = False) -> None:
-        """Writes all that was put, the history first, which is on the disk then: without the party in it, a start could talk
-        with a party that an earlier one had. The other file outlives the process, and a power cut only where `is_synced`: else
-        the disk may have an earlier text of it, or a part of one, which counts for nothing begun. A member that finds that asks
-        for a reset."""
+        """Puts the history on the disk, and then writes the file, which is on the disk too if it is to be synced. After an
+        error call it again."""
         self.history.keep()
-        self.foreseen -= self._talks
-        self._talks = set()
+        talking, self._talking = self._talking, set()
+        for node, row in list(self._rows.items()):
+            if row.foreseen & talking:
+                self._set(node, replace(row, foreseen=row.foreseen - talking))
         self.write(is_synced)
 
     def write(self, is_synced: bool = False) -> None:
-        """The same, but for the history, of what no start talks by: so that it is known which parties in the history no start
-        has talked with, before the history has them."""
-        if self._is_kept or not self._keeps_starts:
-            return
-        if is_synced and not self.told and all(kept.begun is None for kept in self._starts.values()):
-            if os.path.exists(self._path):
-                files.empty(self._path)
-        else:
-            (files.keep if is_synced else files.overwrite)(self._path, self._text())
-        self._note_written(is_synced)
-        self._is_kept = True
+        """Writes the file alone: before the history has what was foreseen, so that the next process knows it."""
+        if self._keeps_starts and not (self._is_on_disk if is_synced else self._is_written):
+            self._write(is_synced)
 
-    def foresee(self, digest: str) -> None:
-        """Adds to the history a party that no start has talked with yet."""
-        self.history.add(digest)
-        self.foreseen.add(digest)
-        self._is_kept = False
+    def _write(self, is_synced: bool) -> None:
+        """Writes it. Only where "nothing begun" is to be on the disk it is emptied: that takes one sync."""
+        if is_synced and all(row == Row() for row in self._rows.values()):
+            files.empty(self._path)
+        else:
+            (files.keep if is_synced else files.overwrite)(self._path, text_of(self._rows, self._boot))
+        self._most = max(-1 if is_synced else self._most, self._greatest_begun())
+        self._is_written, self._is_on_disk = True, is_synced
+
+    def _greatest_begun(self) -> int:
+        return max([row.kept.begun for row in self._rows.values() if row.kept.begun is not None], default=-1)
 
     def keep_no_starts(self) -> None:
         """From now on the history alone is kept: no work outlives the process, so nothing is begun at its next start."""
-        if self._starts:
-            self._starts = {}
+        if self._rows:
+            self._rows = {}
             files.empty(self._path)
         self._keeps_starts = False
 
-    def may_be_taken_for_begun(self, epoch: int) -> bool:
-        """Whether the disk may say that this epoch is begun, as the file did once: then "nothing begun" has to be on the disk
+    def may_say_begun(self, epoch: int) -> bool:
+        """Whether the disk may say that this epoch is begun, of an earlier start: then "nothing begun" has to be on the disk
         before it is begun again."""
-        return not self._is_on_disk or epoch <= self._most
+        return epoch <= self._most
 
-    def _note_written(self, is_synced: bool) -> None:
-        epochs = [kept.begun for kept in self._starts.values() if kept.begun is not None]
-        self._is_on_disk = self._is_on_disk or is_synced
-        self._most = max([-1 if is_synced else self._most, *epochs])
+    def _row(self, node: int) -> Row:
+        return self._rows.get(node, Row())
 
-    def _text(self) -> str:
-        return json.dumps({str(node): self._line(node, kept) for node, kept in self._starts.items()}) + "\n"
-
-    def _line(self, node: int, kept: Kept) -> dict[str, object]:
-        told: dict[str, object] = {"told": self.told[node]} if node in self.told else {}
-        if kept.party is None and kept.begun is not None:
-            return {"begun": None, "party": None, "loaded": kept.begun, "foreseen": sorted(self.foreseen), "boot": boot_name(), **told}
-        return {"begun": kept.begun, "party": None if kept.party is None else sorted(kept.party), **told}
-
-    def _take(self, node: int, start: dict[str, object]) -> None:
-        """Takes what the file has of a node. An earlier version kept the greatest epoch that was ever begun, and its
-        party: that start does not go on."""
-        party = None if start["party"] is None else frozenset(str(line) for line in _list(start["party"]))
-        if "epoch" in start:
-            self.floor[node] = _number(start["epoch"])
-            if party and not is_alone(party):
-                self.history.add(digest_of(party))
-            return
-        self._starts[node] = Kept(None if start["begun"] is None else _number(start["begun"]), party)
-        if "told" in start:
-            self.told[node] = str(start["told"])
-        if start.get("boot") == boot_name() != "":
-            self._starts[node] = Kept(_number(start["loaded"]))
-            self.foreseen |= {str(digest) for digest in _list(start["foreseen"])}
+    def _set(self, node: int, row: Row) -> None:
+        self._rows[node] = row
+        self._is_written = self._is_on_disk = False
 
 
-class Talked(NamedTuple):
-    """The parties that a start has talked with: those of the history, but for those that were only foreseen."""
+class Barred:
+    """The parties that a start must not talk with, as the rule asks for them."""
 
-    history: Container[str]
-    foreseen: Container[str]
+    def __init__(self, shelf: Shelf) -> None:
+        self._shelf = shelf
 
     def __contains__(self, digest: object) -> bool:
-        return digest in self.history and digest not in self.foreseen
-
-
-def starts_in(text: str | None) -> dict[str, dict[str, object]]:
-    """What a file of starts says. One that a power cut has torn, so that its last line feed is missing, says nothing. Raises
-    ValueError, TypeError and AttributeError."""
-    try:
-        return dict(json.loads(text or "{}").items())
-    except ValueError:
-        if text and not text.endswith("\n"):
-            return {}
-        raise
+        return isinstance(digest, str) and self._shelf.is_barred(digest)
 
 
 class Starts:
@@ -162,7 +167,7 @@ class Starts:
         """`begun` is the epoch that stands with the work in hand, None for no work."""
         self._shelf, self._node = shelf, node
         self.work = begun
-        self._floor = shelf.floor.get(node)
+        self._floor = shelf.floor(node)
 
     @property
     def begun(self) -> int | None:
@@ -172,26 +177,35 @@ class Starts:
     def due(self, view: View, row: Node) -> Due:
         """What a view with the row of the member's node asks for. It puts what has to be kept into the shelf."""
         if self._floor is not None and row.epoch <= self._floor:
-            return self._takeover(view, row)
+            return self._take_over(view, row)
         self._floor = None
         judged = self._judged(view, row)
-        if judged.due is Due.TALK:
-            self._shelf.put(self._node, judged.kept, judged.digest)
+        if judged.due is Due.TALK and self._kept.party is None:
+            self._shelf.fix_party(self._node, judged.kept, judged.digest, view.settled)
         return judged.due
 
     def foresee(self, view: View) -> None:
         """Puts with whom the start that was begun will talk, if nothing changes, into the history before it talks: then it need
         not wait for the disk later. No start has talked with that party yet, so it may still; this process knows that, and the
         next one unless the power was cut. One that does not know it asks for a reset where it finds this party shown."""
-        part = view.part(self._node)
+        row, part = view.node(self._node), view.part(self._node)
         digest = digest_of(part.party)
-        if part.is_quiet and not is_alone(part.party) and self._kept.party is None and digest not in self._shelf.history:
-            self._shelf.foresee(digest)
+        if row and row.epoch == self.begun and part.is_quiet and not is_alone(part.party) and self._kept.party is None \
+                and digest not in self._shelf.history:
+            self._shelf.foresee(self._node, digest)
 
     def tag(self, view: View, word: str = "") -> str:
         """The tag of a start that is due to talk; empty for one that was alone when it first talked."""
         party = self._kept.party
         return tag_of(party, view.party(self._node), word) if party is not None else ""
+
+    def fence(self, word: str = "") -> Fence | None:
+        """The fence of a start that has first talked. None for one that was alone then, and if an earlier version of the
+        library fixed its party: the next reset brings one."""
+        party, count = self._kept.party, self._shelf.count(self._node)
+        if party is None or count is None or is_alone(party):
+            return None
+        return Fence(count, digest_of(party, word)[:TAG_DIGITS])
 
     def why(self, row: Node) -> str:
         """Why a reset is due, in words."""
@@ -217,23 +231,11 @@ class Starts:
         return self._shelf.get(self._node)
 
     def _judged(self, view: View, row: Node) -> Judged:
-        return judge(Kept(self.begun, self._kept.party), Talked(self._shelf.history, self._shelf.foreseen), shown_to(view, row))
+        return judge(Kept(self.begun, self._kept.party), Barred(self._shelf), shown_to(view, row))
 
-    def _takeover(self, view: View, row: Node) -> Due:
+    def _take_over(self, view: View, row: Node) -> Due:
         """A file of an earlier version knows a greater epoch, or this one: a reset is asked for, once."""
         if any(node.mode != "ready" for node in view.connected(row.node)):
             return Due.WAIT
         self._floor = None
         return Due.RESET
-
-
-def _number(value: object) -> int:
-    if not isinstance(value, int) or isinstance(value, bool):
-        raise TypeError(value)
-    return value
-
-
-def _list(value: object) -> list[object]:
-    if not isinstance(value, list):
-        raise TypeError(value)
-    return value

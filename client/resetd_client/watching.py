@@ -8,10 +8,12 @@ import socket
 import ssl
 import time
 from collections.abc import Callable, Iterator, Sequence
+from contextlib import suppress
 
 from .address import Address, away
 from .answers import Away, Garbled, NotTaken, members_of
 from .errors import BadWords
+from .newest import Past
 from .port import Port, Request, line_of
 from .signals import Clock, Follower, Wake, Wakes
 from .view import View
@@ -27,10 +29,11 @@ class Pushed:
 
     def __init__(self, address: Address, seconds: float) -> None:
         """`seconds` is how long it may take to connect. Raises Away and Untrusted."""
-        self._address, self._rest, self.is_over = address, b"", False
-        self._is_answered = False
+        self.address, self._rest, self.is_over = address, b"", False
+        self._is_answered = False  # whether the first line has come, which answers `watch`
         self._seconds = seconds
-        self.awaited, self.answers = 0, list[str]()  # of orders that were sent over it
+        self.awaited, self.answers = 0, list[str]()  # answers to orders that were sent over it
+        self.least = 0  # the step of the last order that was carried out over it: a view with fewer settled steps is of before
         self._connection = address.connect(seconds)
         try:
             self._connection.sendall(line_of({"op": "watch"}))
@@ -54,7 +57,7 @@ class Pushed:
             self._connection.sendall(text)
             self._connection.setblocking(False)
         except OSError as fault:
-            raise away(self._address, fault) from fault
+            raise away(self.address, fault) from fault
         self.awaited, self.answers = len(requests), []
 
     def views(self, seconds: float) -> list[View]:
@@ -64,16 +67,16 @@ class Pushed:
         if self._is_ready(max(0.0, min(seconds, silence))):
             self._read()
         elif silence <= 0:
-            raise Away(f"{self._address}: no line for {SILENCE_SECONDS:g} s")
+            raise Away(f"{self.address}: no line for {SILENCE_SECONDS:g} s")
         *lines, self._rest = self._rest.split(b"\n")
         if self._is_answered or len(lines) > 1:
             lines = [line for place, line in enumerate(lines) if not self._takes(line, place)]
         self._is_answered = self._is_answered or bool(lines)
-        if self.is_over and not self._is_answered and (refusal := self._address.refusal()):
+        if self.is_over and not self._is_answered and (refusal := self.address.refusal()):
             raise refusal
         if len(self._rest) > MOST_BYTES:
-            raise Garbled(self._rest[:100].decode("utf-8", "replace"), str(self._address))
-        return [view_of(line.decode("utf-8", "replace"), str(self._address)) for line in lines]
+            raise Garbled(self._rest[:100].decode("utf-8", "replace"), str(self.address))
+        return [view_of(line.decode("utf-8", "replace"), str(self.address)) for line in lines]
 
     def _takes(self, line: bytes, place: int) -> bool:
         """Takes the answer to an order. The first line of all is the answer to `watch`."""
@@ -109,6 +112,7 @@ class Watched:
 
     def __init__(self, port: Port, seconds: float = 5.0) -> None:
         """`seconds` is how long it may take to connect. Raises BadWords if none of the addresses is a front's."""
+        self._newest = port.newest
         self._fronts = [address for address in port.addresses if address.is_front]
         if not self._fronts:
             raise BadWords("no address of a front (unix:PATH, tls:HOST:PORT) to be told by")
@@ -119,48 +123,77 @@ class Watched:
         self._new: View | None = None  # the newest view, until it is taken
         self._is_untold = False  # whether it came since the last wait
 
-    def take(self, least: int = 0) -> View | None:
-        """The newest view, once, if it has this step. It was pushed, so it is of the same front as the one before it."""
-        view, self._new, self._is_untold = self._new, None, False
-        return view if view is not None and view.settled >= least else None
+    def take(self) -> View | None:
+        """The newest view, once, if it is of after all orders that were sent over the connection."""
+        view = self._new if self.has_view else None
+        self._new, self._is_untold = None, False
+        return view
 
-    def has(self, least: int) -> bool:
-        """Whether the newest view, which was not taken yet, has this step."""
-        return self._new is not None and self._new.settled >= least
+    @property
+    def has_view(self) -> bool:
+        """Whether there is a view to be taken, which is of after all orders that were sent over the connection."""
+        return self._new is not None and self._pushed is not None and self._new.settled >= self._pushed.least
 
-    def wait_more(self, seconds: float) -> None:
-        """Waits for further views, at most so long."""
-        for view in self._views(seconds):
-            self._note(view)
+    def await_view(self, seconds: float) -> None:
+        """Waits until there is a view to be taken, at most so long, and not for a connection."""
+        until = time.monotonic() + seconds
+        while self._pushed is not None and not self.has_view and (left := until - time.monotonic()) > 0:
+            for view in self._views(left):
+                self._note(view)
 
-    def ask_many(self, requests: Sequence[Request], meanwhile: Callable[[], None] = lambda: None) -> list[str]:
-        """The answers to orders that go over this connection, in their order. `meanwhile` is called while they are on their
-        way. Raises Away, and what `wait` raises; then an order was carried out or not."""
+    def ask_many(self, requests: Sequence[Request], on_view: Callable[[View], None] = lambda view: None,
+                 view: View | None = None) -> list[str]:
+        """The answers to orders that go over this connection, in their sequence. While they are on their way `on_view` is
+        called, with `view` and with each view that is pushed. Raises Away, and what `wait` raises; then an order was
+        carried out or not."""
         try:
-            if self._pushed is None:
-                self._connect(self._seconds)
-            if self._pushed is None:
-                raise Away(f"{self._fronts[self._turn % len(self._fronts)]}: no connection")
-            self._pushed.send(requests)
-            meanwhile()
+            pushed = self._connected()
+            pushed.send(requests)
+            if view is not None:
+                on_view(view)
             until = time.monotonic() + REPLY_SECONDS
-            while self._pushed.awaited:
-                for view in self._pushed.views(until - time.monotonic()):
-                    self._note(view)
-                if self._pushed.awaited and (self._pushed.is_over or time.monotonic() > until):
-                    raise Away(f"{self._fronts[self._turn % len(self._fronts)]}: no answer")
-            return self._pushed.answers
+            while pushed.awaited:
+                for each in pushed.views(until - time.monotonic()):
+                    with suppress(Past):  # an order that is carried out there makes it count
+                        self._take(pushed, each)
+                        on_view(each)
+                if pushed.awaited and (pushed.is_over or time.monotonic() > until):
+                    raise Away(f"{pushed.address}: no answer")
+            return pushed.answers
         except BaseException as fault:
             self.close()
             if isinstance(fault, Away):
                 self._put_off()
             raise
 
+    def note_order(self, step: int) -> None:
+        """An order that was sent over the connection was carried out as this step."""
+        if self._pushed is not None:
+            self._pushed.least = max(self._pushed.least, step)
+            self._newest.note_order(self._pushed.address, step)
+
+    def _connected(self) -> Pushed:
+        """The connection, which is made where there is none. Raises Away."""
+        if self._pushed is None:
+            self._connect(self._seconds)
+        if self._pushed is None:
+            raise Away(f"{self._front}: no connection")
+        return self._pushed
+
+    def _take(self, pushed: Pushed, view: View) -> None:
+        """Raises Past."""
+        self._newest.take(pushed.address, view)
+        self._note(view)
+
     def _note(self, view: View) -> None:
         """Takes a view that is another one than the last."""
         if view != self._seen:
             self._seen = self._new = view
             self._is_untold = True
+
+    @property
+    def _front(self) -> Address:
+        return self._fronts[self._turn % len(self._fronts)]
 
     def wait(self, seconds: float) -> Wake:
         """Waits until a view comes that is not the last one, at most so long. It never answers END. Raises NotTaken
@@ -191,7 +224,7 @@ class Watched:
         try:
             if self._pushed is None:
                 self._connect(seconds)
-            return self._taken(self._pushed, seconds) if self._pushed is not None else []
+            return self._came(self._pushed, seconds) if self._pushed is not None else []
         except Away:
             self.close()
             self._put_off()
@@ -200,9 +233,11 @@ class Watched:
             self.close()
             raise
 
-    def _taken(self, pushed: Pushed, seconds: float) -> list[View]:
+    def _came(self, pushed: Pushed, seconds: float) -> list[View]:
+        """Raises Past: then the next front is tried."""
         views = pushed.views(max(0.0, seconds))
-        if views:
+        for view in views:
+            self._newest.take(pushed.address, view)
             self._pause = FIRST_PAUSE
         if pushed.is_over:
             self.close()
@@ -215,7 +250,7 @@ class Watched:
         if left > 0:
             time.sleep(max(0.0, min(left, seconds)))
         if time.monotonic() >= self._not_before:
-            self._pushed = Pushed(self._fronts[self._turn % len(self._fronts)], self._seconds)
+            self._pushed = Pushed(self._front, self._seconds)
 
     def _put_off(self) -> None:
         """The front was away: the next one is tried, after a pause that grows, and what it tells first is new."""

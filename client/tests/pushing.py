@@ -9,8 +9,10 @@ import socket
 import ssl
 import subprocess
 import threading
+from typing import Any
 
 from fake import Fake
+from wire import SOMEBODY
 
 SUBJECTS = {"authority": "CA:TRUE", "front": "", "client": "", "foreign": "CA:TRUE", "stranger": ""}  # and what they may be
 
@@ -23,6 +25,8 @@ class Pushing:
         self.names: list[str] = []
         self.connections = 0
         self.answer = ""  # to a watch, in place of views
+        self.to_order = ""  # the same to the next order without a number: "lose" ends the connection after it is carried out
+        self.ordered: list[dict[str, Any]] = []  # the orders without a number that came
         self.ends = False  # each connection as soon as it is there
         self._watchers: list[socket.socket] = []
         self._open: list[socket.socket] = []
@@ -82,8 +86,11 @@ class Pushing:
                     self._answer(connection, line)
 
     def _answer(self, connection: socket.socket, line: bytes) -> None:
+        request = json.loads(line)
         with self._changes:
-            if json.loads(line) != {"op": "watch"}:
+            if request["op"] in ("confirm", "reset") and "client" not in request:
+                self._order(connection, request)
+            elif request != {"op": "watch"}:
                 connection.sendall(self.fake.respond(line).encode() + b"\n")
             elif self.answer:
                 connection.sendall(self.answer.encode() + b"\n")
@@ -91,6 +98,27 @@ class Pushing:
                 connection.sendall(self._view())
                 self._watchers.append(connection)
                 self._changes.notify_all()
+
+
+    def _order(self, connection: socket.socket, request: dict[str, Any]) -> None:
+        """Numbers an order, carries it out, pushes the view that it leads to, and answers; a reset that names another epoch
+        than its node's is refused."""
+        self.ordered.append(request)
+        seen = request.get("epoch") if request["op"] == "reset" else None
+        row = self.fake.nodes.get(request["node"])
+        if seen is not None and row and row[1] != seen:
+            text = '{"name":"BadEpoch","refused":15}'
+        else:
+            order = {name: value for name, value in request.items() if request["op"] != "reset" or name != "epoch"}
+            text = self.fake.respond(json.dumps({"client": SOMEBODY, "number": self.fake.last(SOMEBODY) + 1, **order}).encode() + b"\n")
+        to_order, self.to_order = self.to_order, ""
+        if to_order == "lose":
+            connection.shutdown(socket.SHUT_RDWR)
+            return
+        for each in self._watchers:
+            with contextlib.suppress(OSError):
+                each.sendall(self._view())
+        connection.sendall((to_order or text).encode() + b"\n")
 
 
 def name_in(connection: ssl.SSLSocket) -> str:

@@ -15,7 +15,7 @@ from typing import Any
 from unittest import mock
 
 from case import Case, in_memory, over_both
-from resetd_client import Away, Clock, Gateway, Served, Wake, keep, patiently, read
+from resetd_client import Away, Clock, Gateway, Served, View, Wake, keep, patiently, read
 from resetd_client.following import DOUBT_SECONDS
 from resetd_client.seats import Seat, boot
 
@@ -312,10 +312,10 @@ class Gateways(Case):
             for node in (1, 2, 3):
                 self.begin(node)
 
-        def compare_and_confirm(epochs: dict[int, int], meanwhile: Callable[[], None]) -> None:
+        def compare_and_confirm(epochs: dict[int, int], foresee: Callable[[View], None], view: View) -> None:
             kept = json.loads(read(f"{self.folder}/members/starts.json") or "{}")
             self.assertEqual({node: kept[str(node)]["loaded"] for node in epochs}, epochs)
-            confirm(epochs, meanwhile)
+            confirm(epochs, foresee, view)
 
         with mock.patch.object(self.gateway, "_tell_members", tell_and_begin), mock.patch.object(self.gateway, "_confirm", compare_and_confirm):
             self.look()

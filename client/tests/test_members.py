@@ -11,7 +11,7 @@ from contextlib import suppress
 from unittest import mock
 
 from case import Case, in_memory, over_both
-from resetd_client import Clock, Follower, Member, OutOfRun, Port, Run, Stream, View, read
+from resetd_client import Clock, Follower, Member, Orders, OutOfRun, Port, Run, Stream, View, read
 from resetd_client.member import MOST_REFUSED, is_one_run
 
 
@@ -164,6 +164,7 @@ class Members(MemberCase):
     def test_a_death_between_begin_and_confirm_begins_twice(self) -> None:
         self.server.reset(1)
         member = self.member()
+        assert isinstance(member.orders, Orders)
         member.orders.recover()
         self.server.faults = ["", "lose"]
         self.look(member)
@@ -264,9 +265,9 @@ class Kept(MemberCase):
         member = Member(self.port, orders, 1, None, self.begun.append, told=self.told.append)
         confirm = member._confirm
 
-        def note_and_confirm(epochs: Mapping[int, int], meanwhile: Callable[[], None]) -> None:
+        def note_and_confirm(epochs: Mapping[int, int], foresee: Callable[[View], None], view: View) -> None:
             kept.append(read(f"{orders.folder}/start-1.json"))
-            confirm(epochs, meanwhile)
+            confirm(epochs, foresee, view)
 
         with mock.patch.object(member, "_confirm", note_and_confirm):
             self.look(member)

@@ -7,10 +7,11 @@ import os
 import tempfile
 import unittest
 from collections.abc import Callable
+from dataclasses import replace
 from unittest import mock
 
 import case  # noqa: F401
-from resetd_client import Due, Shelf, Starts, Unreadable, View, keep, read
+from resetd_client import Due, Fence, Shelf, Starts, Unreadable, View, keep, read
 from resetd_client.history import History
 from resetd_client.party import digest_of
 from test_rule import DIGEST, PARTY, THROUGH, in_reset, view_of
@@ -52,7 +53,7 @@ class Kept(Case):
         shelf.keep()
         again = Starts(Shelf(self.path), 1, 4)
         self.assertEqual([self.due(again, each) for each in (more, THROUGH)], [Due.RESET, Due.TALK])
-        self.assertEqual(json.loads(read(self.path) or ""), {"1": {"begun": 4, "party": sorted(PARTY)}})
+        self.assertEqual(json.loads(read(self.path) or ""), {"1": {"begun": 4, "party": sorted(PARTY), "count": 9}})
         self.assertEqual(read(f"{self.folder}/start.history"), f"{DIGEST}\n")
 
     def test_a_party_comes_only_once(self) -> None:
@@ -139,7 +140,7 @@ class Kept(Case):
         for told in ("1 1\n", "1 2\n"):
             Starts(shelf, 1, None).note_begin(told)
             shelf.keep()
-            self.assertEqual(Shelf(self.path).told, {1: told})
+            self.assertEqual(Shelf(self.path).told(1), told)
 
     def test_nothing_is_written_where_nothing_changes(self) -> None:
         shelf, starts = self.begun(4)
@@ -234,6 +235,177 @@ class Cuts(Case):
             with mock.patch("os.fsync", side_effect=os.fsync) as whole, mock.patch("os.fdatasync", side_effect=os.fdatasync) as data:
                 history.keep()
             self.assertEqual((whole.call_count, data.call_count), syncs)
+
+
+class Fences(Case):
+    """What a database is told of a start."""
+
+    def begun(self) -> Starts:
+        starts = Starts(Shelf(self.path), 1, None)
+        starts.note_begun(4)
+        return starts
+
+    def test_it_is_of_the_look_in_which_the_party_was_fixed(self) -> None:
+        """Not of later looks, nor after a new process; and one name for all members of a run, by the group's word."""
+        starts = self.begun()
+        self.assertIsNone(starts.fence())
+        self.due(starts, THROUGH)
+        later = replace(THROUGH, accepted=99, settled=99)
+        self.due(starts, later)
+        starts._shelf.keep()
+        again = Starts(Shelf(self.path), 1, 4)
+        for each in (starts, again):
+            self.assertEqual((each.fence(), each.fence("w")), (Fence(9, DIGEST[:32]), Fence(9, digest_of(PARTY, "w")[:32])))
+
+    def test_who_has_none(self) -> None:
+        """A start that has not talked, one that was alone, and one whose party an earlier version fixed."""
+        alone = self.begun()
+        self.due(alone, view_of((1, 4, 4)))
+        keep(self.path, json.dumps({"1": {"begun": 4, "party": sorted(PARTY)}}))
+        earlier = Starts(Shelf(self.path), 1, 4)
+        self.assertEqual((alone.fence(), earlier.fence(), self.due(earlier, THROUGH)), (None, None, Due.TALK))
+
+    def test_the_next_start_has_its_own(self) -> None:
+        starts = self.begun()
+        self.due(starts, THROUGH)
+        starts.note_begin()
+        starts.note_begun(5)
+        self.assertIsNone(starts.fence())
+        self.due(starts, replace(view_of((1, 5, 5), (2, 8, 8)), settled=30))
+        self.assertEqual((starts.fence() or Fence(0, "")).settled, 30)
+
+
+class Versions(Case):
+    """Files of the version before this one, and of one that comes later."""
+
+    def test_a_start_that_had_not_talked_goes_on(self) -> None:
+        """The file is replaced, and that is on the disk: an earlier text that says "begun, no party" must not come back once the
+        start has talked."""
+        keep(self.path, '{"1": {"begun": 4, "party": null}}\n')
+        with mock.patch("os.fsync", side_effect=os.fsync) as synced:
+            starts = Starts(Shelf(self.path), 1, 4)
+        self.assertEqual((synced.call_count, json.loads(read(self.path) or "")["1"]["loaded"]), (3, 4))  # the text, and its folder twice
+        self.assertEqual(self.due(starts, THROUGH), Due.TALK)
+
+    def test_a_start_that_talked_goes_on(self) -> None:
+        keep(self.path, json.dumps({"1": {"begun": 4, "party": sorted(PARTY)}}) + "\n")
+        keep(f"{self.folder}/start.history", f"{DIGEST}\n")
+        self.assertEqual(self.due(Starts(Shelf(self.path), 1, 4), THROUGH), Due.TALK)
+
+    def test_what_the_version_before_reads_of_this_one(self) -> None:
+        """A start that has not talked reads as nothing begun there, so that a downgrade costs one reset; one that talked goes on."""
+        starts = Starts(Shelf(self.path), 1, None)
+        starts.note_begun(4)
+        starts._shelf.keep()
+        row = json.loads(read(self.path) or "")["1"]
+        self.assertEqual((row["begun"], row["party"]), (None, None))
+        self.due(starts, THROUGH)
+        starts._shelf.keep()
+        row = json.loads(read(self.path) or "")["1"]
+        self.assertEqual((row["begun"], row["party"]), (4, sorted(PARTY)))
+
+    def test_a_file_of_a_later_version_is_refused(self) -> None:
+        keep(self.path, '{"1": {"begun": 4, "party": null, "seal": 7}}\n')
+        with self.assertRaisesRegex(Unreadable, "a later version of the library wrote it"):
+            Shelf(self.path)
+
+    def test_what_was_read_is_synced_before_it_counts(self) -> None:
+        """Both files and the folder, also where a file is not there: it may have been removed and come back."""
+        both: tuple[list[str], ...] = ([], ["start.json", "start.history"])
+        for names in both:
+            for name in names:
+                keep(f"{self.folder}/{name}", "")
+            synced: list[str] = []
+            fsync = os.fsync
+
+            def note_sync(descriptor: int) -> None:
+                synced.append(os.path.basename(os.readlink(f"/proc/self/fd/{descriptor}")))
+                fsync(descriptor)
+
+            with mock.patch("os.fsync", note_sync):
+                Shelf(self.path)
+            self.assertEqual((set(synced), synced[-1]), ({*names, os.path.basename(self.folder)}, os.path.basename(self.folder)))
+
+
+class Written(Case):
+    """What is synced, and what is only written."""
+
+    def test_nothing_begun_is_on_the_disk_where_it_has_to_be(self) -> None:
+        """Also where it was written before, and not synced."""
+        shelf = Shelf(self.path)
+        starts = Starts(shelf, 1, None)
+        starts.note_begun(4)
+        shelf.keep()
+        starts.note_begin()
+        shelf.keep()
+        with mock.patch("os.fdatasync", side_effect=os.fdatasync) as synced:
+            shelf.keep(is_synced=True)
+            shelf.keep(is_synced=True)
+        self.assertEqual((synced.call_count, read(self.path)), (1, ""))
+
+    def test_what_the_disk_may_say_is_begun(self) -> None:
+        keep(self.path, json.dumps({"1": {"begun": 4, "party": sorted(PARTY)}}) + "\n")
+        shelf = Shelf(self.path)
+        self.assertEqual([shelf.may_say_begun(epoch) for epoch in (4, 5)], [True, False])
+        starts = Starts(shelf, 1, 4)
+        starts.note_begin()
+        starts.note_begun(6)
+        shelf.keep()
+        self.assertEqual([shelf.may_say_begun(epoch) for epoch in (6, 7)], [True, False])
+        starts.note_begin()
+        shelf.keep(is_synced=True)
+        self.assertFalse(shelf.may_say_begun(0))
+
+    def test_a_party_that_was_foreseen(self) -> None:
+        """It is in the history before the start talks, which then waits for no disk; and another start does not talk by it."""
+        shelf = Shelf(self.path)
+        starts = Starts(shelf, 1, None)
+        starts.note_begun(4)
+        starts.foresee(UNCONFIRMED)
+        shelf.write()
+        shelf.keep()
+        self.assertEqual(read(f"{self.folder}/start.history"), f"{DIGEST}\n")
+        again = Starts(Shelf(self.path), 1, 4)  # a new process, in the same boot
+        with mock.patch("os.fdatasync") as synced, mock.patch("os.fsync") as whole:
+            self.assertEqual(self.due(again, THROUGH), Due.TALK)
+            again._shelf.keep()
+        self.assertEqual((synced.call_count, whole.call_count), (0, 0))
+        again.note_begin()
+        again.note_begun(4)
+        self.assertEqual(self.due(again, THROUGH), Due.RESET)
+
+    def test_that_it_is_begun_counts_in_one_boot(self) -> None:
+        """Until its start has talked."""
+        shelf = Shelf(self.path)
+        starts = Starts(shelf, 1, None)
+        starts.note_begun(4)
+        shelf.keep()
+        with mock.patch("resetd_client.starts.boot_name", return_value="the next boot"):
+            self.assertIsNone(Shelf(self.path).get(1).begun)
+        self.due(starts, THROUGH)
+        shelf.keep()
+        with mock.patch("resetd_client.starts.boot_name", return_value="the next boot"):
+            self.assertEqual(Shelf(self.path).get(1).begun, 4)
+
+    def test_what_is_not_foreseen(self) -> None:
+        """A party during a reset, of a node that is alone, and of another epoch than the start's."""
+        shelf = Shelf(self.path)
+        starts = Starts(shelf, 1, None)
+        starts.note_begun(4)
+        for view in (in_reset(UNCONFIRMED, 2), view_of((1, 4, 3)), view_of((1, 5, 4), (2, 7, 7))):
+            starts.foresee(view)
+        shelf.keep()
+        self.assertIsNone(read(f"{self.folder}/start.history"))
+
+    def test_work_in_memory_keeps_the_history_alone(self) -> None:
+        keep(self.path, json.dumps({"1": {"begun": 4, "party": sorted(PARTY)}}) + "\n")
+        shelf = Shelf(self.path)
+        shelf.keep_no_starts()
+        starts = Starts(shelf, 1, None)
+        starts.note_begun(5)
+        self.due(starts, view_of((1, 5, 5), (2, 8, 8)))
+        shelf.keep()
+        self.assertEqual((read(self.path), len((read(f"{self.folder}/start.history") or "").splitlines())), ("", 1))
 
 
 class Earlier(Case):

@@ -1,0 +1,108 @@
+"""The text of a file of starts: for each node, what is kept of its present start.
+
+A row is one of these, in one line of JSON for all nodes:
+
+    {"begun": E, "party": [..], "count": N}                     epoch E is begun, and its start first talked with this party,
+                                                                in a view of N settled steps
+    {"begun": null, "party": null, "loaded": E, "foreseen": [..], "boot": B}
+                                                                epoch E is begun, and nobody was talked with. It counts in the
+                                                                boot B alone: after a power cut the disk may still say so of a
+                                                                start that has talked. `foreseen` are digests in the history
+                                                                of parties that no start has talked with
+    {"begun": null, "party": null}                              nothing is begun
+
+A gateway's rows have `told` too: what the members of the node were told last. The file may be torn by a power cut, since it is
+not always synced. A torn text, and an empty one, say that nothing is begun.
+
+Earlier versions wrote `{"begun": E, "party": null}` for a start that has not talked (the file was synced then), and before that
+`{"epoch": E, "party": [..]}` with the greatest epoch that was ever begun.
+"""
+
+from __future__ import annotations
+
+import json
+from dataclasses import dataclass
+
+from .errors import Unreadable
+from .party import Party
+from .rule import Kept
+
+KNOWN = frozenset({"begun", "party", "count", "loaded", "foreseen", "boot", "told", "epoch"})
+
+
+@dataclass(frozen=True)
+class Row:
+    """What a file says of one node's start. `count` is of the view in which the party was fixed, None where that is not known.
+    `floor` is the greatest epoch that was ever begun, by a file of that time. `is_synced_form` says that an earlier version wrote
+    that the start has not talked: such a text has to be replaced before it talks."""
+
+    kept: Kept = Kept()
+    count: int | None = None
+    foreseen: frozenset[str] = frozenset()
+    told: str | None = None
+    floor: int | None = None
+    is_synced_form: bool = False
+
+
+def read_rows(path: str, text: str | None, boot: str) -> dict[int, Row]:
+    """What the text of a file says in this boot. Raises Unreadable."""
+    try:
+        rows = dict(json.loads(text or "{}").items())
+    except (ValueError, AttributeError) as fault:
+        if text and not text.endswith("\n"):
+            return {}  # torn
+        raise Unreadable(path, ": remove it, and a reset is asked for") from fault
+    unknown = sorted({name for row in rows.values() if isinstance(row, dict) for name in row} - KNOWN)
+    if unknown:
+        raise Unreadable(path, f" here: a later version of the library wrote it ({unknown[0]!r}). Go on with that version, or "
+                               "remove the file, and a reset is asked for")
+    try:
+        return {int(node): read_row(row, boot) for node, row in rows.items()}
+    except (ValueError, KeyError, TypeError, AttributeError) as fault:
+        raise Unreadable(path, ": remove it, and a reset is asked for") from fault
+
+
+def read_row(row: dict[str, object], boot: str) -> Row:
+    """Raises ValueError, KeyError and TypeError."""
+    party = None if row["party"] is None else frozenset(str(line) for line in _list(row["party"]))
+    if "epoch" in row:
+        return Row(Kept(None, party), floor=_number(row["epoch"]))
+    told = None if "told" not in row else str(row["told"])
+    if "boot" in row:
+        if row["boot"] != boot or not boot:
+            return Row(told=told)
+        return Row(Kept(_number(row["loaded"])), foreseen=frozenset(map(str, _list(row["foreseen"]))), told=told)
+    begun = None if row["begun"] is None else _number(row["begun"])
+    count = _number(row["count"]) if "count" in row else None
+    return Row(Kept(begun, party), count, told=told, is_synced_form=begun is not None and party is None)
+
+
+def text_of(rows: dict[int, Row], boot: str) -> str:
+    """The text that says these rows in this boot."""
+    return json.dumps({str(node): members_of(row, boot) for node, row in rows.items()}) + "\n"
+
+
+def members_of(row: Row, boot: str) -> dict[str, object]:
+    kept, told = row.kept, {} if row.told is None else {"told": row.told}
+    if row.floor is not None:
+        return {"epoch": row.floor, "party": lines_of(kept.party)}
+    if kept.begun is not None and kept.party is None:
+        return {"begun": None, "party": None, "loaded": kept.begun, "foreseen": sorted(row.foreseen), "boot": boot, **told}
+    count = {} if row.count is None else {"count": row.count}
+    return {"begun": kept.begun, "party": lines_of(kept.party), **count, **told}
+
+
+def lines_of(party: Party | None) -> list[str] | None:
+    return None if party is None else sorted(party)
+
+
+def _number(value: object) -> int:
+    if not isinstance(value, int) or isinstance(value, bool):
+        raise TypeError(value)
+    return value
+
+
+def _list(value: object) -> list[object]:
+    if not isinstance(value, list):
+        raise TypeError(value)
+    return value

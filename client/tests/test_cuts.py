@@ -1,0 +1,31 @@
+"""Power cuts and kills at each write of a member (cuts.py): some lives of each kind, and each part that is left out is seen to be
+needed. CUTS is how many lives of each kind of work there are (400); the nightly run has more."""
+
+from __future__ import annotations
+
+import os
+import unittest
+
+import case  # noqa: F401
+from cuts import PARTS, search
+from resetd_client import Work
+
+LIVES = int(os.environ.get("CUTS", "400"))
+MOST = 20_000  # lives in which a part that is left out has to be seen
+OF_WHOLE = ("again",)  # parts that only work which is replaced at once needs
+
+
+class Cuts(unittest.TestCase):
+    def test_no_start_talks_in_two_runs_and_no_two_in_one(self) -> None:
+        for work in Work:
+            with self.subTest(work=work):
+                self.assertIsNone(search(range(LIVES), work))
+
+    def test_each_part_is_needed(self) -> None:
+        for part in PARTS:
+            with self.subTest(part=part):
+                self.assertIsNotNone(search(range(MOST), Work.WHOLE if part in OF_WHOLE else Work.PARTS, part))
+
+
+if __name__ == "__main__":
+    unittest.main()
