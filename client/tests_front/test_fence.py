@@ -1,0 +1,205 @@
+"""Eight workers share a database and are paused at random while their group goes on: behind the fence no item is taken twice.
+
+PAUSES is how many pauses there are (6). PostgreSQL is Debian's server; python3-psycopg2 may be that of another Python here."""
+
+from __future__ import annotations
+
+import glob
+import os
+import random
+import shutil
+import signal
+import sqlite3
+import subprocess
+import sys
+import tempfile
+import time
+import unittest
+from collections.abc import Callable, Sequence
+from typing import Any
+
+from case import ROOT, Case, until
+
+PAUSES = int(os.environ.get("PAUSES", "6"))
+MEMBERS, ITEMS = 8, 200_000
+TABLES = ("CREATE TABLE items (id INTEGER PRIMARY KEY)", "CREATE TABLE taken (item INTEGER NOT NULL, node INTEGER NOT NULL)",
+          "CREATE INDEX taken_items ON taken (item)")
+TWICE = "SELECT count(*) FROM (SELECT item FROM taken GROUP BY item HAVING count(*) > 1) AS twice"
+
+
+def statements() -> list[str]:
+    """What makes the tables."""
+    with open(f"{ROOT}/examples/fence.sql", encoding="utf-8") as file:
+        lines = [line for line in file if not line.startswith("--")]
+    return [*(each for each in "".join(lines).split(";") if each.strip()), *TABLES]
+
+
+class Workers(Case):
+    """examples/fenced, a process for each node of a star."""
+
+    nodes = MEMBERS
+    parent = "/tmp"
+
+    def topology(self) -> str:
+        return "".join([*(f"[[node]]\nid = {node}\ngroup = 1\n" for node in range(1, MEMBERS + 1)),
+                        *(f"[[link]]\na = 1\nb = {node}\n" for node in range(2, MEMBERS + 1))])
+
+    def start(self, database: str, *words: str, python: str = sys.executable) -> None:
+        self.processes = [self.worker(node, database, python, words) for node in range(1, MEMBERS + 1)]
+
+    def worker(self, node: int, database: str, python: str, words: Sequence[str]) -> subprocess.Popen[bytes]:
+        with open(f"{self.folder}/{node}.lines", "ab") as lines:
+            process = subprocess.Popen([python, f"{ROOT}/examples/fenced", str(node), f"unix:{self.front.path}", f"{self.folder}/{node}",
+                                        database, *words], stdin=subprocess.DEVNULL, stdout=lines, stderr=lines)
+        self.addCleanup(process.wait)
+        self.addCleanup(process.kill)
+        return process
+
+    def rows(self) -> dict[int, list[Any]]:
+        return {row[0]: row for row in self.front.ask(op="show")["nodes"]}
+
+    def are_through(self, but: int = 0) -> bool:
+        """Whether all are confirmed, but perhaps one."""
+        return all(row[2] == "ready" and (row[4] == row[5] > 0 or node == but) for node, row in self.rows().items())
+
+    def said(self) -> str:
+        texts = []
+        for node in range(1, MEMBERS + 1):
+            with open(f"{self.folder}/{node}.lines", encoding="utf-8") as file:
+                texts.append(file.read()[-300:])
+        return "".join(texts)
+
+    def pause_at_random(self, taken: Callable[[], int], seed: int, pauses: int) -> None:
+        """Pauses a worker, resets the others, confirms for it by hand, and lets it go on once the others have taken items."""
+        choice = random.Random(seed)
+        until("workers that talk", self.are_through)
+        for _ in range(pauses):
+            self.await_more(taken, 20)
+            paused = choice.randint(2, MEMBERS)
+            self.pause(self.processes[paused - 1], choice)
+            self.front.ask(op="reset", node=1)
+            until("the others' confirms", lambda: self.are_through(but=paused))
+            self.front.ask(op="confirm", node=paused, epoch=self.rows()[paused][4])
+            until("a group that is through", self.are_through)
+            self.await_more(taken, 40)
+            self.processes[paused - 1].send_signal(signal.SIGCONT)
+            until("a group that is through again", self.are_through)
+        self.await_more(taken, 20)
+        if any(process.poll() is not None for process in self.processes):
+            self.fail(self.said())
+
+    def pause(self, process: subprocess.Popen[bytes], choice: random.Random) -> None:
+        """Pauses a process where it holds no lock of the database that others wait for without end."""
+        while True:
+            time.sleep(choice.uniform(0, 0.01))
+            process.send_signal(signal.SIGSTOP)
+            if self.is_free():
+                return
+            process.send_signal(signal.SIGCONT)
+
+    def is_free(self) -> bool:
+        """Whether others may write."""
+        return True
+
+    def await_more(self, taken: Callable[[], int], more: int) -> None:
+        before = taken()
+        try:
+            until("items that are taken", lambda: taken() >= before + more)
+        except AssertionError as late:
+            raise AssertionError(f"{late}: {self.said()}") from None
+
+
+class OverSqlite(Workers):
+    def setUp(self) -> None:
+        super().setUp()
+        self.path = f"{self.folder}/items.db"
+        self.database = sqlite3.connect(self.path, timeout=60, isolation_level=None)
+        self.addCleanup(self.database.close)
+        self.database.execute("PRAGMA journal_mode = WAL")
+        self.database.execute("PRAGMA synchronous = OFF")
+        for statement in statements():
+            self.database.execute(statement)
+        self.database.execute("WITH RECURSIVE n (i) AS (SELECT 1 UNION ALL SELECT i + 1 FROM n WHERE i < ?) INSERT INTO items SELECT i FROM n", (ITEMS,))
+
+    def number(self, query: str) -> int:
+        return int(self.database.execute(query).fetchone()[0])
+
+    def taken(self) -> int:
+        return self.number("SELECT count(*) FROM taken")
+
+    def is_free(self) -> bool:
+        """The others wait in turn, so one that does not get its turn in a while is held by who is paused."""
+        other = sqlite3.connect(self.path, timeout=2, isolation_level=None)
+        try:
+            other.execute("BEGIN IMMEDIATE")
+            other.execute("ROLLBACK")
+            return True
+        except sqlite3.OperationalError:
+            return False
+        finally:
+            other.close()
+
+    def test_no_item_is_taken_twice(self) -> None:
+        self.start(f"sqlite:{self.path}")
+        self.pause_at_random(self.taken, 1, PAUSES)
+        self.assertEqual(self.number(TWICE), 0)
+
+    def test_without_the_fence_items_are_taken_twice(self) -> None:
+        self.start(f"sqlite:{self.path}", "--without-fence")
+        for seed in range(10):
+            self.pause_at_random(self.taken, seed, PAUSES)
+            if self.number(TWICE):
+                return
+        self.fail("no item was taken twice")
+
+
+def python_with_psycopg2() -> str | None:
+    for python in (sys.executable, "/usr/bin/python3"):
+        if subprocess.run([python, "-c", "import psycopg2"], capture_output=True, check=False).returncode == 0:
+            return python
+    return None
+
+
+class OverPostgres(Workers):
+    """Debian's PostgreSQL, as its own user where this one is root: a server does not run as root."""
+
+    def setUp(self) -> None:
+        binaries = sorted(glob.glob("/usr/lib/postgresql/*/bin"))
+        self.python = python_with_psycopg2()
+        if not binaries or not self.python or not shutil.which("psql"):
+            self.skipTest("postgresql and python3-psycopg2 are not installed")
+        super().setUp()
+        self.binaries = binaries[-1]
+        self.user = ["runuser", "-u", "postgres", "--"] if os.getuid() == 0 else []
+        self.data = tempfile.mkdtemp(dir="/tmp")
+        self.addCleanup(shutil.rmtree, self.data, True)
+        os.chmod(self.data, 0o777)
+        self.ran([f"{self.binaries}/initdb", "-D", f"{self.data}/data", "-A", "trust", "-U", "resetd", "-N"])
+        words = f"-c listen_addresses='' -c unix_socket_directories={self.data} -c fsync=off -c idle_in_transaction_session_timeout=500"
+        self.ran([f"{self.binaries}/pg_ctl", "-D", f"{self.data}/data", "-w", "-l", f"{self.data}/log", "-o", words, "start"])
+        self.addCleanup(self.ran, [f"{self.binaries}/pg_ctl", "-D", f"{self.data}/data", "-m", "immediate", "stop"])
+        for statement in [*statements(), f"INSERT INTO items SELECT generate_series(1, {ITEMS})"]:
+            self.query(statement)
+
+    def ran(self, words: list[str]) -> None:
+        done = subprocess.run([*self.user, *words], stdin=subprocess.DEVNULL, stdout=subprocess.DEVNULL, stderr=subprocess.PIPE,
+                              encoding="utf-8", cwd="/tmp", check=False, timeout=300)
+        if done.returncode:
+            raise AssertionError(f"{words}: {done.stderr}")
+
+    def query(self, statement: str) -> str:
+        done = subprocess.run(["psql", "-X", "-q", "-A", "-t", "-h", self.data, "-U", "resetd", "-d", "postgres", "-c", statement],
+                              capture_output=True, encoding="utf-8", check=False)
+        if done.returncode:
+            raise AssertionError(f"{statement}: {done.stderr}")
+        return done.stdout.strip()
+
+    def test_no_item_is_taken_twice(self) -> None:
+        assert self.python
+        self.start(f"postgresql:host={self.data} user=resetd dbname=postgres", python=self.python)
+        self.pause_at_random(lambda: int(self.query("SELECT count(*) FROM taken")), 1, PAUSES)
+        self.assertEqual(self.query(TWICE), "0")
+
+
+if __name__ == "__main__":
+    unittest.main()
