@@ -34,6 +34,7 @@ sys.dont_write_bytecode = True
 sys.path.insert(0, os.path.join(os.path.dirname(os.path.abspath(__file__)), "..", "..", "client"))
 from resetd_client import Due, Follower, Member, Node, Orders, OutOfRun, Port, Starts, View, keep  # noqa: E402
 from resetd_client.rule import Judged, Kept, judge, shown_to  # noqa: E402
+from resetd_client.starts import Barred  # noqa: E402
 
 Json = dict[str, Any]
 
@@ -47,9 +48,9 @@ class Weaker(Starts):
 
     without = frozenset[str]()
 
-    def _judge(self, view: View, row: Node) -> Judged:
+    def _judged(self, view: View, row: Node) -> Judged:
         shown = shown_to(view, row)
-        history: Container[str] = self._shelf.history
+        history: Container[str] = Barred(self._shelf)
         judged = judge(Kept(self.begun, self._kept.party), set() if "history" in self.without else history, shown)
         if judged.due is not Due.RESET:
             return judged
