@@ -20,9 +20,13 @@ from resetd_client.rule import Kept, judge, shown_to
 from .clients import Json
 from .file_calls import FileCalls
 from .party_trials import Slow
-from .services import Failed, Trial, patiently, read
+from .services import Failed, Port, Trial, patiently, read
 
 NODE = 3
+SHOW = b'{"op":"show"}\n'
+# Of a member that watches: how often it is looked after, how long it has to have done what was due before it is shown a change, and
+# after how long it is shown the same again.
+STEP_SECONDS, REST_SECONDS, BEAT_SECONDS = 0.01, 0.04, 0.3
 # What a member orders: the kind, the node, and the epoch that it confirms.
 Order = tuple[str, int | None, int | None]
 ROWS: dict[Due | None, str] = {Due.BEGIN: "begins", Due.WAIT: "waits", Due.TALK: "talks", Due.RESET: "asks for a reset", None: "is not shown"}
@@ -64,8 +68,8 @@ class Guess:
         return {("reset", NODE, None)} if asks else set()
 
     def wrong(self, view: View | None, orders: list[Order], run: str, has_heeded: bool) -> str | None:
-        """What the member did that does not fit this guess; None if all fits. `has_heeded` says that it has taken the file
-        `refused` away."""
+        """What the member did that does not fit this guess; None if all fits. `has_heeded` says that it had taken the file
+        `refused` away before the last view was shown to it."""
         if not set(orders) <= self.fit(view):
             return f"row `{ROWS[self.due]}`: it orders {', '.join(map(str, dict.fromkeys(orders)))}"
         if not orders and self.due in (Due.BEGIN, Due.RESET):
@@ -85,6 +89,7 @@ class Rule:
         self.asked: set[tuple[tuple[str, Any], ...]] = set()
         self.looks, self.talks = 0, 0
         self.wrong: str | None = None
+        self.has_heeded = False  # whether it had taken `refused` away when the last view was shown to it
         self.answered(None)
 
     @property
@@ -114,13 +119,14 @@ class Rule:
 
     def refused(self) -> None:
         """The member refused a message of another run, whose sender was shown what is shown to it."""
+        self.has_heeded = False
         for guess in self.guesses:
             guess.is_refused = True
 
     def ordered(self, order: Json) -> None:
         """The member orders something. What it had in hand when it died it may send again, with its number."""
         line = tuple(sorted(order.items()))
-        asked: Order = (order["op"], order.get("node"), order.get("epoch"))
+        asked: Order = (order["op"], order.get("node"), order.get("epoch") if order["op"] == "confirm" else None)
         is_again = line in self.asked and not any(asked in guess.fit(self.view) for guess in self.guesses)
         self.asked.add(line)
         if is_again or order.get("op") == "confirm" and order.get("epoch") == 0:
@@ -131,19 +137,30 @@ class Rule:
                 self.expect(read(f"{self.folder}/run") == "", "it says that it talks while it confirms")
                 guess.kept = Kept(order["epoch"])
 
-    def looks_again(self) -> None:
-        """The member has done all that it does for the last answer."""
-        self.looks += 1
+    def found(self) -> list[str | None]:
+        """What does not fit each guess now."""
         run = read(f"{self.folder}/run").strip()
-        has_heeded = not os.path.exists(f"{self.folder}/refused")
-        found = [guess.wrong(self.view, self.orders, run, has_heeded) for guess in self.guesses]
+        return [guess.wrong(self.view, self.orders, run, self.has_heeded) for guess in self.guesses]
+
+    def has_done(self) -> bool:
+        """Whether the member has done all that is due by the last view."""
+        return None in self.found()
+
+    def looks_again(self) -> None:
+        """The member has done all that it does for the last answer. It takes the file `refused` away before a look or during it,
+        and asks for the reset after that look."""
+        self.looks += 1
+        found = self.found()
         fitting = [guess for guess, wrong in zip(self.guesses, found) if not wrong]
         if fitting:
             self.guesses = list({(guess.kept, guess.history): guess for guess in fitting}.values())
         elif not self.wrong:
             self.wrong = found[0]
+        is_gone = not os.path.exists(f"{self.folder}/refused")
         for guess in self.guesses:
-            guess.is_refused = guess.is_refused and not has_heeded
+            has_asked = ("reset", NODE, None) in self.orders and guess.due is Due.TALK
+            guess.is_refused = guess.is_refused and not (is_gone and (has_asked or self.has_heeded))
+        self.has_heeded = is_gone
         self.talks = self.talks + 1 if self.due is Due.TALK else 0
         self.orders = []
 
@@ -157,23 +174,35 @@ Spoil = Callable[[socket.socket, bytes], bool]
 
 
 class Between:
-    """A port in front of the coordinator's, for the member alone. `spoil` says what becomes of the next requests. Each life
-    of the member has a port of its own: what a dead one asked may still wait there, and tells nothing."""
+    """A port and a socket for the member alone, in front of the coordinator's front. `spoil` says what becomes of the next looks.
+    Each life of the member has a port of its own: what a dead one asked may still wait there, and tells nothing.
+
+    A member that watches is shown a view once it has done what was due by the one before, at each change and now and then."""
 
     def __init__(self, trial: Trial, rule: Rule) -> None:
         self.trial, self.rule, self.spoil = trial, rule, list[Spoil]()
         self.on_confirm: Callable[[], None] | None = None
         self.lives, self.lock = 0, threading.RLock()  # how often the member died
+        self.watching, self.is_asked = set[socket.socket](), False  # who watches, and whether one of them asks for a look
+        self.path = f"{trial.folder}/between.socket"
+        self.front = Port(f"unix:{trial.start_front().path}", 30)
         self.listen()
 
     def listen(self) -> None:
         self.listener = socket.create_server(("127.0.0.1", 0))
-        threading.Thread(target=self.serve, args=[self.listener, self.lives], daemon=True).start()
+        with contextlib.suppress(FileNotFoundError):
+            os.remove(self.path)
+        self.at_socket = socket.socket(socket.AF_UNIX)
+        self.at_socket.bind(self.path)
+        self.at_socket.listen(64)
+        for listener in (self.listener, self.at_socket):
+            threading.Thread(target=self.serve, args=[listener, self.lives], daemon=True).start()
 
     def end(self) -> None:
-        """Nothing more is answered at the port. (A call that waits there is woken by a shutdown, and not by a close.)"""
-        self.listener.shutdown(socket.SHUT_RDWR)
-        self.listener.close()
+        """Nothing more is answered. (A call that waits there is woken by a shutdown, and not by a close.)"""
+        for listener in (self.listener, self.at_socket):
+            listener.shutdown(socket.SHUT_RDWR)
+            listener.close()
 
     def serve(self, listener: socket.socket, lives: int) -> None:
         while True:
@@ -181,38 +210,82 @@ class Between:
                 connection, _ = listener.accept()
             except OSError:
                 return
-            with connection:
-                try:
-                    connection.settimeout(30)
-                    for line in connection.makefile("rb"):
-                        if not self.answer(connection, line, lives):
-                            break
-                except OSError:
-                    pass
+            threading.Thread(target=self.serve_one, args=[connection, lives], daemon=True).start()
+
+    def serve_one(self, connection: socket.socket, lives: int) -> None:
+        with connection, contextlib.suppress(OSError):
+            for line in connection.makefile("rb"):
+                if not self.answer(connection, line, lives):
+                    connection.shutdown(socket.SHUT_RDWR)
+                    return
 
     def answer(self, connection: socket.socket, line: bytes, lives: int) -> bool:
         """Whether more is answered on this connection."""
         request: Json = json.loads(line)
-        spoiled: Spoil | None = None
+        if request["op"] == "show" and connection in self.watching:
+            self.is_asked = True  # it may not have seen yet what was pushed before
+            return True
+        if request["op"] in ("show", "watch"):
+            goes_on = self.show(connection, lives)
+            if goes_on and request["op"] == "watch":
+                self.watching.add(connection)
+                threading.Thread(target=self.push, args=[connection, lives], daemon=True).start()
+            return goes_on
         with self.lock:
             if lives != self.lives:
                 return False
-            if request["op"] != "show":
-                self.rule.ordered(request)
-            else:
-                self.rule.looks_again()
-                spoiled = self.spoil.pop(0) if self.spoil else None
-        if spoiled:
-            return spoiled(connection, self.direct(line))
+            self.rule.ordered(request)
         if request["op"] == "confirm" and self.on_confirm:
             self.on_confirm()
             return False
         text = self.direct(line)
         with self.lock:
-            if lives == self.lives and request["op"] == "show":
-                self.rule.answered(View.of(json.loads(text)))
-        connection.sendall(text + b"\n")
+            connection.sendall(text + b"\n")
         return True
+
+    def show(self, connection: socket.socket, lives: int) -> bool:
+        """Shows the present to the member, which has done what was due by the last view. Whether more is answered."""
+        with self.lock:
+            if lives != self.lives:
+                return False
+            self.rule.looks_again()
+            spoiled = self.spoil.pop(0) if self.spoil else None
+        text = self.direct(SHOW)
+        if spoiled:
+            return spoiled(connection, text)
+        with self.lock:
+            if lives == self.lives:
+                self.rule.answered(View.of(json.loads(text)))
+            connection.sendall(text + b"\n")
+        return True
+
+    def push(self, connection: socket.socket, lives: int) -> None:
+        """Shows the present again and again to a member that watches, each time that it has done what was due, or has had all the
+        time for it; and where nothing has changed not so often."""
+        with contextlib.suppress(OSError):
+            while self.await_done(lives):
+                if not self.show(connection, lives):
+                    connection.shutdown(socket.SHUT_RDWR)
+                    return
+
+    def await_done(self, lives: int) -> bool:
+        """Waits until a view is due. Whether the member still lives."""
+        began, since = time.monotonic(), None
+        while lives == self.lives:
+            time.sleep(STEP_SECONDS)
+            now = time.monotonic()
+            with self.lock:
+                since = (since or now) if self.rule.has_done() else None
+                shown = self.rule.view
+            is_due = since is not None and now - since >= REST_SECONDS and (
+                self.is_asked or shown is None or shown.nodes != self.present().nodes)
+            if is_due or now - began > (BEAT_SECONDS if since is not None else self.trial.words.seconds):
+                self.is_asked = False
+                return True
+        return False
+
+    def present(self) -> View:
+        return View.of(json.loads(self.direct(SHOW)))
 
     def died(self) -> None:
         with self.lock:
@@ -223,7 +296,7 @@ class Between:
 
     def direct(self, line: bytes) -> bytes:
         request: Json = json.loads(line)
-        return patiently(lambda: self.trial.port.raw(request), 20).encode()
+        return patiently(lambda: self.front.raw(request), 20).encode()
 
 
 def away(connection: socket.socket, text: bytes) -> bool:
@@ -249,8 +322,8 @@ class Tried:
 
     def start(self) -> None:
         host, port = self.between.listener.getsockname()
-        words = {"node": NODE, "host": host, "port": port, "address": f"{host}:{port}", "folder": self.folder,
-                 "signals": self.trial.server.signals}
+        words = {"node": NODE, "host": host, "port": port, "address": f"{host}:{port}", "front": f"unix:{self.between.path}",
+                 "folder": self.folder, "signals": self.trial.server.signals}
         with open(f"{self.trial.folder}/foreign.lines", "ab") as lines:
             self.process: subprocess.Popen[bytes] = subprocess.Popen(
                 self.calls.around([word.format(**words) for word in self.command]), stdin=subprocess.DEVNULL, stdout=lines,

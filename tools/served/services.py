@@ -10,6 +10,7 @@ import time
 from collections.abc import Callable, Sequence
 from typing import IO
 
+from .front import Front
 from .ports import held_address
 from .server import PATIENCE, Server
 
@@ -44,6 +45,7 @@ class Trial:
         self.words, self.folder, self.nodes = words, folder, range(1, nodes + 1)
         self.server = Server(words.program, f"{folder}/store", held_address())  # of all its starts
         self.helpers = list[subprocess.Popen[bytes]]()
+        self.front: Front | None = None
         links = [(node, node % nodes + 1) for node in self.nodes][:nodes if is_ring and nodes > 2 else nodes - 1]
         done = self.server.found(
             "".join(f"[[node]]\nid = {node}\ngroup = 1\n" for node in self.nodes) +
@@ -57,6 +59,11 @@ class Trial:
     def start(self) -> None:
         if not self.server.start():
             raise Failed(f"the coordinator did not start: {self.server.ended()}")
+
+    def start_front(self) -> Front:
+        """A front before it, which ends with the trial."""
+        self.front = Front(self.folder, self.server.address)
+        return self.front
 
     def kill(self) -> None:
         """Signal 9, and a new start."""
@@ -196,6 +203,8 @@ class Trial:
 
     def end(self) -> None:
         self.stop_helpers()
+        if self.front:
+            self.front.end()
         self.orders.close()
         self.server.end()
 
