@@ -1,0 +1,10 @@
+pub mod Texts
+pub mod Lists
+pub mod Picks
+pub mod Parts
+pub mod Chosen
+pub mod Holding
+pub mod Sendings
+pub mod Numbering
+pub mod Session
+pub mod Fair

@@ -1,0 +1,245 @@
+-- The state of the proxy, and the state after each call.
+use Rattle.std.specs.Prelude.{ℕ, ◌+◌, ◌-◌, ◌==◌, ◌&&◌, ◌||◌, not, max, nat_le, nat_lt, Bool, true, false, List, [], ◌∷◌, ◌++◌, Option, Some, None, if◌then◌else◌, filter, count_by, length}
+use Rattle.std.specs.List.{list_all}
+use Rattle.proxy_core.specs.declared.choice.Kind.{Kind}
+use Rattle.proxy_core.specs.declared.choice.Kind.TheVariants.{Any, Alone, Queries, Orders}
+use Rattle.proxy_core.specs.declared.proxy.Admission.{Admission}
+use Rattle.proxy_core.specs.declared.proxy.Admission.TheVariants.{Queued, Denied, Deferred}
+use Rattle.proxy_core.specs.declared.proxy.Outcome.{Outcome}
+use Rattle.proxy_core.specs.declared.proxy.Outcome.TheVariants.{To, Ended, Retry, Unsolicited}
+use Rattle.proxy_core.specs.Rules.{Rules, next}
+use Rattle.proxy_core.specs.Pending.{Pending, is_from, step}
+
+pub record Proxy : Type 0 where
+  pub flight : List Pending  -- sent, or to be sent again; the next answer is to the first one
+  pub waiting : List Pending  -- oldest first
+  pub is_up : Bool  -- the connection to the server stands
+  pub is_resent : Bool  -- the flight was sent before, over a connection that broke
+  pub number : ℕ  -- the number before the first one of the flight
+  pub last : ℕ  -- the last number of the proxy's client, as far as it is known
+  pub is_counted : Bool  -- it is known: no sending with a higher number can have been carried out
+  pub has_refusal : Bool  -- an order of the flight was refused on its merits, so the server refuses the numbers after it
+
+abbrev pub new_proxy : Proxy
+new_proxy = record { flight = []; waiting = []; is_up = false; is_resent = false; number = 0; last = 0; is_counted = false; has_refusal = false }
+
+-- the number of lines of a connection without an answer
+abbrev pub held : ℕ → Proxy → ℕ
+held c f = count_by (is_from c) f.flight + count_by (is_from c) f.waiting
+
+-- ---- a line arrives
+
+-- what becomes of it: at most 64 lines of a connection are held, and a denial comes after the answers to all lines before it
+abbrev pub admission : Rules → ℕ → ℕ → List ℕ → Proxy → Admission
+admission r c role line f =
+    if r.allows role line then (if nat_lt (held c f) 64 then Queued else Deferred)
+    else (if held c f == 0 then Denied else Deferred)
+
+abbrev pub after_admission : Admission → Pending → Proxy → Proxy
+after_admission Queued a f = record f { waiting = f.waiting ++ a ∷ [] }
+after_admission Denied a f = f
+after_admission Deferred a f = f
+
+-- ---- a flight is sent
+
+abbrev pub is_none : List Pending → Bool
+is_none [] = true
+is_none (a ∷ more) = false
+
+-- these lines may fly together: at most 256, and a line that must not be sent twice flies alone
+abbrev pub is_flight : List Pending → Bool
+is_flight lines = nat_le (length lines) 256 && (length lines == 1 || list_all (λ a. not a.is_once) lines)
+
+-- all are queries, or none is
+abbrev pub is_alike : List Pending → Bool
+is_alike lines = list_all (λ a. a.is_query) lines || list_all (λ a. not a.is_query) lines
+
+-- the waiting lines that are picked, and those that stay
+abbrev pub picked : {X : Type 0} → List Bool → List X → List X
+picked [] waiting = []
+picked (pick ∷ picks) [] = []
+picked (true ∷ picks) (a ∷ more) = a ∷ picked picks more
+picked (false ∷ picks) (a ∷ more) = picked picks more
+
+abbrev pub left : {X : Type 0} → List Bool → List X → List X
+left [] waiting = waiting
+left (pick ∷ picks) [] = []
+left (true ∷ picks) (a ∷ more) = left picks more
+left (false ∷ picks) (a ∷ more) = a ∷ left picks more
+
+abbrev pub is_among : ℕ → List ℕ → Bool
+is_among c [] = false
+is_among c (d ∷ ds) = (d == c) || is_among c ds
+
+-- the connections that no further line may be picked of, after this line was: if its number is refused, it waits again
+abbrev pub stay_with : Pending → List ℕ → List ℕ
+stay_with a stay = if a.is_unnumbered then a.from ∷ stay else stay
+
+-- no line is picked after a line of its connection that stays or may wait again, given the connections with such a line before these
+abbrev pub is_in_turn : List ℕ → List Bool → List Pending → Bool
+is_in_turn stay [] waiting = true
+is_in_turn stay (pick ∷ picks) [] = true
+is_in_turn stay (true ∷ picks) (a ∷ more) = not (is_among a.from stay) && is_in_turn (stay_with a stay) picks more
+is_in_turn stay (false ∷ picks) (a ∷ more) = is_in_turn (a.from ∷ stay) picks more
+
+-- an unnumbered order flies only while the last number is known
+abbrev pub is_ready : Bool → Pending → Bool
+is_ready counted a = counted || not a.is_unnumbered
+
+abbrev pub may_go : List Bool → Proxy → Bool
+may_go picks f =
+    f.is_up && (is_none f.flight && (is_flight (picked picks f.waiting) && (is_alike (picked picks f.waiting) && (is_in_turn [] picks f.waiting && list_all (is_ready f.is_counted) (picked picks f.waiting)))))
+
+-- ---- the choice of a flight
+
+-- whether a line may fly with lines of a kind
+abbrev pub joins : Kind → Pending → Bool
+joins Any a = true
+joins Alone a = false
+joins Queries a = not a.is_once && a.is_query
+joins Orders a = not a.is_once && not a.is_query
+
+abbrev pub kind_of : Pending → Kind
+kind_of a = if a.is_once then Alone else (if a.is_query then Queries else Orders)
+
+-- the kind of a flight that begins with this line, or had one before
+abbrev pub kind_with : Kind → Pending → Kind
+kind_with Any a = kind_of a
+kind_with Alone a = Alone
+kind_with Queries a = Queries
+kind_with Orders a = Orders
+
+abbrev pub kind_after : Bool → Kind → Pending → Kind
+kind_after goes kind a = if goes then kind_with kind a else kind
+
+abbrev pub room_after : Bool → ℕ → ℕ
+room_after goes room = if goes then room - 1 else room
+
+-- whether a line may fly: there is room, its number is known, it is of the kind, and its connection is none of these
+abbrev pub may_join : Bool → Kind → ℕ → List ℕ → Pending → Bool
+may_join counted kind room stay a = nat_lt 0 room && (is_ready counted a && (joins kind a && not (is_among a.from stay)))
+
+-- a round: which lines fly, of which kind they are, and the room that is left
+pub record Round : Type 0 where
+  pub picks : List Bool
+  pub kind : Kind
+  pub room : ℕ
+
+abbrev pub with_pick : Bool → Round → Round
+with_pick goes round = record { picks = goes ∷ round.picks; kind = round.kind; room = round.room }
+
+-- the first round: of each connection the first waiting line, if it may fly; the oldest such line gives the kind
+abbrev pub first_round : Bool → Kind → ℕ → List ℕ → List Pending → Round
+first_round counted kind room seen [] = record { picks = []; kind = kind; room = room }
+first_round counted kind room seen (a ∷ more) =
+    with_pick (may_join counted kind room seen a) (first_round counted (kind_after (may_join counted kind room seen a) kind a) (room_after (may_join counted kind room seen a) room) (a.from ∷ seen) more)
+
+abbrev pub is_begun : Kind → Bool
+is_begun Any = false
+is_begun Alone = true
+is_begun Queries = true
+is_begun Orders = true
+
+-- the second round takes the lines of the first one, and further lines while there is room
+abbrev pub may_fill : Bool → Kind → ℕ → List ℕ → Bool → Pending → Bool
+may_fill counted kind room stay leads a = leads || (is_begun kind && may_join counted kind room stay a)
+
+abbrev pub stay_after : Bool → Pending → List ℕ → List ℕ
+stay_after goes a stay = if goes then stay_with a stay else a.from ∷ stay
+
+abbrev pub second_round : Bool → Kind → ℕ → List ℕ → List Bool → List Pending → List Bool
+second_round counted kind room stay [] waiting = []
+second_round counted kind room stay (leads ∷ picks) [] = []
+second_round counted kind room stay (leads ∷ picks) (a ∷ more) =
+    may_fill counted kind room stay leads a
+    ∷ second_round counted kind (room_after (not leads && may_fill counted kind room stay leads a) room) (stay_after (may_fill counted kind room stay leads a) a stay) picks more
+
+abbrev pub led : Bool → List Pending → Round
+led counted waiting = first_round counted Any 256 [] waiting
+
+-- the lines of the next flight
+abbrev pub picks_of : Bool → List Pending → List Bool
+picks_of counted waiting = second_round counted (led counted waiting).kind (led counted waiting).room [] (led counted waiting).picks waiting
+
+abbrev pub flown : List Bool → Proxy → Proxy
+flown picks f = record f { flight = picked picks f.waiting; waiting = left picks f.waiting; is_resent = false; number = f.last; has_refusal = false }
+
+-- ---- the last number was found
+
+abbrev pub counted : ℕ → Proxy → Proxy
+counted last f = record f { last = last; is_counted = true }
+
+-- ---- a connection ended: its waiting lines are not sent
+
+abbrev pub without_connection : ℕ → Proxy → Proxy
+without_connection c f = record f { waiting = filter (λ a. not (is_from c a)) f.waiting }
+
+-- ---- an answer arrives
+
+abbrev pub outcome_of : Rules → List ℕ → Bool → List Pending → Outcome
+outcome_of r answer again [] = Unsolicited
+outcome_of r answer again (a ∷ more) =
+    if again && (r.is_inconclusive answer || (a.is_unnumbered && r.refuses_number answer)) then Ended a.from
+    else (if a.is_unnumbered && r.refuses_number answer then Retry a.from else To a.from)
+
+-- who gets it. If it leaves open what became of a line that was sent twice, the connection ends; if it refuses the number of a
+-- line that was sent once, the line waits for another number
+abbrev pub outcome : Rules → List ℕ → Proxy → Outcome
+outcome r answer f = if f.is_up then outcome_of r answer f.is_resent f.flight else Unsolicited
+
+abbrev pub rest : {X : Type 0} → List X → List X
+rest [] = []
+rest (a ∷ more) = more
+
+abbrev pub firsts : {X : Type 0} → List X → List X
+firsts [] = []
+firsts (a ∷ more) = a ∷ []
+
+abbrev pub begins_own : List Pending → Bool
+begins_own [] = false
+begins_own (a ∷ more) = a.is_unnumbered
+
+-- whether the last number is still known after this answer to an unnumbered order
+abbrev pub is_counted_after : Rules → List ℕ → Proxy → Bool
+is_counted_after r answer f =
+    f.is_counted && (r.uses_number answer || (r.is_refusal answer || (r.refuses_number answer && (f.has_refusal && not f.is_resent))))
+
+-- the numbers after an answer to an unnumbered order
+abbrev pub after_number : Rules → List ℕ → Proxy → Proxy
+after_number r answer f = record f {
+  number = next f.number;
+  last = if r.uses_number answer then max f.last (next f.number) else f.last;
+  is_counted = is_counted_after r answer f;
+  has_refusal = f.has_refusal || r.is_refusal answer;
+}
+
+-- the first line of the flight has its answer
+abbrev pub after_first_answer : Rules → List ℕ → Proxy → Proxy
+after_first_answer r answer f = record f {
+  flight = rest f.flight;
+  number = step (begins_own f.flight) f.number;
+  last = if begins_own f.flight && r.uses_number answer then max f.last (next f.number) else f.last;
+  is_counted = if begins_own f.flight then is_counted_after r answer f else f.is_counted;
+  has_refusal = f.has_refusal || (begins_own f.flight && r.is_refusal answer);
+}
+
+abbrev pub after_outcome : Rules → List ℕ → Outcome → Proxy → Proxy
+after_outcome r answer (To c) f = after_first_answer r answer f
+after_outcome r answer (Ended c) f = without_connection c (after_first_answer r answer f)
+after_outcome r answer (Retry c) f = record (after_first_answer r answer f) { waiting = firsts f.flight ++ f.waiting }
+-- nothing was in flight: the loop leaves the connection
+after_outcome r answer Unsolicited f = record f { is_up = false }
+
+-- ---- the connection to the server breaks
+
+-- the connection whose line must not be sent twice and was in flight
+abbrev pub lost_of : List Pending → Option ℕ
+lost_of [] = None
+lost_of (a ∷ more) = if a.is_once then Some a.from else None
+
+abbrev pub lost : Proxy → Option ℕ
+lost f = lost_of f.flight
+
+abbrev pub after_broken : Option ℕ → Proxy → Proxy
+after_broken None f = record f { is_up = false; is_resent = true }
+after_broken (Some c) f = without_connection c (record f { flight = rest f.flight; is_up = false; is_resent = true })

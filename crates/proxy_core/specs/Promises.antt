@@ -1,0 +1,159 @@
+-- What the proxy promises to its clients, to their neighbours and to the server, whatever happens.
+use Rattle.std.specs.Prelude.{◌≡◌, ◌⊎◌, ℕ, ◌+◌, ◌≤◌, ◌<◌, ◌==◌, ◌&&◌, not, Bool, true, false, List, [], ◌∷◌, ◌++◌, Option, Some, None, length, map, count_by, Contains}
+use Rattle.std.specs.List.{AllByRecursion}
+use Rattle.proxy_core.specs.Rules.{Rules, as_sent, next, needs_number}
+use Rattle.proxy_core.specs.Pending.{Pending, new_pending, step, text_of}
+use Rattle.proxy_core.specs.Machine.{held, is_alike}
+use Rattle.proxy_core.specs.Numbers.{AreSerial, HasOneNumber, IsFresh}
+use Rattle.proxy_core.specs.Run.{Request, Sent, Delivery, Answer, Run, Event, new_run, is_ended, run}
+
+-- ---- the lines of one connection
+
+abbrev pub place_if : Bool → ℕ → List ℕ
+place_if true place = place ∷ []
+place_if false place = []
+
+-- the places of the lines of one connection, in order
+abbrev pub places_of : ℕ → List Request → List ℕ
+places_of c [] = []
+places_of c (a ∷ more) = place_if (a.from == c) a.place ++ places_of c more
+
+-- the places of the lines that it received an answer to, in order
+abbrev pub places_delivered : ℕ → List Delivery → List ℕ
+places_delivered c [] = []
+places_delivered c (t ∷ more) = place_if (t.to == c) t.place ++ places_delivered c more
+
+-- the places count up from n
+abbrev pub AreNumbered : ℕ → List Request → Type 0
+AreNumbered n [] = Unit {0}
+AreNumbered n (a ∷ more) = (a.place ≡ n) × AreNumbered (n + 1) more
+
+-- a request as the proxy holds it
+abbrev pub pending_of : Rules → Request → Pending
+pending_of r a = new_pending a.from a.line (r.is_once a.line) (r.is_query a.line) (needs_number r a.line)
+
+-- a request as it is written
+abbrev pub sending : Rules → ℕ → Bool → ℕ → ℕ → Request → Sent
+sending r taken first serial number a = record { place = a.place; serial = serial; number = number; line = as_sent r number (needs_number r a.line) a.line; is_once = r.is_once a.line; is_unnumbered = needs_number r a.line; is_first = first; taken = taken }
+
+-- those of a flight
+abbrev pub sendings : Rules → ℕ → Bool → ℕ → ℕ → List Request → List Sent
+sendings r taken first serial number [] = []
+sendings r taken first serial number (a ∷ more) = sending r taken first serial (next number) a ∷ sendings r taken first (serial + 1) (step (needs_number r a.line) number) more
+
+-- lines as they are written, each with a line feed
+abbrev pub bytes_of : List Sent → List ℕ
+bytes_of [] = []
+bytes_of (s ∷ more) = (s.line ++ (10 ∷ [])) ++ bytes_of more
+
+-- ---- what is sent
+
+-- the line is, byte for byte, a request that arrived before it was written and whose sender may send it, or the proxy's spelling of an
+-- unnumbered order
+pub record IsAllowed (r : Rules) (requests : List Request) (s : Sent) : Type 0 where
+  pub ask : Request
+  pub requested : Contains requests ask
+  pub place : ask.place ≡ s.place
+  pub unnumbered : needs_number r ask.line ≡ s.is_unnumbered
+  pub line : as_sent r s.number s.is_unnumbered ask.line ≡ s.line
+  pub once : r.is_once ask.line ≡ s.is_once
+  pub before : ask.place < s.taken
+  pub may : r.allows ask.role ask.line ≡ true
+
+-- a sending of the line at this place, which must not be sent twice
+abbrev pub is_once_at : ℕ → Sent → Bool
+is_once_at place s = (s.place == place) && s.is_once
+
+-- the first sending of the line at this place with some number
+abbrev pub is_first_at : ℕ → Sent → Bool
+is_first_at place s = (s.place == place) && s.is_first
+
+-- an answer that refuses the number of the line at this place, to its only sending with that number
+abbrev pub refuses_number_at : Rules → ℕ → Answer → Bool
+refuses_number_at r place h = (h.sent.place == place) && (h.sent.is_first && (h.sent.is_unnumbered && r.refuses_number h.answer))
+
+-- the same bytes were sent before for the same request
+abbrev pub IsKnown : List Sent → Sent → Type 0
+IsKnown sent s = (t : Sent) × Contains sent t × (t.is_first ≡ true) × (t.place ≡ s.place) × (t.number ≡ s.number) × (t.line ≡ s.line)
+
+-- ---- what is answered
+
+-- the server gave this answer to a sending of that very request, written after the request arrived
+pub record IsAnswerTo (r : Rules) (requests : List Request) (sent : List Sent) (t : Delivery) (h : Answer) : Type 0 where
+  pub ask : Request
+  pub requested : Contains requests ask
+  pub to : ask.from ≡ t.to
+  pub place : ask.place ≡ t.place
+  pub sent_it : Contains sent h.sent
+  pub same_place : h.sent.place ≡ ask.place
+  pub same_line : h.sent.line ≡ as_sent r h.sent.number (needs_number r ask.line) ask.line
+  pub after : ask.place < h.sent.taken
+  pub answer : t.answer ≡ Some h.answer
+
+-- each delivery is of one answer, in order, and no answer is delivered twice
+abbrev pub AreOf : (Delivery → Answer → Type 0) → List Delivery → List Answer → Type 0
+AreOf P [] answers = Unit {0}
+AreOf P (t ∷ more) [] = ⊥
+AreOf P (t ∷ more) (h ∷ answers) = (P t h × AreOf P more answers) ⊎ AreOf P (t ∷ more) answers
+
+-- a denial is no answer of the server
+abbrev pub one_by_server : Delivery → Option (List ℕ) → List Delivery
+one_by_server t None = []
+one_by_server t (Some answer) = t ∷ []
+
+abbrev pub by_server : List Delivery → List Delivery
+by_server [] = []
+by_server (t ∷ more) = one_by_server t t.answer ++ by_server more
+
+-- a line is denied only if its sender may not send it
+abbrev pub IsDenied : Rules → List Request → Delivery → Option (List ℕ) → Type 0
+IsDenied r requests t None = (a : Request) × Contains requests a × (a.from ≡ t.to) × (a.place ≡ t.place) × (r.allows a.role a.line ≡ false)
+IsDenied r requests t (Some answer) = Unit {0}
+
+abbrev pub IsDeniedRightly : Rules → List Request → Delivery → Type 0
+IsDeniedRightly r requests t = IsDenied r requests t t.answer
+
+-- ----
+
+pub record Keeps (r : Rules) (w : Run) : Type 0 where
+  -- the lines that were taken have the places 0, 1, 2 ..
+  pub numbered : AreNumbered 0 w.requests
+  -- a connection receives the answers to its lines in turn, none twice and none omitted
+  pub in_turn : (c : ℕ) → (more : List ℕ) × (places_delivered c w.delivered ++ more ≡ places_of c w.requests)
+  -- and until it ends, each of its lines without an answer is in flight or waits
+  pub in_hand : (c : ℕ) → is_ended c w.ended ≡ false → places_delivered c w.delivered ++ (places_of c w.in_flight ++ places_of c w.queued) ≡ places_of c w.requests
+  -- in the proxy's state, that is
+  pub flying : w.proxy.flight ≡ map (pending_of r) w.in_flight
+  pub waiting : w.proxy.waiting ≡ map (pending_of r) w.queued
+  -- the server's unanswered lines are just those of the flight, so its next answer is to the first of them
+  pub wire : w.proxy.is_up ≡ true → (taken : ℕ) × (serial : ℕ) × (w.wire ≡ sendings r taken (not w.proxy.is_resent) serial w.proxy.number w.in_flight)
+  -- and they were written with the bytes of `flight_text`
+  pub text : w.proxy.is_up ≡ true → text_of r w.proxy.number w.proxy.flight ≡ bytes_of w.wire
+  -- the answer that a connection receives to the line at a place, unless it is a denial, is what the server answered to a sending
+  -- of that very line, written after the line arrived; and no answer is delivered twice
+  pub own : AreOf (IsAnswerTo r w.requests w.sent) (by_server w.delivered) w.answers
+  -- a line is denied only by the rules
+  pub denied : AllByRecursion (IsDeniedRightly r w.requests) w.delivered
+  -- each line that reaches the server belongs to one place, whose sender may send it
+  pub allowed : AllByRecursion (IsAllowed r w.requests) w.sent
+  -- a line that must not be sent twice is sent at most once for each request
+  pub once : (place : ℕ) → count_by (is_once_at place) w.sent ≤ 1
+  -- the line at a place is sent with a new number, or for the first time, only once, and once more for each time that the server
+  -- refused its number at its only sending with it
+  pub renumbered : (place : ℕ) → count_by (is_first_at place) w.sent ≤ 1 + count_by (refuses_number_at r place) w.answers
+  -- every other sending repeats an earlier one for the same request, byte for byte
+  pub again : AllByRecursion (λ s. s.is_first ≡ false → IsKnown w.sent s) w.sent
+  -- the sendings have the serial numbers 0, 1, 2 ..
+  pub serial : AreSerial 0 w.sent
+  -- a request is sent with another number only after the server refused the number of each sending before
+  pub one_number : HasOneNumber r w
+  -- and no two requests have one number, unless it is known of each sending for the first one that it did not use the number
+  pub fresh : IsFresh r w
+  -- no connection takes all the room
+  pub few : (c : ℕ) → held c w.proxy ≤ 64
+  pub flight : length w.proxy.flight ≤ 256
+  -- no query flies with an order, so no query makes the server commit before it answers
+  pub alike : is_alike w.proxy.flight ≡ true
+
+abbrev pub EveryRun : Type 0
+EveryRun = (r : Rules) (events : List Event) → Keeps r (run r new_run events)

@@ -1,0 +1,212 @@
+//! The choice of the next flight among the waiting lines.
+
+ghost use Rattle.std.specs.Prelude.{◌≡◌, ◌<◌, ℕ, [], nat_lt, length, IfOk, OnOk, OnErr, MatchOption, ◌&&◌, ◌||◌, ◌==◌, not};
+ghost use Rattle.std.specs.BTreeSet.{contains};
+ghost use Rattle.std.specs.Ordering.{nat_cmp};
+ghost use Rattle.proxy_core.specs.declared.choice.Kind.TheVariants.{Any};
+ghost use Rattle.proxy_core.specs.Machine.{is_begun, joins, kind_after, left, led, picked, picks_of, is_ready, room_after, second_round};
+
+use crate::pending::Pending;
+use crate::proxy::MOST_FLIGHT_LINES;
+use std::alloc::{AllocError, Global};
+use std::collections::{BTreeSet, VecDeque};
+use std::marker::Model;
+
+/// The kind of a flight's lines.
+#[derive(Clone, Copy, Debug, PartialEq, Eq)]
+pub(crate) enum Kind {
+    /// The flight has no line yet.
+    Any,
+    /// Its line must not be sent twice, and flies alone.
+    Alone,
+    /// Queries.
+    Queries,
+    /// Orders that may be sent twice.
+    Orders,
+}
+
+/// A round of the choice: which lines fly, of which kind they are, and the room that is left.
+#[derive(Debug, Drop)]
+pub(crate) struct Round {
+    picks: Vec<bool>,
+    kind: Kind,
+    room: usize,
+}
+
+impl Model for Round {
+    ghost use Rattle.proxy_core.specs.Machine.{Round};
+
+    ghost Value = { Round };
+
+    ghost view = { λ r. record { picks = r.picks.items; kind = r.kind; room = r.room } };
+}
+
+/// Chooses the next flight, and returns for each waiting line whether it flies, or None if none may.
+/// Errors: out of memory.
+#[tactic(auto, using(crate::proofs::Picks::led_long, crate::proofs::Picks::none_led, crate::proofs::Picks::some_led))]
+pub(crate) fn choose(
+    alloc: Global,
+    waiting: &VecDeque<Pending>,
+    is_counted: bool,
+) -> Result<Option<Vec<bool>>, AllocError>
+    ensures { IfOk result (λ choice. MatchOption choice (picked (picks_of is_counted waiting.now.items) waiting.now.items ≡ [])
+        (λ picks. (picks.items ≡ picks_of is_counted waiting.now.items) × (0 < length (picked picks.items waiting.now.items)))) }
+{
+    let first = lead(alloc, waiting, is_counted)?;
+    if first.room == MOST_FLIGHT_LINES {
+        return Ok(None);
+    }
+    Ok(Some(fill(alloc, waiting, is_counted, &first)?))
+}
+
+/// The first round: the first waiting line of each connection, if it may fly. Errors: out of memory.
+fn lead(alloc: Global, waiting: &VecDeque<Pending>, is_counted: bool) -> Result<Round, AllocError>
+    ensures { IfOk result (λ round. round ≡ led is_counted waiting.now.items) }
+{
+    let mut picks = Vec::new(alloc);
+    let mut kind = Kind::Any;
+    let mut room = MOST_FLIGHT_LINES;
+    let mut seen = BTreeSet::new(alloc);
+    for i in 0..waiting.len() {
+        let pending = &waiting[i];
+        let goes = is_joining(is_counted, kind, room, &seen, pending);
+        kind = kind_with(goes, kind, pending);
+        room = room_with(goes, room);
+        seen.insert(pending.from())?;
+        picks.push(goes)?;
+    }
+    Ok(Round { picks, kind, room })
+}
+
+/// The second round: further lines while there is room. Errors: out of memory.
+fn fill(
+    alloc: Global,
+    waiting: &VecDeque<Pending>,
+    is_counted: bool,
+    first: &Round,
+) -> Result<Vec<bool>, AllocError>
+    requires { length first.now.picks ≡ length waiting.now.items }
+    ensures { IfOk result (λ picks. picks.items ≡ second_round is_counted first.now.kind first.now.room [] first.now.picks waiting.now.items) }
+{
+    let mut picks = Vec::new(alloc);
+    let mut room = first.room;
+    let mut staying = BTreeSet::new(alloc);
+    for i in 0..waiting.len() {
+        let pending = &waiting[i];
+        let leads = first.picks[i];
+        let goes = is_filling(leads, is_counted, first.kind, room, &staying, pending);
+        room = room_left(leads, goes, room);
+        note(&mut staying, pending, goes)?;
+        picks.push(goes)?;
+    }
+    Ok(picks)
+}
+
+/// Returns whether a line may fly: there is room, its number is known, it is of the flight's kind, and
+/// its connection is none of `staying`.
+fn is_joining(
+    is_counted: bool,
+    kind: Kind,
+    room: usize,
+    staying: &BTreeSet<u64>,
+    pending: &Pending,
+) -> bool
+    ensures { result ≡ (nat_lt 0 room && (is_ready is_counted pending.now && (joins kind pending.now && not (contains nat_cmp staying.now pending.now.from)))) }
+{
+    room > 0
+        && (is_counted || !pending.is_unnumbered())
+        && is_of_kind(kind, pending)
+        && !staying.contains(&pending.from())
+}
+
+/// Returns whether a line flies in the second round: it did in the first one, or it may join.
+fn is_filling(
+    leads: bool,
+    is_counted: bool,
+    kind: Kind,
+    room: usize,
+    staying: &BTreeSet<u64>,
+    pending: &Pending,
+) -> bool
+    ensures { result ≡ (leads || (is_begun kind && (nat_lt 0 room && (is_ready is_counted pending.now && (joins kind pending.now && not (contains nat_cmp staying.now pending.now.from)))))) }
+{
+    leads || (kind != Kind::Any && is_joining(is_counted, kind, room, staying, pending))
+}
+
+/// Returns whether a line may fly with lines of a kind.
+fn is_of_kind(kind: Kind, pending: &Pending) -> bool
+    ensures { result ≡ joins kind pending.now }
+{
+    match kind {
+        Kind::Any => true,
+        Kind::Alone => false,
+        Kind::Queries => !pending.is_once() && pending.is_query(),
+        Kind::Orders => !pending.is_once() && !pending.is_query(),
+    }
+}
+
+/// Returns the kind of the flight after this line, if it flies.
+fn kind_with(goes: bool, kind: Kind, pending: &Pending) -> Kind
+    ensures { result ≡ kind_after goes kind pending.now }
+{
+    if !goes || kind != Kind::Any {
+        return kind;
+    }
+    if pending.is_once() {
+        Kind::Alone
+    } else if pending.is_query() {
+        Kind::Queries
+    } else {
+        Kind::Orders
+    }
+}
+
+/// Returns the room after a line, if it flies.
+fn room_with(goes: bool, room: usize) -> usize
+    ensures { result ≡ room_after goes room }
+{
+    if goes { room.saturating_sub(1) } else { room }
+}
+
+/// Returns the room after a line of the second round. The lines of the first one took theirs before.
+fn room_left(leads: bool, goes: bool, room: usize) -> usize
+    ensures { result ≡ room_after (not leads && goes) room }
+{
+    room_with(!leads && goes, room)
+}
+
+/// Adds a line's connection to a set, if the line stays or may wait again. Errors: out of memory.
+fn note(staying: &mut BTreeSet<u64>, pending: &Pending, goes: bool) -> Result<(), AllocError>
+    ensures { OnOk result ((c : ℕ) → contains nat_cmp staying.new c ≡ (((not goes || pending.now.is_unnumbered) && (pending.now.from == c)) || contains nat_cmp staying.old c)) }
+{
+    if !goes || pending.is_unnumbered() {
+        staying.insert(pending.from())?;
+    }
+    Ok(())
+}
+
+/// Takes the picked lines out of the waiting ones. Errors: out of memory; nothing changes.
+pub(crate) fn take_out(
+    alloc: Global,
+    waiting: &mut VecDeque<Pending>,
+    picks: &[bool],
+) -> Result<VecDeque<Pending>, AllocError>
+    requires { length picks.now ≡ length waiting.old.items }
+    ensures out { IfOk result (λ flight. flight.items ≡ picked picks.now waiting.old.items) }
+    ensures left { OnOk result (waiting.new.items ≡ left picks.now waiting.old.items) }
+    ensures err { OnErr result (waiting.new.items ≡ waiting.old.items) }
+{
+    let mut flight = VecDeque::with_capacity(alloc, picks.len())?;
+    let mut kept = VecDeque::with_capacity(alloc, picks.len())?;
+    for i in 0..picks.len() {
+        if let Some(pending) = waiting.pop_front() {
+            if picks[i] {
+                flight.push_back_reserved(pending);
+            } else {
+                kept.push_back_reserved(pending);
+            }
+        }
+    }
+    *waiting = kept;
+    Ok(flight)
+}

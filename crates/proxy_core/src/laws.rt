@@ -1,0 +1,35 @@
+//! Laws of the proxy's core: functions that do nothing, whose contracts are the laws.
+
+ghost use Rattle.proxy_core.specs.Fair.{FairShares, OldestFlies};
+ghost use Rattle.proxy_core.specs.Promises.{EveryRun};
+ghost use Rattle.proxy_core.specs.Session.{AtMostOnce, OwnReplies};
+
+/// Whatever lines arrive, whichever connections leave, whenever the server's connection breaks and
+/// whatever the server answers: each answer that a connection receives is the server's to that very
+/// request, in order; nothing reaches the server that its sender may not send; a line that must not be
+/// sent twice is sent once; and no connection takes all the room.
+pub fn every_run()
+    ensures { EveryRun }
+{}
+
+/// With the server's session rule, an unnumbered order is carried out at most once, through breaks, and
+/// whatever last numbers of the proxy's client the loop finds.
+pub fn at_most_once()
+    ensures { AtMostOnce }
+{}
+
+/// If the loop finds the last numbers right, whoever is told that its unnumbered order was carried out is
+/// told of its own order.
+pub fn own_replies()
+    ensures { OwnReplies }
+{}
+
+/// The oldest waiting line that may fly is the first one of the next flight.
+pub fn oldest_flies()
+    ensures { OldestFlies }
+{}
+
+/// If a connection whose first waiting line is of the flight's kind gets none in, no connection gets two.
+pub fn fair_shares()
+    ensures { FairShares }
+{}

@@ -1,0 +1,80 @@
+//! A request line that has no answer yet.
+
+ghost use Rattle.std.specs.Prelude.{◌≡◌};
+
+use std::marker::Model;
+
+/// A request line that has no answer yet. Contracts see its bytes.
+#[derive(Debug, Drop)]
+pub struct Pending {
+    from: u64,
+    line: Vec<u8>,
+    is_once: bool,
+    is_query: bool,
+    is_unnumbered: bool,
+}
+
+impl Model for Pending {
+    ghost use Rattle.proxy_core.specs.Pending.{Pending};
+
+    ghost Value = { Pending };
+
+    ghost view = { λ a. record { from = a.from; line = a.line.items; is_once = a.is_once; is_query = a.is_query; is_unnumbered = a.is_unnumbered } };
+}
+
+impl Pending {
+    ghost use Rattle.proxy_core.specs.Pending.{new_pending};
+
+    pub(crate) fn new(
+        from: u64,
+        line: Vec<u8>,
+        is_once: bool,
+        is_query: bool,
+        is_unnumbered: bool,
+    ) -> Self
+        ensures { result ≡ new_pending from line.items is_once is_query is_unnumbered }
+    {
+        Pending {
+            from,
+            line,
+            is_once,
+            is_query,
+            is_unnumbered,
+        }
+    }
+
+    /// The connection that sent it.
+    pub fn from(&self) -> u64
+        ensures { result ≡ self.now.from }
+    {
+        self.from
+    }
+
+    /// The line as it came, without its line feed.
+    pub fn line(&self) -> &[u8]
+        ensures { result.now ≡ self.now.line }
+    {
+        self.line.as_slice()
+    }
+
+    /// Whether it must not be sent to the server a second time.
+    pub fn is_once(&self) -> bool
+        ensures { result ≡ self.now.is_once }
+    {
+        self.is_once
+    }
+
+    /// Whether it is a query: the server changes nothing for it.
+    pub fn is_query(&self) -> bool
+        ensures { result ≡ self.now.is_query }
+    {
+        self.is_query
+    }
+
+    /// Whether it is an order without a client and a number, which the proxy spells with its own.
+    pub fn is_unnumbered(&self) -> bool
+        ensures { result ≡ self.now.is_unnumbered }
+    {
+        self.is_unnumbered
+    }
+}

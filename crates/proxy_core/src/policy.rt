@@ -1,0 +1,49 @@
+//! How the proxy reads lines and answers, and who may send what.
+
+ghost use Rattle.std.specs.Prelude.{◌≡◌, IfOk};
+ghost use Rattle.proxy_core.specs.Rules.{Rules};
+
+use std::alloc::{AllocError, Global};
+
+/// How lines and answers are read, and who may send what. Contracts see it as `Rules`.
+pub trait Policy {
+    ghost rules: { Self → Rules };
+
+    /// Returns whether connections in this role may send this line.
+    fn allows(&self, role: u32, line: &[u8]) -> bool
+        ensures { result ≡ (rules self.now).allows role line.now };
+
+    /// Returns whether the line must not be sent to the server a second time, as `close`.
+    fn is_once(&self, line: &[u8]) -> bool
+        ensures { result ≡ (rules self.now).is_once line.now };
+
+    /// Returns whether the line is a query: the server changes nothing for it.
+    fn is_query(&self, line: &[u8]) -> bool
+        ensures { result ≡ (rules self.now).is_query line.now };
+
+    /// Returns whether the line is an order without a client and a number.
+    fn is_unnumbered(&self, line: &[u8]) -> bool
+        ensures { result ≡ (rules self.now).is_unnumbered line.now };
+
+    /// Spells an order without a client and a number with the proxy's client and this number. Errors:
+    /// out of memory.
+    fn spell(&self, alloc: Global, number: u64, line: &[u8]) -> Result<Vec<u8>, AllocError>
+        ensures { IfOk result (λ text. text.items ≡ (rules self.now).spelled number line.now) };
+
+    /// Returns whether the answer refuses the number, and not the order.
+    fn refuses_number(&self, answer: &[u8]) -> bool
+        ensures { result ≡ (rules self.now).refuses_number answer.now };
+
+    /// Returns whether the answer says that the number is used now.
+    fn uses_number(&self, answer: &[u8]) -> bool
+        ensures { result ≡ (rules self.now).uses_number answer.now };
+
+    /// Returns whether the answer refuses an order on its merits. Then its number was the next one, and it
+    /// is not used.
+    fn is_refusal(&self, answer: &[u8]) -> bool
+        ensures { result ≡ (rules self.now).is_refusal answer.now };
+
+    /// Returns whether the answer to a line that was sent twice leaves open what became of it.
+    fn is_inconclusive(&self, answer: &[u8]) -> bool
+        ensures { result ≡ (rules self.now).is_inconclusive answer.now };
+}

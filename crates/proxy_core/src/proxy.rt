@@ -1,0 +1,348 @@
+//! The state machine.
+
+ghost use Rattle.std.specs.Prelude.{◌≡◌, ◌≢◌, ◌≤◌, ◌<◌, ◌↔◌, [], true, false, ℕ, List, IfOk, OnOk, OnErr, IsTrue, IsSome, length, filter, count_by, not, nat_lt, ◌&&◌};
+ghost use Rattle.std.specs.BTreeSet.{contains};
+ghost use Rattle.std.specs.Ordering.{nat_cmp};
+ghost use Rattle.proxy_core.specs.Rules.{Rules, as_sent, needs_number};
+ghost use Rattle.proxy_core.specs.Pending.{is_from};
+ghost use Rattle.proxy_core.specs.Machine.{joins, left, lost_of, picked, picks_of};
+
+use crate::choice::{choose, take_out};
+use crate::pending::Pending;
+use crate::policy::Policy;
+use std::alloc::{AllocError, Global};
+use std::collections::VecDeque;
+use std::marker::Model;
+
+/// The most lines of one connection that may be without an answer. Further lines are deferred.
+pub const MOST_HELD: usize = 64;
+
+/// The most lines of a flight: the server commits as many at once.
+pub const MOST_FLIGHT_LINES: usize = 256;
+
+/// What becomes of a line that arrives.
+#[derive(Clone, Copy, Debug, PartialEq, Eq)]
+pub enum Admission {
+    /// It waits for the server.
+    Queued,
+    /// Its sender may not send it. The loop answers so at once.
+    Denied,
+    /// It was not taken. The loop offers it again after the next answer to its connection.
+    Deferred,
+}
+
+/// Whose an answer of the server is.
+#[derive(Clone, Copy, Debug, PartialEq, Eq)]
+pub enum Outcome {
+    /// It goes to this connection.
+    To(u64),
+    /// It leaves open what became of a line of this connection. The loop ends the connection.
+    Ended(u64),
+    /// It refuses the number of a line of this connection. The line waits again, for another number.
+    Retry(u64),
+    /// Nothing was in flight. The loop leaves the server's connection.
+    Unsolicited,
+}
+
+/// The request lines of all connections that have no answer.
+#[derive(Debug, Drop)]
+pub struct Proxy {
+    flight: VecDeque<Pending>,
+    waiting: VecDeque<Pending>,
+    is_up: bool,
+    is_resent: bool,
+    number: u64,
+    last: u64,
+    is_counted: bool,
+    has_refusal: bool,
+}
+
+impl Model for Proxy {
+    ghost use Rattle.proxy_core.specs.Machine.{Proxy};
+
+    ghost Value = { Proxy };
+
+    ghost view = { λ f. record { flight = f.flight.items; waiting = f.waiting.items; is_up = f.is_up; is_resent = f.is_resent; number = f.number; last = f.last; is_counted = f.is_counted; has_refusal = f.has_refusal } };
+}
+
+impl Proxy {
+    ghost use Rattle.proxy_core.specs.Pending.{is_from, new_pending, text_of};
+    ghost use Rattle.proxy_core.specs.Machine.{after_broken, after_number, after_outcome, after_admission, counted, without_connection, outcome, flown, held, is_none, lost, may_go, new_proxy, picks_of, admission};
+
+    /// Returns a proxy without lines and without a connection to the server.
+    pub fn new(alloc: Global) -> Self
+        ensures { result ≡ new_proxy }
+    {
+        Proxy {
+            flight: VecDeque::new(alloc),
+            waiting: VecDeque::new(alloc),
+            is_up: false,
+            is_resent: false,
+            number: 0,
+            last: 0,
+            is_counted: false,
+            has_refusal: false,
+        }
+    }
+
+    /// Returns whether fewer than `most` lines of a connection are without an answer.
+    fn holds_fewer(&self, connection: u64, most: usize) -> bool
+        ensures { IsTrue result ↔ (held connection self.now < most) }
+    {
+        let flying = count_from(&self.flight, connection);
+        flying < most && count_from(&self.waiting, connection) < most - flying
+    }
+
+    /// Takes a line that arrived from a connection in this role. Errors: out of memory; nothing changes.
+    pub fn admit<P: Policy>(
+        &mut self,
+        alloc: Global,
+        policy: &P,
+        connection: u64,
+        role: u32,
+        line: &[u8],
+    ) -> Result<Admission, AllocError>
+        ensures told { IfOk result (λ t. t ≡ admission (P.rules policy.now) connection role line.now self.old) }
+        ensures taken { IfOk result (λ t. self.new ≡ after_admission t
+            (new_pending connection line.now ((P.rules policy.now).is_once line.now) ((P.rules policy.now).is_query line.now) (needs_number (P.rules policy.now) line.now)) self.old) }
+        ensures err { OnErr result (self.new ≡ self.old) }
+    {
+        if !policy.allows(role, line) {
+            return Ok(if self.holds_fewer(connection, 1) {
+                Admission::Denied
+            } else {
+                Admission::Deferred
+            });
+        }
+        if !self.holds_fewer(connection, MOST_HELD) {
+            return Ok(Admission::Deferred);
+        }
+        let copy = Vec::from_slice(alloc, line)?;
+        let is_once = policy.is_once(line);
+        let is_unnumbered = policy.is_unnumbered(line) && !is_once;
+        self.waiting.push_back(Pending::new(
+            connection,
+            copy,
+            is_once,
+            policy.is_query(line),
+            is_unnumbered,
+        ))?;
+        Ok(Admission::Queued)
+    }
+
+    /// Makes a flight of waiting lines if there is none, and returns the number of its lines, which the
+    /// loop writes to the server. The flight is the oldest line that may fly, and with it all lines of its
+    /// kind that may: queries fly together, and so do orders; none flies before an older line of its
+    /// connection, and an unnumbered order only while the last number is known. If there are too many,
+    /// each connection gets one in before any gets its second. Errors: out of memory; nothing changes.
+    #[tactic(auto, using(crate::proofs::Picks::picks_length, crate::proofs::Picks::picks_may_go))]
+    pub fn start_flight(&mut self, alloc: Global) -> Result<usize, AllocError>
+        ensures went { IfOk result (λ n. 0 < n → (may_go (picks_of self.old.is_counted self.old.waiting) self.old ≡ true)
+            × (self.new ≡ flown (picks_of self.old.is_counted self.old.waiting) self.old)) }
+        ensures stays { IfOk result (λ n. n ≡ 0 → self.new ≡ self.old) }
+        ensures goes { IfOk result (λ n. self.old.is_up ≡ true → self.old.flight ≡ [] → n ≡ length (picked (picks_of self.old.is_counted self.old.waiting) self.old.waiting)) }
+        ensures err { OnErr result (self.new ≡ self.old) }
+    {
+        if !self.is_up || !self.flight.is_empty() {
+            return Ok(0);
+        }
+        let Some(picks) = choose(alloc, &self.waiting, self.is_counted)? else {
+            return Ok(0);
+        };
+        let flight = take_out(alloc, &mut self.waiting, picks.as_slice())?;
+        let count = flight.len();
+        self.flight = flight;
+        self.is_resent = false;
+        self.has_refusal = false;
+        self.number = self.last;
+        Ok(count)
+    }
+
+    /// Returns the bytes of the flight as they are written to the server. Errors: out of memory.
+    pub fn flight_text<P: Policy>(&self, alloc: Global, policy: &P) -> Result<Vec<u8>, AllocError>
+        ensures { IfOk result (λ text. text.items ≡ text_of (P.rules policy.now) self.now.number self.now.flight) }
+    {
+        let mut text = Vec::new(alloc);
+        let mut number = self.number;
+        for i in 0..self.flight.len() {
+            let pending = &self.flight[i];
+            let line = written(alloc, policy, number.saturating_add(1), pending)?;
+            text.extend_from_slice(line.as_slice())?;
+            text.push(b'\n')?;
+            if pending.is_unnumbered() {
+                number = number.saturating_add(1);
+            }
+        }
+        Ok(text)
+    }
+
+    /// Takes an answer line of the server, and returns whose it is. Errors: out of memory; nothing
+    /// changes, and the loop leaves the server's connection.
+    pub fn answer<P: Policy>(&mut self, policy: &P, answer: &[u8]) -> Result<Outcome, AllocError>
+        ensures told { IfOk result (λ g. g ≡ outcome (P.rules policy.now) answer.now self.old) }
+        ensures after { IfOk result (λ g. self.new ≡ after_outcome (P.rules policy.now) answer.now g self.old) }
+        ensures err { OnErr result (self.new ≡ self.old) }
+    {
+        if !self.is_up {
+            return Ok(Outcome::Unsolicited);
+        }
+        self.waiting.reserve(1)?;
+        let Some(first) = self.flight.pop_front() else {
+            self.is_up = false;
+            return Ok(Outcome::Unsolicited);
+        };
+        let connection = first.from();
+        let is_unnumbered = first.is_unnumbered();
+        let refuses_number = is_unnumbered && policy.refuses_number(answer);
+        let ends = self.is_resent && (policy.is_inconclusive(answer) || refuses_number);
+        if refuses_number && !ends {
+            self.waiting.push_front_reserved(first);
+            self.count(policy, answer);
+            return Ok(Outcome::Retry(connection));
+        }
+        if is_unnumbered {
+            self.count(policy, answer);
+        }
+        if ends {
+            self.forget(connection);
+            return Ok(Outcome::Ended(connection));
+        }
+        Ok(Outcome::To(connection))
+    }
+
+    /// Notes what an answer to the first order of the flight, which has a number of the proxy, says of the
+    /// numbers.
+    fn count<P: Policy>(&mut self, policy: &P, answer: &[u8])
+        ensures { self.new ≡ after_number (P.rules policy.now) answer.now self.old }
+    {
+        let uses = policy.uses_number(answer);
+        let is_refusal = policy.is_refusal(answer);
+        let is_explained = policy.refuses_number(answer) && self.has_refusal && !self.is_resent;
+        self.number = self.number.saturating_add(1);
+        if uses {
+            self.last = self.last.max(self.number);
+        }
+        self.is_counted = self.is_counted && (uses || is_refusal || is_explained);
+        self.has_refusal = self.has_refusal || is_refusal;
+    }
+
+    /// Sets the last number of the proxy's client, which the loop found while no unnumbered order was in
+    /// flight.
+    pub fn set_last_number(&mut self, last: u64)
+        ensures { self.new ≡ counted last self.old }
+    {
+        self.last = last;
+        self.is_counted = true;
+    }
+
+    /// Drops the waiting lines of a connection that has ended. Its lines in flight keep their places.
+    pub fn forget(&mut self, connection: u64)
+        ensures { self.new ≡ without_connection connection self.old }
+    {
+        keep_others(&mut self.waiting, connection);
+    }
+
+    /// Notes that the connection to the server broke. The flight is sent again as it was. Only a line
+    /// that must not be sent twice is dropped: then this returns its connection, which the loop ends,
+    /// since nobody knows what became of the line.
+    pub fn server_lost(&mut self) -> Option<u64>
+        ensures told { result ≡ lost self.old }
+        ensures after { self.new ≡ after_broken result self.old }
+    {
+        self.is_up = false;
+        self.is_resent = true;
+        if !begins_once(&self.flight) {
+            return None;
+        }
+        let first = self.flight.pop_front()?;
+        let connection = first.from();
+        self.forget(connection);
+        Some(connection)
+    }
+
+    /// Notes that the connection to the server stands. Returns true if it did not before: then the loop
+    /// writes the flight.
+    pub fn server_connected(&mut self) -> bool
+        ensures was { result ≡ not self.old.is_up }
+        ensures up { self.new ≡ record self.old { is_up = true } }
+    {
+        let was_down = !self.is_up;
+        self.is_up = true;
+        was_down
+    }
+
+    /// Returns whether a connection has the answers to all its lines.
+    pub fn is_awaiting_nothing(&self, connection: u64) -> bool
+        ensures { IsTrue result ↔ (held connection self.now < 1) }
+    {
+        self.holds_fewer(connection, 1)
+    }
+
+    /// Returns whether the last number of the proxy's client is known. While it is not, unnumbered orders
+    /// wait.
+    pub fn is_counted(&self) -> bool
+        ensures { result ≡ self.now.is_counted }
+    {
+        self.is_counted
+    }
+
+    /// Returns whether the connection to the server stands.
+    pub fn is_up(&self) -> bool
+        ensures { result ≡ self.now.is_up }
+    {
+        self.is_up
+    }
+
+    /// Returns whether no line is without an answer.
+    pub fn is_idle(&self) -> bool
+        ensures { IsTrue result ↔ ((self.now.flight ≡ []) × (self.now.waiting ≡ [])) }
+    {
+        self.flight.is_empty() && self.waiting.is_empty()
+    }
+}
+
+/// Returns a line as it is written, with this number if it has none. Errors: out of memory.
+fn written<P: Policy>(
+    alloc: Global,
+    policy: &P,
+    number: u64,
+    pending: &Pending,
+) -> Result<Vec<u8>, AllocError>
+    ensures { IfOk result (λ text. text.items ≡ as_sent (P.rules policy.now) number pending.now.is_unnumbered pending.now.line) }
+{
+    if pending.is_unnumbered() {
+        policy.spell(alloc, number, pending.line())
+    } else {
+        Vec::from_slice(alloc, pending.line())
+    }
+}
+
+/// Counts the lines of a connection.
+fn count_from(pending: &VecDeque<Pending>, connection: u64) -> usize
+    ensures { result ≡ count_by (is_from connection) pending.now.items }
+{
+    let mut count = 0;
+    for i in 0..pending.len() {
+        if pending[i].from() == connection {
+            count += 1;
+        }
+    }
+    count
+}
+
+/// Drops the lines of a connection.
+fn keep_others(waiting: &mut VecDeque<Pending>, connection: u64)
+    ensures { waiting.new.items ≡ filter (λ a. not (is_from connection a)) waiting.old.items }
+{
+    waiting.retain(|pending| pending.from() != connection);
+}
+
+/// Returns whether the first line must not be sent twice.
+fn begins_once(flight: &VecDeque<Pending>) -> bool
+    ensures { IsTrue result ↔ IsSome (lost_of flight.now.items) }
+{
+    match flight.front() {
+        Some(first) => first.is_once(),
+        None => false,
+    }
+}
