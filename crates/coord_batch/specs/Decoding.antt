@@ -1,4 +1,4 @@
--- What reading all of the bytes answers: the value, or the first fault from the left and its place.
+-- The result of decoding all bytes: the value, or the first fault from the left and its place.
 use Rattle.std.specs.Prelude.{◌≡◌, ℕ, Bool, ◌-◌, ◌==◌, ◌||◌, List, length, Result, Ok, Err, if◌then◌else◌}
 use Rattle.coord_batch.specs.declared.fault.CodecFault.{CodecFault}
 use Rattle.coord_batch.specs.declared.fault.FaultKind.{FaultKind}
@@ -12,13 +12,13 @@ use Rattle.coord_batch.specs.Format.{Format, whole}
 abbrev pub fault_at : FaultKind → ℕ → CodecFault
 fault_at k n = record { kind = k; at = n }
 
--- a flaw tells how many bytes are left, a fault how many come before
+-- a flaw has the number of remaining bytes, a fault the number of bytes before it
 abbrev pub placed : ℕ → Flaw → CodecFault
 placed n flaw.Short = fault_at kind.Short n
 placed n (flaw.BadByte left) = fault_at kind.BadByte (n - left)
 placed n (flaw.Extra left) = fault_at kind.Extra (n - left)
 
--- what the program makes of a reader's error
+-- the fault of a reader's error
 abbrev pub Places : ReadError → ℕ → CodecFault → Type 0
 Places errors.Memory n fault = fault.kind ≡ kind.OutOfMemory
 Places (errors.Flaw f) n fault = fault ≡ placed n f
@@ -37,12 +37,12 @@ is_version version = (version == 1) || (version == 2)
 abbrev pub decoded : {A : Type 0} → (ℕ → Format A) → ℕ → List ℕ → Result A CodecFault
 decoded f version bytes = if is_version version then or_fault (length bytes) (whole (f version) bytes) else Err bad_version
 
--- said of every fault but want of memory
+-- a statement about every fault except out of memory
 abbrev pub Unless : FaultKind → Type 0 → Type 0
 Unless kind.OutOfMemory P = Unit {0}
 Unless k P = P
 
--- The answer, as `view` shows it, is this one; or there was no memory.
+-- The result, as seen through `view`, is this one; or memory ran out.
 abbrev pub AnswersDecoded : {X Y : Type 0} → (X → Y) → Result X CodecFault → Result Y CodecFault → Type 0
 AnswersDecoded view (Ok x) read = read ≡ Ok (view x)
 AnswersDecoded view (Err e) read = Unless e.kind (read ≡ Err e)

@@ -1,4 +1,4 @@
--- The fields that batches and worlds are made of.
+-- The fields of batches and worlds.
 use Rattle.std.specs.Prelude.{ℕ, zero, suc, ◌==◌, ◌&&◌, nat_le, Bool, true, false}
 use Rattle.coord_types.specs.Messages.{carried}
 use Rattle.coord_types.specs.declared.limits.TheConstants.{MAX_CLIENTS, MAX_GROUPS, MAX_NODES}
@@ -30,16 +30,16 @@ at_most most = such_that (λ n. nat_le n most) u64
 unfoldable pub from_one_to : ℕ → Format ℕ
 from_one_to most = such_that (λ n. nat_le 1 n && nat_le n most) u64
 
--- how many items there are, in a byte
+-- the number of items, in a byte
 unfoldable pub how_many : ℕ → Format ℕ
 how_many most = such_that (λ n. nat_le n most) byte
 
--- Where the test says no, a number up to this one; where it says yes, no bytes, for 0.
+-- If the test fails, a number up to this one; if it holds, no bytes, which mean 0.
 unfoldable pub unless : Bool → ℕ → Format ℕ
 unless true most = nothing
 unless false most = at_most most
 
--- a distance up to this one, which stands in version 2 alone: in version 1 each is 0
+-- a distance up to this one, stored only in version 2: in version 1 it is 0
 unfoldable pub distance : ℕ → ℕ → Format ℕ
 distance version most = unless (version == 1) most
 

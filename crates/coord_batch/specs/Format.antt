@@ -1,11 +1,11 @@
--- Formats: one description of how values are spelled in bytes, from which come the spelling, the reading from the left, and which values have a spelling.
+-- Formats: one description of how values are encoded, which gives the encoding, the decoding from the left, and the values that have an encoding.
 use Rattle.std.specs.Prelude.{◌≡◌, ℕ, zero, suc, ◌^◌, ◌<◌, ◌==◌, nat_lt, Bool, true, List, [], ◌∷◌, ◌++◌, length, take, drop, Result, Ok, Err, if◌then◌else◌}
 use Rattle.std.specs.List.{flat_map}
 use Rattle.std.specs.Int.{Width, w16, w64, byte_len, from_be_bytes, to_be_bytes}
 use Rattle.coord_batch.specs.declared.fault.Flaw.{Flaw}
 use Rattle.coord_batch.specs.declared.fault.Flaw.TheVariants.{Short, BadByte, Extra}
 
--- reading gives a value and the bytes behind it, or the first flaw
+-- reading gives a value and the remaining bytes, or the first flaw
 abbrev pub Read : Type 0 → Type 0
 Read A = Result (A × List ℕ) Flaw
 
@@ -28,7 +28,7 @@ first_byte (b ∷ rest) = Ok (b, rest)
 abbrev pub byte : Format ℕ
 byte = record { text = λ n. n ∷ []; read = first_byte; Fits = λ n. n < 256 }
 
--- a number of some bytes, the greatest first
+-- a number of some bytes, most significant first
 abbrev pub number_at : Width → List ℕ → Read ℕ
 number_at w bytes = if nat_lt (length bytes) (byte_len w) then Err Short else Ok (from_be_bytes w (take (byte_len w) bytes), drop (byte_len w) bytes)
 
@@ -38,13 +38,13 @@ u16 = record { text = to_be_bytes w16; read = number_at w16; Fits = λ n. n < 2 
 abbrev pub u64 : Format ℕ
 u64 = record { text = to_be_bytes w64; read = number_at w64; Fits = λ n. n < 2 ^ 64 }
 
--- no bytes, for 0
+-- no bytes, which mean 0
 abbrev pub nothing : Format ℕ
 nothing = record { text = λ n. []; read = λ bytes. Ok (0, bytes); Fits = λ n. n ≡ 0 }
 
--- ---- what is made of formats
+-- ---- combinations of formats
 
--- only what passes a test; a flaw is where it begins
+-- a value that passes a test; a flaw is at its beginning
 abbrev pub such_that : {A : Type 0} → (A → Bool) → Format A → Format A
 such_that test f = record {
   text = f.text;
@@ -64,7 +64,7 @@ infixr 20 ◌&◌
 abbrev pub ◌&◌ : {A B : Type 0} → Format A → Format B → Format (A × B)
 f & g = followed f (λ _. g)
 
--- a value by its parts
+-- a value made of its parts
 abbrev pub made : {A B : Type 0} → (A → B) → (B → A) → Format A → Format B
 made make parts f = record {
   text = λ y. f.text (parts y);
@@ -76,7 +76,7 @@ made make parts f = record {
 abbrev pub cases : {A : Type 0} → ℕ → (A → ℕ) → (ℕ → Format A) → Format A
 cases how_many which case = made (λ p. p.1) (λ x. (which x, x)) (followed (such_that (λ t. nat_lt t how_many) byte) case)
 
--- as many items as are asked for, behind those before them
+-- this many items, after those before them
 unfoldable pub items_at : {A : Type 0} → (List A → Format A) → ℕ → List A → List ℕ → Read (List A)
 items_at item zero front bytes = Ok (front, bytes)
 items_at item (suc n) front bytes = (item front).read bytes >>= λ x. items_at item n (front ++ x.0 ∷ []) x.1
@@ -85,8 +85,8 @@ unfoldable pub FitBehind : {A : Type 0} → (List A → Format A) → List A →
 FitBehind item front [] = Unit {0}
 FitBehind item front (x ∷ xs) = (item front).Fits x × FitBehind item (front ++ x ∷ []) xs
 
--- How many items there are, and then the items. Which items are right may depend on those before
--- them; how one is spelled does not.
+-- The number of items, and then the items. Which items are valid may depend on those before
+-- them; how an item is encoded does not.
 abbrev pub counted : {A : Type 0} → Format ℕ → (List A → Format A) → Format (List A)
 counted count item = record {
   text = λ xs. count.text (length xs) ++ flat_map (item []).text xs;

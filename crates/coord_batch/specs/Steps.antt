@@ -11,7 +11,7 @@ use Rattle.coord_types.specs.declared.steps.Step.TheVariants.{Order, Take, Clear
 use Rattle.coord_batch.specs.Format.{Format, u16, u64, such_that, ◌&◌, made, cases, counted}
 use Rattle.coord_batch.specs.Fields.{node, group, client, message, from_one, from_one_to}
 
--- which form a command has, and the nodes and numbers that it names
+-- the form of a command, and its nodes and numbers
 abbrev pub command_tag : Command → ℕ
 command_tag (Add u g) = 0
 command_tag (Remove u) = 1
@@ -69,7 +69,7 @@ step_tag (Order c n x) = 0
 step_tag (Take p) = 1
 step_tag (Clear p) = 2
 
--- placeholders for steps that carry no packet
+-- placeholders for steps without a packet
 abbrev no_packet : DataPacket
 no_packet = record { from = 0; to = 0; inc = 0; number = 0; msg = msg.Ack }
 
@@ -96,7 +96,7 @@ step_case version (suc (suc n)) = made Clear cleared_of receipt_packet
 unfoldable pub step : ℕ → Format Step
 step version = cases 3 step_tag (step_case version)
 
--- how many steps there are, and the steps
+-- the number of steps, and the steps
 unfoldable pub how_many_steps : Format ℕ
 how_many_steps = such_that (λ n. nat_le 1 n && nat_le n MAX_BATCH_STEPS) u16
 

@@ -1,4 +1,4 @@
--- Worked spellings, and faults, computed through the definitions.
+-- Worked examples: encodings and faults, computed through the definitions.
 use Rattle.std.specs.Prelude.{◌≡◌, ℕ, List, [], ◌∷◌, Ok, Err}
 use Rattle.coord_types.specs.declared.messages.Msg.TheVariants as msg
 use Rattle.coord_types.specs.declared.steps.Command.TheVariants.{Add}
@@ -13,7 +13,7 @@ use Rattle.coord_batch.specs.Steps.{batch, step}
 abbrev first_order : Step
 first_order = Order 1 1 (Add 1 1)
 
--- 23 bytes, with the values of those at 7, 9, 11 and 19 left open, and what stands behind them
+-- 23 bytes, where the values at 7, 9, 11 and 19 are parameters, and the bytes after them
 abbrev first_bytes : ℕ → ℕ → ℕ → ℕ → List ℕ → List ℕ
 first_bytes first count client number rest =
     0 ∷ 0 ∷ 0 ∷ 0 ∷ 0 ∷ 0 ∷ 0 ∷ first ∷ 0 ∷ count ∷ 0 ∷ client ∷ 0 ∷ 0 ∷ 0 ∷ 0 ∷ 0 ∷ 0 ∷ 0 ∷ number ∷ 0 ∷ 1 ∷ 1 ∷ rest

@@ -14,10 +14,10 @@ use crate::step_writing::put_step;
 use coord_types::{MAX_BATCH_BYTES, MAX_BATCH_STEPS, MAX_STEPS, Step, Version};
 use std::alloc::{AllocError, Global};
 
-/// The bytes before the first step: its number, and how many steps there are.
+/// The number of bytes before the first step: its number, and the number of steps.
 const HEAD_BYTES: usize = 10;
 
-/// The most bytes of one step.
+/// The maximum number of bytes of one step.
 const MOST_STEP_BYTES: usize = 28;
 
 /// 1 to 256 steps that were committed together, and the number of the first, from 1 to 2^40.
@@ -38,7 +38,7 @@ impl<'a> Input<'a> {
     }
 }
 
-/// The batch that all of the bytes spell.
+/// Returns the batch that all of the bytes encode.
 fn decode(alloc: Global, version: u8, bytes: &[u8]) -> Result<Batch, CodecFault>
     ensures exact { AnswersDecoded content result (decoded batch version bytes.now) }
     ensures version { is_version version ≡ false → result ≡ Err bad_version }
@@ -54,26 +54,26 @@ fn decode(alloc: Global, version: u8, bytes: &[u8]) -> Result<Batch, CodecFault>
     }
 }
 
-/// The batch that all of the bytes spell in a version of the grammar, 1 or 2 (docs/FORMATS.md,
+/// Returns the batch that all of the bytes encode in a version of the grammar, 1 or 2 (docs/FORMATS.md,
 /// "Batches").
 pub fn read_batch(alloc: Global, version: u8, bytes: &[u8]) -> Result<Batch, CodecFault>
-    // What is read is spelled so.
+    // The bytes are the encoding of the result.
     ensures found { IfOk result (λ b.
         (is_version version ≡ true) × IsBatch version b.first b.steps.items ×
         (bytes.now ≡ (batch version).text (content b))) }
-    // What is spelled so is read, unless memory runs out.
+    // An encoding is decoded, unless memory runs out.
     ensures only { (first : ℕ) (taken : List Taken) → is_version version ≡ true →
         IsBatch version first taken → bytes.now ≡ (batch version).text (pair first taken)
         → AnswersDecoded content result (Ok (pair first taken)) }
-    // Another version is told also where memory is short.
+    // A wrong version is reported even if memory is short.
     ensures version { (result ≡ Err bad_version) ↔ (is_version version ≡ false) }
-    // Which fault it is, and where.
+    // The fault and its place.
     ensures exact { AnswersDecoded content result (decoded batch version bytes.now) }
 {
     decode(alloc, version, bytes)
 }
 
-/// Spells a batch of 1 to 256 steps in a version; the first step has this number, from 1 to 2^40.
+/// Encodes a batch of 1 to 256 steps in a version; the first step has this number, from 1 to 2^40.
 /// In version 1 no packet may carry a distance.
 #[tactic(auto, using(std::proofs::Common::append_assoc), unfolding(crate::specs::Steps::batch, crate::specs::Steps::steps, crate::specs::Fields::from_one_to, crate::specs::Steps::how_many_steps))]
 pub fn write_batch(

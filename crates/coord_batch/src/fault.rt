@@ -1,4 +1,4 @@
-//! What can be wrong with bytes.
+//! The faults of bytes.
 
 ghost use Rattle.std.specs.Prelude.{◌≡◌, Some};
 ghost use Rattle.coord_batch.specs.Faults.{fault_text, fault_name, fault_number};
@@ -8,22 +8,22 @@ ghost use Rattle.coord_batch.specs.declared.fault.ReadError.TheVariants.{Memory}
 use std::alloc::{AllocError, AllocFailed};
 use std::fmt;
 
-/// Why bytes were not read.
+/// The reason for which bytes were not decoded.
 #[derive(Clone, Copy, Debug, PartialEq, Eq)]
 pub enum FaultKind {
     OutOfMemory,
     /// The bytes end inside a field.
     Short,
-    /// A field is out of its range or order.
+    /// A field is out of range or out of order.
     BadByte,
-    /// Bytes stand behind the whole.
+    /// Bytes follow the complete value.
     Extra,
-    /// No version of the grammar has this number.
+    /// There is no version of the grammar with this number.
     BadVersion,
 }
 
 impl FaultKind {
-    /// The fault's number, from 1 to 5.
+    /// Returns the fault's number, from 1 to 5.
     pub fn number(self) -> u8
         ensures { result ≡ fault_number self }
     {
@@ -57,9 +57,9 @@ impl fmt::Display for FaultKind {
     }
 }
 
-/// The first fault from the left, and at which byte it is: for `Short` the number of bytes, for
-/// `BadByte` the first byte of the field, for `Extra` the first byte behind the whole, for
-/// `BadVersion` 0. Of `OutOfMemory` the place says nothing.
+/// The first fault from the left, and its place: for `Short` the number of bytes, for
+/// `BadByte` the first byte of the field, for `Extra` the first byte after the complete value, for
+/// `BadVersion` 0. For `OutOfMemory` the place means nothing.
 #[derive(Clone, Copy, Debug, PartialEq, Eq)]
 pub struct CodecFault {
     pub kind: FaultKind,
@@ -88,19 +88,19 @@ impl fmt::Display for CodecFault {
     }
 }
 
-/// What is wrong with bytes that are read from the left. A place is told by how many bytes are
-/// left from there on.
+/// A flaw of bytes that are read from the left. Its place is the number of remaining
+/// bytes.
 #[derive(Clone, Copy, Debug, PartialEq, Eq)]
 pub enum Flaw {
     /// The bytes end inside a field.
     Short,
-    /// A field that begins here is out of its range or order.
+    /// A field that begins here is out of range or out of order.
     BadByte(usize),
-    /// These bytes are behind the whole.
+    /// These bytes follow the complete value.
     Extra(usize),
 }
 
-/// Why a reader stopped.
+/// The reason for which a reader stopped.
 #[derive(Debug, Drop)]
 pub enum ReadError {
     /// Memory ran out.
@@ -109,22 +109,22 @@ pub enum ReadError {
 }
 
 impl ReadError {
-    /// A field that began where this many bytes were left is out of its range or order.
+    /// A field that began where this many bytes remained is out of range or out of order.
     pub fn bad_byte(left: usize) -> Self
         ensures { result ≡ ReadError.Flaw (Flaw.BadByte left) }
     {
         ReadError::Flaw(Flaw::BadByte(left))
     }
 
-    /// This many bytes are behind the whole.
+    /// This many bytes follow the complete value.
     pub fn extra(left: usize) -> Self
         ensures { result ≡ ReadError.Flaw (Flaw.Extra left) }
     {
         ReadError::Flaw(Flaw::Extra(left))
     }
 
-    /// The fault with its place, where there were this many bytes in all. No more are left than
-    /// there were, so that nothing saturates.
+    /// Returns the fault with its place, given the total number of bytes. There are never more remaining bytes than
+    /// that, so nothing saturates.
     pub fn placed(self, len: usize) -> CodecFault
         ensures { Places self len result }
     {

@@ -1,4 +1,4 @@
-//! Bytes that are read from the left.
+//! Reads bytes from the left.
 
 ghost use Rattle.std.specs.Prelude.{◌≡◌, ◌≤◌, length, IfOk};
 ghost use Rattle.coord_batch.specs.Reading.{ReadsSpelled};
@@ -9,9 +9,9 @@ use crate::fault::{Flaw, ReadError};
 use coord_types::{Client, Group, Msg, NodeId, Version};
 use std::marker::Model;
 
-/// The bytes that are not yet read. Each method reads one field, as the format of its name does:
-/// it fails as `Short` where the bytes end inside the field, and as `BadByte` where the field's
-/// value is out of its range. After an error the bytes that are left are unspecified.
+/// The bytes that are not read yet. Each method reads one field, like the format of the same name:
+/// it fails with `Short` if the bytes end inside the field, and with `BadByte` if the field's
+/// value is out of range. After an error the remaining bytes are unspecified.
 #[derive(Drop)]
 pub struct Input<'a> {
     rest: &'a [u8],
@@ -29,21 +29,21 @@ impl<'a> Model for Input<'a> {
 }
 
 impl<'a> Input<'a> {
-    /// All of these bytes.
+    /// Returns an input of all these bytes.
     pub fn new(bytes: &'a [u8]) -> Self
         ensures { result ≡ bytes.now }
     {
         Input { rest: bytes }
     }
 
-    /// How many bytes are left.
+    /// Returns the number of remaining bytes.
     pub fn left(&self) -> usize
         ensures { result ≡ length self.now }
     {
         self.rest.len()
     }
 
-    /// The next byte.
+    /// Reads the next byte.
     pub fn byte(&mut self) -> Result<u8, ReadError>
         ensures { ReadsSpelled (λ x. x) result (byte.read self.old) self.new }
     {
@@ -56,7 +56,7 @@ impl<'a> Input<'a> {
         }
     }
 
-    /// A number of two bytes, the greatest first.
+    /// Reads a number of two bytes, most significant first.
     pub fn u16(&mut self) -> Result<u16, ReadError>
         ensures { ReadsSpelled (λ x. x) result (u16.read self.old) self.new }
     {
@@ -68,7 +68,7 @@ impl<'a> Input<'a> {
         Ok(u16::from_be_bytes([front[0], front[1]]))
     }
 
-    /// A number of eight bytes, the greatest first.
+    /// Reads a number of eight bytes, most significant first.
     pub fn u64(&mut self) -> Result<u64, ReadError>
         ensures { ReadsSpelled (λ x. x) result (u64.read self.old) self.new }
     {
@@ -82,7 +82,7 @@ impl<'a> Input<'a> {
         ]))
     }
 
-    /// A node, in a byte from 1 to 64.
+    /// Reads a node: a byte from 1 to 64.
     #[tactic(auto, unfolding(crate::specs::Fields::node))]
     pub fn node(&mut self) -> Result<NodeId, ReadError>
         ensures { ReadsSpelled (λ x. x) result (node.read self.old) self.new }
@@ -92,7 +92,7 @@ impl<'a> Input<'a> {
         NodeId::new(number).ok_or(ReadError::bad_byte(left))
     }
 
-    /// A group, in a byte from 1 to 16.
+    /// Reads a group: a byte from 1 to 16.
     #[tactic(auto, unfolding(crate::specs::Fields::group))]
     pub fn group(&mut self) -> Result<Group, ReadError>
         ensures { ReadsSpelled (λ x. x) result (group.read self.old) self.new }
@@ -102,7 +102,7 @@ impl<'a> Input<'a> {
         Group::new(number).ok_or(ReadError::bad_byte(left))
     }
 
-    /// A client, in a byte from 1 to 16.
+    /// Reads a client: a byte from 1 to 16.
     #[tactic(auto, unfolding(crate::specs::Fields::client))]
     pub fn client(&mut self) -> Result<Client, ReadError>
         ensures { ReadsSpelled (λ x. x) result (client.read self.old) self.new }
@@ -112,7 +112,7 @@ impl<'a> Input<'a> {
         Client::new(number).ok_or(ReadError::bad_byte(left))
     }
 
-    /// A distance, in eight bytes, up to this one; in version 1, where each is 0, it has no bytes.
+    /// Reads a distance: eight bytes, up to this one; in version 1 it has no bytes and is 0.
     #[tactic(auto, unfolding(crate::specs::Fields::distance, crate::specs::Fields::unless))]
     pub fn distance(&mut self, version: Version, most: u64) -> Result<u64, ReadError>
         ensures { ReadsSpelled (λ x. x) result ((distance version most).read self.old) self.new }
@@ -123,7 +123,7 @@ impl<'a> Input<'a> {
         self.at_most(most)
     }
 
-    /// A message: 0 Abort, with a distance up to this one, 1 Ack, 2 Ready.
+    /// Reads a message: 0 Abort, with a distance up to this one, 1 Ack, 2 Ready.
     #[tactic(auto, unfolding(crate::specs::Fields::message, crate::specs::Fields::message_case))]
     pub fn message(&mut self, version: Version, most: u64) -> Result<Msg, ReadError>
         ensures { ReadsSpelled (λ x. x) result ((message version most).read self.old) self.new }
@@ -137,7 +137,7 @@ impl<'a> Input<'a> {
         }
     }
 
-    /// A number of eight bytes, from 1.
+    /// Reads a number of eight bytes, at least 1.
     #[tactic(auto, unfolding(crate::specs::Fields::from_one))]
     pub fn from_one(&mut self) -> Result<u64, ReadError>
         ensures { ReadsSpelled (λ x. x) result (from_one.read self.old) self.new }
@@ -150,7 +150,7 @@ impl<'a> Input<'a> {
         Ok(number)
     }
 
-    /// A number of eight bytes, up to this one.
+    /// Reads a number of eight bytes, up to this one.
     #[tactic(auto, unfolding(crate::specs::Fields::at_most))]
     pub fn at_most(&mut self, most: u64) -> Result<u64, ReadError>
         ensures { ReadsSpelled (λ x. x) result ((at_most most).read self.old) self.new }
@@ -163,7 +163,7 @@ impl<'a> Input<'a> {
         Ok(number)
     }
 
-    /// A number of eight bytes, from 1 up to this one.
+    /// Reads a number of eight bytes, from 1 up to this one.
     #[tactic(auto, unfolding(crate::specs::Fields::from_one_to))]
     pub fn from_one_to(&mut self, most: u64) -> Result<u64, ReadError>
         ensures { ReadsSpelled (λ x. x) result ((from_one_to most).read self.old) self.new }
@@ -176,7 +176,7 @@ impl<'a> Input<'a> {
         Ok(number)
     }
 
-    /// How many items there are, in a byte up to this number.
+    /// Reads the number of items: a byte up to this number.
     #[tactic(auto, unfolding(crate::specs::Fields::how_many))]
     pub fn how_many(&mut self, most: u8) -> Result<u8, ReadError>
         ensures read { ReadsSpelled (λ x. x) result ((how_many most).read self.old) self.new }

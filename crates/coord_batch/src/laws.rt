@@ -1,34 +1,34 @@
-//! Laws of the spellings, over the definitions alone: functions that do nothing, whose contracts are the laws.
+//! Laws of the encodings: functions without a body whose contracts state the laws.
 
 ghost use Rattle.coord_batch.specs.WorkedBytes.{WorkedBytes};
 ghost use Rattle.coord_batch.specs.Laws.{BatchesArePrefixFree, BytesBehindBatchesAreExtra, CutBatchesAreShort, StepsArePrefixFree};
 
-/// No spelling of a step begins that of another one.
+/// No encoding of a step is a prefix of another one's.
 #[tactic(auto, using(crate::proofs::SpellingLaws::steps_prefix_free))]
 pub fn steps_are_prefix_free()
     ensures { StepsArePrefixFree }
 {}
 
-/// No spelling of a batch begins that of another one.
+/// No encoding of a batch is a prefix of another one's.
 #[tactic(auto, using(crate::proofs::SpellingLaws::batches_prefix_free))]
 pub fn batches_are_prefix_free()
     ensures { BatchesArePrefixFree }
 {}
 
-/// A spelling of a batch without its last bytes is `Short`, at the number of bytes that are there.
+/// A truncated encoding of a batch is `Short`, at its own length.
 #[tactic(auto, using(crate::proofs::SpellingLaws::cut_batches_short))]
 pub fn cut_batches_are_short()
     ensures { CutBatchesAreShort }
 {}
 
-/// A spelling of a batch with more bytes behind it is `Extra`, at the first of these.
+/// An encoding of a batch followed by more bytes is `Extra`, at the first of these.
 #[tactic(auto, using(crate::proofs::SpellingLaws::more_batches_extra))]
 pub fn bytes_behind_batches_are_extra()
     ensures { BytesBehindBatchesAreExtra }
 {}
 
-/// A batch of one order, and a packet, are spelled as given bytes; changes of these are the faults
-/// that they should be.
+/// Worked examples: the encodings of a batch of one order and of a packet; changed bytes give the faults
+/// that they should give.
 pub fn worked_bytes()
     ensures { WorkedBytes }
 {}

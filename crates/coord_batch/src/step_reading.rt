@@ -1,4 +1,4 @@
-//! Reading of commands, packets and steps.
+//! Decodes commands, packets and steps.
 
 ghost use Rattle.std.specs.Prelude.{[]};
 ghost use Rattle.coord_batch.specs.Format.{items_at};
@@ -11,7 +11,7 @@ use coord_types::{Command, DataPacket, MAX_BATCH_STEPS, ReceiptPacket, Step, Ver
 use std::alloc::Global;
 
 impl<'a> Input<'a> {
-    /// A command: the byte of its form, and the nodes and numbers that it names.
+    /// Reads a command: the byte of its form, and its nodes and numbers.
     #[tactic(auto, unfolding(crate::specs::Steps::command, crate::specs::Steps::command_case))]
     pub fn command(&mut self) -> Result<Command, ReadError>
         ensures { ReadsSpelled (λ x. x) result (command.read self.old) self.new }
@@ -66,7 +66,7 @@ impl<'a> Input<'a> {
         }
     }
 
-    /// As many steps as are asked for.
+    /// Reads this many steps.
     fn step_list(
         &mut self,
         alloc: Global,
@@ -78,13 +78,13 @@ impl<'a> Input<'a> {
     {
         let mut list = Vec::with_capacity(alloc, usize::from(count))?;
         for _ in 0..count {
-            // By reference: the toolchain has no proof for a `push` of a value that holds a `Command`.
+            // Passed by reference: the toolchain has no proof for a `push` of a value that holds a `Command`.
             list.extend_from_slice(&[self.step(version)?])?;
         }
         Ok(list)
     }
 
-    /// Their number, from 1 to `MAX_BATCH_STEPS`, and the steps.
+    /// Reads the number of steps, from 1 to `MAX_BATCH_STEPS`, and the steps.
     #[tactic(auto, unfolding(crate::specs::Steps::steps, crate::specs::Steps::how_many_steps))]
     pub(crate) fn steps(&mut self, alloc: Global, version: Version) -> Result<Vec<Step>, ReadError>
         ensures { ReadsSpelled (λ v. v.items) result ((steps version).read self.old) self.new }

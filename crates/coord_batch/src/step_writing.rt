@@ -1,4 +1,4 @@
-//! Writing of commands, packets and steps.
+//! Encodes commands, packets and steps.
 
 ghost use Rattle.std.specs.Prelude.{◌≡◌, ℕ, ◌-◌, ◌^◌, ◌++◌, [], ◌∷◌, OnOk};
 ghost use Rattle.std.specs.Int.{w64, to_be_bytes};
@@ -11,7 +11,7 @@ ghost use Rattle.coord_batch.specs.Batches.{StepFits, IsWritable};
 use coord_types::{Command, DataPacket, Msg, NodeId, ReceiptPacket, Step, Version};
 use std::alloc::AllocError;
 
-/// The byte of a command's form, and the node that it names first.
+/// Returns the byte of a command's form, and its first node.
 fn put_form(out: &mut Vec<u8>, form: u8, id: NodeId) -> Result<(), AllocError>
     ensures ok { OnOk result (out.new.items ≡ out.old.items ++ form ∷ id ∷ []) }
     ensures fits { OnOk result (IsNode id) }
@@ -19,7 +19,7 @@ fn put_form(out: &mut Vec<u8>, form: u8, id: NodeId) -> Result<(), AllocError>
     out.extend_from_slice(&[form, id.number()])
 }
 
-/// Puts a command's spelling at the end.
+/// Appends a command's encoding.
 #[tactic(auto, unfolding(crate::specs::Steps::command, crate::specs::Steps::command_case, crate::specs::Fields::node, crate::specs::Fields::group))]
 pub fn put_command(out: &mut Vec<u8>, order: &Command) -> Result<(), AllocError>
     ensures spelled { OnOk result (out.new.items ≡ out.old.items ++ command.text order.now) }
@@ -48,7 +48,7 @@ pub fn put_command(out: &mut Vec<u8>, order: &Command) -> Result<(), AllocError>
     Ok(())
 }
 
-/// What every packet begins with: the ends of its lane, the lane's incarnation, and a number.
+/// Appends the beginning of every packet: the ends of its lane, the lane's incarnation, and a number.
 fn put_address(
     out: &mut Vec<u8>,
     from: NodeId,
@@ -67,7 +67,7 @@ fn put_address(
     Ok(())
 }
 
-/// The byte of a message.
+/// Returns the byte of a message.
 fn message_byte(msg: Msg) -> u8
     ensures { result ≡ message_tag msg }
 {
@@ -78,7 +78,7 @@ fn message_byte(msg: Msg) -> u8
     }
 }
 
-/// Puts a message's spelling at the end: its byte, and in version 2 an Abort's distance. In version 1
+/// Appends a message's encoding: its byte, and in version 2 an Abort's distance. In version 1
 /// an Abort carries none.
 #[tactic(auto, unfolding(crate::specs::Fields::message, crate::specs::Fields::message_case, crate::specs::Fields::distance, crate::specs::Fields::unless, crate::specs::Fields::at_most))]
 pub fn put_message(out: &mut Vec<u8>, version: Version, msg: Msg) -> Result<(), AllocError>

@@ -1,4 +1,4 @@
--- All faults of a world, in the order in which they are told.
+-- All faults of a world, in the order in which the checker reports them.
 use Rattle.std.specs.Prelude.{◌≡◌, ℕ, ◌+◌, Bool, true, false, List, [], ◌∷◌, ◌++◌, Option, Some, None, if◌then◌else◌}
 use Rattle.std.specs.List.{flat_map}
 use Rattle.coord_types.specs.declared.limits.TheConstants.{MAX_NODES}
@@ -10,8 +10,8 @@ use Rattle.coord_check.specs.declared.violation.Letter.{Letter}
 use Rattle.coord_check.specs.declared.violation.Letter.TheVariants as letter
 use Rattle.coord_check.specs.declared.violation.Violation.{Violation}
 
--- Whether a letter holds of a link, seen from the end that the lane comes from. N is of nodes
--- alone, and holds here.
+-- Whether a letter holds for a link, seen from the sender's end. N concerns only nodes
+-- and holds here.
 abbrev pub holds_of : Letter → Lane → Link → Bool
 holds_of letter.N lane l = true
 holds_of letter.A lane l = has_front_taken_at_most lane
@@ -23,11 +23,11 @@ holds_of letter.F lane l = has_one_parent_at_most l
 holds_of letter.G lane l = has_no_early_ready l
 holds_of letter.H lane l = has_right_distances l
 
--- of the link of u and v, as u sees it
+-- for the link of u and v, seen from u
 abbrev pub link_holds : World → ℕ → ℕ → Letter → Bool
 link_holds w u v x = holds_of x (lane_or_none (lane_at w.links u v)) (link (view w) u v)
 
--- the letter that a violation names fails: N at a node that is there, any other letter at a link that is there
+-- the letter of a violation fails: N at a present node, any other letter at a present link
 abbrev pub FailsAt : World → ℕ → ℕ → Letter → Type 0
 FailsAt w u v letter.N = (u ≡ v) × (has w.nodes u ≡ true) × (is_legal_node w.count (state w u) ≡ false)
 FailsAt w u v x = (is_linked w u v ≡ true) × (link_holds w u v x ≡ false)
@@ -39,11 +39,11 @@ abbrev pub first : {X : Type 0} → List X → Option X
 first [] = None
 first (x ∷ xs) = Some x
 
--- the numbers of nodes, from one on to the greatest, in ascending order
+-- the numbers of nodes, from this one to the greatest, in ascending order
 abbrev pub nodes_from : ℕ → List ℕ
 nodes_from u = numbers MAX_NODES u
 
--- told where the test fails
+-- reported if the test fails
 abbrev pub fault_unless : Bool → Violation → List Violation
 fault_unless b v = if b then [] else v ∷ []
 
@@ -54,7 +54,7 @@ node_faults w u = if has w.nodes u then fault_unless (is_legal_node w.count (sta
 abbrev pub end_faults : World → ℕ → ℕ → Letter → List Violation
 end_faults w u v x = fault_unless (link_holds w u v x) (record { a = u; b = v; letter = x })
 
--- one letter, as each end of a link sees it
+-- one letter, seen from each end of a link
 abbrev pub letter_faults : World → ℕ → ℕ → Letter → List Violation
 letter_faults w a b x = end_faults w a b x ++ end_faults w b a x
 
@@ -64,10 +64,10 @@ link_letters = letter.A ∷ letter.B ∷ letter.C ∷ letter.D ∷ letter.E ∷ 
 abbrev pub link_faults : World → ℕ → ℕ → List Violation
 link_faults w a b = if is_linked w a b then flat_map (letter_faults w a b) link_letters else []
 
--- those of a node's links to nodes with greater numbers
+-- the faults of a node's links to nodes with greater numbers
 abbrev pub faults_from : World → ℕ → List Violation
 faults_from w a = flat_map (link_faults w a) (nodes_from (a + 1))
 
--- the nodes come first, and then the links
+-- first the nodes, then the links
 abbrev pub faults : World → List Violation
 faults w = flat_map (node_faults w) (nodes_from 1) ++ flat_map (faults_from w) (nodes_from 1)

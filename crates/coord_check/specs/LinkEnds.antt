@@ -1,4 +1,4 @@
--- What the code reads of one end of a link, and the link whose two ends these are.
+-- The data that the code reads from one end of a link, and the link with two such ends.
 use Rattle.std.specs.Prelude.{ℕ, Bool, true, false, List, Option, Some, None}
 use Rattle.coord_types.specs.NodeSet as set
 use Rattle.coord_types.specs.declared.messages.Msg.{Msg}
@@ -15,13 +15,13 @@ is_of_kind msg.Ack msg.Ack = true
 is_of_kind msg.Ready msg.Ready = true
 is_of_kind m n = false
 
--- how many messages of a kind there are
+-- the number of messages of a kind
 abbrev pub count : Msg → List Msg → ℕ
 count (msg.Abort k) ms = aborts ms
 count msg.Ack ms = acks ms
 count msg.Ready ms = readies ms
 
--- a lane that is there, or an empty one
+-- the lane, or an empty one if it is absent
 abbrev pub lane_or_none : Option Lane → Lane
 lane_or_none None = new_lane 0
 lane_or_none (Some l) = l
@@ -40,6 +40,6 @@ link_end w u v = record {
 abbrev pub end_at : LinkEnd → End
 end_at s = record { mode = s.mode; awaits = s.awaits; child = s.child; distance = s.distance; carries = s.carries }
 
--- the link with these ends, as the first one sees it
+-- the link with these ends, seen from the first one
 abbrev pub seen : LinkEnd → LinkEnd → Link
 seen here there = record { here = end_at here; there = end_at there; out = transit here.lane; back = transit there.lane }

@@ -1,4 +1,4 @@
--- Letters and violations as they are printed.
+-- The printed forms of letters and violations.
 use Rattle.std.specs.Prelude.{ℕ, List, ◌++◌, codes, decimal}
 use Rattle.coord_check.specs.declared.violation.Letter.{Letter}
 use Rattle.coord_check.specs.declared.violation.Letter.TheVariants as letter

@@ -1,4 +1,4 @@
-//! What is on the way on a lane, counted.
+//! Counts the messages in transit on a lane.
 
 ghost use Rattle.std.specs.Prelude.{◌≡◌};
 ghost use Rattle.coord_world.specs.protocol.Links.{readies_behind, strays};
@@ -6,7 +6,7 @@ ghost use Rattle.coord_check.specs.LinkEnds.{count, is_of_kind};
 
 use coord_types::Msg;
 
-/// How many messages of a kind are on the way.
+/// Returns the number of messages of a kind in transit.
 pub(crate) fn count_of(messages: &[Msg], kind: Msg) -> usize
     ensures { result ≡ count kind messages.now }
 {
@@ -19,7 +19,7 @@ pub(crate) fn count_of(messages: &[Msg], kind: Msg) -> usize
     many
 }
 
-/// Whether a message is of this kind, whatever it carries.
+/// Tests whether a message is of this kind, whatever it carries.
 fn is_of_kind(msg: Msg, kind: Msg) -> bool
     ensures { result ≡ is_of_kind msg kind }
 {
@@ -29,7 +29,7 @@ fn is_of_kind(msg: Msg, kind: Msg) -> bool
     }
 }
 
-/// How many Aborts carry another distance than this one.
+/// Returns the number of Aborts that carry a different distance.
 pub(crate) fn strays_of(messages: &[Msg], carried: u64) -> usize
     ensures { result ≡ strays carried messages.now }
 {
@@ -44,7 +44,7 @@ pub(crate) fn strays_of(messages: &[Msg], carried: u64) -> usize
     many
 }
 
-/// How many Readies stand behind the first Abort.
+/// Returns the number of Readies after the first Abort.
 pub(crate) fn late_readies(messages: &[Msg]) -> usize
     ensures { result ≡ readies_behind messages.now }
 {

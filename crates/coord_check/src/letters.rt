@@ -1,4 +1,4 @@
-//! The predicates over a link, one function each, as one of its ends sees it.
+//! The predicates over a link, one function each, seen from one of its ends.
 
 ghost use Rattle.std.specs.Prelude.{◌≡◌};
 ghost use Rattle.coord_link.specs.LaneMachine.{has_front_taken_at_most};
@@ -12,7 +12,7 @@ use crate::violation::Letter;
 use coord_link::Lane;
 use coord_types::{Mode, Msg};
 
-/// Whether a letter holds of the link with these ends, as `here` sees it.
+/// Tests whether a letter holds for the link with these ends, seen from `here`.
 pub(crate) fn holds(letter: Letter, here: &LinkEnd, there: &LinkEnd) -> bool
     ensures { result ≡ holds_of letter here.now.lane (seen here.now there.now) }
 {

@@ -9,7 +9,7 @@ use coord_link::Lane;
 use coord_types::{Mode, NodeId};
 use coord_world::World;
 
-/// One end of a link: what its node says of the other end, and the lane from it.
+/// One end of a link: its node's data about the other end, and the lane from it.
 #[derive(Drop)]
 pub(crate) struct LinkEnd {
     pub mode: Mode,
@@ -18,13 +18,13 @@ pub(crate) struct LinkEnd {
     /// Whether the other end is its parent.
     pub child: bool,
     pub distance: u64,
-    /// What an Abort from it carries.
+    /// The distance that an Abort from it carries.
     pub carries: u64,
     pub lane: Lane,
 }
 
 impl LinkEnd {
-    /// The end of a link at `from`; None where there is no link.
+    /// Returns the end of a link at `from`; None if there is no link.
     pub fn of(world: &World, from: NodeId, to: NodeId) -> Option<LinkEnd>
         requires { InRange world.now }
         ensures linked { is_linked world.now from to ≡ is_some result }

@@ -6,7 +6,7 @@ ghost use Rattle.coord_world.specs.protocol.Legal.{awaits_rightly, has_right_par
 use coord_node::Node;
 use coord_types::{Mode, NodeId, NodeSet};
 
-/// Whether a node is as the rules keep each node, in a world of so many steps.
+/// Tests the predicate N for a node, in a world with this many steps.
 pub(crate) fn is_legal_node(node: &Node, count: u64) -> bool
     ensures { result ≡ is_legal_node count node.now }
 {
@@ -20,14 +20,14 @@ pub(crate) fn is_legal_node(node: &Node, count: u64) -> bool
         && is_distance_right(node.mode(), node.distance(), count)
 }
 
-/// Whether a node awaits somebody exactly where it is Abort.
+/// Tests whether a node awaits somebody exactly if it is Abort.
 fn awaits_rightly(mode: Mode, pend: NodeSet) -> bool
     ensures { result ≡ awaits_rightly mode pend }
 {
     (mode == Mode::Abort) != pend.is_empty()
 }
 
-/// Whether a Ready node has no parent, and a Converge node has one.
+/// Tests whether a Ready node has no parent, and a Converge node has one.
 fn has_right_parent(mode: Mode, parent: Option<NodeId>) -> bool
     ensures { result ≡ has_right_parent mode parent }
 {
@@ -38,7 +38,7 @@ fn has_right_parent(mode: Mode, parent: Option<NodeId>) -> bool
     }
 }
 
-/// Whether a Ready node has distance 0, and any other one a distance below the count of steps.
+/// Tests whether a Ready node has distance 0, and any other node a distance below the count of steps.
 fn is_distance_right(mode: Mode, distance: u64, count: u64) -> bool
     ensures { result ≡ is_distance_right mode distance count }
 {
@@ -48,7 +48,7 @@ fn is_distance_right(mode: Mode, distance: u64, count: u64) -> bool
     }
 }
 
-/// Whether a parent is a neighbour that isn't awaited.
+/// Tests whether a parent is a neighbour that is not awaited.
 fn is_parent_near(parent: Option<NodeId>, pend: NodeSet, neighbours: NodeSet) -> bool
     ensures { result ≡ is_parent_near parent pend neighbours }
 {

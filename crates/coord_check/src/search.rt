@@ -1,4 +1,4 @@
-//! The search for the first fault.
+//! Searches for the first fault.
 
 ghost use Rattle.std.specs.Prelude.{◌≡◌, ◌↔◌, IsNone, IfSome, [], nat_lt, if◌then◌else◌};
 ghost use Rattle.std.specs.List.{flat_map};
@@ -14,7 +14,7 @@ use crate::violation::{Letter, Violation};
 use coord_types::{END_OF_NODES, NodeId, NodeSet};
 use coord_world::World;
 
-/// The letters of links, in the order in which they are tried.
+/// The letters of links, in the order in which they are tested.
 const LINK_LETTERS: [Letter; 8] = [
     Letter::A,
     Letter::B,
@@ -26,9 +26,9 @@ const LINK_LETTERS: [Letter; 8] = [
     Letter::H,
 ];
 
-/// The first fault of a world; None where it is legal. Nodes come first, in ascending order. Then
-/// come the links, in ascending order of their lesser and then their greater end: of each link the
-/// letters from A to H, each as the lesser end sees it and then as the greater one does.
+/// Returns the first fault of a world; None if it is legal. Nodes come first, in ascending order. Then
+/// come the links, in ascending order of their lesser and then their greater end: for each link the
+/// letters from A to H, each seen from the lesser end and then from the greater one.
 pub fn check(world: &World) -> Option<Violation>
     ensures first { result ≡ first (faults world.now) }
     ensures legal { IsNone result ↔ Legal world.now }
@@ -80,7 +80,7 @@ fn first_of_links(world: &World) -> Option<Violation>
     None
 }
 
-/// The first fault of the links from a node to those with greater numbers.
+/// Returns the first fault of the links from a node to nodes with greater numbers.
 fn first_of_links_from(world: &World, a: NodeId) -> Option<Violation>
     requires { InRange world.now }
     ensures { result ≡ first (faults_from world.now a) }
@@ -104,7 +104,7 @@ fn neighbours_of(world: &World, a: NodeId) -> NodeSet
     }
 }
 
-/// The first fault of a link to a node with a greater number; none where that number is lesser.
+/// Returns the first fault of a link to a node with a greater number; None if that number is lesser.
 fn first_of_link_up(world: &World, a: NodeId, b: NodeId) -> Option<Violation>
     requires { InRange world.now }
     ensures { result ≡ first (if nat_lt a b then link_faults world.now a b else []) }

@@ -1,4 +1,4 @@
-//! What is said of a world that is not legal.
+//! The report about a world that is not legal.
 
 ghost use Rattle.std.specs.Prelude.{◌≡◌};
 ghost use Rattle.coord_check.specs.Names.{letter_name};
@@ -6,35 +6,35 @@ ghost use Rattle.coord_check.specs.Names.{letter_name};
 use coord_types::NodeId;
 use std::fmt;
 
-/// The predicate that fails: `N` is over one node, the others over a link, as one end sees it.
+/// The predicate that fails: `N` concerns one node, the others a link, seen from one end.
 #[derive(Clone, Copy, Debug, PartialEq, Eq)]
 pub enum Letter {
-    /// The node's mode, parent, awaited neighbours and epochs fit each other.
+    /// The node's mode, parent, awaited neighbours and epochs agree.
     N,
-    /// No more than the front of a lane was taken.
+    /// At most the front of a lane was taken.
     A,
-    /// Where an end awaits the other, exactly one thing stands for the acknowledgement that will
-    /// come: an Abort on the way out, the other end in Abort as its child, or an Ack on the way
-    /// back. Where it awaits none, none of these is there.
+    /// If an end awaits the other, exactly one of these represents the acknowledgement that will
+    /// come: an Abort in transit to the other end, the other end in Abort as its child, or an Ack in transit
+    /// back. If it does not await the other, there is none of these.
     B,
-    /// At most one Ready is on the way.
+    /// At most one Ready is in transit.
     C,
-    /// No Ready stands behind an Abort.
+    /// No Ready follows an Abort.
     D,
-    /// A Converge node whose parent is Ready again has its Ready on the way.
+    /// If a Converge node's parent is Ready again, the node's Ready is in transit.
     E,
     /// The two nodes are not each other's parent.
     F,
-    /// A node in a reset has no Ready on the way, but to its parent, or where an Abort is on the
-    /// same way.
+    /// A node in a reset has no Ready in transit, except to its parent, or if an Abort is in transit on the
+    /// same lane.
     G,
-    /// An Abort carries its sender's distance and one. A child has just that distance, until a
-    /// Ready from its parent is on the way. In version 1 all distances are 0, and H always holds.
+    /// An Abort carries its sender's distance plus one. A child has exactly that distance, until a
+    /// Ready from its parent is in transit. In version 1 all distances are 0, and H always holds.
     H,
 }
 
 impl Letter {
-    /// The letter as it is printed.
+    /// Returns the printed letter.
     pub fn name(self) -> &'static str
         ensures { result.now ≡ letter_name self }
     {
@@ -62,7 +62,7 @@ impl fmt::Display for Letter {
     }
 }
 
-/// A fault: the letter that fails at node `a`, or at its link to `b`; at a node both are the node.
+/// A fault: the letter that fails at node `a`, or at its link to `b`; for a node, both are the node.
 #[derive(Clone, Copy, Debug, PartialEq, Eq)]
 pub struct Violation {
     pub a: NodeId,

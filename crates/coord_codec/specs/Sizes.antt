@@ -1,4 +1,4 @@
--- How many bytes a legal world has at most.
+-- The maximum number of bytes of a legal world.
 use Rattle.std.specs.Prelude.{ℕ, ◌+◌, ◌*◌}
 use Rattle.coord_types.specs.declared.limits.TheConstants.{MAX_CLIENTS, MAX_LINKS, MAX_NODES}
 

@@ -52,18 +52,18 @@ kind_number kinds.Finished = 2
 kind_number kinds.Joined = 3
 kind_number k = 4
 
--- 0 Done, 1 Started, 2 Finished, 3 Joined, as the command may be answered
+-- 0 Done, 1 Started, 2 Finished, 3 Joined, if the command may get this reply
 unfoldable pub kind : Command → Format Kind
 kind x = such_that (answers x) (made kind_from kind_number (such_that (λ n. nat_lt n 4) byte))
 
 -- ---- nodes
 
--- the key of the last row, or what stands for it where there is none
+-- the key of the last row, or a default if there is none
 abbrev pub last_by : {A K : Type 0} → (A → K) → K → List A → K
 last_by key last [] = last
 last_by key last (x ∷ xs) = last_by key (key x) xs
 
--- the greatest distance of a node: none where it is Ready
+-- the maximum distance of a node: 0 if it is Ready
 abbrev pub most_distance : Mode → ℕ → ℕ
 most_distance Ready count = 0
 most_distance Abort count = count
@@ -85,7 +85,7 @@ same_group None o = false
 same_group (Some g) None = false
 same_group (Some g) (Some h) = g == h
 
--- both are nodes, of one group, with room for a link
+-- both are nodes of one group with room for a link
 abbrev pub can_link : List NodeRow → List LinkRow → ℕ × ℕ → Bool
 can_link nodes front e = same_group (group_of nodes e.0) (group_of nodes e.1) && (nat_lt (degree e.0 front) MAX_DEGREE && nat_lt (degree e.1 front) MAX_DEGREE)
 
@@ -109,7 +109,7 @@ ends nodes front =
 unfoldable pub queue : ℕ → ℕ → Format (List Msg)
 queue version count = counted (how_many PLACES) (λ _. message version count)
 
--- what a lane has beside its link's incarnation: base, got and queue
+-- the fields of a lane besides its link's incarnation: base, got and queue
 abbrev pub content_of_lane : Lane → ℕ × (ℕ × List Msg)
 content_of_lane l = (l.base, (l.got, l.queue))
 

@@ -1,4 +1,4 @@
-//! Laws of the spellings, over the definitions alone: functions that do nothing, whose contracts are the laws.
+//! Laws of the encodings: functions without a body whose contracts state the laws.
 
 ghost use Rattle.coord_codec.specs.Laws.{BytesBehindWorldsAreExtra, CutWorldsAreShort, WorldsArePrefixFree};
 
@@ -7,19 +7,19 @@ pub use coord_batch::laws::{
     steps_are_prefix_free, worked_bytes,
 };
 
-/// No spelling of a world begins that of another one.
+/// No encoding of a world is a prefix of another one's.
 #[tactic(auto, using(crate::proofs::WorldGrammars::worlds_prefix_free))]
 pub fn worlds_are_prefix_free()
     ensures { WorldsArePrefixFree }
 {}
 
-/// A spelling of a world without its last bytes is `Short`, at the number of bytes that are there.
+/// A truncated encoding of a world is `Short`, at its own length.
 #[tactic(auto, using(crate::proofs::WorldGrammars::cut_worlds_short))]
 pub fn cut_worlds_are_short()
     ensures { CutWorldsAreShort }
 {}
 
-/// A spelling of a world with more bytes behind it is `Extra`, at the first of these.
+/// An encoding of a world followed by more bytes is `Extra`, at the first of these.
 #[tactic(auto, using(crate::proofs::WorldGrammars::more_worlds_extra))]
 pub fn bytes_behind_worlds_are_extra()
     ensures { BytesBehindWorldsAreExtra }

@@ -1,13 +1,13 @@
-//! Worlds as bytes: what a snapshot holds, and what is read from it. Batches come from coord_batch.
+//! Worlds as bytes: the content of a snapshot. Batches are in coord_batch.
 //!
 //! `specs/Worlds.antt` is the grammar of worlds, in the language of formats of coord_batch, over
 //! the rows of a world (`Rows` of coord_world). Each row's format depends on the rows before it,
-//! so that order, ends, groups and degrees are judged where they are read.
+//! so that order, ends, groups and degrees are checked while they are read.
 //!
-//! The main theorems are the contracts of `write_world`, which gives the one spelling of a world,
-//! and of `read_world`, which reads exactly the spellings: its world is in its ranges, and need not
-//! be legal. The laws stand on the functions of `laws` (`specs/Laws.antt`): no spelling begins
-//! another one, a spelling that is cut is `Short` at its length, and one with more behind it is
+//! The main theorems are the contracts of `write_world`, which returns the unique encoding of a world,
+//! and of `read_world`, which accepts exactly the encodings: its world is in its ranges, and need not
+//! be legal. The functions of `laws` state the laws (`specs/Laws.antt`): no encoding is a prefix of
+//! another one, a truncated encoding is `Short` at its length, and one followed by more bytes is
 //! `Extra` there.
 #![tactic(auto)]
 

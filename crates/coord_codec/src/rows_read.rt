@@ -1,4 +1,4 @@
-//! The rows that were read, and what they say of the next one.
+//! The rows read so far, and the conditions that they impose on the next one.
 
 ghost use Rattle.std.specs.Prelude.{◌≡◌, ◌≤◌, ◌<◌, ◌+◌, ◌-◌, ◌++◌, [], ◌∷◌, ℕ, None, Some, IsSome, length, slice_index_or, slice_set, OnOk};
 ghost use Rattle.coord_types.specs.declared.limits.TheConstants.{MAX_NODES, NODES};
@@ -9,7 +9,7 @@ use coord_types::{Group, MAX_DEGREE, NODES, NodeId};
 use coord_world::{LinkRow, NodeRow};
 use std::alloc::{AllocError, Global};
 
-/// The place of a node, from 0.
+/// Returns the index of a node, from 0.
 fn place_of(id: NodeId) -> usize
     ensures { result ≡ id - 1 }
 {
@@ -20,9 +20,9 @@ fn place_of(id: NodeId) -> usize
 #[derive(Drop)]
 pub struct NodesRead {
     pub rows: Vec<NodeRow>,
-    /// The number of the last one, or 0.
+    /// Returns the number of the last node, or 0.
     last: u8,
-    /// The group of each node that is there, at its place.
+    /// The group of each present node, at its index.
     groups: [Option<Group>; NODES],
     ghost last_row: { last ≡ last_by (λ r. r.id) 0 rows.items },
     ghost grouped: { (u : ℕ) → 1 ≤ u → u ≤ MAX_NODES → slice_index_or groups (u - 1) None ≡
@@ -30,7 +30,7 @@ pub struct NodesRead {
 }
 
 impl NodesRead {
-    /// No row was read yet.
+    /// Returns an empty list of rows.
     pub fn new(alloc: Global) -> Self
         ensures { result.rows.items ≡ [] }
     {
@@ -41,21 +41,21 @@ impl NodesRead {
         }
     }
 
-    /// The number of the last node, or 0.
+    /// Returns the number of the last node, or 0.
     pub fn last(&self) -> u8
         ensures { result ≡ last_by (λ r. r.id) 0 self.now.rows.items }
     {
         self.last
     }
 
-    /// The group of the node with this number.
+    /// Returns the group of the node with this number.
     fn group_of(&self, id: NodeId) -> Option<Group>
         ensures { result ≡ group_of self.now.rows.items id }
     {
         self.groups[place_of(id)]
     }
 
-    /// Puts a row behind the others. Where a node comes twice, its first row counts.
+    /// Appends a row. If a node occurs twice, its first row counts.
     pub fn push(&mut self, row: NodeRow) -> Result<(), AllocError>
         ensures { OnOk result (self.new.rows.items ≡ self.old.rows.items ++ row ∷ []) }
     {
@@ -67,7 +67,7 @@ impl NodesRead {
     }
 }
 
-/// Notes the group of the node at a place, where none was noted before.
+/// Records the group of the node at an index, if none was recorded.
 fn note_group(groups: &mut [Option<Group>; NODES], place: usize, group: Group)
     requires { place < NODES }
     ensures first { slice_index_or groups.old place None ≡ None →
@@ -83,9 +83,9 @@ fn note_group(groups: &mut [Option<Group>; NODES], place: usize, group: Group)
 #[derive(Drop)]
 pub struct LinksRead {
     pub rows: Vec<LinkRow>,
-    /// The ends of the last one, or 0 and 0.
+    /// The ends of the last link, or 0 and 0.
     last: (u8, u8),
-    /// How many of the links each node is an end of, at its place.
+    /// The number of links of each node, at its index.
     degrees: [u8; NODES],
     ghost last_first: { last.0 ≡ (last_ends rows.items).0 },
     ghost last_second: { last.1 ≡ (last_ends rows.items).1 },
@@ -94,7 +94,7 @@ pub struct LinksRead {
 }
 
 impl LinksRead {
-    /// No row was read yet.
+    /// Returns an empty list of rows.
     pub fn new(alloc: Global) -> Self
         ensures { result.rows.items ≡ [] }
     {
@@ -105,14 +105,14 @@ impl LinksRead {
         }
     }
 
-    /// Whether a link's first end may follow these links.
+    /// Tests whether a link with this first end may follow these links.
     pub fn first_rises(&self, a: NodeId) -> bool
         ensures { result ≡ first_rises self.now.rows.items a }
     {
         self.last.0 <= a.number()
     }
 
-    /// Whether a link may follow these: its second end is above its first one, and both are above
+    /// Tests whether a link may follow these: its second end is above its first one, and the link is above
     /// the last link.
     pub fn second_rises(&self, a: NodeId, b: NodeId) -> bool
         ensures { result ≡ second_rises self.now.rows.items a b }
@@ -120,14 +120,14 @@ impl LinksRead {
         a < b && (a.number() != self.last.0 || b.number() > self.last.1)
     }
 
-    /// How many of the links have this node as an end.
+    /// Returns the number of links with this node as an end.
     fn degree(&self, id: NodeId) -> usize
         ensures { result ≡ degree id self.now.rows.items }
     {
         usize::from(self.degrees[place_of(id)])
     }
 
-    /// Puts a row behind the others.
+    /// Appends a row.
     pub fn push(&mut self, row: LinkRow) -> Result<(), AllocError>
         requires { length self.old.rows.items < 255 }
         ensures { OnOk result (self.new.rows.items ≡ self.old.rows.items ++ row ∷ []) }
@@ -144,7 +144,7 @@ impl LinksRead {
     }
 }
 
-/// One link more at the node of a place.
+/// Counts one more link at the node with this index.
 fn raise_degree(degrees: &mut [u8; NODES], place: usize)
     requires place { place < NODES }
     requires room { slice_index_or degrees.old place 0 < 255 }
@@ -153,7 +153,7 @@ fn raise_degree(degrees: &mut [u8; NODES], place: usize)
     degrees[place] += 1;
 }
 
-/// Whether two nodes are there and of one group, and each has room for one more link.
+/// Tests whether two nodes are present and of one group, and each has room for one more link.
 pub fn can_link(nodes: &NodesRead, front: &LinksRead, a: NodeId, b: NodeId) -> bool
     ensures { result ≡ can_link nodes.now.rows.items front.now.rows.items record { 0 = a; 1 = b } }
 {

@@ -16,14 +16,14 @@ use coord_types::{MAX_SNAPSHOT_BYTES, Version};
 use coord_world::{Parts, World};
 use std::alloc::{AllocError, Global};
 
-/// The bytes of the greatest legal world: the count of its steps and three lengths, 64 nodes of 28
+/// The number of bytes of the longest legal world: the count of its steps and three lengths, 64 nodes of 28
 /// bytes, 128 links of 52 and 16 clients of 28; in version 2 also a distance for each node, and for
-/// 2 Aborts on the way each way of each link.
+/// 2 Aborts in each direction of each link.
 fn most_world_bytes(version: Version) -> usize {
     if version.number() == 1 { 8_907 } else { 13_515 }
 }
 
-/// The rows that all of the bytes spell.
+/// Returns the rows that all of the bytes encode.
 fn decode(alloc: Global, version: u8, bytes: &[u8]) -> Result<Parts, CodecFault>
     ensures exact { AnswersDecoded (λ p. listed p) result (decoded world version bytes.now) }
     ensures version { is_version version ≡ false → result ≡ Err bad_version }
@@ -40,7 +40,7 @@ fn decode(alloc: Global, version: u8, bytes: &[u8]) -> Result<Parts, CodecFault>
     }
 }
 
-/// The world that has the rows that are read.
+/// Returns the world with these rows.
 fn assembled(alloc: Global, version: u8, bytes: &[u8]) -> Result<World, CodecFault>
     ensures exact { AnswersDecoded rows_of result (decoded world version bytes.now) }
     ensures version { is_version version ≡ false → result ≡ Err bad_version }
@@ -53,25 +53,25 @@ fn assembled(alloc: Global, version: u8, bytes: &[u8]) -> Result<World, CodecFau
     }
 }
 
-/// The world that all of the bytes spell in a version of the grammar, 1 or 2 (docs/FORMATS.md,
+/// Returns the world that all of the bytes encode in a version of the grammar, 1 or 2 (docs/FORMATS.md,
 /// "Worlds"). It need not be legal.
 pub fn read_world(alloc: Global, version: u8, bytes: &[u8]) -> Result<World, CodecFault>
-    // What is read is spelled so.
+    // The bytes are the encoding of the result.
     ensures found { IfOk result (λ w. (w.version ≡ version) × InRange w ×
         (bytes.now ≡ (world version).text (rows_of w))) }
-    // What spells a world is read as that world, unless memory runs out.
+    // An encoding of a world is decoded as that world, unless memory runs out.
     ensures only { (w : Numbered) → w.version ≡ version → InRange w →
         bytes.now ≡ (world version).text (rows_of w)
         → AnswersDecoded (λ v. v) result (Ok w) }
-    // Another version is told also where memory is short.
+    // A wrong version is reported even if memory is short.
     ensures version { (result ≡ Err bad_version) ↔ (is_version version ≡ false) }
-    // Which fault it is, and where.
+    // The fault and its place.
     ensures exact { AnswersDecoded rows_of result (decoded world version bytes.now) }
 {
     assembled(alloc, version, bytes)
 }
 
-/// The one spelling of a world, in its version.
+/// Returns the unique encoding of a world, in its version.
 pub fn write_world(alloc: Global, written: &World) -> Result<Vec<u8>, AllocError>
     ensures spelled { IfOk result (λ v. v.items ≡
         (world written.now.version).text (rows_of written.now)) }

@@ -1,4 +1,4 @@
-//! Reading of the rows of worlds.
+//! Decodes the rows of worlds.
 
 ghost use Rattle.std.specs.Prelude.{◌≡◌, ◌≤◌, [], List, IfOk, OnOk};
 ghost use Rattle.coord_batch.specs.Format.{items_at};
@@ -84,7 +84,7 @@ fn read_node_row(
     })
 }
 
-/// The greatest distance of a node: none where it is Ready.
+/// Returns the maximum distance of a node: 0 if it is Ready.
 fn most_distance(mode: Mode, count: u64) -> u64
     ensures { result ≡ most_distance mode count }
 {
@@ -119,7 +119,7 @@ fn read_ends(
     Ok((a, b))
 }
 
-/// As many messages as are asked for, put into an empty lane.
+/// Reads this many messages into an empty lane.
 fn read_messages(
     input: &mut Input,
     version: Version,
@@ -141,7 +141,7 @@ fn read_messages(
     Ok(())
 }
 
-/// A queue, put into an empty lane.
+/// Reads a queue into an empty lane.
 #[tactic(auto, unfolding(crate::specs::Worlds::queue))]
 fn read_queue(
     input: &mut Input,
@@ -159,7 +159,7 @@ fn read_queue(
     read_messages(input, version, most, lane, count)
 }
 
-/// A lane of this incarnation.
+/// Reads a lane of this incarnation.
 #[tactic(auto, unfolding(crate::specs::Worlds::lane))]
 fn read_lane(input: &mut Input, version: Version, count: u64, inc: u64) -> Result<Lane, ReadError>
     ensures read { ReadsSpelled content_of_lane result ((lane version count).read input.old) input.new }
@@ -191,7 +191,7 @@ fn read_link_row(
     Ok(LinkRow { a, b, forth, back })
 }
 
-/// How a command may be answered.
+/// Reads the kind of a reply that the command may get.
 #[tactic(auto, unfolding(crate::specs::Worlds::kind))]
 fn read_kind(input: &mut Input, order: &Command) -> Result<Kind, ReadError>
     ensures { ReadsSpelled (λ x. x) result ((kind order.now).read input.old) input.new }
@@ -211,7 +211,7 @@ fn read_kind(input: &mut Input, order: &Command) -> Result<Kind, ReadError>
 }
 
 #[tactic(auto, unfolding(crate::specs::Worlds::client_row))]
-/// The row of a client behind these, of which the last has this number, or 0.
+/// Reads the row of a client after these, the last of which has this number, or 0.
 fn read_client_row(input: &mut Input, count: u64, last: u8) -> Result<ClientRow, ReadError>
     ensures { (front : List ClientRow) → last ≡ last_by (λ r. r.client) 0 front
         → ReadsSpelled (λ x. x) result ((client_row count front).read input.old) input.new }
@@ -235,7 +235,7 @@ fn read_client_row(input: &mut Input, count: u64, last: u8) -> Result<ClientRow,
     })
 }
 
-/// As many nodes as are asked for.
+/// Reads this many nodes.
 fn read_node_list(
     input: &mut Input,
     alloc: Global,
@@ -254,7 +254,7 @@ fn read_node_list(
     Ok(list)
 }
 
-/// As many links as are asked for.
+/// Reads this many links.
 fn read_link_list(
     input: &mut Input,
     alloc: Global,
@@ -274,7 +274,7 @@ fn read_link_list(
     Ok(list)
 }
 
-/// As many clients as are asked for.
+/// Reads this many clients.
 fn read_client_list(
     input: &mut Input,
     alloc: Global,
@@ -289,7 +289,7 @@ fn read_client_list(
     for _ in 0..rows {
         let row = read_client_row(input, count, last)?;
         last = row.client.number();
-        // By reference: the toolchain has no proof for a `push` of a value that holds a `Command`.
+        // Passed by reference: the toolchain has no proof for a `push` of a value that holds a `Command`.
         list.extend_from_slice(&[row])?;
     }
     Ok(list)

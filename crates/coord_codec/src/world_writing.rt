@@ -1,4 +1,4 @@
-//! Writing of worlds, row by row.
+//! Encodes worlds, row by row.
 
 ghost use Rattle.std.specs.Prelude.{◌≡◌, ◌≤◌, ℕ, List, ◌++◌, [], ◌∷◌, length, OnOk};
 ghost use Rattle.std.specs.List.{flat_map};
@@ -20,10 +20,10 @@ use coord_types::{Identifier, Kind, Mode, Msg, NodeId, Session, Version};
 use coord_world::{LinkRow, World};
 use std::alloc::AllocError;
 
-/// What a table of a world keeps at a number, as a node or a client's last order: it is written as
+/// An entry of a world's table, such as a node or a client's last order: it is encoded as
 /// a row.
 trait Row: Copy {
-    /// The bytes of its row in a version, with the number that it stands at.
+    /// Returns the bytes of its row in a version, with its number.
     ghost text: { ℕ → ℕ × Self → List ℕ };
 
     fn put(&self, out: &mut Vec<u8>, version: Version, number: u8) -> Result<(), AllocError>
@@ -59,7 +59,7 @@ fn mode_byte(mode: Mode) -> u8
     }
 }
 
-/// The byte of a kind of reply. Only the kinds that answer an order have one.
+/// Returns the byte of a kind of reply. Only replies to orders have one.
 fn kind_byte(kind: Kind) -> u8
     ensures { result ≡ kind_number kind }
 {
@@ -72,7 +72,7 @@ fn kind_byte(kind: Kind) -> u8
     }
 }
 
-/// The byte of a parent, 0 where there is none.
+/// Returns the byte of a parent, 0 for none.
 fn parent_byte(parent: Option<NodeId>) -> u8
     ensures { result ≡ parent_number parent }
 {
@@ -82,7 +82,7 @@ fn parent_byte(parent: Option<NodeId>) -> u8
     }
 }
 
-/// What a node's row begins with, a byte each.
+/// Returns the first bytes of a node's row.
 fn put_node_bytes(out: &mut Vec<u8>, number: u8, node: &Node) -> Result<(), AllocError>
     ensures { OnOk result (out.new.items ≡ out.old.items
         ++ number ∷ node.now.group ∷ mode_number node.now.mode ∷ parent_number node.now.parent ∷
@@ -96,7 +96,7 @@ fn put_node_bytes(out: &mut Vec<u8>, number: u8, node: &Node) -> Result<(), Allo
     ])
 }
 
-/// A node's distance, which stands in version 2 alone.
+/// Appends a node's distance, which is stored only in version 2.
 #[tactic(auto, unfolding(coord_batch::specs::Fields::distance, coord_batch::specs::Fields::unless, coord_batch::specs::Fields::at_most))]
 fn put_distance(out: &mut Vec<u8>, version: Version, node: &Node) -> Result<(), AllocError>
     ensures { OnOk result (out.new.items ≡
@@ -146,7 +146,7 @@ fn put_queue(out: &mut Vec<u8>, version: Version, messages: &[Msg]) -> Result<()
     put_messages(out, version, messages)
 }
 
-/// Two numbers, one after the other.
+/// Appends two numbers.
 fn put_numbers(out: &mut Vec<u8>, first: u64, second: u64) -> Result<(), AllocError>
     ensures { OnOk result (out.new.items ≡
         out.old.items ++ to_be_bytes w64 first ++ to_be_bytes w64 second) }
@@ -194,7 +194,7 @@ fn put_client_row(
     Ok(())
 }
 
-/// Puts the row of a number, where something stands at it.
+/// Appends the row of a number, if it has an entry.
 fn put_row<const MOST: u8, R: Row>(
     out: &mut Vec<u8>,
     version: Version,
@@ -214,7 +214,7 @@ fn put_row<const MOST: u8, R: Row>(
     }
 }
 
-/// Puts how many rows there are, and each of them, in ascending order.
+/// Appends the number of rows, and the rows in ascending order.
 fn put_rows<const MOST: u8, R: Row>(
     out: &mut Vec<u8>,
     version: Version,

@@ -19,12 +19,12 @@ pub record Content : Type 0 where
 abbrev pub content : Topology → Content
 content t = record { half = t.half; nodes = t.nodes.items; links = t.links.items }
 
--- a value of two, where both are there
+-- a value made of two, if both are there
 abbrev pub with_both : {A B C : Type 0} → (A → B → C) → Option A → Option B → Option C
 with_both f (Some a) (Some b) = Some (f a b)
 with_both f a b = None
 
--- the whole number that the value is, if it lies between these
+-- the value as a whole number, if it lies between these
 abbrev pub number_within : ℕ → ℕ → Data → Option ℕ
 number_within least most (integer (pos n)) = if nat_le least n && nat_le n most then Some n else None
 number_within least most other = None
@@ -43,7 +43,7 @@ abbrev pub link_of : Data → Option LinkEntry
 link_of (table ms) = with_both (λ a b. record { a = a; b = b }) (number_at (codes "a") 1 MAX_NODES ms) (number_at (codes "b") 1 MAX_NODES ms)
 link_of other = None
 
--- what each item is, if each is something
+-- the results for all items, if each has one
 abbrev pub each : {X : Type 0} → (Data → Option X) → Items → Option (List X)
 each read no_items = Some []
 each read (item d ds) = with_both (λ x xs. x ∷ xs) (read d) (each read ds)
@@ -54,7 +54,7 @@ entries_of read None = Some []
 entries_of read (Some (array ds)) = each read ds
 entries_of read (Some other) = None
 
--- an absent size is the usual one
+-- an absent size means the default
 abbrev pub half_of : Option Data → Option ℕ
 half_of None = Some DEFAULT_HALF
 half_of (Some d) = number_within MIN_HALF MAX_HALF d

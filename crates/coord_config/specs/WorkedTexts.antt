@@ -1,4 +1,4 @@
--- Texts of which it is known what they say.
+-- Worked examples: texts with their results.
 use Rattle.std.specs.Prelude.{◌≡◌, ℕ, [], ◌∷◌, codes, Ok, Err}
 use Rattle.coord_config.specs.declared.fault.ConfigFault.TheVariants.{NotToml, BadKey, BadValue}
 use Rattle.coord_config.specs.declared.topology.NodeEntry.{NodeEntry}
@@ -11,7 +11,7 @@ node id group = record { id = id; group = group }
 abbrev link : ℕ → ℕ → LinkEntry
 link a b = record { a = a; b = b }
 
--- files that are topologies
+-- valid files
 pub record GoodTexts : Type 0 where
   pub blank : reading [] ≡ Ok (record { half = 65536; nodes = []; links = [] })
   pub linked :
@@ -19,13 +19,13 @@ pub record GoodTexts : Type 0 where
       ≡ Ok (record { half = 32768; nodes = node 1 2 ∷ node 2 2 ∷ []; links = link 2 1 ∷ [] })
   pub repeated : reading (codes "node = [{id = 64, group = 16}, {id = 64, group = 16}]") ≡ Ok (record { half = 65536; nodes = node 64 16 ∷ node 64 16 ∷ []; links = [] })
 
--- a key that no topology file has, one that is missing, and one too many
+-- an unknown key, a missing key, and a surplus key
 pub record WrongKeys : Type 0 where
   pub unknown : reading (codes "halves = 1") ≡ Err BadKey
   pub missing : reading (codes "half = 1\n[[node]]\nid = 1\n") ≡ Err BadKey
   pub extra : reading (codes "[[link]]\na = 1\nb = 2\nc = 3\n") ≡ Err BadKey
 
--- values of another type, and out of their limits
+-- values of a wrong type, and values out of range
 pub record WrongValues : Type 0 where
   pub small_half : reading (codes "half = 32767") ≡ Err BadValue
   pub large_half : reading (codes "half = 16777217") ≡ Err BadValue
@@ -37,7 +37,7 @@ pub record WrongValues : Type 0 where
   pub node_65 : reading (codes "[[node]]\nid = 65\ngroup = 1\n") ≡ Err BadValue
   pub group_17 : reading (codes "[[node]]\nid = 1\ngroup = 17\n") ≡ Err BadValue
 
--- no TOML
+-- texts that are not TOML
 pub record WrongTexts : Type 0 where
   pub open_header : reading (codes "[[node]") ≡ Err NotToml
   pub repeated_key : reading (codes "half = 32768\nhalf = 32768\n") ≡ Err NotToml

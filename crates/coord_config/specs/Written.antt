@@ -1,4 +1,4 @@
--- The table that a topology is written as, and that it is read back.
+-- The table that a topology is written as, and the law that it is read back.
 use Rattle.std.specs.Prelude.{◌≡◌, ℕ, ◌≤◌, pos, Bool, List, [], ◌∷◌, codes, length, Ok}
 use Rattle.std.specs.List.{AllByRecursion}
 use Rattle.toml.specs.Data.{Data, integer, array, table, Items, no_items, item, Members, no_members, member}
@@ -42,6 +42,6 @@ pub record IsInLimits (t : Content) : Type 0 where
   pub nodes : AllByRecursion IsNodeEntry t.nodes
   pub links : AllByRecursion IsLinkEntry t.links
 
--- a text of TOML that writes a topology within its limits says that topology, in either style of the writer
+-- a TOML text that writes a topology within its limits is read as that topology, in either style of the writer
 abbrev pub WrittenIsRead : Type 0
 WrittenIsRead = (t : Content) (pretty : Bool) (text : List ℕ) → IsInLimits t → IsDocumentText pretty (written t) text → length text ≤ MAX_TEXT_BYTES → reading text ≡ Ok t

@@ -1,4 +1,4 @@
-//! Why a topology file is refused.
+//! The reason for which a topology file is refused.
 
 ghost use Rattle.std.specs.Prelude.{◌≡◌, Some};
 ghost use Rattle.coord_config.specs.Faults.{fault_name, fault_number};
@@ -8,20 +8,20 @@ use std::alloc::AllocFailed;
 use std::error::Error;
 use std::fmt;
 
-/// Why a topology file is refused.
+/// The reason for which a topology file is refused.
 #[derive(Clone, Copy, Debug, PartialEq, Eq)]
 pub enum ConfigFault {
     OutOfMemory,
-    /// The text is over its limit, or is no TOML.
+    /// The text is over its limit, or is not TOML.
     NotToml,
-    /// A key is missing, or is one that has no meaning there.
+    /// A key is missing or unknown.
     BadKey,
-    /// A value is of another type, or out of its limits.
+    /// A value has a wrong type, or is out of range.
     BadValue,
 }
 
 impl ConfigFault {
-    /// The fault's number, from 1 to 4.
+    /// Returns the fault's number, from 1 to 4.
     pub fn number(self) -> u8
         ensures { result ≡ fault_number self }
     {
@@ -33,7 +33,7 @@ impl ConfigFault {
         }
     }
 
-    /// The fault's name, as it is printed.
+    /// Returns the fault's printed name.
     pub fn name(self) -> &'static str
         ensures { result.now ≡ fault_name self }
     {

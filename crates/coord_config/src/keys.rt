@@ -1,4 +1,4 @@
-//! Judging the keys of a topology file.
+//! Checks the keys of a topology file.
 
 ghost use Rattle.std.specs.Prelude.{◌≡◌, map, option_map};
 ghost use Rattle.toml.specs.Data.{get_member};
@@ -8,7 +8,7 @@ ghost use Rattle.coord_config.specs.Keys.{entries_have_just, has_all, has_only, 
 use toml::value::Array;
 use toml::{Table, Value};
 
-/// The value at a key.
+/// Returns the value at a key.
 #[tactic(auto, using(toml::proofs::Views::table_get))]
 pub fn value_at<'a>(table: &'a Table, key: &str) -> Option<&'a Value>
     ensures { option_map (λ value. view value.now) result ≡
@@ -28,7 +28,7 @@ fn is_among(names: &[&str], key: &str) -> bool
     false
 }
 
-/// Whether the table has no key but these.
+/// Tests whether the table has only these keys.
 fn has_only(names: &[&str], table: &Table) -> bool
     ensures { result ≡ has_only (map (λ name. name.now) names.now) (table_view table.now) }
 {
@@ -40,7 +40,7 @@ fn has_only(names: &[&str], table: &Table) -> bool
     true
 }
 
-/// Whether the table has a value at each of these keys.
+/// Tests whether the table has a value at each of these keys.
 fn has_all(names: &[&str], table: &Table) -> bool
     ensures { result ≡ has_all (map (λ name. name.now) names.now) (table_view table.now) }
 {
@@ -52,7 +52,7 @@ fn has_all(names: &[&str], table: &Table) -> bool
     true
 }
 
-/// Whether the value, if it is a table, has just these keys.
+/// Tests whether the value, if it is a table, has exactly these keys.
 fn table_has_just(names: &[&str], value: &Value) -> bool
     ensures { result ≡ table_has_just (map (λ name. name.now) names.now) (view value.now) }
 {
@@ -73,7 +73,7 @@ fn items_have_just(names: &[&str], array: &Array) -> bool
     true
 }
 
-/// Whether each table in the array at this key, if there is one, has just these keys.
+/// Tests whether each table in the array at this key, if there is one, has exactly these keys.
 fn entries_have_just(names: &[&str], table: &Table, key: &str) -> bool
     ensures { result ≡ entries_have_just (map (λ name. name.now) names.now)
         (get_member key.now (table_view table.now)) }
@@ -87,7 +87,7 @@ fn entries_have_just(names: &[&str], table: &Table, key: &str) -> bool
     }
 }
 
-/// Whether each key of a topology file is one that it may have, and none is missing.
+/// Tests whether each key of a topology file is known, and none is missing.
 pub fn has_right_keys(table: &Table) -> bool
     ensures { result ≡ has_right_keys (table_view table.now) }
 {

@@ -1,13 +1,13 @@
-//! The topology file: which nodes and links a new store begins with, and how large its halves are.
+//! The topology file: the initial nodes and links of a new store, and the size of its halves.
 //!
-//! `read_topology` reads it from a text of TOML. What a text says stands in `specs/`: the keys that
-//! a file has (`Keys`), the topology of a TOML table (`Topology`), and that of a text (`Reading`).
-//! The main theorem is its contract. It answers exactly this: the topology where the text says one;
-//! `BadKey` where some key is missing or has no meaning; `BadValue` where the keys are right and a
-//! value is of another type or out of its limits; `NotToml` where the text is over its limit or is
-//! no TOML as the crate `toml` reads it; or `OutOfMemory`. Repeated nodes and links, and too many
-//! of them, are no fault of the file: the orders that are made of them are refused. `laws` has that
-//! what is written of a topology is read back as that topology, and `runs` has texts whose answers
+//! `read_topology` reads it from a TOML text. `specs/` defines the result: the keys that
+//! a file may have (`Keys`), the topology of a TOML table (`Topology`), and that of a text (`Reading`).
+//! The main theorem is its contract. It returns exactly this: the topology if the text has one;
+//! `BadKey` if some key is missing or unknown; `BadValue` if the keys are right and a
+//! value has a wrong type or is out of range; `NotToml` if the text is over its limit or is
+//! not TOML for the crate `toml`; or `OutOfMemory`. Repeated nodes and links, and too many
+//! of them, are not faults of the file: the orders made of them are refused. `laws` states that
+//! a written topology is read back as itself, and `runs` has texts whose results
 //! are computed through the definitions.
 #![tactic(auto)]
 

@@ -1,4 +1,4 @@
-//! Reading a topology file.
+//! Reads a topology file.
 
 ghost use Rattle.std.specs.Prelude.{◌≡◌, ◌≢◌, ◌≤◌, length, Err, IfErr, IfOk, Ok};
 ghost use Rattle.toml.specs.Errors.{IsBlank};
@@ -12,15 +12,15 @@ use crate::topology::Topology;
 use crate::values::values_of;
 use std::alloc::Global;
 
-/// The most bytes of a topology file.
+/// The maximum length of a topology file, in bytes.
 pub const MAX_TEXT_BYTES: usize = 65_536;
 
 /// Reads a topology file from its text.
 ///
-/// The answer is the topology that the text says. Else it is `NotToml` where the text has more than
-/// `MAX_TEXT_BYTES` or the crate `toml` does not read it as a table, `BadKey` where a key is missing or
-/// has no meaning, and `BadValue` where all keys are right and some value is not; or it is
-/// `OutOfMemory`, but for a text that is too long, or that has nothing but white space and comments.
+/// Returns the topology of the text. Otherwise it returns `NotToml` if the text has more than
+/// `MAX_TEXT_BYTES` or the crate `toml` does not read it as a table, `BadKey` if a key is missing or
+/// unknown, and `BadValue` if all keys are right and some value is not; or
+/// `OutOfMemory`, except for a text that is too long, or that has only white space and comments.
 pub fn read_topology(alloc: Global, text: &str) -> Result<Topology, ConfigFault>
     ensures ok { IfOk result (λ topology. reading text.now ≡ Ok (content topology)) }
     ensures refused { IfErr result (λ fault. fault ≢ OutOfMemory → reading text.now ≡ Err fault) }

@@ -1,27 +1,27 @@
-//! Texts of which it is known what they say: functions that do nothing, whose contracts are computed
+//! Worked examples of texts: functions without a body whose contracts are computed
 //! through the definitions.
 
 ghost use Rattle.coord_config.specs.WorkedTexts.{GoodTexts, WrongKeys, WrongTexts, WrongValues};
 
-/// Files that are topologies.
+/// Valid files.
 #[tactic(auto, using(crate::proofs::Computes::good_compute))]
 pub fn good_texts()
     ensures { GoodTexts }
 {}
 
-/// A key that no topology file has, one that is missing, and one too many.
+/// An unknown key, a missing key, and a surplus key.
 #[tactic(auto, using(crate::proofs::Computes::keys_compute))]
 pub fn wrong_keys()
     ensures { WrongKeys }
 {}
 
-/// Values of another type, and out of their limits.
+/// Values of a wrong type, and values out of range.
 #[tactic(auto, using(crate::proofs::Computes::values_compute))]
 pub fn wrong_values()
     ensures { WrongValues }
 {}
 
-/// Texts that are no TOML.
+/// Texts that are not TOML.
 #[tactic(auto, using(crate::proofs::Computes::texts_compute))]
 pub fn wrong_texts()
     ensures { WrongTexts }

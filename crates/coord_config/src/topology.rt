@@ -1,4 +1,4 @@
-//! What a topology file says.
+//! The content of a topology file.
 
 use coord_types::{Group, NodeId};
 
@@ -16,12 +16,12 @@ pub struct LinkEntry {
     pub b: NodeId,
 }
 
-/// What a new store begins with.
+/// The initial nodes and links of a new store.
 #[derive(Debug, Drop)]
 pub struct Topology {
     /// The size of a half, from 32,768 to 16,777,216 bytes.
     pub half: u64,
-    /// In the order of the file, as are the links; some may be repeated.
+    /// The nodes in the order of the file, possibly with repetitions; the same holds for the links.
     pub nodes: Vec<NodeEntry>,
     pub links: Vec<LinkEntry>,
 }

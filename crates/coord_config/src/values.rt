@@ -1,4 +1,4 @@
-//! Reading the values of a topology file.
+//! Reads the values of a topology file.
 
 ghost use Rattle.std.specs.Prelude.{◌≡◌, ◌≢◌, ◌<◌, codes, Err, IfErr, IfOk, IsSome, None, Option, Some};
 ghost use Rattle.toml.specs.Data.{Data, get_member, no_members};
@@ -14,16 +14,16 @@ use std::alloc::Global;
 use toml::value::Array;
 use toml::{Table, Value};
 
-/// The size of a half where the file gives none.
+/// The default size of a half.
 pub const DEFAULT_HALF: u64 = 65_536;
 
-/// The least size of a half, in bytes, as coord_journal has it.
+/// The minimum size of a half, in bytes, the same as in coord_journal.
 pub const MIN_HALF: u64 = 32_768;
 
-/// The greatest size of a half, in bytes, as coord_journal has it.
+/// The maximum size of a half, in bytes, the same as in coord_journal.
 pub const MAX_HALF: u64 = 16_777_216;
 
-/// The size of a half that the table gives, if it is in range, or the usual one.
+/// Returns the size of a half in the table, if it is in range, or the default.
 fn half_of(table: &Table) -> Option<u64>
     ensures { result ≡ half_of (get_member (codes "half") (table_view table.now)) }
 {
@@ -38,7 +38,7 @@ fn half_of(table: &Table) -> Option<u64>
     }
 }
 
-/// The id at a key of a node or a link.
+/// Returns the id at a key of a node or a link.
 fn node_id_at(table: &Table, key: &str) -> Option<NodeId>
     ensures { result ≡ number_at key.now 1 MAX_NODES (table_view table.now) }
 {
@@ -53,11 +53,11 @@ fn group_at(table: &Table, key: &str) -> Option<Group>
     Group::new(u8::try_from(number).ok()?)
 }
 
-/// What stands in the array at a key of a topology file.
+/// An entry of an array in a topology file.
 trait Entry: Drop {
     ghost reads: { Data → Option Self };
 
-    /// The entry that the value is, if it is one.
+    /// Returns the value as an entry, if it is one.
     fn of(value: &Value) -> Option<Self>
         ensures { result ≡ reads (view value.now) };
 }
@@ -86,7 +86,7 @@ impl Entry for LinkEntry {
     }
 }
 
-/// All the items of an array, if each is an entry.
+/// Returns all items of an array, if each is an entry.
 fn each<E: Entry>(alloc: Global, array: &Array) -> Result<Vec<E>, ConfigFault>
     ensures ok { IfOk result (λ entries. each E.reads (array_view array.now) ≡ Some entries.items) }
     ensures bad { IfErr result (λ fault. fault ≢ OutOfMemory →
@@ -102,7 +102,7 @@ fn each<E: Entry>(alloc: Global, array: &Array) -> Result<Vec<E>, ConfigFault>
     Ok(entries)
 }
 
-/// The entries of the array at a key, in order; none where the key is absent.
+/// Returns the entries of the array at a key, in order; none if the key is absent.
 fn entries_at<E: Entry>(alloc: Global, table: &Table, key: &str) -> Result<Vec<E>, ConfigFault>
     ensures ok { IfOk result (λ entries.
         entries_of E.reads (get_member key.now (table_view table.now)) ≡ Some entries.items) }
@@ -120,7 +120,7 @@ fn entries_at<E: Entry>(alloc: Global, table: &Table, key: &str) -> Result<Vec<E
     }
 }
 
-/// The topology of the values, if each has its type and lies within its limits.
+/// Returns the topology of the values, if each has its type and is in range.
 pub fn values_of(alloc: Global, table: &Table) -> Result<Topology, ConfigFault>
     ensures ok { IfOk result (λ t. values_of (table_view table.now) ≡ Some (content t)) }
     ensures bad { IfErr result (λ fault. fault ≢ OutOfMemory →

@@ -1,9 +1,9 @@
--- A text that comes in pieces.
+-- A text that arrives in pieces.
 use Rattle.std.specs.Prelude.{◌≡◌, ℕ, List, [], ◌∷◌, ◌++◌, Some}
 use Rattle.std.specs.List.{concat}
 use Rattle.coord_lines.specs.Lines.{Line, lines_of, lines_on}
 
--- the last of some lines is kept as the line so far, and those before it have ended
+-- the last of some lines is the line so far, and the lines before it are complete
 abbrev pub ended : List Line → List Line
 ended [] = []
 ended (line ∷ []) = []
@@ -14,8 +14,8 @@ last_of [] = Some []
 last_of (line ∷ []) = line
 last_of (line ∷ next ∷ lines) = last_of (next ∷ lines)
 
--- The lines of a text in pieces. Each piece goes on with the line that the pieces before it left;
--- what the last piece leaves is the last line.
+-- The lines of a text in pieces. Each piece continues the line that the pieces before it left;
+-- the line that the last piece leaves is the last line.
 abbrev pub lines_in_pieces : Line → List (List ℕ) → List Line
 lines_in_pieces line [] = lines_on line []
 lines_in_pieces line (piece ∷ pieces) = let lines = lines_on line piece in ended lines ++ lines_in_pieces (last_of lines) pieces

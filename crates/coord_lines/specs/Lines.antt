@@ -6,28 +6,28 @@ use Rattle.coord_types.specs.declared.limits.TheConstants.{MAX_LINE_BYTES}
 abbrev pub is_line_feed : ℕ → Bool
 is_line_feed byte = byte == 10
 
--- a line by its bytes, its line feed not counted; None where it is over the limit
+-- a line: its bytes without the line feed; None if it is over the limit
 abbrev pub Line : Type 0
 Line = Option (List ℕ)
 
 unfoldable pub line_of : List ℕ → Line
 line_of bytes = if nat_le (length bytes) MAX_LINE_BYTES then Some bytes else None
 
--- a line that is over the limit is told by None alone
+-- None represents every line over the limit
 abbrev pub IsWithin : Line → Type 0
 IsWithin line = IfSome line (λ bytes. length bytes ≤ MAX_LINE_BYTES)
 
--- What stands before, between and behind the line feeds of a text. These are one line more than
--- there are line feeds: no line feed ends the last one, which may be empty.
+-- The parts of a text before, between and after its line feeds. There is one line more than
+-- there are line feeds: the last line has none, and may be empty.
 abbrev pub lines_of : List ℕ → List Line
 lines_of text = map line_of (slice_split is_line_feed text)
 
--- a line so far, with more bytes
+-- a partial line, with more bytes
 abbrev pub extended : Line → List ℕ → Line
 extended None more = None
 extended (Some line) more = line_of (line ++ more)
 
--- the lines of a text that goes on a line so far
+-- the lines of a text that continues a partial line
 abbrev pub going_on : Line → List (List ℕ) → List Line
 going_on line [] = line ∷ []
 going_on line (part ∷ parts) = extended line part ∷ map line_of parts
@@ -35,10 +35,10 @@ going_on line (part ∷ parts) = extended line part ∷ map line_of parts
 abbrev pub lines_on : Line → List ℕ → List Line
 lines_on line text = going_on line (slice_split is_line_feed text)
 
--- what stands before the first line feed of a text, or all of it
+-- the part of a text before its first line feed, or the whole text
 abbrev pub before_line_feed : List ℕ → List ℕ
 before_line_feed text = before_first is_line_feed text
 
--- what stands behind the first line feed of a text, if there is one
+-- the part of a text after its first line feed, if there is one
 abbrev pub behind_line_feed : List ℕ → Option (List ℕ)
 behind_line_feed text = option_map (λ place. after_first is_line_feed text) (position is_line_feed text)

@@ -1,4 +1,4 @@
-//! The law of a text that comes in pieces: a function that does nothing, whose contract is the law.
+//! The law of a text that arrives in pieces: a function without a body whose contract states the law.
 
 ghost use Rattle.coord_lines.specs.Laws.{PiecesHaveTheLinesOfTheWhole};
 

@@ -1,9 +1,9 @@
-//! A text cut into lines, as it comes in, and one that is written whole.
+//! Splits an arriving text into lines, and writes whole texts.
 //!
-//! `specs/Lines.antt` says what the lines of a text are. A `LineBuffer` holds one line while its
-//! bytes come. The main theorem is [`pieces_have_the_lines_of_the_whole`], stated in
-//! `specs/Laws.antt`: in whatever pieces a text comes, they give the lines of the whole. Of a text
-//! that could not be written whole a first part was (`specs/Written.antt`).
+//! `specs/Lines.antt` defines the lines of a text. A `LineBuffer` holds one line while its
+//! bytes arrive. The main theorem is [`pieces_have_the_lines_of_the_whole`], stated in
+//! `specs/Laws.antt`: in whatever pieces a text arrives, they give the lines of the whole. If writing
+//! a text fails, a prefix of it was written (`specs/Written.antt`).
 #![tactic(auto)]
 
 mod laws;

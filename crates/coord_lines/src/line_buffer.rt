@@ -1,4 +1,4 @@
-//! A line of a text while its bytes come in.
+//! A line of a text whose bytes are still arriving.
 
 ghost use Rattle.std.specs.Prelude.{◌≡◌, Some, []};
 ghost use Rattle.std.specs.Option.{option_copied};
@@ -10,7 +10,7 @@ use std::marker::Model;
 
 const LINE_FEED: u8 = b'\n';
 
-/// The bytes of a line so far. Contracts see them, or None once there are more than `MAX_LINE_BYTES`.
+/// The bytes of a partial line. Contracts see them, or None once there are more than `MAX_LINE_BYTES`.
 #[derive(Drop)]
 pub struct LineBuffer {
     bytes: [u8; MAX_LINE_BYTES],
@@ -30,7 +30,7 @@ impl Model for LineBuffer {
 }
 
 impl LineBuffer {
-    /// An empty line.
+    /// Returns an empty line.
     pub fn new() -> Self
         ensures { result ≡ Some [] }
     {
@@ -41,8 +41,8 @@ impl LineBuffer {
         }
     }
 
-    /// Adds the piece to the line, up to the first line feed, and answers what stands behind that.
-    /// None where the piece has no line feed, so that the line goes on.
+    /// Appends the piece to the line, up to the first line feed, and returns the bytes after that.
+    /// Returns None if the piece has no line feed, so that the line continues.
     pub fn take<'a>(&mut self, piece: &'a [u8]) -> Option<&'a [u8]>
         ensures line { self.new ≡ extended self.old (before_line_feed piece.now) }
         ensures behind { option_copied result ≡ behind_line_feed piece.now }
@@ -59,7 +59,7 @@ impl LineBuffer {
         }
     }
 
-    /// The line; None where it is over the limit.
+    /// Returns the line; None if it is over the limit.
     pub fn get(&self) -> Option<&[u8]>
         ensures line { option_copied result ≡ self.now }
         ensures within { IsWithin self.now }
@@ -93,7 +93,7 @@ impl LineBuffer {
     }
 }
 
-/// The place of the first line feed.
+/// Returns the index of the first line feed.
 fn line_feed_in(piece: &[u8]) -> Option<usize>
     ensures { result ≡ position is_line_feed piece.now }
 {

@@ -1,4 +1,4 @@
-//! Writing of a whole text.
+//! Writes a whole text.
 
 ghost use Rattle.std.specs.Prelude.{OnErr, OnOk};
 ghost use Rattle.std.specs.Io.KnownBytes.{Appends};
@@ -8,10 +8,10 @@ use crate::limits::MOST_CALLS;
 use std::io;
 use std::io::{ErrorKind, Write};
 
-/// Writes a text whole, by one call of `write` where the writer takes it whole; a call that was
-/// interrupted is made again. Where it fails, a first part was written, and no more. The error is
-/// the writer's, or `WriteZero` where it took nothing, or not all in `MOST_CALLS` calls; which of them
-/// no clause says.
+/// Writes a whole text, with one call of `write` if the writer takes all of it; a call that was
+/// interrupted is repeated. If it fails, a prefix was written, and nothing else. The error is
+/// the writer's, or `WriteZero` if it took nothing, or not everything in `MOST_CALLS` calls; no clause
+/// says which.
 pub fn write_whole<W: Write>(writer: &mut W, text: &[u8]) -> io::Result<()>
     ensures ok { OnOk result (Appends (W.contents writer.old) (W.contents writer.new) text.now) }
     ensures err { OnErr result (WritesFirstPart (W.contents writer.old)
