@@ -42,7 +42,7 @@ class Group:
         return [row for row in shown["nodes"] if row[0] in self.nodes]
 
     def moment(self, shown: Answer) -> Moment | None:
-        """The moment that a view shows; None if a node of the group is in a reset."""
+        """Returns the moment that a view shows; None if a node of the group is in a reset."""
         rows = self.rows(shown)
         is_ready = all(row[2] == "ready" for row in rows)
         return Moment(shown["settled"], {row[0]: row[4] for row in rows}) if is_ready else None
@@ -51,8 +51,8 @@ class Group:
         self.owed |= {row[0]: row[4] for row in self.rows(shown) if row[0] in askers and row[2] != "ready"}
 
 
-def place_behind(epochs: list[int], epoch: int) -> int:
-    """How many of a node's signals were printed up to the last one of this epoch. Epoch 0 has no signal."""
+def count_up_to(epochs: list[int], epoch: int) -> int:
+    """Returns how many of a node's signals were printed up to the last one of this epoch. Epoch 0 has no signal."""
     return len(epochs) - epochs[::-1].index(epoch) if epoch else 0
 
 
@@ -60,7 +60,7 @@ class Overlaps(Served):
     takes = 5
 
     def ask(self, server: Serving, packets: list[list[int]], numbers: collections.Counter[int]) -> list[Asked]:
-        """Asks for a reset of each of these nodes, those of a packet at once: what was accepted. Each node is a client."""
+        """Asks for a reset of each of these nodes, the nodes of a packet at once, each as a client of its own number."""
         asked = []
         with server.connect() as connection:
             for nodes in packets:
@@ -71,14 +71,14 @@ class Overlaps(Served):
         return asked
 
     def expect_signals(self, server: Serving, group: Group, now: Moment, asked: list[Asked]) -> bool:
-        """All nodes of a group are ready: checks how many signals of each of them were printed since they last were. Whether two
-        resets or more were started meanwhile."""
+        """Checks how many signals of each node of a group were printed between the last two moments at which all were ready.
+        Returns whether two resets or more were started meanwhile."""
         last, owed, group.last, group.owed = group.last, group.owed, now, {}
         since = [each for each in asked if each.node in group.nodes and last.settled < each.step <= now.settled]
         kinds = collections.Counter(each.kind for each in since)
         printed = until(f"the signals of {now}", lambda: self.printed_up_to(server, now))
         for node, epoch in now.epochs.items():
-            signals = place_behind(printed[node], epoch) - place_behind(printed[node], last.epochs[node])
+            signals = count_up_to(printed[node], epoch) - count_up_to(printed[node], last.epochs[node])
             told = f"node {node} was signalled {signals} times: {since}"
             if len(group.nodes) == 1:
                 self.assertEqual((signals, kinds.total()), (kinds[FINISHED], kinds[FINISHED]), told)
@@ -90,7 +90,7 @@ class Overlaps(Served):
         return kinds[STARTED] > 1
 
     def printed_up_to(self, server: Serving, now: Moment) -> dict[int, list[int]] | None:
-        """The epochs of the signals of each node, in order, once the signal of each node's present epoch is printed."""
+        """Returns the epochs of each node's printed signals, in order; None if the signal of a present epoch is missing."""
         signals = server.signals()
         printed = {node: [epoch for signalled, epoch in signals if signalled == node] for node in now.epochs}
         return printed if all(epoch in [0, *printed[node]] for node, epoch in now.epochs.items()) else None

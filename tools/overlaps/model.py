@@ -22,7 +22,7 @@ class Node(NamedTuple):
     distance: int = 0
 
 
-# A message: its letter, and the distance that an Abort carries. A way is what is on it, and None once its link was dropped.
+# A message: its letter, and the distance that an Abort carries. A way has the messages on it, and is None once its link was dropped.
 Message = tuple[str, int]
 Way = tuple[Message, ...] | None
 ACK: Message = ("K", 0)
@@ -40,7 +40,7 @@ class Graph:
 
 
 class World:
-    """The nodes and the messages on the way over a graph, to which a step is done: which nodes it signals stands in `signalled`.
+    """The nodes and the messages on the way over a graph, while one step is taken; `signalled` gets the nodes that it signals.
     `rule` names a wrong rule (tools/overlap_search lists them), and is empty for the right ones."""
 
     def __init__(self, graph: Graph, nodes: Sequence[Node], ways: Sequence[Way], rule: str = "") -> None:
