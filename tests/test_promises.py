@@ -154,13 +154,13 @@ class Broken(Copied):
         ran = subprocess.run([tool("promises"), "--breaks", "Exact checker"], capture_output=True, text=True, check=False)
         self.assertEqual((ran.returncode, ran.stderr), (0, ""))
         self.assertIn("\n  coord_check search::check (first, legal, named)\n", ran.stdout)
-        self.assertIn("\n    first: coord_check/h_before_a, coord_check/links_before_nodes\n", ran.stdout)
-        self.assertIn("\n    by letters::has_front_taken_at_most: coord_check/any_front_taken\n", ran.stdout)
+        self.assertIn("\n    first: coord_check/links_before_nodes\n    legal: coord_check/letter_g_skipped\n", ran.stdout)
+        ran = subprocess.run([tool("promises"), "--breaks", "Looks"], capture_output=True, text=True, check=False)
+        self.assertIn("\n    by reach::connected: coord_look/takes_one_end\n", ran.stdout)
 
     def test_what_breaks_a_function(self) -> None:
         ran = subprocess.run([tool("promises"), "--breaks", "Lane::judge_clear"], capture_output=True, text=True, check=False)
-        self.assertIn("\n    its clause: coord_link/early_before_old, coord_link/repeated_clear, coord_link/clear_before_take",
-                      ran.stdout)
+        self.assertIn("\n    its clause: coord_link/repeated_clear\n", ran.stdout)
         self.assertNotIn("judge_take", ran.stdout)
 
     def test_a_body_that_names_no_clause(self) -> None:
@@ -172,10 +172,10 @@ class Broken(Copied):
 
     def test_a_body_that_names_several_functions(self) -> None:
         copy = self.copy()
-        self.change(copy, "refusals/coord_config.edits", "% values::each (bad)", "% of (bad)")
+        self.change(copy, "refusals/coord_types.edits", "% Mode::name", "% name")
         status, said = self.compare(copy)
         self.assertEqual(status, 1, said)
-        self.assertRegex(said, r"coord_config/wrong_value_as_bad_key: \d+ functions of coord_config are named so: of \(bad\)")
+        self.assertRegex(said, r"coord_types/\w+: \d+ functions of coord_types are named so: name")
 
     def test_a_function_that_no_body_breaks_any_more(self) -> None:
         copy = self.copy()
@@ -242,7 +242,7 @@ class Names(Copied):
     def test_a_retired_term_is_refused(self) -> None:
         copy = self.copy()
         with open(copy / "docs/retired.txt", "a", encoding="utf-8") as retired:
-            retired.write("crates\t(?i)\\bthingum\\w*\tthe thing's name\ndocs\tnowhere\tnothing\n")
+            retired.write("crates\t(?i)\\bthingum\\w*\tthe thing's name\ndocs\txyzzy\tnothing\n")
         self.assertEqual(self.compare(copy, "names")[0], 0)
         with open(copy / CONNECTIONS, "a", encoding="utf-8") as specs:
             specs.write("-- A Thingummy.\n")
