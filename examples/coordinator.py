@@ -7,7 +7,8 @@ import sys
 sys.path.insert(0, os.path.join(os.path.dirname(os.path.realpath(__file__)), "..", "client"))
 from resetd_client import (  # noqa: E402, F401
     CLIENTS, AtFront, Away, Clock, CountNotFound, Credentials, Follower, Gateway, Held, Member, NotTaken, Orders, OutOfRun, Port,
-    ResetdError, Served, Stream, Untrusted, Work, keep, patiently, read, wakes_of)
+    ResetdError, Served, Stream, Untrusted, Work, keep, orders_of, patiently,
+    read, wakes_of)
 from resetd_client.address import CREDENTIALS  # noqa: E402, F401
 
 

@@ -6,15 +6,16 @@ What to use for what
     to look, once                                    Port.show, which answers a View
     a member's or gateway's orders, at a front       AtFront: no client and no order book, and the wake-ups too
     to give orders, each carried out once            Orders, with a client of its own (1 to 16) and a folder
-    to be woken                                      wakes_of(port, signals): Follower of the file of signals where it is on this
-                                                     host, Watched where the address is a front's, else Clock
+    whichever of both the address is for             orders_of(port, client, folder)
+    to be woken                                      wakes_of(port, signals, orders): the AtFront itself, a Follower of the file of
+                                                     signals where it is on this host, Watched at a front, else Clock
     to see each change                               views(port), where the address is a front's
     to go on while the coordinator is away           patiently(call), for what Member and Gateway do not do themselves
     asyncio                                          resetd_client.aio, a module of its own
     by hand                                          resetctl, the command
 
-    port = Port("127.0.0.1:4170")                    # or unix:PATH, tls:HOST:PORT, or several with commas between
-    orders = Orders(port, 3, "/var/lib/service3")    # client 3, whose last order is kept in this folder
+    port = Port("unix:/run/resetd-front/socket")     # or HOST:PORT, tls:HOST:PORT, or several with commas between
+    orders = Orders(port, 3, "/var/lib/check3")      # client 3, whose last order is kept in this folder
     orders.order("reset", node=3)                    # Reply(kind='started', step=17)
     port.show().node(3)                              # Node(node=3, group=1, mode='ready', parent=0, ..)
 
@@ -37,7 +38,7 @@ docs/SERVICES.md says what a service has to do, and why.
 
 from .address import Credentials
 from .answers import (Away, Fault, Faulted, Garbled, NotNow, NotTaken, Refusal, Refused, Reply)
-from .at_front import AtFront
+from .at_front import AtFront, orders_of, wakes_of
 from .errors import BadWords, InLoop, ResetdError, Unreadable, Untrusted
 from .files import Held, hold, keep, read
 from .following import LOOK_SECONDS
@@ -54,7 +55,7 @@ from .starts import Fence, Shelf, Starts
 from .store_file import NoStore, Restless
 from .topology import BadTopology
 from .view import Link, Node, View
-from .watching import Watched, views, wakes_of
+from .watching import Watched, views
 
 __version__ = "0.16.0"  # that of the first heading of CHANGELOG.md
 
@@ -63,5 +64,5 @@ __all__ = [
     "Fault", "Faulted", "Fence", "Follower", "GROUPS", "Garbled", "Gateway", "Held", "InLoop", "LOOK_SECONDS", "Link",
     "Member", "NODES", "NoStore", "Node", "NotNow", "NotTaken", "Orders", "OutOfRun", "Past", "Port", "Refusal", "Refused",
     "Reply", "ResetdError", "Restless", "Run", "Served", "Shelf", "Starts", "Stream", "TooLong", "Unreadable", "Untrusted",
-    "View", "Wake", "Wakes", "Watched", "Work", "find_count", "hold", "keep", "patiently", "read", "views", "wakes_of",
+    "View", "Wake", "Wakes", "Watched", "Work", "find_count", "hold", "keep", "orders_of", "patiently", "read", "views", "wakes_of",
 ]

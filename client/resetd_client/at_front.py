@@ -13,9 +13,9 @@ from . import files
 from .answers import Away, NotTaken, Outcome, Refusal, Refused, members_of, reply_of
 from .errors import BadWords
 from .limits import check_order
-from .orders import Order
+from .orders import Order, Orders, warn
 from .port import Port
-from .signals import Wake
+from .signals import Clock, Follower, Wake, Wakes
 from .view import View
 from .watching import Watched
 
@@ -89,3 +89,25 @@ class AtFront:
     def await_view(self, seconds: float) -> None:
         """Waits until such a view has been pushed, at most so long."""
         self._watched.await_view(seconds)
+
+
+def orders_of(port: Port, client: int | None, folder: str, *, held_seconds: float = 0.0, told: Callable[[str], None] = warn) -> Orders | AtFront:
+    """What a Member or a Gateway orders with: an AtFront where every address is a front's, else the numbered Orders of a client
+    (1 to 16). Raises BadWords where a client is needed and is None, and what both raise."""
+    if all(address.is_front for address in port.addresses):
+        return AtFront(port, folder, held_seconds=held_seconds)
+    if client is None:
+        raise BadWords("a client, 1 to 16, is needed at the server's own port; at a front (unix:PATH, tls:HOST:PORT) none is")
+    return Orders(port, client, folder, recovers=True, held_seconds=held_seconds, told=told)
+
+
+def wakes_of(port: Port, signals: str | None = None, orders: Orders | AtFront | None = None) -> Wakes:
+    """What wakes a member: its own connection where it orders at a front, else the file of signals where one is named, a front
+    where there is one, else only time."""
+    if isinstance(orders, AtFront):
+        return orders
+    if signals is not None:
+        return Follower(signals)
+    if port.is_front:
+        return Watched(port)
+    return Clock()

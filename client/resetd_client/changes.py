@@ -16,8 +16,9 @@ State = tuple[int, int, int] | None  # inode, size and time of the last change; 
 
 
 class Changes:
-    """Some files, which need not be there yet. On a local file system the system tells of a change (inotify); where it
-    can't be had, or a folder is missing, the files are looked at a hundred times a second."""
+    """Some files, which need not be there yet. On a local file system the system tells of a change (inotify), and only the files
+    of the folder that changed are looked at; where it can't be had, or a folder is missing, all are looked at a hundred times
+    a second."""
 
     def __init__(self, paths: Iterable[str]) -> None:
         self._states: dict[str, State] = {path: None for path in paths}
@@ -26,6 +27,7 @@ class Changes:
             self._inotify = Inotify()
         except OSError:
             self._inotify = None
+        self._watched: dict[int, list[str]] = {}  # of each watch, the files that stand in its folder
         self._is_told = False  # whether the system tells of each change from now on
 
     def descriptors(self) -> list[int] | None:
@@ -35,13 +37,34 @@ class Changes:
 
     def take(self) -> list[str]:
         """The files that have changed since the last call; at the first one those that are there."""
-        if self._inotify:
-            self._is_told = all([self._inotify.watch(folder) for folder in self._folders()])
-            self._inotify.drain()
+        changed = self._inotify.take() if self._inotify and self._is_told else None
+        if changed is None:
+            self._watch_all()
+            return self._changed(self._states)
+        paths = dict.fromkeys(path for watch in changed for path in self._watched.get(watch, []))
+        if any(map(os.path.islink, paths)):
+            self._watch_all()  # it may lead somewhere else now
+        return self._changed(paths)
+
+    def _watch_all(self) -> None:
+        """Watches each folder that has one of the files, or to which a link leads, from before the files are looked at."""
+        if self._inotify is None:
+            return
+        self._watched, self._is_told = {}, True
+        for folder, paths in self._folders().items():
+            watch = self._inotify.watch(folder)
+            if watch is None:
+                self._is_told = False
+            else:
+                self._watched.setdefault(watch, []).extend(paths)
+        if self._is_told:
+            self._inotify.take()
+
+    def _changed(self, paths: Iterable[str]) -> list[str]:
         changed = []
-        for path, before in self._states.items():
+        for path in paths:
             now = state_of(path)
-            if now != before:
+            if now != self._states[path]:
                 self._states[path] = now
                 changed.append(path)
         return changed
@@ -56,10 +79,14 @@ class Changes:
             wait_for([self.descriptors()], left)
         return changed
 
-    def _folders(self) -> set[str]:
-        """Where the files stand, and where symbolic links lead."""
-        return {os.path.dirname(os.path.abspath(path)) for path in self._states} | {
-            os.path.dirname(os.path.realpath(path)) for path in self._states if os.path.islink(path)}
+    def _folders(self) -> dict[str, list[str]]:
+        """Where the files stand, and where symbolic links lead: the files of each folder."""
+        folders: dict[str, list[str]] = {}
+        for path in self._states:
+            folders.setdefault(os.path.dirname(os.path.abspath(path)), []).append(path)
+            if os.path.islink(path):
+                folders.setdefault(os.path.dirname(os.path.realpath(path)), []).append(path)
+        return folders
 
 
 def state_of(path: str) -> State:

@@ -97,16 +97,16 @@ class Following:
         """A node that it orders for."""
         raise NotImplementedError
 
-    def _wait(self, wakes: Wakes, seconds: float, sooner: Callable[[], float] = lambda: LOOK_SECONDS,
+    def _wait(self, wakes: Wakes, seconds: float, sooner: Callable[[float], float] = lambda began: math.inf,
               changes: Changes | None = None) -> Wake:
         """Waits for a wake-up, at most so many seconds, or until `stop` is called. `sooner` may shorten that when the bell
-        rings, or when files change."""
+        rings, or when files change: it takes the moment at which the wait began, and returns that at which it ends."""
         began = time.monotonic()
         while True:
             self._bell.hush()
             if self._is_stopping:
                 return Wake.END
-            left = began + min(seconds, sooner()) - time.monotonic()
+            left = min(began + seconds, sooner(began)) - time.monotonic()
             descriptors = getattr(wakes, "descriptors", None)
             wake = wakes.wait(0.0 if descriptors else max(0.0, min(left, STOP_SECONDS)))
             if wake is not Wake.QUIET or left <= 0:

@@ -4,34 +4,40 @@ from __future__ import annotations
 
 import math
 import os
+import time
 from collections.abc import Callable, Iterable, Mapping
+from types import MappingProxyType
 from typing import NamedTuple
 
 from .answers import Away
 from .at_front import AtFront
 from .changes import Changes
-from .following import DOUBT_SECONDS, LOOK_SECONDS, Following, check_every
+from .following import DOUBT_SECONDS, LOOK_SECONDS, Following, Stopped, check_every
 from .orders import Orders, warn
 from .party import are_parted
 from .port import Port
 from .rule import Due
-from .seats import Seat, number_of
+from .seats import Board, Seat, number_of
 from .signals import Wake, Wakes
+from .since import boot_name
 from .starts import Shelf, Starts
 from .view import Node, View
 
 MOST_TURNS = 100  # of one look
+GATHER_SECONDS = 0.01  # for which others may begin after the last one, and are then confirmed with it
 
 
 class Desk:
     """A node's members, which begin and talk together: their seats, and what is kept of their starts."""
 
-    def __init__(self, node: int, shelf: Shelf, folder: str, names: Iterable[str]) -> None:
+    def __init__(self, node: int, shelf: Shelf, folder: str, names: Iterable[str], numbers: Mapping[str, int] = MappingProxyType({})) -> None:
+        """`numbers` are what the members were told before, by their names."""
         self.node, self._shelf = node, shelf
         self.seats = [Seat(os.path.join(folder, name)) for name in names]
+        self._least = max([numbers.get(seat.name, 0) for seat in self.seats], default=0)
         self.starts = Starts(shelf, node, self._begun())
         self.telling: int | None = None  # the epoch that this process told, which is not confirmed yet
-        self.tag = ""  # of the run that the members were told last
+        self.tag: str | None = None  # of the run that the members may talk in: empty where the node is alone
 
     @property
     def told(self) -> str:
@@ -49,37 +55,29 @@ class Desk:
         """Whether all members have begun what this process told them, and that is kept, so that it is due to be confirmed."""
         return self._is_told(row) and self.starts.begun == row.epoch
 
+    def awaits_begin(self) -> bool:
+        """Whether members were told by this process what to begin, and not all of them have."""
+        return self.telling is not None and self._begun() is None
+
     def note_begin(self, epoch: int) -> None:
         """All members are to begin an epoch."""
-        number = 1 + max([number_of(self.told), *(seat.number for seat in self.seats)])
+        number = 1 + max([self._least, number_of(self.told), *(seat.number for seat in self.seats)])
         self.starts.note_begin(told=f"{epoch} {number}\n")
         self.telling = epoch
-
-    def tell(self) -> None:
-        """Tells all members what they are to begin, which is kept."""
-        for seat in self.seats:
-            seat.tell(self.told)
 
     def note_confirmed(self) -> None:
         """What the members were told, and have begun, was confirmed."""
         self.telling = None
 
-    def set_run(self, epoch: int, tag: str) -> None:
-        """Tells all members in which run they may talk."""
-        self.tag = tag
-        for seat in self.seats:
-            seat.let_talk(epoch, tag, self.told)
-
-    def end_run(self) -> None:
-        """Tells all members that they may not talk."""
-        self.tag = ""
-        for seat in self.seats:
-            seat.set_run(None)
+    def lines(self, boot: str) -> str:
+        """What its members are told (seats.py)."""
+        run = "" if self.tag is None else f" {self.tag or '-'} {boot}"
+        return "".join(f"{seat.name} {self.told.strip()}{run}\n" for seat in self.seats) if self.told else ""
 
     def is_parted(self) -> bool:
         """Whether a member, which talks now, has refused a tag that will not come to be its own."""
         refused = [tag for seat in self.seats if (tag := seat.take_refused())]
-        return any(are_parted(self.tag, tag) for tag in refused)
+        return any(are_parted(self.tag or "", tag) for tag in refused)
 
     def _is_told(self, row: Node) -> bool:
         return self.telling == row.epoch and not any(seat.has_lost(self.told) for seat in self.seats)
@@ -99,27 +97,62 @@ class Judged(NamedTuple):
 
 class Gateway(Following):
     """Serves members. `members` has the names of each node's members, and the member NAME has the folder
-    FOLDER/NAME: several members of one node, as the processes of one host, all begin before it is confirmed."""
+    FOLDER/NAME: several members of one node, as the processes of one host, all begin before it is confirmed. What it tells its
+    members stands in one file for all of them (seats.py)."""
 
     def __init__(self, port: Port, orders: Orders | AtFront, members: Mapping[int, Iterable[str]], folder: str, *,
                  word: str = "", told: Callable[[str], None] = warn) -> None:
-        """Raises Unreadable if a file of its own does not read."""
+        """`orders` are an AtFront where every address of the port is a front's. Raises Unreadable if a file of its own does not
+        read, and BadWords at a name that no member can have."""
         super().__init__(orders, told)
-        self.port, self._word = port, word
+        self.port, self._word, self._boot = port, word, boot_name()
         os.makedirs(folder, exist_ok=True)
-        self._shelf = Shelf(os.path.join(folder, "starts.json"))
-        self.desks = [Desk(node, self._shelf, folder, names) for node, names in members.items()]
+        self._shelf, self._board = Shelf(os.path.join(folder, "starts.json")), Board(folder)
+        self.desks = [Desk(node, self._shelf, folder, names, self._board.numbers) for node, names in members.items()]
         self._changes = Changes(path for desk in self.desks for seat in desk.seats for path in seat.written_by_member())
         self._changes.take()
         self._written: set[str] = set()  # the names of files that members have written since the last look
+        self._last_written = 0.0  # when that was
         self._absent: set[int] = set()
         self._is_through = False
+        self._last: View | None = None
+        if earlier := [seat.name for desk in self.desks for seat in desk.seats if seat.is_earlier]:
+            self._told(f"{len(earlier)} members were told by a gateway of an earlier version ({earlier[0]} is one): start them again "
+                       "with this version")
 
     def look(self) -> View:
         """One look at `show` for all members: tells what they are to begin, confirms what they have begun, asks for
         resets, and looks again where it ordered something. Raises as `Member.look` does."""
+        return self._look_from(self._view())
+
+    def follow(self, wakes: Wakes, every: float = LOOK_SECONDS) -> None:
+        """Looks at each wake-up, by itself after so many seconds, when members have begun, and after each time
+        that the coordinator was away, until nothing more will come or `stop` is called."""
+        check_every(every)
+        is_local = False
+        while (self._look_at_last() if is_local else None) or self._look_patiently() is not None:
+            wake = self._wait(wakes, self._next_wait(self._is_through, every), self._sooner, self._changes)
+            if wake is Wake.END:
+                return
+            is_local = wake is Wake.QUIET and self._written == {"begun"} and self._awaits_members()
+            self._written = set()
+
+    def _look_at_last(self) -> View | None:
+        """Judges by the last view once more, since members have begun and the front has pushed no other. None if that is not so, or
+        the coordinator is away."""
+        if self._front is None or self._last is None or not self._front.descriptors():
+            return None
+        try:
+            return self._look_from(self._front.take() or self._last)
+        except (Away, Stopped):
+            return None
+
+    def _awaits_members(self) -> bool:
+        return any(desk.telling is not None for desk in self.desks)
+
+    def _look_from(self, view: View) -> View:
         for _ in range(MOST_TURNS):
-            view = self._view()
+            self._last = view
             rows = {row.node: row for row in view.nodes}
             self._note_absent({desk.node for desk in self.desks} - set(rows))
             judged = self._judge(view, rows)
@@ -128,21 +161,19 @@ class Gateway(Following):
                 return view
             self._waits = 0
             self._await_view()
+            view = self._view()
         raise Away("there are new epochs each time that it looks")
 
-    def follow(self, wakes: Wakes, every: float = LOOK_SECONDS) -> None:
-        """Looks at each wake-up, by itself after so many seconds, when a member has begun, and after each time
-        that the coordinator was away, until nothing more will come or `stop` is called."""
-        check_every(every)
-        while self._look_patiently() is not None:
-            if self._wait(wakes, self._next_wait(self._is_through, every), self._sooner, self._changes) is Wake.END:
-                return
-            self._written = set()
-
-    def _sooner(self) -> float:
-        """A look is due when a member has written what it has begun or lost, and soon after one has refused a tag."""
-        self._written |= {os.path.basename(path) for path in self._changes.take() if os.path.exists(path)}
-        return 0.0 if "begun" in self._written else DOUBT_SECONDS if self._written else math.inf
+    def _sooner(self, began: float) -> float:
+        """A look is due when all that were told have begun, or no other one has for a moment: they are confirmed together. It is due
+        soon after a member has refused a tag."""
+        written = {os.path.basename(path) for path in self._changes.take() if os.path.exists(path)}
+        if "begun" in written:
+            self._last_written = time.monotonic()
+        self._written |= written
+        if "begun" in self._written:
+            return self._last_written + (GATHER_SECONDS if any(desk.awaits_begin() for desk in self.desks) else 0.0)
+        return began + DOUBT_SECONDS if self._written else math.inf
 
     def _judge(self, view: View, rows: Mapping[int, Node]) -> list[Judged]:
         """What is due at each node that is there. Puts on the disk what has to be kept of that, for all in one write."""
@@ -156,17 +187,11 @@ class Gateway(Following):
 
     def _tell_members(self, view: View, judged: list[Judged]) -> None:
         """Tells members in which run they may talk, and what they are to begin."""
-        talking = {each.desk.node: each.row for each in judged if each.due is Due.TALK}
-        self._asked -= set(talking)
+        talking = {each.desk.node for each in judged if each.due is Due.TALK}
+        self._asked -= talking
         for desk in self.desks:
-            row = talking.get(desk.node)
-            if row:
-                desk.set_run(row.epoch, desk.starts.tag(view, self._word))
-            else:
-                desk.end_run()
-        for each in judged:
-            if each.due is Due.BEGIN:
-                each.desk.tell()
+            desk.tag = desk.starts.tag(view, self._word) if desk.node in talking else None
+        self._board.tell("".join(desk.lines(self._boot) for desk in self.desks))
 
     def _order_what_is_due(self, view: View, judged: list[Judged]) -> bool:
         """Confirms what was begun, and asks for one reset, since that may reach the others too. Answers whether there was

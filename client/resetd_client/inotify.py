@@ -4,12 +4,16 @@ from __future__ import annotations
 
 import ctypes
 import os
+import struct
 import weakref
 
 CREATED, MODIFIED, MOVED_FROM, MOVED_TO, DELETED = 0x100, 0x2, 0x40, 0x80, 0x200
 DELETED_SELF, MOVED_SELF, ONLY_FOLDERS = 0x400, 0x800, 0x1000000
 MASK = CREATED | MODIFIED | MOVED_FROM | MOVED_TO | DELETED | DELETED_SELF | MOVED_SELF | ONLY_FOLDERS
+IGNORED, OVERFLOWED = 0x8000, 0x4000
+NOT_KNOWN = DELETED_SELF | MOVED_SELF | IGNORED | OVERFLOWED  # what has changed is not known from these
 EVENTS_BYTES = 65_536
+EVENT = struct.Struct("iIII")  # a watch, what happened, and the length of the name that follows
 
 
 class Inotify:
@@ -30,14 +34,23 @@ class Inotify:
     def fileno(self) -> int:
         return int(self._descriptor)
 
-    def watch(self, folder: str) -> bool:
-        """Watches a folder from now on, also one that came in the place of another. Answers whether it is there."""
-        return int(self._add(self._descriptor, os.fsencode(folder), ctypes.c_uint32(MASK))) >= 0
+    def watch(self, folder: str) -> int | None:
+        """Watches a folder from now on, also one that came in the place of another. Returns the number of the watch, None if the
+        folder is not there."""
+        number = int(self._add(self._descriptor, os.fsencode(folder), ctypes.c_uint32(MASK)))
+        return number if number >= 0 else None
 
-    def drain(self) -> None:
-        """Forgets all that has changed up to now."""
+    def take(self) -> set[int] | None:
+        """The watches in whose folders something has changed since the last call; None if that is not known."""
+        changed, is_known = set[int](), True
         try:
-            while os.read(self._descriptor, EVENTS_BYTES):
-                pass
+            while events := os.read(self._descriptor, EVENTS_BYTES):
+                place = 0
+                while place < len(events):
+                    watch, what, _, length = EVENT.unpack_from(events, place)
+                    place += EVENT.size + length
+                    changed.add(watch)
+                    is_known = is_known and not what & NOT_KNOWN
         except BlockingIOError:
             pass
+        return changed if is_known else None

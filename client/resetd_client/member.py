@@ -192,10 +192,10 @@ class Member(Following):
             self._told(f"node {self.node}: it follows no more: {fault!r}")
             self._set_run(None)
 
-    def _sooner(self) -> float:
+    def _sooner(self, began: float) -> float:
         if self._why is not None:
-            return 0.0
-        return DOUBT_SECONDS if self._refused else math.inf
+            return began
+        return began + DOUBT_SECONDS if self._refused else math.inf
 
     def _refuse(self, tag: str) -> None:
         if len(self._refused) < MOST_REFUSED:

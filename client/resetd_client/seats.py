@@ -1,20 +1,19 @@
-"""The folder of a member behind a gateway, from either side.
+"""A member behind a gateway, from either side: its folder, and the one file in which the gateway tells all its members what to do.
 
-It has files of one line each (but `begun`), each put in place as a whole:
+    FOLDER/told/members    the gateway's, put in place as a whole; a line for each member:
+        NAME EPOCH NUMBER             begin this epoch, if NUMBER is above that of `begun`. It is greater each time, since an
+                                      epoch can come again. Talk with nobody
+        NAME EPOCH NUMBER TAG BOOT    the same; and the group is through: whoever has begun NUMBER may talk, with this tag, in the
+                                      boot that /proc/sys/kernel/random/boot_id names. TAG is `-` for a node that is
+                                      connected with nobody
+    FOLDER/NAME/begun      the member's: `EPOCH NUMBER` of what it has begun, on the disk with its work, which may stand below this
+                           line; or `lost EPOCH NUMBER`, if the work that it began for this is gone
+    FOLDER/NAME/refused    the member's: the tag of a message that it refused. The gateway takes the file away
 
-    wanted    EPOCH NUMBER       the gateway wants this epoch begun. The number is greater each time, since an epoch can
-                                 come again
-    begun     EPOCH NUMBER       the member has begun just that, and keeps it with its work, which may stand below this line;
-                                 or `lost EPOCH NUMBER`, if the work that it began for this is gone
-    run       EPOCH TAG NUMBER BOOT   the run that the group is in, for a member that has begun NUMBER; absent while somebody
-                                 is not through. TAG is `-` for a node that is connected with nobody. BOOT names the time
-                                 from one start of the machine to the next (/proc/sys/kernel/random/boot_id)
-    refused   TAG                the member has refused a message with this tag
-
-Only `begun` is synced: the gateway keeps in its own file what it tells, before it does, in one write for all members. So
-after a power cut `wanted` and `run` may be old, torn or gone, while the work may already be that of the next begin. A
-`wanted` that is not above `begun` asks for nothing; and a `run` counts only in the boot that it was written in, and only
-beside a `begun` of its number. The gateway then compares `begun` with its own file, and tells all that is not so anew.
+Only `begun` is synced: the gateway keeps in its own file what it tells, before it does, in one write for all members. So after a
+power cut `told/members` may be old, torn or gone, while the work may already be that of the next begin. A line that is not
+above `begun` asks for nothing; and a tag counts only in the boot that it was written in, and beside a `begun` of its number. The
+gateway then compares `begun` with its own file, and tells again all that is not so.
 """
 
 from __future__ import annotations
@@ -23,13 +22,22 @@ import os
 import re
 
 from . import files
-from .changes import Changes
+from .changes import Changes, State, state_of
+from .errors import BadWords
+from .orders import warn
 from .party import is_same_run
+from .since import boot_name
 
-LINE = re.compile(r"(?:lost )?[0-9]+ ([0-9]+)\n", re.ASCII)
-RUN = re.compile(r"[0-9]+ (\S+) ([0-9]+) (\S+)\n", re.ASCII)
-BOOT = "/proc/sys/kernel/random/boot_id"
+BEGUN = re.compile(r"(?:lost )?[0-9]+ ([0-9]+)\n", re.ASCII)
+TOLD = re.compile(r"^(\S+) ([0-9]+) ([0-9]+)(?: (\S+) (\S+))?\n", re.ASCII | re.MULTILINE)
+NAME = re.compile(r"[^\s/]+", re.ASCII)
+BOARD = "told"  # the folder of the gateway's file: no member has this name
 WAIT_SECONDS = 1.0
+
+
+def board_in(folder: str) -> str:
+    """The gateway's file in its folder."""
+    return os.path.join(folder, BOARD, "members")
 
 
 def line_of(text: str | None) -> str:
@@ -39,93 +47,116 @@ def line_of(text: str | None) -> str:
 
 
 def number_of(text: str | None) -> int:
-    """The number of the first line of `wanted` or `begun`; 0 for one that is missing or does not read."""
-    found = LINE.fullmatch(line_of(text))
+    """The number of the first line of `begun`, or of what was told; 0 for one that is missing or does not read."""
+    found = BEGUN.fullmatch(line_of(text))
     return int(found.group(1)) if found else 0
 
 
-def boot() -> str:
-    """The name of the time since the machine was started."""
-    return (files.read(BOOT) or "").strip()
+class Cached:
+    """A file's text, which is read only once the file has changed."""
+
+    def __init__(self, path: str) -> None:
+        self._path, self._text = path, ""
+        self._state: State = None
+
+    def read(self) -> str:
+        """The text; empty where there is no file."""
+        state = state_of(self._path)  # before the text: what is put in place meanwhile is read again
+        if state != self._state:
+            self._state, self._text = state, files.read(self._path) or ""
+        return self._text
+
+
+class Board:
+    """The file in which a gateway tells its members."""
+
+    def __init__(self, folder: str) -> None:
+        self._path = board_in(folder)
+        os.makedirs(os.path.dirname(self._path), exist_ok=True)
+        self._text = files.read(self._path)
+        self.numbers = {name: int(number) for name, _, number, _, _ in TOLD.findall(self._text or "")}  # that were told before
+
+    def tell(self, text: str) -> None:
+        """Tells all members at once, if it is not what they were told last."""
+        if text != self._text:
+            os.makedirs(os.path.dirname(self._path), exist_ok=True)
+            files.put(self._path, text)
+            self._text = text
 
 
 class Seat:
     """A member's folder, as the gateway sees it."""
 
     def __init__(self, folder: str) -> None:
-        self.folder = folder
+        """Raises BadWords at a name that no line can have."""
+        self.folder, self.name = folder, os.path.basename(folder)
+        if self.name == BOARD or not NAME.fullmatch(self.name):
+            raise BadWords(f"{self.name!r} is no name of a member: it has no blanks, and is not {BOARD!r}")
         os.makedirs(folder, exist_ok=True)
-        self._run: str | None = "unknown"
+        self._begun = Cached(os.path.join(folder, "begun"))
+        self._wanted = number_of(files.read(os.path.join(folder, "wanted")))
+        self.is_earlier = self._take_away_earlier_files()
 
     @property
     def number(self) -> int:
-        """The greatest number that the member may know."""
-        return max(number_of(self._read("wanted")), number_of(self._read("begun")))
+        """The greatest number that the member has in its folder."""
+        return max(self._wanted, number_of(self._begun.read()))
 
     def written_by_member(self) -> list[str]:
         return [os.path.join(self.folder, name) for name in ("begun", "refused")]
 
     def has_begun(self, told: str) -> bool:
         """Whether the member has begun what it was told."""
-        return line_of(self._read("begun")) == told
+        return line_of(self._begun.read()) == told
 
     def has_lost(self, told: str) -> bool:
         """Whether the member says that the work of what it was told is gone."""
-        return line_of(self._read("begun")) == f"lost {told}"
-
-    def tell(self, told: str) -> None:
-        """Tells the member what to begin. Before that it may talk no more."""
-        self.set_run(None)
-        os.makedirs(self.folder, exist_ok=True)
-        files.put(os.path.join(self.folder, "wanted"), told)
-
-    def let_talk(self, epoch: int, tag: str, told: str) -> None:
-        """Writes down the run that the member, which has begun what it was told, may talk in."""
-        self.set_run(f"{epoch} {tag or '-'} {number_of(told)} {boot()}\n")
-
-    def set_run(self, run: str | None) -> None:
-        """Writes down, or takes away, the line of the run."""
-        path = os.path.join(self.folder, "run")
-        if run == self._run:
-            return
-        if run is not None:
-            files.put(path, run)
-        elif os.path.exists(path):
-            os.remove(path)
-        self._run = run
+        return line_of(self._begun.read()) == f"lost {told}"
 
     def take_refused(self) -> str | None:
         """The tag that the member refused last, since the last call."""
-        text = self._read("refused")
+        path = os.path.join(self.folder, "refused")
+        text = files.read(path)
         if text is None:
             return None
-        os.remove(os.path.join(self.folder, "refused"))
+        os.remove(path)
         return text.strip()
 
-    def _read(self, name: str) -> str | None:
-        return files.read(os.path.join(self.folder, name))
+    def _take_away_earlier_files(self) -> bool:
+        """Takes away what a gateway of an earlier version told in files of each member: `run` first, so that the member may talk
+        no more. Whether there was something."""
+        paths = [path for name in ("run", "wanted") if os.path.exists(path := os.path.join(self.folder, name))]
+        for path in paths:
+            os.remove(path)
+        return bool(paths)
 
 
 class Served:
-    """A member's side of a gateway: its folder."""
+    """A member's side of a gateway: its folder, and what the gateway tells."""
 
     def __init__(self, folder: str) -> None:
+        """`folder` is FOLDER/NAME in the gateway's FOLDER."""
         os.makedirs(folder, exist_ok=True)
-        self._folder = folder
+        self._folder, self._name = os.path.abspath(folder), os.path.basename(os.path.abspath(folder))
         self._told = ""
-        self._changes = Changes(os.path.join(folder, name) for name in ("wanted", "run"))
+        path = board_in(os.path.dirname(self._folder))
+        os.makedirs(os.path.dirname(path), exist_ok=True)
+        self._board, self._begun = Cached(path), Cached(os.path.join(self._folder, "begun"))
+        self._changes = Changes([path])
         self._changes.take()
+        if os.path.exists(os.path.join(self._folder, "wanted")):
+            warn(f"{folder}: the gateway is of an earlier version: start it again with this one, which tells its members in {path}")
 
     def wanted(self) -> int | None:
         """The epoch to begin; None if the member has begun, or lost, the one that it was told last."""
-        wanted = self._read("wanted")
-        if number_of(wanted) <= number_of(self._read("begun")):
+        epoch, number, _, _ = self._line()
+        if number <= number_of(self._begun.read()):
             return None
-        self._told = wanted
-        return int(wanted.split()[0])
+        self._told = f"{epoch} {number}\n"
+        return epoch
 
     def has_begun(self, work: str = "", is_synced: bool = True) -> None:
-        """Says that the member has begun what `wanted` told last, and that this stands with the work on the disk. `work`
+        """Says that the member has begun what `wanted` returned last, and that this stands with the work on the disk. `work`
         goes down with it, in one file at once: so neither can be there without the other, and a begin costs two syncs, where
         it costs four with the work in a file of its own, synced before this call. Where the work is in memory alone, nothing
         need be synced: the member's next process calls `has_lost` when it starts."""
@@ -133,24 +164,23 @@ class Served:
 
     def work(self) -> str | None:
         """What was given to `has_begun`; None where nothing is begun, or its work was lost."""
-        line, _, work = self._read("begun").partition("\n")
+        line, _, work = self._begun.read().partition("\n")
         return work if number_of(f"{line}\n") and not line.startswith("lost") else None
 
     def has_lost(self) -> None:
-        """Says that the work of what was begun is gone. The gateway then tells the member to begin anew, after a reset."""
-        begun = self._read("begun")
+        """Says that the work of what was begun is gone. The gateway then tells the member to begin again, after a reset."""
+        begun = self._begun.read()
         if number_of(begun) and not begun.startswith("lost"):
             files.keep(os.path.join(self._folder, "begun"), f"lost {line_of(begun)}")
 
     def tag(self) -> str | None:
         """The tag of the run that the group is in; None while somebody is not through, and for a member that is connected
         with nobody. It is the sender's to give: whether a message is taken says `takes`."""
-        found = RUN.fullmatch(self._read("run"))
-        begun = self._read("begun")
-        if not found or begun.startswith("lost") or self.wanted() is not None:
+        _, number, tag, boot = self._line()
+        begun = self._begun.read()
+        if number != number_of(begun) or begun.startswith("lost") or boot != boot_name():
             return None
-        tag, number, written_in = found.groups()
-        return tag if tag != "-" and int(number) == number_of(begun) and written_in == boot() else None
+        return tag if tag != "-" else None
 
     def takes(self, tag: str) -> bool:
         """Whether a message with this tag is of the run that the member is in. If it is not, the gateway learns of it, and
@@ -163,8 +193,12 @@ class Served:
         return False
 
     def wait(self, seconds: float = WAIT_SECONDS) -> None:
-        """Waits until something has changed in the folder since the last wait, at most so many seconds."""
+        """Waits until the gateway has told something since the last wait, at most so many seconds."""
         self._changes.wait(seconds)
 
-    def _read(self, name: str) -> str:
-        return files.read(os.path.join(self._folder, name)) or ""
+    def _line(self) -> tuple[int, int, str, str]:
+        """The epoch, the number, the tag and the boot that the gateway told; numbers are 0 and texts empty where it told none."""
+        for name, epoch, number, tag, boot in TOLD.findall(self._board.read()):
+            if name == self._name:
+                return int(epoch), int(number), tag, boot
+        return 0, 0, "", ""

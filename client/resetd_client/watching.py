@@ -15,7 +15,7 @@ from .answers import Away, Garbled, NotTaken, members_of
 from .errors import BadWords
 from .newest import Past
 from .port import Port, Request, line_of
-from .signals import Clock, Follower, Wake, Wakes
+from .signals import Wake
 from .view import View
 
 SILENCE_SECONDS = 45.0  # after so long without a line the front, or the way to it, is taken for dead
@@ -288,12 +288,3 @@ def views(port: Port, seconds: float = 5.0) -> Iterator[View]:
         raise Away(f"{fronts[0]}: it ended the connection")
     finally:
         pushed.close()
-
-
-def wakes_of(port: Port, signals: str | None = None) -> Wakes:
-    """What wakes a member: the file of signals where one is named, a front where there is one, else only time."""
-    if signals is not None:
-        return Follower(signals)
-    if port.is_front:
-        return Watched(port)
-    return Clock()

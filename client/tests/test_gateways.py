@@ -15,9 +15,12 @@ from typing import Any
 from unittest import mock
 
 from case import Case, in_memory, over_both
-from resetd_client import Away, Clock, Gateway, Served, View, Wake, keep, patiently, read
+from pushing import of_unix
+from resetd_client import AtFront, Away, BadWords, Clock, Gateway, Port, Served, View, Wake, keep, patiently, read
 from resetd_client.following import DOUBT_SECONDS
-from resetd_client.seats import Seat, boot
+from resetd_client.gateway import GATHER_SECONDS
+from resetd_client.seats import Board, Seat
+from resetd_client.since import boot_name
 
 
 class UntilEnded:
@@ -31,176 +34,157 @@ class UntilEnded:
 
 
 class Seats(unittest.TestCase):
-    """A member's folder, from either side."""
+    """A member behind a gateway, from either side."""
 
     def setUp(self) -> None:
         temporary = tempfile.TemporaryDirectory()
         self.addCleanup(temporary.cleanup)
         self.folder = temporary.name
-        self.seat, self.served = Seat(self.folder), Served(self.folder)
+        self.board = Board(self.folder)
+        self.seat, self.served = Seat(f"{self.folder}/1"), Served(f"{self.folder}/1")
 
     def write(self, name: str, text: str) -> None:
-        with open(f"{self.folder}/{name}", "w", encoding="utf-8") as file:
-            file.write(text)
+        keep(f"{self.folder}/{name}", text)
+
+    def tell(self, told: str, run: str = "") -> None:
+        """Tells the member, between two others."""
+        self.board.tell(f"0 7 7 x-y {boot_name()}\n1 {told}{run}\n11 8 8\n")
 
     def begin(self, told: str) -> None:
-        self.seat.tell(told)
+        self.tell(told)
         self.served.wanted()
         self.served.has_begun()
 
-    def test_a_member_that_has_to_begin_may_talk_no_more(self) -> None:
-        """That is so before it can know what it is to begin."""
-        self.seat.set_run("1 tag 1 boot\n")
-        self.assertTrue(os.path.exists(f"{self.folder}/run"))
-        there: list[bool] = []
-        replace = os.replace
+    def test_what_one_member_is_told(self) -> None:
+        self.assertIsNone(self.served.wanted())
+        self.begin("3 1")
+        self.assertEqual((self.served.wanted(), self.seat.has_begun("3 1\n"), self.seat.has_begun("3 2\n")), (None, True, False))
+        self.tell("3 2")
+        self.assertEqual(self.served.wanted(), 3)
 
-        def note_replace(old: str, new: str) -> None:
-            there.append(os.path.exists(f"{self.folder}/run"))
-            replace(old, new)
-
-        with mock.patch("os.replace", note_replace):
-            self.seat.tell("2 2\n")
-        self.assertEqual(there, [False])
-
-    def test_a_run_that_an_earlier_gateway_left(self) -> None:
-        self.seat.set_run("1 tag 1 boot\n")
-        Seat(self.folder).set_run(None)
-        self.assertFalse(os.path.exists(f"{self.folder}/run"))
+    def test_it_is_told_in_one_write(self) -> None:
+        """And in none where nothing is new."""
+        with mock.patch("os.replace", side_effect=os.replace) as replaced, mock.patch("os.fsync") as synced:
+            for _ in range(3):
+                self.tell("1 1", f" a-b {boot_name()}")
+        self.assertEqual((replaced.call_count, synced.call_count), (1, 0))
 
     def test_a_member_that_is_told_again_while_it_begins(self) -> None:
-        self.seat.tell("1 1\n")
+        self.tell("1 1")
         self.assertEqual(self.served.wanted(), 1)
-        self.seat.tell("2 2\n")
+        self.tell("2 2")
         self.served.has_begun()
         self.assertEqual((self.seat.has_begun("2 2\n"), self.served.wanted()), (False, 2))
 
     def test_work_goes_down_with_what_is_begun(self) -> None:
         """In one file, whole and on the disk: a file and its folder are synced."""
         self.assertIsNone(self.served.work())
-        self.seat.tell("1 1\n")
+        self.tell("1 1")
         self.served.wanted()
         with mock.patch("os.fsync", side_effect=os.fsync) as synced:
             self.served.has_begun("some\nwork\n")
         self.assertEqual((synced.call_count, self.served.work(), self.served.wanted()), (2, "some\nwork\n", None))
-        self.assertEqual((self.seat.has_begun("1 1\n"), self.seat.number, read(f"{self.folder}/begun")), (True, 1, "1 1\nsome\nwork\n"))
-        self.seat.set_run(f"1 tag 1 {boot()}\n")
+        self.assertEqual((self.seat.has_begun("1 1\n"), self.seat.number, read(f"{self.folder}/1/begun")), (True, 1, "1 1\nsome\nwork\n"))
+        self.tell("1 1", f" tag {boot_name()}")
         self.assertEqual(self.served.tag(), "tag")
         self.served.has_lost()
         self.assertEqual((self.seat.has_lost("1 1\n"), self.served.work(), self.served.tag()), (True, None, None))
 
-    def test_the_greatest_number_that_a_member_may_know(self) -> None:
-        """`wanted` is not synced, and `begun` may be gone."""
-        self.begin("1 4\n")
-        self.write("wanted", "1 3\n")
-        self.assertEqual(self.seat.number, 4)
-        self.write("wanted", "1 9\n")
-        self.assertEqual(self.seat.number, 9)
-
-    def test_a_run_is_written_once(self) -> None:
-        self.seat.set_run("1 tag 1 boot\n")
-        with mock.patch("os.replace", side_effect=os.replace) as replaced:
-            self.seat.set_run("1 tag 1 boot\n")
-            self.seat.set_run("1 tag 1 boot\n")
-        self.assertEqual(replaced.call_count, 0)
-        self.seat.set_run(None)
-        self.seat.set_run("1 tag 1 boot\n")
-        self.assertTrue(os.path.exists(f"{self.folder}/run"))
-
     def test_what_is_lost_is_lost_once(self) -> None:
         """And takes the work with it."""
-        self.seat.tell("1 1\n")
+        self.tell("1 1")
         self.served.wanted()
         self.served.has_begun("work\n")
         for _ in range(2):
             self.served.has_lost()
-            self.assertEqual(read(f"{self.folder}/begun"), "lost 1 1\n")
-
-    def test_the_same_epoch_of_an_earlier_begin(self) -> None:
-        self.begin("1 1\n")
-        self.seat.tell("1 2\n")
-        self.assertEqual((self.seat.has_begun("1 2\n"), self.served.wanted()), (False, 1))
+            self.assertEqual(read(f"{self.folder}/1/begun"), "lost 1 1\n")
 
     def test_what_was_lost_before_it_was_begun(self) -> None:
         """The member has still to begin."""
-        self.seat.tell("1 1\n")
+        self.tell("1 1")
         self.served.has_lost()
         self.assertEqual((self.seat.has_lost("1 1\n"), self.served.wanted()), (False, 1))
-        self.begin("1 2\n")
-        self.seat.tell("1 3\n")
+        self.begin("1 2")
+        self.tell("1 3")
         self.served.has_lost()
         self.assertEqual((self.seat.has_lost("1 3\n"), self.served.wanted()), (False, 1))
 
     def test_the_same_epoch_may_be_told_again(self) -> None:
         """The number is greater, and nothing else tells."""
         for number in range(1, 12):
-            self.begin(f"1 {number}\n")
+            self.begin(f"1 {number}")
             self.assertEqual((self.served.wanted(), self.seat.has_begun(f"1 {number}\n"), self.seat.number), (None, True, number))
 
     def test_a_tag_is_that_of_the_start(self) -> None:
-        """Of what the member has begun, and not of what it has to begin or has lost."""
-        self.begin("1 1\n")
-        self.seat.let_talk(1, "a-b", "1 1\n")
+        """Of what the member has begun, and not of what it has to begin or has lost; in this boot, and of a line that is whole."""
+        self.begin("1 1")
+        self.tell("1 1", f" a-b {boot_name()}")
         self.assertEqual(self.served.tag(), "a-b")
-        for run in ("1 a-b 2 {}\n", "1 a-b 1 {}", "1 - 1 {}\n", "a-b 1 {}\n", ""):
-            self.write("run", run.format("" if "{}" not in run else self.boot()))
-            self.assertIsNone(self.served.tag(), run)
-        self.seat.let_talk(1, "a-c", "1 1\n")
+        for line in (f"1 2 a-b {boot_name()}\n", f"1 1 a-b {boot_name()}", f"1 1 - {boot_name()}\n", "1 1 a-b\n", "1 1 a-b another\n", "1 1\n"):
+            self.write("told/members", f"1 {line}")
+            self.assertIsNone(self.served.tag(), line)
+        self.write("told/members", "")
+        self.assertEqual((self.served.tag(), self.served.wanted()), (None, None))
+        self.tell("1 1", f" a-c {boot_name()}")
         self.assertEqual(self.served.tag(), "a-c")
-        self.write("wanted", "1 2\n")
-        self.assertIsNone(self.served.tag())
-        self.write("wanted", "1 1\n")
         self.served.has_lost()
         self.assertIsNone(self.served.tag())
 
-    def boot(self) -> str:
-        with open("/proc/sys/kernel/random/boot_id", encoding="ascii") as file:
-            return file.read().strip()
-
-    def test_a_power_cut_between_the_work_and_begun(self) -> None:
-        """The work is on the disk, `begun` is not yet, and what was not synced is as it was: `wanted` and `run`. The new
-        work may not talk in the run of the old one."""
-        self.begin("1 1\n")
-        self.seat.let_talk(1, "a-b", "1 1\n")
-        before = {name: read(f"{self.folder}/{name}") or "" for name in ("wanted", "run")}
-        self.seat.tell("1 2\n")
+    def test_a_power_cut_before_begun(self) -> None:
+        """The work is on the disk, `begun` is not yet, and what was told is as it was. The new work may not talk in the run of the
+        old one."""
+        self.begin("1 1")
+        self.tell("1 1", f" a-b {boot_name()}")
+        before = read(f"{self.folder}/told/members") or ""
+        self.tell("1 2")
         self.assertEqual(self.served.wanted(), 1)
-        for name, text in before.items():
-            self.write(name, text)
-        with mock.patch("resetd_client.seats.boot", return_value="the next boot"):
-            again = Served(self.folder)
+        self.write("told/members", before)
+        with mock.patch("resetd_client.seats.boot_name", return_value="the next boot"):
+            again = Served(f"{self.folder}/1")
             self.assertEqual((again.wanted(), again.tag()), (None, None))
 
-    def test_a_power_cut_behind_begun(self) -> None:
-        """An old `wanted`, a torn one or none asks for nothing, and an old or torn `run` is no run of the new start."""
-        self.begin("1 1\n")
-        self.seat.let_talk(1, "a-b", "1 1\n")
-        run = read(f"{self.folder}/run") or ""
-        self.begin("1 2\n")
-        for wanted in ("1 1\n", "1 ", ""):
-            for old in (run, run[:10], ""):
-                self.write("wanted", wanted)
-                self.write("run", old)
-                self.assertEqual((self.served.wanted(), self.served.tag()), (None, None))
+    def test_a_power_cut_after_begun(self) -> None:
+        """An old text of what was told asks for nothing, and is no run of the new start; a torn one neither."""
+        self.begin("1 1")
+        self.tell("1 1", f" a-b {boot_name()}")
+        old = read(f"{self.folder}/told/members") or ""
+        self.begin("1 2")
+        for text in (old, old[:len(old) // 2], ""):
+            self.write("told/members", text)
+            self.assertEqual((self.served.wanted(), self.served.tag()), (None, None))
 
     def test_what_is_refused_is_told(self) -> None:
-        self.begin("1 1\n")
+        self.begin("1 1")
         self.assertEqual((self.served.takes("a-c"), self.seat.take_refused()), (False, None))
-        self.seat.let_talk(1, "a-b", "1 1\n")
+        self.tell("1 1", f" a-b {boot_name()}")
         self.assertEqual((self.served.takes("a-c"), self.seat.take_refused()), (True, None))
         self.assertEqual((self.served.takes("x-c"), self.seat.take_refused(), self.seat.take_refused()), (False, "x-c", None))
 
     def test_a_wait_ends_with_a_change(self) -> None:
         """Also with one that came before it."""
-        self.seat.tell("1 1\n")
+        self.tell("1 1")
         began = time.monotonic()
         self.served.wait(120)
-        timer = threading.Timer(0.2, self.seat.tell, ["1 2\n"])
+        timer = threading.Timer(0.2, self.tell, ["1 2"])
         timer.start()
         self.served.wait(120)
         timer.join()
         self.assertLess(time.monotonic() - began, 60)
         self.assertEqual(self.served.wanted(), 1)
+
+    def test_what_an_earlier_gateway_left(self) -> None:
+        """It told each member in files of its own: they are taken away, and their number is the least."""
+        for name, text in (("run", "1 tag 9 boot\n"), ("wanted", "1 9\n"), ("begun", "1 4\n")):
+            self.write(f"1/{name}", text)
+        with self.assertLogs("resetd_client", "WARNING") as told:
+            Served(f"{self.folder}/1")
+        self.assertIn("the gateway is of an earlier version", told.output[0])
+        seat = Seat(f"{self.folder}/1")
+        self.assertEqual((seat.is_earlier, seat.number, sorted(os.listdir(f"{self.folder}/1"))), (True, 9, ["begun"]))
+
+    def test_names(self) -> None:
+        for name in ("told", "a b", "a\tb"):
+            self.assertRaises(BadWords, Seat, f"{self.folder}/{name}")
 
 
 class Gateways(Case):
@@ -224,6 +208,11 @@ class Gateways(Case):
         if epoch is not None:
             served.has_begun()
         return epoch
+
+    def told_to(self, node: int) -> str:
+        """What the member is told."""
+        lines = (read(f"{self.folder}/members/told/members") or "").splitlines()
+        return next(line.partition(" ")[2] for line in lines if line.startswith(f"{node} "))
 
     def look(self) -> None:
         """Looks as often as a reset, which takes a while, asks for."""
@@ -336,17 +325,17 @@ class Gateways(Case):
     def test_the_greatest_number_is_told(self) -> None:
         """Also where its own file is gone, or those of its members are."""
         self.all_begin()
-        numbers = [read(f"{self.folder}/members/{node}/wanted") for node in (1, 2, 3)]
+        self.assertTrue(self.told_to(1).startswith("1 1 "))
         self.book.close()
         for name in ("starts.json", "starts.history"):
             os.remove(f"{self.folder}/members/{name}")
         self.gateway = self.gateway_of("next")
         self.assertEqual((self.all_begin(), self.rows()), ([2, 2, 2], [(2, 2)] * 3))
-        self.assertEqual([(numbers[0], read(f"{self.folder}/members/1/wanted"))], [("1 1\n", "2 2\n")])
+        self.assertTrue(self.told_to(1).startswith("2 2 "))
         for node in (1, 2, 3):
             shutil.rmtree(f"{self.folder}/members/{node}")
         self.assertEqual(self.all_begin(), [3, 3, 3])
-        self.assertEqual(read(f"{self.folder}/members/1/wanted"), "3 3\n")
+        self.assertTrue(self.told_to(1).startswith("3 3 "))
 
     def test_a_file_of_an_earlier_version(self) -> None:
         """All begin anew, after one reset, and what members had begun is not taken for it."""
@@ -384,7 +373,7 @@ class Gateways(Case):
         for node in (1, 2, 3):
             self.server.reset(node)
         self.assertEqual((self.all_begin(), self.tags()), ([2, 2, 2], {None}))
-        self.assertTrue((read(f"{self.folder}/members/1/run") or "").startswith("2 - "))
+        self.assertEqual(self.told_to(1), f"2 2 - {boot_name()}")
 
     def test_a_run_ends_where_somebody_comes(self) -> None:
         """Before any member is told to begin anew."""
@@ -398,17 +387,21 @@ class Gateways(Case):
     def test_what_a_member_writes_brings_a_look(self) -> None:
         """At once what it has begun, and soon what it has refused; what the gateway writes brings none."""
         self.look()
-        self.assertEqual(self.gateway._sooner(), math.inf)
+        self.assertEqual(self.gateway._sooner(7.0), math.inf)
         self.begin(1)
-        self.assertEqual([self.gateway._sooner() for _ in range(2)], [0.0, 0.0])
+        now = time.monotonic()
+        self.assertTrue(now < self.gateway._sooner(7.0) < time.monotonic() + GATHER_SECONDS)  # the others are awaited
+        for node in (2, 3):
+            self.begin(node)
+        self.assertTrue(now < self.gateway._sooner(7.0) < time.monotonic())
         self.all_begin()
         self.gateway._changes.take()
         self.gateway._written = set()
         Served(f"{self.folder}/members/2").takes("another")
-        self.assertEqual([self.gateway._sooner() for _ in range(2)], [DOUBT_SECONDS, DOUBT_SECONDS])
+        self.assertEqual([self.gateway._sooner(7.0) for _ in range(2)], [7.0 + DOUBT_SECONDS] * 2)
         self.look()
         self.gateway._written = set()
-        self.assertEqual(self.gateway._sooner(), math.inf)
+        self.assertEqual(self.gateway._sooner(7.0), math.inf)
 
     def test_a_refused_tag(self) -> None:
         """A reset is asked for if its sender was shown the same, and only then."""
@@ -423,7 +416,7 @@ class Gateways(Case):
     def test_a_tag_that_was_refused_beside_a_run_that_is_over(self) -> None:
         self.all_begin()
         desk, own = self.gateway.desks[1], Served(f"{self.folder}/members/2").tag() or ""
-        desk.end_run()
+        desk.tag = None
         keep(f"{self.folder}/members/2/refused", f"{32 * 'f'}-{own[33:]}\n")
         self.assertFalse(desk.is_parted())
 
@@ -544,6 +537,62 @@ class Gateways(Case):
         self.gateway.stop()
         thread.join(5)
         self.assertFalse(thread.is_alive())
+
+
+class AtAFront(Case):
+    """A gateway whose orders, looks and wake-ups go over one connection."""
+
+    def setUp(self) -> None:
+        super().setUp()
+        self.server.ring(3)
+        path = f"{self.folder}/front"
+        self.front = of_unix(self.server, path)
+        self.addCleanup(self.front.close)
+        self.at_front = AtFront(Port(f"unix:{path}", 30), f"{self.folder}/members")
+        self.addCleanup(self.at_front.close)
+        self.gateway = Gateway(self.at_front.port, self.at_front, {node: [f"{node}"] for node in (1, 2, 3)}, f"{self.folder}/members", told=self.told.append)
+        self.following = threading.Thread(target=self.gateway.follow, args=(self.at_front, 3_600.0), daemon=True)
+        self.following.start()
+        self.addCleanup(self.end)
+
+    def end(self) -> None:
+        self.gateway.stop()
+        self.following.join(60)
+
+    def expect(self, holds: Callable[[], bool]) -> None:
+        until = time.monotonic() + 60
+        while not holds():
+            self.assertLess(time.monotonic(), until, self.told)
+            time.sleep(0.002)
+
+    def begin_all(self, epoch: int) -> None:
+        served = [Served(f"{self.folder}/members/{node}") for node in (1, 2, 3)]
+        for each in served:
+            self.expect(lambda: each.wanted() == epoch)
+            each.has_begun(is_synced=False)
+        self.expect(lambda: len({each.tag() for each in served}) == 1 and served[0].tag() is not None)
+
+    def test_resets(self) -> None:
+        """Its members are confirmed together, and what they write brings no look at the server: the front pushes each change."""
+        self.begin_all(1)
+        shows = [request for request in self.server.seen if request["op"] == "show"]
+        for epoch in (2, 3):
+            self.server.by_somebody("reset", node=2)
+            self.front.push()
+            self.begin_all(epoch)
+        self.assertEqual([request for request in self.server.seen if request["op"] == "show"], shows)
+        self.assertEqual([order["node"] for order in self.front.ordered if order["op"] == "confirm"], [1, 2, 3] * 3)
+        self.assertFalse(os.path.exists(f"{self.folder}/members/order.json"))
+
+    def test_syncs_of_a_reset(self) -> None:
+        """Two where it tells what to begin, and one of the history; it tells all members in two writes."""
+        self.begin_all(1)
+        synced = list[int]()
+        with mock.patch("os.fsync", side_effect=synced.append), mock.patch("os.fdatasync", side_effect=synced.append):
+            self.server.by_somebody("reset", node=2)
+            self.front.push()
+            self.begin_all(2)
+        self.assertEqual(len(synced), 3)
 
 
 load_tests = over_both

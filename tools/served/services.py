@@ -19,7 +19,7 @@ sys.path.insert(0, os.path.join(ROOT, "client"))
 from resetd_client import Away, Member, Orders, OutOfRun, Port, Reply, View, patiently  # noqa: E402
 
 __all__ = ["ROOT", "Away", "Failed", "Member", "Orders", "OutOfRun", "Port", "Trial", "View", "Words", "patiently", "read",
-           "tag_in"]
+           "tag_in", "tags_at"]
 
 OPERATOR = 16
 
@@ -220,3 +220,8 @@ def tag_in(path: str) -> str:
     """The tag of a member's run, by its file; empty where there is none."""
     fields = read(path).split()
     return fields[1] if len(fields) > 1 else ""
+
+
+def tags_at(folder: str) -> set[str]:
+    """The tags that a gateway told its members last; with the empty text where it told one none."""
+    return {(line.split() + ["", "", "", ""])[3] for line in read(f"{folder}/told/members").splitlines()}

@@ -7,7 +7,7 @@ import subprocess
 import time
 
 from .ports import held_ports
-from .services import Failed, Trial, patiently, read, tag_in
+from .services import Failed, Trial, patiently, read, tags_at
 
 LIMIT = 400_000  # bytes of the file of signals, where a line is to be torn
 PATIENCE = 300  # seconds within which a server answers and ends, on a busy machine too
@@ -132,8 +132,7 @@ def members(trial: Trial) -> None:
     trial.expect_begun("64 members started")
     trial.reset_all("a reset of 64 members")
     trial.reset_all("a reset of 64 members with a kill in it", node=33, is_killed=True)
-    trial.expect("all members have one tag", lambda: len({tag_in(f"{trial.folder}/gateway/{node}/run")
-                 for node in trial.nodes}) == 1 and tag_in(f"{trial.folder}/gateway/1/run") != "")
+    trial.expect("all members have one tag", lambda: len(tags := tags_at(f"{trial.folder}/gateway")) == 1 and tags != {""})
 
 
 def messages(trial: Trial) -> str:

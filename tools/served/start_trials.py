@@ -3,7 +3,7 @@
 import shutil
 from collections.abc import Sequence
 
-from .services import Trial, tag_in
+from .services import Trial, tag_in, tags_at
 from .signal_trials import begin_first
 
 
@@ -69,7 +69,7 @@ def plain(trial: Trial) -> None:
     def goes_on(what: str, before: dict[int, int] | None = None) -> None:
         trial.expect_begun(what, before)
         trial.expect(f"one run {what}", lambda: len(tags := {
-            tag_in(f"{trial.folder}/{name}/run") for name in ("gateway/1", "gateway/2", "3")}) == 1 and tags != {""})
+            tag_in(f"{trial.folder}/3/run"), *tags_at(f"{trial.folder}/gateway")}) == 1 and tags != {""})
     up()
     goes_on("at first")
     trial.reset_all("a reset")

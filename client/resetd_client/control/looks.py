@@ -11,8 +11,9 @@ from contextlib import closing, nullcontext
 from datetime import datetime
 
 from ..answers import Away, NotNow
+from ..at_front import wakes_of
 from ..view import View
-from ..watching import Watched, wakes_of
+from ..watching import Watched
 from . import ranges
 from .base import DONE, Command, Control, add_json, print_json
 
