@@ -1,17 +1,19 @@
 -- No start hears of two starts of one member, where some keep their files, whatever is shown, and others may lose them.
-use Rattle.std.proofs.Common.{◌≡◌, ℕ, Bool, true, false, List, [], ◌∷◌, ◌++◌, Option, Some, None, refl, sym, ap, subst, ◌∙◌, arith, inl, inr, slice_get}
+use Rattle.std.proofs.Common.{◌≡◌, ℕ, suc, Bool, true, false, List, [], ◌∷◌, ◌++◌, Option, Some, None, refl, sym, ap, subst, ◌∙◌, arith, inl, inr, slice_get}
 use Rattle.std.proofs.lemmas.Bool.Decides.{nat_tests}
 use Rattle.coord_member.specs.declared.view.Entry.{Entry}
 use Rattle.coord_member.specs.declared.view.Entry.TheVariants.{Node}
 use Rattle.coord_member.specs.declared.view.Row.{Row}
-use Rattle.coord_member.specs.Rule.{Kept, new_kept, due}
+use Rattle.coord_member.specs.Rule.{Kept, new_kept}
 use Rattle.coord_member.specs.Members.{Talked, MemberWorld, new_world, Event, Look, Load, Crash, Forget, Lose, Send, Hear, happens, run}
 use Rattle.coord_member.specs.NoMix.{IsOneOf, IsUnmixed, KeepsFiles, NoMix}
 use Rattle.std.specs.List.{AllByRecursion}
 use Rattle.coord_member.specs.Honest.{Shown, nothing_shown, with_shown, IsHonest, IsLater, IsLinkOf, IsView, NoMixHonest}
 use Rattle.coord_member.specs.Fair.{IsFair, NoMixFair}
-use Rattle.coord_member.proofs.Holding.{Past, Lasts, Holds, Rules, crashed, got, drops, forgets, hears, loads, looks, nothing_yet, one_before, one_more, past_at, sent}
+use Rattle.coord_member.specs.Cautious.{NoMixWithMore, happens_with, run_with}
+use Rattle.coord_member.proofs.Holding.{Past, Lasts, Holds, Rules, crashed, got, drops, forgets, hears, loads, nothing_yet, one_before, one_more, past_at, sent}
 use Rattle.coord_member.proofs.Unmixed.{by_party, unmixed}
+use Rattle.coord_member.proofs.Cautious.{looks_with}
 use Rattle.coord_member.proofs.Besides.{IsOver, begun_over, none_again, shown_of, shown_of_others, stays_over}
 
 -- the party of a start is in its node's history, if the node keeps its files, and otherwise ruled out by what is shown
@@ -102,33 +104,54 @@ rules_over keeps made last w i life row now h loses later view =
           );
     }
 
-runs : (keeps : ℕ → Bool) (made : ℕ → Entry → ℕ) (last : ℕ → Shown) (w : MemberWorld) (events : List Event) → IsFair keeps made last events → Holds by_party (is_fair keeps made last) w → IsUnmixed (run w events)
-runs keeps made last w [] fair h = unmixed (is_fair keeps made last) w h
-runs keeps made last w (Look i row now ∷ events) (inl fair) h =
+abbrev rest_of : (ℕ → List (List Entry)) → ℕ → List (List Entry)
+rest_of more k = more (suc k)
+
+runs : (keeps : ℕ → Bool) (made : ℕ → Entry → ℕ) (last : ℕ → Shown) (more : ℕ → List (List Entry)) (w : MemberWorld) (events : List Event) → IsFair keeps made last events → Holds by_party (is_fair keeps made last) w → IsUnmixed (run_with more w events)
+runs keeps made last more w [] fair h = unmixed (is_fair keeps made last) w h
+runs keeps made last more w (Look i row now ∷ events) (inl fair) h =
     let past = is_fair keeps made last in
-    runs keeps made last (happens w (Look i row now)) events fair.1
-    (looks by_party past past w i row now (due (w.member i).kept row now) h (rules_kept keeps made last w i row now h fair.0) refl)
-runs keeps made last w (Look i row now ∷ events) (inr fair) h =
+    runs keeps made last (rest_of more) (happens_with w (more 0) (Look i row now)) events fair.1
+    (looks_with by_party past past w i row now (more 0) h (rules_kept keeps made last w i row now h fair.0))
+runs keeps made last more w (Look i row now ∷ events) (inr fair) h =
     let life = fair.1 in
     let next = with_shown last i life row in
-    runs keeps made next (happens w (Look i row now)) events fair.4
-    (looks by_party (is_fair keeps made last) (is_fair keeps made next) w i row now (due (w.member i).kept row now) h (rules_over keeps made last w i life row now h fair.0 fair.2 fair.3) refl)
-runs keeps made last w (Load i ∷ events) fair h = runs keeps made last (happens w (Load i)) events fair (loads by_party (is_fair keeps made last) w i (w.member i).loading (lasts keeps made last) h refl)
-runs keeps made last w (Crash i ∷ events) fair h = runs keeps made last (happens w (Crash i)) events fair (crashed by_party (is_fair keeps made last) w i (lasts keeps made last) h)
-runs keeps made last w (Forget i ∷ events) fair h = runs keeps made last (happens w (Forget i)) events fair (forgets by_party (is_fair keeps made last) w i (lasts keeps made last) h)
-runs keeps made last w (Lose i ∷ events) fair h =
+    runs keeps made next (rest_of more) (happens_with w (more 0) (Look i row now)) events fair.4
+    (looks_with by_party (is_fair keeps made last) (is_fair keeps made next) w i row now (more 0) h (rules_over keeps made last w i life row now h fair.0 fair.2 fair.3))
+runs keeps made last more w (Load i ∷ events) fair h = runs keeps made last (rest_of more) (happens w (Load i)) events fair (loads by_party (is_fair keeps made last) w i (w.member i).loading (lasts keeps made last) h refl)
+runs keeps made last more w (Crash i ∷ events) fair h = runs keeps made last (rest_of more) (happens w (Crash i)) events fair (crashed by_party (is_fair keeps made last) w i (lasts keeps made last) h)
+runs keeps made last more w (Forget i ∷ events) fair h = runs keeps made last (rest_of more) (happens w (Forget i)) events fair (forgets by_party (is_fair keeps made last) w i (lasts keeps made last) h)
+runs keeps made last more w (Lose i ∷ events) fair h =
     let kept = (w.member i).kept in
     let loading = (w.member i).loading in
-    runs keeps made last (happens w (Lose i)) events fair.1
+    runs keeps made last (rest_of more) (happens w (Lose i)) events fair.1
     (drops by_party (is_fair keeps made last) (is_fair keeps made last) w i new_kept None h refl (λ e f. absurd (cc)) (λ j k l t away is. is)
     (λ t in_t e.
     let is : IsOver made (last i) kept loading t = subst (λ b. by_files b made (last i) kept loading t) fair.0 (past_at by_party (is_fair keeps made last) w i t h in_t e) in
     subst (λ b. by_files b made (last i) new_kept None t) (sym fair.0) (record { life = is.life; links = is.links; own = is.own; shown = is.shown; loads = λ e. absurd (cc); again = λ e f. absurd (cc) })))
-runs keeps made last w (Send i ∷ events) fair h = runs keeps made last (happens w (Send i)) events fair (sent by_party (is_fair keeps made last) w i (w.member i).tag h refl)
-runs keeps made last w (Hear i k ∷ events) fair h = runs keeps made last (happens w (Hear i k)) events fair (hears by_party (is_fair keeps made last) w i (slice_get w.messages k) h (λ m e. got w.messages k m e))
+runs keeps made last more w (Send i ∷ events) fair h = runs keeps made last (rest_of more) (happens w (Send i)) events fair (sent by_party (is_fair keeps made last) w i (w.member i).tag h refl)
+runs keeps made last more w (Hear i k ∷ events) fair h = runs keeps made last (rest_of more) (happens w (Hear i k)) events fair (hears by_party (is_fair keeps made last) w i (slice_get w.messages k) h (λ m e. got w.messages k m e))
+
+pub no_mix_with_more : NoMixWithMore
+no_mix_with_more keeps made more events fair = runs keeps made nothing_shown more new_world events fair (nothing_yet by_party (is_fair keeps made nothing_shown))
+
+-- ---- no more than they talked with
+
+same_event : (w : MemberWorld) (event : Event) → happens_with w [] event ≡ happens w event
+same_event w (Look i row now) = refl
+same_event w (Load i) = refl
+same_event w (Crash i) = refl
+same_event w (Forget i) = refl
+same_event w (Lose i) = refl
+same_event w (Send i) = refl
+same_event w (Hear i k) = refl
+
+same_run : (w : MemberWorld) (events : List Event) → run_with (λ k. []) w events ≡ run w events
+same_run w [] = refl
+same_run w (event ∷ events) = ap (λ v. run_with (λ k. []) v events) (same_event w event) ∙ same_run (happens w event) events
 
 pub no_mix_fair : NoMixFair
-no_mix_fair keeps made events fair = runs keeps made nothing_shown new_world events fair (nothing_yet by_party (is_fair keeps made nothing_shown))
+no_mix_fair keeps made events fair = subst IsUnmixed (same_run new_world events) (no_mix_with_more keeps made (λ k. []) events fair)
 
 -- ---- all keep them, or all may lose them
 

@@ -568,6 +568,20 @@ looks c past later w i row now Begin h rules e =
     let new = (both (nat_lt row.confirmed row.epoch) (not (was_before now kept.history)) (begins (nat_lt row.confirmed row.epoch && not (was_before now kept.history)) (is_begun kept.begun row && not row.through) (is_begun kept.begun row && admits kept.party (was_before now kept.history) now) row.quiet e)).0 in
     drops c past later w i (record kept { party = None; begun = None }) (Some row.epoch) h refl (λ e f. refl) rules.others (λ t in_t f. rules.begins t in_t f new)
 
+-- a look by which a member waits or asks for a reset, whatever else it might have done
+pub looks_less : (c : Claim) (past later : Past) (w : MemberWorld) (i : ℕ) (row : Row) (now : List Entry) (d : Due) → Holds c past w → Rules c past later w i row now → (d ≡ Wait) ⊎ (d ≡ Reset) →
+    Holds c later (looked w i (member_for (w.member i) (kept_for (w.member i).kept now d) row d))
+looks_less c past later w i row now d h rules less = elim less [ inl waits ↦ at_wait waits | inr asks ↦ at_reset asks ]
+  where
+    silently : Holds c later (looked w i (record (w.member i) { tag = None }))
+    silently = look_silent c later w i (shown_more c past later w i row now h rules)
+
+    at_wait : d ≡ Wait → Holds c later (looked w i (member_for (w.member i) (kept_for (w.member i).kept now d) row d))
+    at_wait is = subst (λ d. Holds c later (looked w i (member_for (w.member i) (kept_for (w.member i).kept now d) row d))) (sym is) silently
+
+    at_reset : d ≡ Reset → Holds c later (looked w i (member_for (w.member i) (kept_for (w.member i).kept now d) row d))
+    at_reset is = subst (λ d. Holds c later (looked w i (member_for (w.member i) (kept_for (w.member i).kept now d) row d))) (sym is) silently
+
 -- ---- at first
 
 pub nothing_yet : (c : Claim) (past : Past) → Holds c past new_world

@@ -5,4 +5,7 @@ pub mod Holding
 pub mod Unmixed
 pub mod Besides
 pub mod Worked
+pub mod Cautious
+pub mod OnDisk
 pub mod Fair
+pub mod Fences

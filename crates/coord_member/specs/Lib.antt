@@ -5,4 +5,7 @@ pub mod Members
 pub mod NoMix
 pub mod Honest
 pub mod Fair
+pub mod Fence
+pub mod Cautious
+pub mod OnDisk
 pub mod WorkedRun

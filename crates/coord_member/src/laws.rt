@@ -1,8 +1,11 @@
 //! The laws of members: functions that do nothing, whose contracts are the laws.
 
+ghost use Rattle.coord_member.specs.Cautious.{MoreOnlyForbids, NoMixWithMore};
 ghost use Rattle.coord_member.specs.Fair.{NoMixFair};
+ghost use Rattle.coord_member.specs.Fence.{LaterIsGreater, NewestIsAccepted, NoStartReturns};
 ghost use Rattle.coord_member.specs.Honest.{NoMixHonest};
 ghost use Rattle.coord_member.specs.NoMix.{NoMix};
+ghost use Rattle.coord_member.specs.OnDisk.{LeftIsEnough};
 ghost use Rattle.coord_member.specs.Refusals.{RefusersAsk};
 ghost use Rattle.coord_member.specs.Text.{TextTellsParty};
 ghost use Rattle.coord_member.specs.WorkedRun.{WorkedRun};
@@ -23,6 +26,46 @@ pub fn no_mix_where_files_are_lost()
 /// Both at once: members that keep their files may be shown anything, while others lose theirs.
 pub fn no_mix_where_some_files_are_lost()
     ensures { NoMixFair }
+{}
+
+/// Parties in a member's history that no start of it talked with turn what is due into waiting or a
+/// reset, or change nothing.
+#[tactic(auto, using(crate::proofs::Cautious::more_only_forbids))]
+pub fn more_only_forbids()
+    ensures { MoreOnlyForbids }
+{}
+
+/// So no runs are mixed where members write a party into their histories before they know whether
+/// they will talk with it, and forget that they did: at each look a history may have any parties more.
+#[tactic(auto, using(crate::proofs::Fair::no_mix_with_more))]
+pub fn no_mix_with_more_parties()
+    ensures { NoMixWithMore }
+{}
+
+/// A member that reads back what `specs/OnDisk.antt` asks for goes on as one that has crashed, or whose
+/// work is gone, and whose history has more parties.
+#[tactic(auto, using(crate::proofs::OnDisk::left_is_enough))]
+pub fn what_is_left_is_enough()
+    ensures { LeftIsEnough }
+{}
+
+/// Behind a fence that a resource accepted, it accepts those of other runs with greater counts alone.
+#[tactic(auto, using(crate::proofs::Fences::later_is_greater))]
+pub fn later_fences_are_greater()
+    ensures { LaterIsGreater }
+{}
+
+/// A start that a resource accepted before one of another run is never accepted behind it, whatever
+/// is presented, in any order, late and again.
+#[tactic(auto, using(crate::proofs::Fences::no_start_returns))]
+pub fn no_start_returns()
+    ensures { NoStartReturns }
+{}
+
+/// A fence that is newer than those of all other runs is accepted whenever it comes.
+#[tactic(auto, using(crate::proofs::Fences::newest_is_accepted))]
+pub fn newest_fence_is_accepted()
+    ensures { NewestIsAccepted }
 {}
 
 /// Two members that talk, are shown the same and refuse each other both ask for a reset.

@@ -12,9 +12,16 @@
 //! loads, crashes, lost work and files, messages that come late, again or never. No start ever hears,
 //! at first or at second hand, of two starts of one member (`specs/NoMix.antt`), whatever is shown to
 //! members that keep their files (`laws::no_mix`), and, if what is shown is a store's history,
-//! wherever members lose theirs (`laws::no_mix_where_files_are_lost`; `specs/Honest.antt`).
+//! wherever members lose theirs (`laws::no_mix_where_files_are_lost`; `specs/Honest.antt`). A member may
+//! write parties into its history that its start then doesn't talk with (`specs/Cautious.antt`), and
+//! `specs/OnDisk.antt` says what has to be on the disk before which message.
+//!
+//! A member that is paused can't know that its group has gone on. [`Gate`] is for a resource that
+//! several members use: by the fence that each brings (`specs/Fence.antt`) it keeps out every start
+//! that one of another run has replaced.
 #![tactic(auto)]
 
+mod fence;
 mod kept;
 pub mod laws;
 mod party;
@@ -22,6 +29,7 @@ mod rule;
 mod text;
 mod view;
 
+pub use fence::Gate;
 pub use kept::{Judged, Kept, judge};
 pub use party::{is_alone, is_within, same_party};
 pub use rule::{Change, Due, change_of, due_of, on_refused};

@@ -1,0 +1,73 @@
+-- The fence of a start, and the gate of a resource that starts of several runs use.
+--
+-- A start may be paused at any moment, and what it sent may come late. So a resource is told by each request whose it is, and keeps
+-- who came before.
+use Rattle.std.specs.Prelude.{◌≡◌, ℕ, ◌<◌, ◌⊎◌, ◌&&◌, ◌||◌, nat_lt, Bool, true, false, List, [], ◌∷◌, if◌then◌else◌}
+use Rattle.std.specs.List.{AllByRecursion}
+use Rattle.std.specs.Str.{bytes_eq}
+use Rattle.coord_member.specs.declared.fence.Gate.{Gate}
+
+-- ---- the gate
+
+-- nothing was accepted
+abbrev pub new_gate : Gate
+new_gate = record { floor = 0; count = 0 }
+
+-- a count that is greater than all that came, or, of the run that came last, greater than all that came of others
+abbrev pub admits : Gate → Bool → ℕ → Bool
+admits gate is_own count = nat_lt gate.count count || (is_own && nat_lt gate.floor count)
+
+-- behind a count that is accepted
+abbrev pub passed : Gate → Bool → ℕ → Gate
+passed gate is_own count = record { floor = if is_own then gate.floor else gate.count; count = if nat_lt gate.count count then count else gate.count }
+
+-- ---- a resource
+
+-- what a start presents: the count of the look by which its party was fixed, and the name of its run
+pub record Fence : Type 0 where
+  pub count : ℕ
+  pub tag : List ℕ
+
+pub record Resource : Type 0 where
+  pub gate : Gate
+  pub tag : List ℕ  -- of the fence that was accepted last
+
+abbrev pub new_resource : Resource
+new_resource = record { gate = new_gate; tag = [] }
+
+abbrev pub is_own : Resource → Fence → Bool
+is_own r f = bytes_eq r.tag f.tag
+
+abbrev pub accepts : Resource → Fence → Bool
+accepts r f = admits r.gate (is_own r f) f.count
+
+abbrev pub held_by : Bool → Resource → Fence → Resource
+held_by own r f = record { gate = passed r.gate own f.count; tag = f.tag }
+
+-- behind a fence that is presented, and behind several. One that is refused changes nothing
+abbrev pub behind : Resource → Fence → Resource
+behind r f = if accepts r f then held_by (is_own r f) r f else r
+
+abbrev pub behind_all : Resource → List Fence → Resource
+behind_all r [] = r
+behind_all r (f ∷ fences) = behind_all (behind r f) fences
+
+-- ---- what holds, whatever is presented, in any order, late and again
+
+-- behind a fence that was accepted, those of other runs have greater counts
+abbrev pub LaterIsGreater : Type 0
+LaterIsGreater = (r : Resource) (g f : Fence) (between : List Fence) → accepts r g ≡ true → accepts (behind_all (behind r g) between) f ≡ true → (f.tag ≡ g.tag) ⊎ (g.count < f.count)
+
+-- a start that was accepted before one of another run is never accepted behind it
+abbrev pub NoStartReturns : Type 0
+NoStartReturns =
+    (r : Resource) (f g : Fence) (between later : List Fence) → (f.tag ≡ g.tag → ⊥) → accepts r f ≡ true → accepts (behind_all (behind r f) between) g ≡ true →
+    accepts (behind_all (behind (behind_all (behind r f) between) g) later) f ≡ false
+
+-- of the same run, or with a lesser count
+abbrev pub IsNoNewer : Fence → Fence → Type 0
+IsNoNewer f g = (g.tag ≡ f.tag) ⊎ (g.count < f.count)
+
+-- a fence that is newer than those of all other runs is accepted whenever it comes
+abbrev pub NewestIsAccepted : Type 0
+NewestIsAccepted = (f : Fence) (fences : List Fence) → 0 < f.count → AllByRecursion (IsNoNewer f) fences → accepts (behind_all new_resource fences) f ≡ true
