@@ -12,7 +12,7 @@ use Rattle.proxy_core.specs.Rules.{Rules, next, needs_number}
 use Rattle.proxy_core.specs.Pending.{Pending, is_from, step, text_of}
 use Rattle.proxy_core.specs.Machine.{Proxy, outcome, outcome_of, flown, held, is_in_turn, left, picked, rest, is_alike, is_flight, is_none, is_ready, lost_of, may_go, after_first_answer, admission}
 use Rattle.proxy_core.specs.Run.{Request, Sent, Delivery, Answer, Run, Event, Arrives, Leaves, Flies, Answers, Breaks, Connects, Counts, broke, came, connected, happens, answer_of, is_ended, run, new_run, next_request, said, delivered_too, went, without, written}
-use Rattle.proxy_core.specs.Numbers.{AreSerial, HasOneNumber, IsFresh}
+use Rattle.proxy_core.specs.Numbers.{AreSerial, HasOneNumber, IsFresh, IsInOrder}
 use Rattle.proxy_core.specs.Promises.{AreNumbered, AreOf, IsAllowed, IsAnswerTo, IsKnown, IsDenied, IsDeniedRightly, Keeps, by_server, bytes_of, pending_of, is_first_at, is_once_at, refuses_number_at, place_if, places_of, places_delivered, sending, sendings}
 use Rattle.proxy_core.proofs.Lists.{AreLast, alike_rest, all_append, all_filter, all_left, all_picked, all_weaker, are_more, are_push, are_weaker, both_true, count_filter, count_less, count_sendings, count_picked, count_push, count_rest, either, ended_apart, flight_is, flight_rest, from_other, from_picked, last_picked, left_pending_of, none_from, numbered_push, of_push, one_place, picked_pending_of, rest_twice, server-append, text_same, delivered_push, without_pending_of, written_of}
 
@@ -186,7 +186,7 @@ leaves_holds r w in_flight queued c h = record {
 -- ---- a line comes
 
 more_allowed : (r : Rules) (requests more : List Request) (s : Sent) → IsAllowed r requests s → IsAllowed r (requests ++ more) s
-more_allowed r requests more s is = record { ask = is.ask; requested = Contains-append_left requests more is.ask is.requested; place = is.place; unnumbered = is.unnumbered; line = is.line; once = is.once; before = is.before; may = is.may }
+more_allowed r requests more s is = record { ask = is.ask; requested = Contains-append_left requests more is.ask is.requested; from = is.from; place = is.place; unnumbered = is.unnumbered; line = is.line; once = is.once; before = is.before; may = is.may }
 
 more_good : (r : Rules) (requests : List Request) (b a : Request) → IsGood r requests a → IsGood r (requests ++ b ∷ []) a
 more_good r requests b a is = record { requested = Contains-append_left requests (b ∷ []) a is.requested; before = (let less = is.before in omega (arith, less, length_push requests b)); may = is.may }
@@ -376,7 +376,7 @@ arrives_holds r w in_flight queued c role line h =
 all_sendings : (r : Rules) (requests : List Request) (first : Bool) (serial number : ℕ) (xs : List Request) → AllByRecursion (IsGood r requests) xs → AllByRecursion (IsAllowed r requests) (sendings r (length requests) first serial number xs)
 all_sendings r requests first serial number [] all = tt
 all_sendings r requests first serial number (x ∷ xs) all =
-    (record { ask = x; requested = all.0.requested; place = refl; unnumbered = refl; line = refl; once = refl; before = all.0.before; may = all.0.may }, all_sendings r requests first (serial + 1) (step (needs_number r x.line) number) xs all.1)
+    (record { ask = x; requested = all.0.requested; from = refl; place = refl; unnumbered = refl; line = refl; once = refl; before = all.0.before; may = all.0.may }, all_sendings r requests first (serial + 1) (step (needs_number r x.line) number) xs all.1)
 
 -- what was sent stays sent
 more_known : (sent later : List Sent) (s : Sent) → IsKnown sent s → IsKnown (sent ++ later) s
@@ -929,8 +929,9 @@ pub run_holds : (r : Rules) (w : Run) (events : List Event) → Holds r w → Ho
 run_holds r w [] h = h
 run_holds r w (event ∷ events) h = run_holds r (happens r w event) events (happens_holds r w event h)
 
-pub keeps_of : (r : Rules) (w : Run) → Holds r w → AreSerial 0 w.sent → HasOneNumber r w → IsFresh r w → Keeps r w
-keeps_of r w h serial one_number fresh = record {
+pub keeps_of : (r : Rules) (w : Run) → Holds r w → AreSerial 0 w.sent → HasOneNumber r w → IsFresh r w → IsInOrder w → Keeps r w
+keeps_of r w h serial one_number fresh in_order = record {
+  in_order = in_order;
   serial = serial;
   one_number = one_number;
   fresh = fresh;

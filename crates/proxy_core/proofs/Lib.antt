@@ -8,3 +8,5 @@ pub mod Sendings
 pub mod Numbering
 pub mod Session
 pub mod Fair
+pub mod Ordering
+pub mod WorkedSession

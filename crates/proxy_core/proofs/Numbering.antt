@@ -146,7 +146,7 @@ place_less n p (x ∷ xs) a all in_it = elim (cons_cases x a xs in_it) [
 ]
 
 -- nothing was sent for a request that arrives
-none_sent : (r : Rules) (w : Run) → Holds r w → (s : Sent) → Contains w.sent s → s.place < length w.requests
+pub none_sent : (r : Rules) (w : Run) → Holds r w → (s : Sent) → Contains w.sent s → s.place < length w.requests
 none_sent r w held s in_it =
     let allowed : IsAllowed r w.requests s = all_at (IsAllowed r w.requests) w.sent s held.sent in_it in
     let less = place_less 0 0 w.requests allowed.ask held.numbered allowed.requested in
@@ -728,7 +728,7 @@ hand_numbers r w in_flight queued Breaks held h = breaks_numbers r w in_flight q
 hand_numbers r w in_flight queued Connects held h = connects_numbers r w in_flight queued held h
 hand_numbers r w in_flight queued (Counts last) held h = counts_numbers r (with_hand r in_flight queued w) last h
 
-happens_numbers : (r : Rules) (w : Run) (event : Event) → Holds r w → Numbers r w → Numbers r (happens r w event)
+pub happens_numbers : (r : Rules) (w : Run) (event : Event) → Holds r w → Numbers r w → Numbers r (happens r w event)
 happens_numbers r w event held h =
     let with : (List Pending × List Pending) → Run = λ p. record w { proxy = record (w.proxy) { flight = p.0; waiting = p.1 } } in
     let same : (w.proxy.flight, w.proxy.waiting) ≡ (map (pending_of r) w.in_flight, map (pending_of r) w.queued) = cc (held.flying, held.waiting) in

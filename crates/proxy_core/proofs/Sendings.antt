@@ -113,15 +113,16 @@ some_at (x ∷ xs) a in_it =
 pub record IsOf (r : Rules) (xs : List Request) (s : Sent) : Type 0 where
   pub ask : Request
   pub in_it : Contains xs ask
+  pub from : ask.from ≡ s.from
   pub place : ask.place ≡ s.place
   pub own : needs_number r ask.line ≡ s.is_unnumbered
 
 pub is_of : (r : Rules) (taken : ℕ) (first : Bool) (m k : ℕ) (xs : List Request) (s : Sent) → Contains (sendings r taken first m k xs) s → IsOf r xs s
 is_of r taken first m k [] s in_it = absurd (none_in s in_it)
 is_of r taken first m k (x ∷ xs) s in_it = elim (cons_cases (sending r taken first m (next k) x) s (sendings r taken first (m + 1) (step (needs_number r x.line) k) xs) in_it) [
-  | inl same ↦ record { ask = x; in_it = in_head x xs; place = ap (λ (y : Sent). y.place) same; own = ap (λ (y : Sent). y.is_unnumbered) same }
+  | inl same ↦ record { ask = x; in_it = in_head x xs; from = ap (λ (y : Sent). y.from) same; place = ap (λ (y : Sent). y.place) same; own = ap (λ (y : Sent). y.is_unnumbered) same }
   | inr more ↦ (let rest = is_of r taken first (m + 1) (step (needs_number r x.line) k) xs s more in
-      record { ask = rest.ask; in_it = in_tail x rest.ask xs rest.in_it; place = rest.place; own = rest.own })
+      record { ask = rest.ask; in_it = in_tail x rest.ask xs rest.in_it; from = rest.from; place = rest.place; own = rest.own })
 ]
 
 abbrev pub AreApart : List Request → Type 0

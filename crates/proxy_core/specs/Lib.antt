@@ -6,3 +6,4 @@ pub mod Run
 pub mod Numbers
 pub mod Promises
 pub mod Session
+pub mod WorkedRun

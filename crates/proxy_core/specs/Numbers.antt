@@ -8,6 +8,10 @@ abbrev pub AreSerial : ℕ → List Sent → Type 0
 AreSerial n [] = Unit {0}
 AreSerial n (s ∷ more) = (s.serial ≡ n) × AreSerial (n + 1) more
 
+-- whatever was sent of an older request of the same connection was sent before the sending that an answer answers
+abbrev pub IsInOrder : Run → Type 0
+IsInOrder w = (h : Answer) (s : Sent) → Contains w.answers h → Contains w.sent s → s.from ≡ h.sent.from → s.place < h.sent.place → s.serial < h.sent.serial
+
 -- ---- how it is known that a number was not used
 
 -- the server refused the number of this very sending

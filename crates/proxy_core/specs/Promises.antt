@@ -4,7 +4,7 @@ use Rattle.std.specs.List.{AllByRecursion}
 use Rattle.proxy_core.specs.Rules.{Rules, as_sent, next, needs_number}
 use Rattle.proxy_core.specs.Pending.{Pending, new_pending, step, text_of}
 use Rattle.proxy_core.specs.Machine.{held, is_alike}
-use Rattle.proxy_core.specs.Numbers.{AreSerial, HasOneNumber, IsFresh}
+use Rattle.proxy_core.specs.Numbers.{AreSerial, HasOneNumber, IsFresh, IsInOrder}
 use Rattle.proxy_core.specs.Run.{Request, Sent, Delivery, Answer, Run, Event, new_run, is_ended, run}
 
 -- ---- the lines of one connection
@@ -34,7 +34,7 @@ pending_of r a = new_pending a.from a.line (r.is_once a.line) (r.is_query a.line
 
 -- a request as it is written
 abbrev pub sending : Rules → ℕ → Bool → ℕ → ℕ → Request → Sent
-sending r taken first serial number a = record { place = a.place; serial = serial; number = number; line = as_sent r number (needs_number r a.line) a.line; is_once = r.is_once a.line; is_unnumbered = needs_number r a.line; is_first = first; taken = taken }
+sending r taken first serial number a = record { from = a.from; place = a.place; serial = serial; number = number; line = as_sent r number (needs_number r a.line) a.line; is_once = r.is_once a.line; is_unnumbered = needs_number r a.line; is_first = first; taken = taken }
 
 -- those of a flight
 abbrev pub sendings : Rules → ℕ → Bool → ℕ → ℕ → List Request → List Sent
@@ -53,6 +53,7 @@ bytes_of (s ∷ more) = (s.line ++ (10 ∷ [])) ++ bytes_of more
 pub record IsAllowed (r : Rules) (requests : List Request) (s : Sent) : Type 0 where
   pub ask : Request
   pub requested : Contains requests ask
+  pub from : ask.from ≡ s.from
   pub place : ask.place ≡ s.place
   pub unnumbered : needs_number r ask.line ≡ s.is_unnumbered
   pub line : as_sent r s.number s.is_unnumbered ask.line ≡ s.line
@@ -143,6 +144,8 @@ pub record Keeps (r : Rules) (w : Run) : Type 0 where
   pub renumbered : (place : ℕ) → count_by (is_first_at place) w.sent ≤ 1 + count_by (refuses_number_at r place) w.answers
   -- every other sending repeats an earlier one for the same request, byte for byte
   pub again : AllByRecursion (λ s. s.is_first ≡ false → IsKnown w.sent s) w.sent
+  -- the sending that is answered comes after all sendings of older requests of its connection
+  pub in_order : IsInOrder w
   -- the sendings have the serial numbers 0, 1, 2 ..
   pub serial : AreSerial 0 w.sent
   -- a request is sent with another number only after the server refused the number of each sending before

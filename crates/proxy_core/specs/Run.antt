@@ -17,6 +17,7 @@ pub record Request : Type 0 where
 
 -- a line that was written to the server
 pub record Sent : Type 0 where
+  pub from : ℕ  -- the connection of the request
   pub place : ℕ  -- of the request
   pub serial : ℕ  -- the number of lines written before it
   pub line : List ℕ
@@ -100,7 +101,7 @@ first_place (a ∷ more) = a.place
 abbrev pub written : Rules → ℕ → Bool → ℕ → ℕ → List Request → List Pending → List Sent
 written r taken first serial number asks [] = []
 written r taken first serial number asks (x ∷ xs) =
-    record { place = first_place asks; serial = serial; line = as_sent r (next number) x.is_unnumbered x.line; number = next number; is_once = x.is_once; is_unnumbered = x.is_unnumbered; is_first = first; taken = taken }
+    record { from = x.from; place = first_place asks; serial = serial; line = as_sent r (next number) x.is_unnumbered x.line; number = next number; is_once = x.is_once; is_unnumbered = x.is_unnumbered; is_first = first; taken = taken }
     ∷ written r taken first (serial + 1) (step x.is_unnumbered number) (rest asks) xs
 
 abbrev pub went : Rules → List Bool → Run → Run

@@ -3,6 +3,7 @@
 ghost use Rattle.proxy_core.specs.Fair.{FairShares, OldestFlies};
 ghost use Rattle.proxy_core.specs.Promises.{EveryRun};
 ghost use Rattle.proxy_core.specs.Session.{AtMostOnce, OwnReplies};
+ghost use Rattle.proxy_core.specs.WorkedRun.{WorkedRun, WorkedSession};
 
 /// Whatever lines arrive, whichever connections leave, whenever the server's connection breaks and
 /// whatever the server answers: each answer that a connection receives is the server's to that very
@@ -32,4 +33,15 @@ pub fn oldest_flies()
 /// If a connection whose first waiting line is of the flight's kind gets none in, no connection gets two.
 pub fn fair_shares()
     ensures { FairShares }
+{}
+
+/// A run whose outcome is known: a refused order, a number that is given twice, and a break.
+pub fn worked_run()
+    ensures { WorkedRun }
+{}
+
+/// In that run the premises of `at_most_once` and `own_replies` hold of a server that carried out the second
+/// order at its second sending.
+pub fn worked_session()
+    ensures { WorkedSession }
 {}

@@ -1,0 +1,50 @@
+-- A run whose outcome is known: two orders without a number, of which the server refuses the first one on its merits, so that it refuses
+-- the number of the second; that one flies again with the number that is free, its connection breaks, and it is sent again.
+use Rattle.std.specs.Prelude.{◌≡◌, ℕ, ◌==◌, not, Bool, true, false, List, [], ◌∷◌, Some, map}
+use Rattle.proxy_core.specs.Rules.{Rules}
+use Rattle.proxy_core.specs.Session.{CountsAreRight, Session}
+use Rattle.proxy_core.specs.Run.{Delivery, Sent, Event, Arrives, Flies, Answers, Breaks, Connects, Counts, Run, new_run, run}
+
+abbrev pub begins_with : ℕ → List ℕ → Bool
+begins_with n [] = false
+begins_with n (x ∷ xs) = x == n
+
+-- line 1 is an order without a number, and every other line a query; answer 0 is a reply, 1 refuses a number, 2 an order
+abbrev pub worked_rules : Rules
+worked_rules = record {
+  allows = λ role line. true;
+  is_once = λ line. false;
+  is_query = λ line. not (begins_with 1 line);
+  is_unnumbered = begins_with 1;
+  spelled = λ number line. number ∷ line;
+  refuses_number = begins_with 1;
+  uses_number = begins_with 0;
+  is_refusal = begins_with 2;
+  is_inconclusive = λ answer. false;
+}
+
+-- connections 5 and 6, and the last number 9
+abbrev pub worked_events : List Event
+worked_events =
+    Arrives 5 0 (1 ∷ []) ∷ Arrives 6 0 (1 ∷ []) ∷ Connects ∷ Counts 9 ∷ Flies (true ∷ true ∷ []) ∷ Answers (2 ∷ []) ∷ Answers (1 ∷ [])
+    ∷ Flies (true ∷ []) ∷ Breaks ∷ Connects ∷ Answers (0 ∷ []) ∷ []
+
+abbrev pub worked_run : Run
+worked_run = run worked_rules new_run worked_events
+
+abbrev pub delivery : ℕ → ℕ → List ℕ → Delivery
+delivery to place answer = record { to = to; place = place; answer = Some answer }
+
+pub record WorkedRun : Type 0 where
+  pub places : map (λ (s : Sent). s.place) worked_run.sent ≡ 0 ∷ 1 ∷ 1 ∷ 1 ∷ []
+  pub numbers : map (λ (s : Sent). s.number) worked_run.sent ≡ 10 ∷ 11 ∷ 10 ∷ 10 ∷ []
+  pub firsts : map (λ (s : Sent). s.is_first) worked_run.sent ≡ true ∷ true ∷ true ∷ false ∷ []
+  pub delivered : worked_run.delivered ≡ delivery 5 0 (2 ∷ []) ∷ delivery 6 1 (0 ∷ []) ∷ []
+
+-- the server carried out the third sending, and nothing else
+abbrev pub third_sending : Sent
+third_sending = record { from = 6; place = 1; serial = 2; line = 10 ∷ 1 ∷ []; number = 10; is_once = false; is_unnumbered = true; is_first = true; taken = 2 }
+
+pub record WorkedSession : Type 0 where
+  pub session : Session worked_rules worked_run (third_sending ∷ [])
+  pub counts : CountsAreRight worked_run (third_sending ∷ [])
