@@ -1,0 +1,220 @@
+"""A whole door: a coordinator on a device that forgets, a front before it, and a member for each node, in three languages."""
+
+import contextlib
+import json
+import os
+import random
+import shutil
+import socket
+import subprocess
+import sys
+import time
+from collections.abc import Callable, Sequence
+from dataclasses import dataclass
+from typing import Any
+
+from .forgetful import Forgetful
+from .ports import held_ports
+from .ring import topology
+from .server import Away, Server
+
+ROOT = os.path.dirname(os.path.dirname(os.path.dirname(os.path.abspath(__file__))))
+NODES = range(1, 65)
+HALF = 32_768
+# The members in C and in Go order under the number of their node, of which the front has one for itself. The others, in Python, leave
+# numbers to the front.
+OF_C, OF_GO = range(1, 8), range(8, 15)
+# Of a text what is replaced, and by what.
+Exchanges = Sequence[tuple[str, str]]
+START_SECONDS = 120  # within which a process of the door starts, on a busy machine too
+
+
+class Failed(Exception):
+    """The door did not do what it has to."""
+
+
+@dataclass(frozen=True)
+class Programs:
+    """What is run: the coordinator, and the members in C and in Go."""
+
+    coordinator: str
+    of_c: str
+    of_go: str
+
+
+def build_members(folder: str, library: str, coordinator: str, exchanges: Exchanges = ()) -> Programs:
+    """Compiles the members, those in Go with these exchanges in their text. Raises Failed where a compiler is missing: nothing is left
+    out."""
+    missing = [package for command, package in (("cc", "gcc"), ("go", "golang-go")) if not shutil.which(command)]
+    if missing:
+        raise Failed(f"these Debian packages are missing: {' '.join(missing)}")
+    examples, programs = f"{ROOT}/examples/members", Programs(coordinator, f"{folder}/of_c", f"{folder}/of_go")
+    include = f"{ROOT}/crates/resetd_member/include"
+    with open(f"{examples}/plain_member.go", encoding="utf-8") as file:
+        text = file.read()
+    for old, new in exchanges:
+        if text.count(old) != 1:
+            raise Failed(f"{text.count(old)} places of plain_member.go have {old!r}")
+        text = text.replace(old, new)
+    with open(f"{folder}/of_go.go", "w", encoding="utf-8") as file:
+        file.write(text)
+    subprocess.run(["cc", "-O1", "-I", include, "-o", programs.of_c, f"{examples}/member.c", f"{library}/libresetd_member.a"], check=True)
+    folders = {name: f"{folder}/{name.lower()}" for name in ("GOCACHE", "GOPATH", "GOTMPDIR")}
+    os.mkdir(folders["GOTMPDIR"])
+    subprocess.run(["go", "build", "-o", programs.of_go, f"{folder}/of_go.go"], check=True,
+                   env={**os.environ, **folders, "CGO_ENABLED": "0"})
+    return programs
+
+
+def until(what: str, holds: Callable[[], Any], seconds: float) -> None:
+    end = time.monotonic() + seconds
+    while not holds():
+        if time.monotonic() > end:
+            raise Failed(f"within {seconds:g} s it did not come to pass that {what}")
+        time.sleep(0.05)
+
+
+class Front:
+    """The front, which can be killed and started again at the same addresses."""
+
+    def __init__(self, folder: str, server: str) -> None:
+        self.socket, self.port, self._said = f"{folder}/front.socket", held_ports(1)[0], f"{folder}/front.said"
+        policy = f"{folder}/front.toml"
+        with open(policy, "w", encoding="utf-8") as file:
+            file.write('[[allow]]\nuser = "nobody"\nops = ["show", "watch", "confirm", "reset"]\n'
+                       f'[[allow]]\nuser = "{pwd_name()}"\nops = ["show", "watch", "confirm", "reset"]\n')
+        self._words = [sys.executable, f"{ROOT}/client/resetd-front", "serve", "--server", server, "--socket", self.socket, "--tcp",
+                       f"127.0.0.1:{self.port}", "--state", f"{folder}/front", "--audit", f"{folder}/audit", "--policy", policy]
+        self.process: subprocess.Popen[bytes]
+        self.start()
+
+    def start(self) -> None:
+        with open(self._said, "ab") as said:
+            begin = said.tell()
+            self.process = subprocess.Popen(self._words, stdin=subprocess.DEVNULL, stdout=said, stderr=said)
+        until("the front listens", lambda: self._listens(begin), START_SECONDS)
+
+    def _listens(self, begin: int) -> bool:
+        if self.process.poll() is not None:
+            raise Failed(f"the front ended by itself: {read_tail(self._said)}")
+        with open(self._said, "rb") as said:
+            said.seek(begin)
+            text = said.read()
+        return b"listening unix:" in text and b"listening tcp:" in text
+
+    def kill(self) -> None:
+        self.process.kill()
+        self.process.wait()
+
+    def ask(self, **request: Any) -> dict[str, Any]:
+        """The answer to a line of its own connection. Raises Away where none came."""
+        try:
+            with socket.socket(socket.AF_UNIX) as connection:
+                connection.settimeout(START_SECONDS)
+                connection.connect(self.socket)
+                connection.sendall(json.dumps(request).encode() + b"\n")
+                with connection.makefile("rb") as lines:
+                    answer: dict[str, Any] = json.loads(lines.readline())
+                    return answer
+        except (OSError, ValueError) as fault:
+            raise Away(str(fault)) from fault
+
+
+def pwd_name() -> str:
+    """The name of the user of this process."""
+    return subprocess.run(["id", "-un"], capture_output=True, text=True, check=True).stdout.strip()
+
+
+def read_tail(path: str) -> str:
+    with open(path, errors="replace", encoding="utf-8") as file:
+        return file.read()[-1000:].strip()
+
+
+class Members:
+    """A process for each node. One that ends by itself is a fault."""
+
+    def __init__(self, folder: str, programs: Programs, front: Front) -> None:
+        self._folder, self._programs, self._front = folder, programs, front
+        self._running = dict[int, subprocess.Popen[bytes]]()
+        for node in NODES:
+            os.mkdir(self.folder(node))
+
+    def folder(self, node: int) -> str:
+        return f"{self._folder}/{node}"
+
+    def _words(self, node: int) -> list[str]:
+        if node in OF_C or node in OF_GO:
+            program = self._programs.of_c if node in OF_C else self._programs.of_go
+            return [program, str(node), "127.0.0.1", str(self._front.port), self.folder(node)]
+        return [sys.executable, f"{ROOT}/tools/served/door_member.py", str(node), f"unix:{self._front.socket}", self.folder(node)]
+
+    def start(self, node: int) -> None:
+        if node not in self._running:
+            with open(f"{self.folder(node)}/lines", "ab") as lines:
+                self._running[node] = subprocess.Popen(self._words(node), stdin=subprocess.DEVNULL, stdout=lines, stderr=lines)
+
+    def kill(self, node: int) -> None:
+        member = self._running.pop(node, None)
+        if member:
+            member.kill()
+            member.wait()
+        with contextlib.suppress(FileNotFoundError):
+            os.remove(f"{self.folder(node)}/run")  # of whom is dead nobody hears
+
+    def start_all(self) -> None:
+        for node in NODES:
+            self.start(node)
+
+    def kill_all(self) -> None:
+        for node in NODES:
+            self.kill(node)
+
+    def expect_running(self) -> None:
+        for node, member in self._running.items():
+            if member.poll() is not None:
+                raise Failed(f"member {node} ended by itself with status {member.returncode}: {read_tail(f'{self.folder(node)}/lines')}")
+
+
+class Door:
+    """All of it, in a folder."""
+
+    def __init__(self, folder: str, programs: Programs, choice: random.Random) -> None:
+        self.choice, self.answered = choice, 0
+        self.server = Server(programs.coordinator, f"{folder}/store", f"127.0.0.1:{held_ports(1)[0]}")
+        made = self.server.found(topology(HALF, 1))
+        if made[0] != 0:
+            raise Failed(f"resetd init: {made}")
+        self.device = Forgetful(self.server.store, folder, choice)
+        self.start_server()
+        self.front = Front(folder, self.server.address)
+        self.members = Members(folder, programs, self.front)
+
+    def start_server(self) -> None:
+        if not self.server.start(*self.device.before()):
+            raise Failed(f"the coordinator did not start: {self.server.ended()}")
+
+    def kill_server(self) -> None:
+        self.server.process.kill()
+        self.server.process.wait()
+        self.device.take_calls()
+        self.start_server()
+
+    def cut_power(self) -> None:
+        """The coordinator's power is cut: what it had answered is there."""
+        self.server.process.kill()
+        self.server.process.wait()
+        self.device.cut()
+        status, lines = self.server.command("check")
+        if status or int(lines[0].split()[1]) < self.answered:
+            raise Failed(f"step {self.answered} was answered, and after a power cut resetd check says {lines}")
+        self.start_server()
+
+    def reset(self, node: int) -> None:
+        """Asks for a reset, whoever is there to answer."""
+        with contextlib.suppress(Away):
+            self.answered = max(self.answered, self.front.ask(op="reset", node=node).get("step", 0))
+
+    def end(self) -> None:
+        self.members.kill_all()
+        self.front.kill()
+        self.server.end()
