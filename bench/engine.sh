@@ -4,7 +4,7 @@
 # stands beside as many raw pairs of a write and a sync in the same run. The program of bench/engine is
 # proved and built in a scratch repository over copies of the crates with what rt keeps in their out/,
 # and runs ROUNDS times, with its files in the folder FOLDER; of several runs each is told. Its files end
-# in .txt, since the gate refuses a source file that belongs to no crate.
+# in .txt, since CI refuses a source file that belongs to no crate.
 set -euo pipefail
 rounds=${1:-1}
 here=$(cd "$(dirname "$0")/.." && pwd)

@@ -4,7 +4,7 @@
 # alone, in the same run; in worlds of 4, 16 and 64 nodes, of which all but one are linked in a ring with
 # chords, and the last is reset again and again. The program of bench/ledger is proved and built in a
 # scratch repository over copies of the crates with the libraries that rt keeps in their out/, and runs
-# ROUNDS times; the least time of each part counts. Its files end in .txt, since the gate refuses a source file that
+# ROUNDS times; the least time of each part counts. Its files end in .txt, since CI refuses a source file that
 # belongs to no crate.
 set -euo pipefail
 rounds=${1:-5}

@@ -5,7 +5,7 @@
 # of bench/store is proved and built in a scratch repository over copies of the crates with what rt keeps
 # in their out/, and runs ROUNDS times; the least time of each part counts. Once more it runs with a
 # counter of the heap that is loaded ahead of the C library (heap.c.txt, which needs a C compiler, $CC or
-# cc): how much memory a migration over a file takes at once. Its files end in .txt, since the gate
+# cc): how much memory a migration over a file takes at once. Its files end in .txt, since CI
 # refuses a source file that belongs to no crate.
 set -euo pipefail
 rounds=${1:-5}

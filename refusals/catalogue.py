@@ -1,4 +1,4 @@
-"""Wrong bodies as the catalogues keep them: one file a crate, `refusals/CRATE.edits`, in the order of its sources.
+"""Mutants as the catalogues keep them: one file a crate, `refusals/CRATE.edits`, in the order of its sources.
 
 A catalogue is made of blocks, with an empty line between two:
 
@@ -6,21 +6,21 @@ A catalogue is made of blocks, with an empty line between two:
 
     # settled_count_first
     - what stands there
-    + what the wrong body has in its place
+    + what the mutant has in its place
     % print_view
     ! units drill::lines::one_of_each
 
 `@` names the file of the blocks behind it, up to the next `@`; a block that changes several files names each in its
-midst. `#` gives the block its name, and ` witnessed` behind that says that no clause refuses it. The lines behind `-`
+midst. `#` gives the block its name, and ` killed` behind that says that no clause refuses it. The lines behind `-`
 stand once in the file, the lines behind `+` take their place; a `-` behind a `+` begins the next exchange. In a proof
-file (`proofs/..`) the texts are names, and each place of an old one is changed. `%` names a clause that the body breaks,
+file (`proofs/..`) the texts are names, and each place of an old one is changed. `%` names a clause that the mutant breaks,
 one a line, as a row of docs/PROMISES.md does: `World::judge (value)`, with the crate in front where it is another one, and
-without brackets where the clause has no name (`tools/promises --breaks` goes from a row to the bodies). `!` is the
-witness, a test that fails with the body in: where it stands (`units` for tests/units, `tests` for those of the folder
+without brackets where the clause has no name (`tools/promises --breaks` goes from a row to the mutants). `!` is the
+killing test, a test that fails with the mutant in: where it stands (`units` for tests/units, `tests` for those of the folder
 tests/, or a crate), its name, and `waits` where it does not end (refusals/run says what that means).
 
-The edits of the gate (crates/CRATE/must-fail/NAME.edit) are files of their own, since `rt ci` reads them: a line
-`file: PATH`, then pairs of `old: TEXT` and `new: TEXT` with `⏎` for an end of a line, and `witness: CRATE TEST`.
+The edits of CI (crates/CRATE/must-fail/NAME.edit) are files of their own, since `rt ci` reads them: a line
+`file: PATH`, then pairs of `old: TEXT` and `new: TEXT` with `⏎` for an end of a line, and `test: CRATE TEST`.
 """
 
 import os
@@ -30,7 +30,7 @@ ROOT = os.path.dirname(os.path.dirname(os.path.abspath(__file__)))
 
 
 class BadCatalogue(ValueError):
-    """A catalogue, or an edit of the gate, that does not read."""
+    """A catalogue, or an edit of CI, that does not read."""
 
 
 @dataclass
@@ -43,15 +43,15 @@ class Exchange:
 
 
 @dataclass
-class Body:
-    """One wrong body: what it exchanges, what refuses it, and which test sees it."""
+class Mutant:
+    """One mutant: what it exchanges, what refuses it, and which test sees it."""
 
     crate: str
     name: str
     exchanges: list[Exchange] = field(default_factory=list)
     clauses: list[str] = field(default_factory=list)
-    witness: str = ""
-    witnessed: bool = False
+    test: str = ""
+    is_killed: bool = False
 
     @property
     def id(self) -> str:
@@ -70,8 +70,8 @@ def crates() -> list[str]:
     return [name.removesuffix(".edits") for name in names if name.endswith(".edits")]
 
 
-def read(crate: str) -> list[Body]:
-    """The wrong bodies of a crate's catalogue, as they stand there; none where it has no catalogue. Raises BadCatalogue."""
+def read(crate: str) -> list[Mutant]:
+    """The mutants of a crate's catalogue, as they stand there; none where it has no catalogue. Raises BadCatalogue."""
     try:
         with open(path_of(crate), encoding="utf-8") as catalogue:
             return parse(crate, catalogue.read())
@@ -79,14 +79,14 @@ def read(crate: str) -> list[Body]:
         return []
 
 
-def parse(crate: str, text: str) -> list[Body]:
-    """The wrong bodies of a catalogue's text. Raises BadCatalogue with the number of the line that does not fit."""
-    bodies: list[Body] = []
-    file, body, last = "", None, ""
+def parse(crate: str, text: str) -> list[Mutant]:
+    """The mutants of a catalogue's text. Raises BadCatalogue with the number of the line that does not fit."""
+    mutants: list[Mutant] = []
+    file, mutant, last = "", None, ""
     for number, line in enumerate(text.split("\n"), 1):
         mark, rest = line[:1], line[2:]
         if mark == "":
-            body, last = None, ""
+            mutant, last = None, ""
             continue
         if mark not in "@#-+%!" or (mark != line and line[1] != " "):
             raise BadCatalogue(f"{crate}.edits:{number}: no mark: {line}")
@@ -94,34 +94,34 @@ def parse(crate: str, text: str) -> list[Body]:
             file = rest
         elif mark == "#":
             name, _, word = rest.partition(" ")
-            body = Body(crate, name, witnessed=word == "witnessed")
-            bodies.append(body)
-        elif body is None or not file:
+            mutant = Mutant(crate, name, is_killed=word == "killed")
+            mutants.append(mutant)
+        elif mutant is None or not file:
             raise BadCatalogue(f"{crate}.edits:{number}: it stands outside a block: {line}")
         elif mark == "-" and last == "-":
-            body.exchanges[-1].old += "\n" + rest
+            mutant.exchanges[-1].old += "\n" + rest
         elif mark == "-":
-            body.exchanges.append(Exchange(file, rest, ""))
+            mutant.exchanges.append(Exchange(file, rest, ""))
         elif mark == "+" and last == "+":
-            body.exchanges[-1].new += "\n" + rest
+            mutant.exchanges[-1].new += "\n" + rest
         elif mark == "+" and last == "-":
-            body.exchanges[-1].new = rest
+            mutant.exchanges[-1].new = rest
         elif mark == "%":
-            body.clauses.append(rest)
+            mutant.clauses.append(rest)
         elif mark == "!":
-            body.witness = rest
+            mutant.test = rest
         else:
             raise BadCatalogue(f"{crate}.edits:{number}: nothing stands before it that it replaces: {line}")
         last = mark
-    return bodies
+    return mutants
 
 
-def read_edit(path: str) -> Body:
-    """The wrong body of a file of its own, in the form of the gate's edits. Its crate is that of its folder."""
+def read_edit(path: str) -> Mutant:
+    """The mutant of a file of its own, in the form of CI's edits. Its crate is that of its folder."""
     folder, name = os.path.split(os.path.abspath(path))
     above, last = os.path.split(folder)
-    body = Body(os.path.basename(above) if last == "must-fail" else last, name.removesuffix(".edit"))
-    body.witnessed = os.path.basename(above) == "witnessed"
+    mutant = Mutant(os.path.basename(above) if last == "must-fail" else last, name.removesuffix(".edit"))
+    mutant.is_killed = os.path.basename(above) == "killed"
     file = ""
     with open(path, encoding="utf-8") as edit:
         for line in edit.read().split("\n"):
@@ -130,49 +130,49 @@ def read_edit(path: str) -> Body:
             if word == "file":
                 file = text
             elif word == "old":
-                body.exchanges.append(Exchange(file, text, ""))
+                mutant.exchanges.append(Exchange(file, text, ""))
             elif word == "new":
-                body.exchanges[-1].new = text
-            elif word == "witness":
-                body.witness = text
-    return body
+                mutant.exchanges[-1].new = text
+            elif word == "test":
+                mutant.test = text
+    return mutant
 
 
-def of_gate(crate: str) -> list[Body]:
-    """The wrong bodies of a crate that the gate itself tries."""
+def of_ci(crate: str) -> list[Mutant]:
+    """The mutants of a crate that CI itself tries."""
     folder = os.path.join(ROOT, "crates", crate, "must-fail")
     names = sorted(os.listdir(folder)) if os.path.isdir(folder) else []
     return [read_edit(os.path.join(folder, name)) for name in names if name.endswith(".edit")]
 
 
-def find(word: str) -> Body:
-    """The wrong body that a command line names: CRATE/NAME of a catalogue, or the file of an edit. Raises BadCatalogue."""
+def find(word: str) -> Mutant:
+    """The mutant that a command line names: CRATE/NAME of a catalogue, or the file of an edit. Raises BadCatalogue."""
     if word.endswith(".edit"):
         return read_edit(word)
     crate, _, name = word.partition("/")
-    for body in [*read(crate), *of_gate(crate)]:
-        if body.name == name:
-            return body
-    raise BadCatalogue(f"{word}: no such wrong body")
+    for mutant in [*read(crate), *of_ci(crate)]:
+        if mutant.name == name:
+            return mutant
+    raise BadCatalogue(f"{word}: no such mutant")
 
 
-def text_of(bodies: list[Body]) -> str:
-    """The text of a catalogue that has these bodies of one crate, in the order of its sources and of their names."""
+def text_of(mutants: list[Mutant]) -> str:
+    """The text of a catalogue that has these mutants of one crate, in the order of its sources and of their names."""
     lines: list[str] = []
     file = ""
-    for body in sorted(bodies, key=place):
-        first = body.exchanges[0].file
+    for mutant in sorted(mutants, key=place):
+        first = mutant.exchanges[0].file
         if first != file:
             lines += [f"@ {first}", ""]
             file = first
-        lines.append(f"# {body.name}" + (" witnessed" if body.witnessed else ""))
-        for exchange in body.exchanges:
+        lines.append(f"# {mutant.name}" + (" killed" if mutant.is_killed else ""))
+        for exchange in mutant.exchanges:
             if exchange.file != file:
                 lines.append(f"@ {exchange.file}")
                 file = exchange.file
             lines += mark_lines("-", exchange.old) + mark_lines("+", exchange.new)
-        lines += [f"% {clause}" for clause in body.clauses]
-        lines += [f"! {body.witness}"] if body.witness else []
+        lines += [f"% {clause}" for clause in mutant.clauses]
+        lines += [f"! {mutant.test}"] if mutant.test else []
         lines.append("")
     return "\n".join(lines)
 
@@ -181,12 +181,12 @@ def mark_lines(mark: str, text: str) -> list[str]:
     return [f"{mark} {line}".rstrip() if not line else f"{mark} {line}" for line in text.split("\n")]
 
 
-def place(body: Body) -> tuple[str, int, str]:
-    """Where a body stands among the others of its crate: by file, by where its old text stands there, by name."""
-    first = body.exchanges[0]
-    text = source(body.crate, first.file)
+def place(mutant: Mutant) -> tuple[str, int, str]:
+    """Where a mutant stands among the others of its crate: by file, by where its old text stands there, by name."""
+    first = mutant.exchanges[0]
+    text = source(mutant.crate, first.file)
     at = text.find(first.old)
-    return first.file, at if at >= 0 else len(text), body.name
+    return first.file, at if at >= 0 else len(text), mutant.name
 
 
 def source(crate: str, file: str) -> str:
@@ -198,17 +198,17 @@ def source(crate: str, file: str) -> str:
         return ""
 
 
-def misfits(body: Body) -> list[str]:
-    """What of a body does not fit the sources: an old text that does not stand just once in its file (in a proof file, at all).
+def misfits(mutant: Mutant) -> list[str]:
+    """What of a mutant does not fit the sources: an old text that does not stand just once in its file (in a proof file, at all).
 
     The exchanges are made one behind the other, so an old text stands once where those before it are made.
     """
     texts: dict[str, str] = {}
     found = []
-    for exchange in body.exchanges:
-        text = texts.setdefault(exchange.file, source(body.crate, exchange.file))
+    for exchange in mutant.exchanges:
+        text = texts.setdefault(exchange.file, source(mutant.crate, exchange.file))
         count = text.count(exchange.old)
         if count != 1 and not (count and exchange.file.startswith("proofs/")):
-            found.append(f"{body.id}: {exchange.file} has {count} times: {exchange.old}")
+            found.append(f"{mutant.id}: {exchange.file} has {count} times: {exchange.old}")
         texts[exchange.file] = text.replace(exchange.old, exchange.new)
     return found

@@ -1,4 +1,4 @@
-"""Copies of the crates, in which wrong bodies are tried."""
+"""Copies of the crates, in which mutants are tried."""
 
 import os
 import shutil

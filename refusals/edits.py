@@ -1,4 +1,4 @@
-"""A wrong body as it is put into a copy of the crates."""
+"""A mutant as it is put into a copy of the crates."""
 
 from __future__ import annotations
 
@@ -10,15 +10,15 @@ from places import Place, function_at
 
 
 class Edit:
-    """One wrong body: the texts that it exchanges, and the functions in which they stand."""
+    """One mutant: the texts that it exchanges, and the functions in which they stand."""
 
-    def __init__(self, body: catalogue.Body) -> None:
-        self.body, self.crate, self.name, self.id = body, body.crate, body.name, body.id
+    def __init__(self, body: catalogue.Mutant) -> None:
+        self.mutant, self.crate, self.name, self.id = body, body.crate, body.name, body.id
         every = [(exchange.file, exchange.old, exchange.new) for exchange in body.exchanges]
         self.pairs = [pair for pair in every if not pair[0].startswith("proofs/")]
         self.names_in_proofs = [pair for pair in every if pair[0].startswith("proofs/")]
-        # where its witness stands ("units", "tests" or a crate) and the test itself, empty where it names none
-        self.tests, self.test, *how = body.witness.split() or ("", "")
+        # where its killing test stands ("units", "tests" or a crate) and the test itself, empty where it names none
+        self.tests, self.test, *how = body.test.split() or ("", "")
         self.waits = how == ["waits"]
 
     def apply(self, folder: str) -> bool:

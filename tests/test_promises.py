@@ -146,7 +146,7 @@ class Weakened(Copied):
 
 
 class Broken(Copied):
-    """From a row to the wrong bodies that break what it cites, and back."""
+    """From a row to the mutants that break what it cites, and back."""
 
     EDITS = "refusals/coord_check.edits"
 
@@ -183,7 +183,7 @@ class Broken(Copied):
         edits.write_text("".join(line for line in edits.read_text().splitlines(keepends=True) if not line.startswith("% ")))
         status, said = self.compare(copy)
         self.assertEqual(status, 1, said)
-        self.assertIn("no wrong body of refusals/ breaks coord_orders book::OrderBook::hear, which a row cites", said)
+        self.assertIn("no mutant of refusals/ breaks coord_orders book::OrderBook::hear, which a row cites", said)
 
     def test_a_function_that_is_listed_as_not_tried(self) -> None:
         """The list has a function that was tried, and one that is in no row."""
@@ -192,7 +192,7 @@ class Broken(Copied):
             file.write("coord_check search::check\ncoord_check search::nothing\n")
         status, said = self.compare(copy)
         self.assertEqual(status, 1, said)
-        self.assertIn("not-tried.txt: coord_check search::check: a wrong body breaks it now", said)
+        self.assertIn("not-tried.txt: coord_check search::check: a mutant breaks it now", said)
         self.assertIn("not-tried.txt: coord_check search::nothing: no row cites such a function", said)
 
 

@@ -94,8 +94,8 @@ class Tools(Run):
     def test_links_of_the_documents(self) -> None:
         self.expect(tool("links"))
 
-    def test_wrong_bodies_fit_the_sources(self) -> None:
-        """Each text that a wrong body exchanges stands in the sources, and each witness is a test."""
+    def test_mutants_fit_the_sources(self) -> None:
+        """Each text that a mutant exchanges stands in the sources, and each killing test is a test."""
         self.expect(os.path.join(ROOT, "refusals", "gather"), "--check")
 
     def test_types_of_all_programs(self) -> None:

@@ -11,7 +11,7 @@ from support.program import ROOT
 PROGRAM = os.environ.get("RESETD_UNITS", "")
 FOLDER = f"{ROOT}/tests/units"
 # Without the variable the program waits. It chooses a mutant where the build has some.
-ENVIRONMENT = {**os.environ, "WRONG_BODY": os.environ.get("WRONG_BODY", "0")}
+ENVIRONMENT = {**os.environ, "MUTANT": os.environ.get("MUTANT", "0")}
 TEST = re.compile(r"^#\[test\]\nfn (\w+)", re.MULTILINE)
 
 

@@ -1,4 +1,4 @@
-"""A copy of the crates, for a trial build of them, and wrong bodies that are put into it."""
+"""A copy of the crates, for a trial build of them, and mutants that are put into it."""
 
 import os
 import shutil
@@ -13,12 +13,12 @@ WAITING = """#include <stdlib.h>
 #include <unistd.h>
 
 static void __attribute__((constructor)) wait_to_be_taken(void) {
-    while (!getenv("WRONG_BODY")) pause();
+    while (!getenv("MUTANT")) pause();
 }
 """
 sys.path.insert(0, f"{ROOT}/refusals")
 import catalogue  # noqa: E402
-import choice  # noqa: E402
+import schemata  # noqa: E402
 
 
 def read(path: str) -> str:
@@ -54,7 +54,7 @@ def copy_units(folder: str) -> None:
 
 
 def plant(folder: str, word: str) -> None:
-    """Puts a wrong body in. Each old text of it has to stand once in its file."""
+    """Puts a mutant in. Each old text of it has to stand once in its file."""
     body = catalogue.find(word)
     for exchange in body.exchanges:
         path = f"{folder}/crates/{body.crate}/{exchange.file}"
@@ -65,9 +65,9 @@ def plant(folder: str, word: str) -> None:
         write(path, read(path).replace(exchange.old, exchange.new))
 
 
-def plant_choice(folder: str, words: list[str]) -> None:
-    """Puts wrong bodies in of which the environment chooses one."""
+def plant_schemata(folder: str, words: list[str]) -> None:
+    """Puts mutants in of which the environment chooses one."""
     try:
-        choice.plant(folder, [catalogue.find(word) for word in words])
-    except choice.Unfit as unfit:
-        sys.exit(f"a wrong body can't be chosen: {unfit}")
+        schemata.plant(folder, [catalogue.find(word) for word in words])
+    except schemata.Unfit as unfit:
+        sys.exit(f"a mutant can't be chosen: {unfit}")

@@ -1,11 +1,11 @@
-"""Many wrong bodies in one build, of which the environment chooses one.
+"""Mutant schemata: many mutants in one build, of which the environment chooses one.
 
-A build takes minutes, and most witnesses run for a second. So in a copy of the crates each function that a wrong body
-changes becomes a choice: beside it stand a copy of it for each of its wrong bodies and one with the right code, and the
-function itself calls the one that the variable WRONG_BODY names by its number, 0 for none. A function in C reads that
+A build takes minutes, and most killing tests run for a second. So in a copy of the crates each function that a mutant
+changes becomes a choice: beside it stand a copy of it for each of its mutants and one with the right code, and the
+function itself calls the one that the variable MUTANT names by its number, 0 for none. A function in C reads that
 variable, since no crate reads any. The copies have no contract, as nothing is proved of such a build.
 
-A body that changes anything but the code of functions can't be chosen so.
+A mutant that changes anything but the code of functions can't be chosen so.
 """
 
 import os
@@ -14,7 +14,7 @@ from collections.abc import Iterable
 from dataclasses import dataclass
 from typing import NamedTuple
 
-from catalogue import Body
+from catalogue import Mutant
 from places import HEAD, function_at, is_of_trait
 
 # A line that a clause of a contract begins with.
@@ -22,30 +22,30 @@ CLAUSE = re.compile(r"\s+(?:requires|ensures|ghost)\b")
 # A parameter that has a name by which it can be passed on.
 PARAMETER = re.compile(r"(?:&\s*(?:'\w+\s+)?)?(?:mut )?(self|_?[a-z]\w*)\s*(?::|$)")
 NOTHING_CHOSEN = "_right"
-MODULE = """//! Which wrong body the environment chooses.
+MODULE = """//! Which mutant the environment chooses.
 
 unsafe extern "C" {{
-    pub safe fn wrong_body_of_{crate}() -> i32;
+    pub safe fn mutant_of_{crate}() -> i32;
 }}
 """
 # A program that is run without the variable waits: then `tools/trial_build` takes it.
 IN_C = """#include <stdlib.h>
 #include <unistd.h>
 
-int wrong_body_of_{crate}(void) {{
+int mutant_of_{crate}(void) {{
     static int chosen = -1;
-    if (chosen < 0) chosen = atoi(getenv("WRONG_BODY"));
+    if (chosen < 0) chosen = atoi(getenv("MUTANT"));
     return chosen;
 }}
 
 static void __attribute__((constructor)) wait_to_be_taken(void) {{
-    while (!getenv("WRONG_BODY")) pause();
+    while (!getenv("MUTANT")) pause();
 }}
 """
 
 
 class Unfit(Exception):
-    """A wrong body that can't be chosen while the program runs, with the reason."""
+    """A mutant that can't be chosen while the program runs, with the reason."""
 
 
 @dataclass(frozen=True)
@@ -91,7 +91,7 @@ class Function:
         within = f"{self.indent}    "
         lines = [self.head, *[self.contract] * bool(self.contract), f"{self.indent}{{"]
         for number in numbers:
-            lines += [f"{within}if crate::wrong_body::wrong_body_of_{crate}() == {number} {{",
+            lines += [f"{within}if crate::mutant::mutant_of_{crate}() == {number} {{",
                       f"{within}    return {self.call(f'_{number}')};", f"{within}}}"]
         return "\n".join([*lines, f"{within}{self.call(NOTHING_CHOSEN)}", f"{self.indent}}}"])
 
@@ -137,18 +137,18 @@ def read_head(head: str) -> tuple[str, tuple[str, ...]]:
 
 
 class Change(NamedTuple):
-    """What a wrong body makes of a function: its file, its text as it stands there, and the code that takes its place."""
+    """What a mutant makes of a function: its file, its text as it stands there, and the code that takes its place."""
 
     file: str
     text: str
     code: str
 
 
-def changes_of(body: Body, crates: str) -> list[Change]:
-    """What a body changes of the crates in this folder. Raises Unfit."""
+def changes_of(mutant: Mutant, crates: str) -> list[Change]:
+    """What a mutant changes of the crates in this folder. Raises Unfit."""
     codes: dict[tuple[str, str], str] = {}
-    for file, old, new in ((it.file, it.old, it.new) for it in body.exchanges if not it.file.startswith("proofs/")):
-        with open(f"{crates}/{body.crate}/{file}", encoding="utf-8") as source:
+    for file, old, new in ((it.file, it.old, it.new) for it in mutant.exchanges if not it.file.startswith("proofs/")):
+        with open(f"{crates}/{mutant.crate}/{file}", encoding="utf-8") as source:
             whole = source.read()
         place, text = function_at(file, whole, whole.find(old))
         if whole.count(old) != 1 or place is None:
@@ -167,24 +167,24 @@ def head_above(whole: str, text: str) -> str:
     return list(HEAD.finditer(whole[: whole.find(text)]))[-1][0]
 
 
-def fits(body: Body) -> bool:
-    """Whether a body of the repository can be chosen."""
+def fits(mutant: Mutant) -> bool:
+    """Whether a mutant of the repository can be chosen."""
     try:
-        return bool(changes_of(body, "crates"))
+        return bool(changes_of(mutant, "crates"))
     except Unfit:
         return False
 
 
-def plant(folder: str, bodies: list[Body]) -> None:
-    """Puts bodies into a copy of the crates, each chosen by its number: 1 for the first. Raises Unfit."""
+def plant(folder: str, mutants: list[Mutant]) -> None:
+    """Puts mutants into a copy of the crates, each chosen by its number: 1 for the first. Raises Unfit."""
     choices: dict[tuple[str, str, str], dict[int, str]] = {}
-    for number, body in enumerate(bodies, 1):
+    for number, mutant in enumerate(mutants, 1):
         try:
-            changes = changes_of(body, f"{folder}/crates")
+            changes = changes_of(mutant, f"{folder}/crates")
         except Unfit as unfit:
-            raise Unfit(f"{body.id}: {unfit}") from unfit
+            raise Unfit(f"{mutant.id}: {unfit}") from unfit
         for change in changes:
-            choices.setdefault((body.crate, change.file, change.text), {})[number] = change.code
+            choices.setdefault((mutant.crate, change.file, change.text), {})[number] = change.code
     for (crate, file, text), codes in choices.items():
         put(f"{folder}/crates/{crate}/{file}", text, crate, codes)
     for crate in sorted({crate for crate, _, _ in choices}):
@@ -212,15 +212,15 @@ def put(path: str, text: str, crate: str, codes: dict[int, str]) -> None:
 
 
 def declare(folder: str, crate: str) -> None:
-    """Gives a crate the function that says which body is chosen."""
+    """Gives a crate the function that says which mutant is chosen."""
     root = next(path for name in ("lib.rt", "main.rt") if os.path.exists(path := f"{folder}/src/{name}"))
     with open(root, encoding="utf-8") as source:
         text = source.read()
     os.makedirs(f"{folder}/c", exist_ok=True)
     for path, said in {
-        root: re.sub(r"^(?=(?:pub )?mod )", "mod wrong_body;\n", text, count=1, flags=re.M),
-        f"{folder}/src/wrong_body.rt": MODULE.format(crate=crate),
-        f"{folder}/c/wrong_body.c": IN_C.format(crate=crate),
+        root: re.sub(r"^(?=(?:pub )?mod )", "mod mutant;\n", text, count=1, flags=re.M),
+        f"{folder}/src/mutant.rt": MODULE.format(crate=crate),
+        f"{folder}/c/mutant.c": IN_C.format(crate=crate),
     }.items():
         with open(path, "w", encoding="utf-8") as source:
             source.write(said)

@@ -1,4 +1,4 @@
-"""Which wrong bodies break which clause: the lines `%` of the catalogues of refusals/, beside the rows of docs/PROMISES.md.
+"""Which mutants break which clause: the lines `%` of the catalogues of refusals/, beside the rows of docs/PROMISES.md.
 
 A line `%` names a clause as a row does: a function, the name of what it ensures in brackets where that has a name, and
 before it the crate where it is another one than the catalogue's:
@@ -24,7 +24,7 @@ from .table import Row
 sys.path.insert(0, str(pathlib.Path(__file__).resolve().parent.parent.parent / "refusals"))
 import catalogue  # noqa: E402
 
-# The functions that rows cite and that no wrong body breaks: one a line, with its crate.
+# The functions that rows cite and that no mutant breaks: one a line, with its crate.
 NOT_TRIED = "refusals/not-tried.txt"
 NAMED = re.compile(r"(?:(coord_[a-z]+|resetd) )?([\w:]+(?: as \w+::\w+)?)(?: \((\w+)\))?")
 CALL = re.compile(r"(?:\b(\w+)::)?\b(\w+)\s*(?:::<[^>]*>)?\(")
@@ -38,8 +38,8 @@ class Clause(NamedTuple):
     name: str
 
 
-class Bodies:
-    """The wrong bodies that name what they break, and what is wrong with these names."""
+class Mutants:
+    """The mutants that name what they break, and what is wrong with these names."""
 
     def __init__(self, repository: Repository):
         self.repository = repository
@@ -51,27 +51,27 @@ class Bodies:
         self.breaking: dict[Clause, list[str]] = collections.defaultdict(list)
         self.wrong: list[str] = []
         for crate in sorted(self.crates):
-            for body in [*catalogue.read(crate), *catalogue.of_gate(crate)]:
-                for text in body.clauses:
-                    self.take(body, text)
+            for mutant in [*catalogue.read(crate), *catalogue.of_ci(crate)]:
+                for text in mutant.clauses:
+                    self.take(mutant, text)
 
-    def take(self, body: catalogue.Body, text: str) -> None:
-        """Takes what a body says that it breaks."""
+    def take(self, mutant: catalogue.Mutant, text: str) -> None:
+        """Takes what a mutant says that it breaks."""
         match = NAMED.fullmatch(text)
         if match is None:
-            self.wrong.append(f"{body.id}: not the name of a clause: {text}")
+            self.wrong.append(f"{mutant.id}: not the name of a clause: {text}")
             return
-        crate, path, name = match.group(1) or body.crate, match.group(2), match.group(3) or ""
+        crate, path, name = match.group(1) or mutant.crate, match.group(2), match.group(3) or ""
         found = [it for it in self.of_name[crate, path.rpartition("::")[2]] if f"::{it.path}".endswith(f"::{path}")]
         if len(found) != 1:
-            self.wrong.append(f"{body.id}: {len(found)} functions of {crate} are named so: {text}")
+            self.wrong.append(f"{mutant.id}: {len(found)} functions of {crate} are named so: {text}")
         elif name not in found[0].ensured:
-            self.wrong.append(f"{body.id}: {found[0].path} ensures no such clause: {text}")
+            self.wrong.append(f"{mutant.id}: {found[0].path} ensures no such clause: {text}")
         else:
-            self.breaking[Clause(found[0].key, name)].append(body.id)
+            self.breaking[Clause(found[0].key, name)].append(mutant.id)
 
     def of(self, key: Key) -> dict[str, list[str]]:
-        """The bodies that break what a function ensures, by clause."""
+        """The mutants that break what a function ensures, by clause."""
         return {name: self.breaking[clause] for name in self.functions[key].ensured
                 if (clause := Clause(key, name)) in self.breaking}
 
@@ -97,14 +97,14 @@ class Bodies:
         return next((few[0] for few in (of_owner, others, near) if len(few) == 1), None)
 
     def below(self, key: Key) -> dict[Key, dict[str, list[str]]]:
-        """The bodies that break what a function stands on, by function and clause."""
-        return {it: bodies for it in sorted(self.callees(key)) if (bodies := self.of(it))}
+        """The mutants that break what a function stands on, by function and clause."""
+        return {it: mutants for it in sorted(self.callees(key)) if (mutants := self.of(it))}
 
     def is_tried(self, key: Key) -> bool:
         return bool(self.of(key)) or bool(self.below(key))
 
     def cited(self, rows: list[Row]) -> list[Key]:
-        """The functions that rows cite, of crates with a catalogue, which have a body and ensure something."""
+        """The functions that rows cite, of crates with a catalogue, which have a mutant and ensure something."""
         every = dict.fromkeys(key for row in rows for key in row.cites)
         return [key for key in every if key[0] in self.crates and self.functions[key].is_public
                 and self.functions[key].ensured and not self.functions[key].is_law]
@@ -118,30 +118,30 @@ class Bodies:
         told = [*self.wrong]
         told += [f"{NOT_TRIED}: {' '.join(key)}: {self.why(key, cited)}" for key in sorted(listed)
                  if key not in cited or self.is_tried(key)]
-        return told + [f"no wrong body of refusals/ breaks {' '.join(key)}, which a row cites: write one, or list it in {NOT_TRIED}"
+        return told + [f"no mutant of refusals/ breaks {' '.join(key)}, which a row cites: write one, or list it in {NOT_TRIED}"
                        for key in cited if key not in listed and not self.is_tried(key)]
 
     def why(self, key: Key, cited: list[Key]) -> str:
-        return "a wrong body breaks it now" if key in cited else "no row cites such a function"
+        return "a mutant breaks it now" if key in cited else "no row cites such a function"
 
 
-def answers(bodies: Bodies, rows: list[Row], word: str) -> list[str]:
+def answers(mutants: Mutants, rows: list[Row], word: str) -> list[str]:
     """What breaks the promises of these rows that have this word, or cite a function of this name: lines to print."""
     told: list[str] = []
     for row in rows:
-        keys = [key for key in row.cites if key in bodies.cited([row])]
+        keys = [key for key in row.cites if key in mutants.cited([row])]
         named = [key for key in keys if f"::{key[1]}".endswith(f"::{word}")]
         if named or word.lower() in row.title.lower():
             told += [f"{row.title}: {row.words}"]
             for key in named or keys:
-                told += lines_of(bodies, key, row.cites[key])
+                told += lines_of(mutants, key, row.cites[key])
     return told
 
 
-def lines_of(bodies: Bodies, key: Key, clauses: set[str]) -> list[str]:
+def lines_of(mutants: Mutants, key: Key, clauses: set[str]) -> list[str]:
     """What breaks a function that a row cites, of the clauses that it names."""
     told = [f"  {' '.join(key)}" + (f" ({', '.join(sorted(clauses))})" if clauses else "")]
-    told += [f"    {name or 'its clause'}: {', '.join(ids)}" for name, ids in bodies.of(key).items() if not clauses or name in clauses]
+    told += [f"    {name or 'its clause'}: {', '.join(ids)}" for name, ids in mutants.of(key).items() if not clauses or name in clauses]
     told += [f"    by {other[1]}{f' ({name})' if name else ''}: {', '.join(ids)}"
-             for other, found in bodies.below(key).items() for name, ids in found.items()]
-    return told if len(told) > 1 else [*told, "    no wrong body yet"]
+             for other, found in mutants.below(key).items() for name, ids in found.items()]
+    return told if len(told) > 1 else [*told, "    no mutant yet"]

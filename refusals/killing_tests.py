@@ -1,7 +1,7 @@
-"""The witnesses of wrong bodies: each is a test that fails with its body in.
+"""The killing tests of mutants: each is a test that fails with its mutant in.
 
-Where that is possible the bodies stand in one build for each crate of tests, and in one for the program, and the
-environment chooses one of them (choice.py). Others stand in a build of their own. With nothing chosen each test has to
+Where that is possible the mutants stand in one build for each crate of tests, and in one for the program, and the
+environment chooses one of them (schemata.py). Others stand in a build of their own. With nothing chosen each test has to
 pass.
 """
 
@@ -13,7 +13,7 @@ from concurrent.futures import ThreadPoolExecutor
 from itertools import count
 from queue import Queue
 
-import choice
+import schemata
 from copies import RT, Depends, copy_crate, libraries, make_copy
 from edits import Edit
 
@@ -27,9 +27,9 @@ LATE, SEEN = "did not end in time", ("FAILED", "waits")
 
 
 def run(edits: list[Edit], depends: Depends, jobs: int) -> int:
-    """Runs the witness of each edit. How many of them have not failed."""
+    """Runs the killing test of each edit. How many of them have not failed."""
     found: list[str] = []
-    alone = [edit for edit in edits if edit.tests not in TOGETHER or not choice.fits(edit.body)]
+    alone = [edit for edit in edits if edit.tests not in TOGETHER or not schemata.fits(edit.mutant)]
     with tempfile.TemporaryDirectory() as scratch:
         for tests in sorted({edit.tests for edit in edits} & set(TOGETHER)):
             chosen = [edit for edit in edits if edit.tests == tests and edit not in alone]
@@ -41,7 +41,7 @@ def run(edits: list[Edit], depends: Depends, jobs: int) -> int:
                 found += pool.map(lambda edit, number: try_chosen(scratch, edit, number, passes[edit.test]), chosen, count(1))
     found += run_alone(alone, depends, jobs)
     failed = sum(map(found.count, SEEN))
-    print(f"{len(found)} edits, {failed} seen by their witness, {len(found) - failed} not")
+    print(f"{len(found)} edits, {failed} seen by their killing test, {len(found) - failed} not")
     return len(found) - failed
 
 
@@ -61,7 +61,7 @@ def build_together(scratch: str, tests: str, edits: list[Edit]) -> tuple[list[Ed
 
 def build(scratch: str, tests: str, edits: list[Edit]) -> str:
     """Builds what these tests run. What a build says where it fails, and nothing where it does not."""
-    chosen = ["tools/trial_build", "--choose", *(word for edit in edits for word in ("--edit", edit.id))]
+    chosen = ["tools/trial_build", "--schemata", *(word for edit in edits for word in ("--edit", edit.id))]
     if tests == "tests":
         file_of = {file: f"{scratch}/{file}" for file in FILES.values()}
         wanted = [[*chosen, *(file_of.get(word, word) for word in PROGRAM)], ["tools/trial_library", scratch]]
@@ -74,7 +74,7 @@ def build(scratch: str, tests: str, edits: list[Edit]) -> str:
 
 def what_test_did(scratch: str, tests: str, test: str, number: int, seconds: int = LIMIT) -> str:
     """Runs a test over a build, with the edit of this number: ok, FAILED, or that it did not end in time."""
-    environment = {**os.environ, "WRONG_BODY": str(number)}
+    environment = {**os.environ, "MUTANT": str(number)}
     if tests == "tests":
         files = {variable: f"{scratch}/{file}" for variable, file in FILES.items()}
         environment |= {**files, "RESETD_MEMBER": f"{scratch}/libresetd_member.so"}
@@ -94,7 +94,7 @@ def outcome_in(test: str, text: str) -> str:
 
 
 def try_chosen(scratch: str, edit: Edit, number: int, passes: bool) -> str:
-    """Runs the witness of an edit of a build, prints what it did and gives it."""
+    """Runs the killing test of an edit of a build, prints what it did and gives it."""
     found = what_test_did(scratch, edit.tests, edit.test, number, WAITS if edit.waits else LIMIT)
     if edit.waits and found == LATE:
         found = "waits"
@@ -109,7 +109,7 @@ def tell(edit: Edit, found: str) -> str:
 
 
 def run_alone(edits: list[Edit], depends: Depends, jobs: int) -> list[str]:
-    """Runs the witness of each edit over a build that has this edit alone, and gives what each did."""
+    """Runs the killing test of each edit over a build that has this edit alone, and gives what each did."""
     needed = set[str]().union(*(libraries(edit.tests, depends) for edit in edits if edit.tests in depends))
     with tempfile.TemporaryDirectory() as scratch, ThreadPoolExecutor(jobs) as pool:
         copies = Queue[str]()
@@ -119,7 +119,7 @@ def run_alone(edits: list[Edit], depends: Depends, jobs: int) -> list[str]:
 
 
 def try_alone(edit: Edit, copies: Queue[str]) -> str:
-    """Puts an edit into a copy that is free, runs the tests of its witness's crate there, and says what that test did."""
+    """Puts an edit into a copy that is free, runs the tests of its killing test's crate there, and says what that test did."""
     if edit.tests == "tests":
         done = subprocess.run(["tests/run", "--edit", edit.id, edit.test], capture_output=True, text=True)
         return tell(edit, outcome_in(edit.test, done.stdout))
@@ -136,7 +136,7 @@ def try_alone(edit: Edit, copies: Queue[str]) -> str:
 
 
 def what_copy_did(edit: Edit, copy: str) -> str:
-    """Runs the witness of an edit in a copy of the crates: ok, FAILED, or that it did not end in time."""
+    """Runs the killing test of an edit in a copy of the crates: ok, FAILED, or that it did not end in time."""
     words = [*RT, "try", "--test", "--seconds", str(WAITS), "--", edit.test]
     done = subprocess.run(words, cwd=os.path.join(copy, "crates", edit.tests), capture_output=True, text=True)
     return outcome_in(edit.test, done.stdout + done.stderr)

@@ -1,4 +1,4 @@
-"""In which function of a source file a wrong body stands, and how the environment chooses one of many."""
+"""In which function of a source file a mutant stands, and how the environment chooses one of many."""
 
 import glob
 import importlib.machinery
@@ -10,8 +10,8 @@ from support.case import Case
 from support.program import ROOT
 
 sys.path.insert(0, f"{ROOT}/refusals")
-import choice  # noqa: E402
-from catalogue import Body, Exchange  # noqa: E402
+import schemata  # noqa: E402
+from catalogue import Mutant, Exchange  # noqa: E402
 from places import function_at, is_of_trait  # noqa: E402
 
 loader = importlib.machinery.SourceFileLoader("plants", f"{ROOT}/refusals/plant")
@@ -37,18 +37,18 @@ impl<'a, S: Read + Write, L: OpenListener<Stream = S>, T: Clock> Callers
 """
 
     def test_a_head_on_two_lines(self) -> None:
-        place, body = function_at("src/callers.rt", self.TEXT, self.TEXT.index("self.discard"))
+        place, mutant = function_at("src/callers.rt", self.TEXT, self.TEXT.index("self.discard"))
         self.assertEqual(place, ("callers", "AcceptedCallers", "end"))
-        self.assertTrue(is_of_trait(self.TEXT, body))
+        self.assertTrue(is_of_trait(self.TEXT, mutant))
 
     def test_a_head_on_one_line(self) -> None:
-        place, body = function_at("src/callers.rt", self.TEXT, self.TEXT.index("&self"))
+        place, mutant = function_at("src/callers.rt", self.TEXT, self.TEXT.index("&self"))
         self.assertEqual(place, ("callers", "Kept", "end"))
-        self.assertFalse(is_of_trait(self.TEXT, body))
+        self.assertFalse(is_of_trait(self.TEXT, mutant))
 
 
 class Choice(Case):
-    """A build with many wrong bodies."""
+    """A build with many mutants."""
 
     SOURCE = """//! Counts.
 
@@ -69,13 +69,13 @@ impl<'a, S: Read> Source for Counted<'a, S> {
 """
 
     def plant(self, *exchanges: tuple[str, str]) -> str:
-        """The source file with a wrong body for each of these exchanges."""
+        """The source file with a mutant for each of these exchanges."""
         os.makedirs(f"{self.folder}/crates/low/src")
         for name, text in (("lib.rt", "pub mod counts;\n"), ("counts.rt", self.SOURCE)):
             with open(f"{self.folder}/crates/low/src/{name}", "w", encoding="utf-8") as file:
                 file.write(text)
-        bodies = [Body("low", f"body_{old}", [Exchange("src/counts.rt", old, new)]) for old, new in exchanges]
-        choice.plant(self.folder, bodies)
+        mutants = [Mutant("low", f"mutant_{old}", [Exchange("src/counts.rt", old, new)]) for old, new in exchanges]
+        schemata.plant(self.folder, mutants)
         with open(f"{self.folder}/crates/low/src/counts.rt", encoding="utf-8") as file:
             return file.read()
 
@@ -84,10 +84,10 @@ impl<'a, S: Read> Source for Counted<'a, S> {
         self.assertIn("""pub fn next(count: u64, of: &[(u64, u64)]) -> Option<u64>
     ensures { IsNext count of.now result }
 {
-    if crate::wrong_body::wrong_body_of_low() == 1 {
+    if crate::mutant::mutant_of_low() == 1 {
         return next_1(count, of);
     }
-    if crate::wrong_body::wrong_body_of_low() == 2 {
+    if crate::mutant::mutant_of_low() == 2 {
         return next_2(count, of);
     }
     next_right(count, of)
@@ -109,17 +109,17 @@ fn next_right(count: u64, of: &[(u64, u64)]) -> Option<u64>
 }
 """, planted)
         with open(f"{self.folder}/crates/low/src/lib.rt", encoding="utf-8") as file:
-            self.assertEqual(file.read(), "mod wrong_body;\npub mod counts;\n")
+            self.assertEqual(file.read(), "mod mutant;\npub mod counts;\n")
 
     def test_a_method_of_a_trait(self) -> None:
         """Its copies are methods of the type."""
         planted = self.plant(("self.count += 1;", ""))
         self.assertIn("        self.read_right(buffer)\n    }\n}\n\nimpl<'a, S: Read> Counted<'a, S> {\n    fn read_1(&mut self, ", planted)
 
-    def test_a_body_that_can_not_be_chosen(self) -> None:
+    def test_a_mutant_that_can_not_be_chosen(self) -> None:
         for number, (old, new) in enumerate((("= 64", "= 63"), ("-> Option<u64>", "-> Option<u32>"), ("count.now", "count.old"))):
             self.folder = f"{self.folder}/{number}"
-            with self.subTest(old), self.assertRaisesRegex(choice.Unfit, "low/body_"):
+            with self.subTest(old), self.assertRaisesRegex(schemata.Unfit, "low/mutant_"):
                 self.plant((old, new))
 
 
@@ -137,7 +137,7 @@ plants crate=low planted-in=3 untested=0 no-ensures=1 proves=2 same=0 refused=7 
         found = plants.let_through("low", self.TEXT)
         self.assertEqual(found, [("low", "src/book.rt OrderBook::hear", "{ None }"),
                                  ("low", "src/book.rt OrderBook::line", "{ first(book, 0) }"),
-                                 ("low", "src/meaning.rt name", "any body")])
+                                 ("low", "src/meaning.rt name", "any")])
 
     def test_what_the_list_does_not_have_is_new(self) -> None:
         found = plants.let_through("low", self.TEXT)
