@@ -147,7 +147,7 @@ class Signals:
         self.read()
 
     def read(self) -> None:
-        self.inotify.drain()
+        self.inotify.take()
         for line in self.file.readlines():
             words = line.split()
             if words[0] == b"signal":

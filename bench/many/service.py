@@ -6,7 +6,7 @@ import time
 
 sys.dont_write_bytecode = True
 sys.path.insert(0, os.path.join(os.path.dirname(os.path.abspath(__file__)), "..", "..", "client"))
-from resetd_client import Member, Orders, Port, Run, files, wakes_of  # noqa: E402
+from resetd_client import Member, Port, Run, Work, files, orders_of, wakes_of  # noqa: E402
 
 node, address, folder, signals = sys.argv[1:]
 
@@ -22,6 +22,6 @@ def on_run(run: Run | None) -> None:
 
 
 port = Port(address)
-orders = Orders(port, int(node), folder, recovers=True)
-member = Member(port, orders, int(node), None, begin, on_run=on_run)
-member.follow(wakes_of(port, signals))
+orders = orders_of(port, int(node), folder)
+member = Member(port, orders, int(node), None, begin, on_run=on_run, work=Work.WHOLE)
+member.follow(wakes_of(port, signals, orders))

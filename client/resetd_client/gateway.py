@@ -176,12 +176,13 @@ class Gateway(Following):
         return began + DOUBT_SECONDS if self._written else math.inf
 
     def _judge(self, view: View, rows: Mapping[int, Node]) -> list[Judged]:
-        """What is due at each node that is there. Puts on the disk what has to be kept of that, for all in one write."""
+        """What is due at each node that is there. Puts on the disk what has to be kept of that, for all in one write: so members
+        are told to begin once the reset is over in their group, and by now may talk no more."""
         judged = [Judged(desk, rows[desk.node], desk.due(view, rows[desk.node])) for desk in self.desks if desk.node in rows]
-        for each in judged:
-            if each.due is Due.BEGIN:
-                each.desk.note_begin(each.row.epoch)
-        self._shelf.keep(is_synced=any(each.due is Due.BEGIN for each in judged))
+        begin = [each for each in judged if each.due is Due.BEGIN and view.part(each.desk.node).is_quiet]
+        for each in begin:
+            each.desk.note_begin(each.row.epoch)
+        self._shelf.keep(is_synced=bool(begin))
         self._is_through = len(judged) == len(self.desks) and all(each.due is Due.TALK for each in judged)
         return judged
 

@@ -139,6 +139,7 @@ class Served:
         os.makedirs(folder, exist_ok=True)
         self._folder, self._name = os.path.abspath(folder), os.path.basename(os.path.abspath(folder))
         self._told = ""
+        self._own_line = re.compile(rf"^{re.escape(self._name)} ([0-9]+) ([0-9]+)(?: (\S+) (\S+))?\n", re.ASCII | re.MULTILINE)
         path = board_in(os.path.dirname(self._folder))
         os.makedirs(os.path.dirname(path), exist_ok=True)
         self._board, self._begun = Cached(path), Cached(os.path.join(self._folder, "begun"))
@@ -198,7 +199,8 @@ class Served:
 
     def _line(self) -> tuple[int, int, str, str]:
         """The epoch, the number, the tag and the boot that the gateway told; numbers are 0 and texts empty where it told none."""
-        for name, epoch, number, tag, boot in TOLD.findall(self._board.read()):
-            if name == self._name:
-                return int(epoch), int(number), tag, boot
-        return 0, 0, "", ""
+        found = self._own_line.search(self._board.read())
+        if found is None:
+            return 0, 0, "", ""
+        epoch, number, tag, boot = found.groups("")
+        return int(epoch), int(number), tag, boot

@@ -21,6 +21,7 @@ from .view import View
 SILENCE_SECONDS = 45.0  # after so long without a line the front, or the way to it, is taken for dead
 REPLY_SECONDS = 30.0  # a front's own patience with the server
 FIRST_PAUSE, PAUSE = 0.1, 2.0  # seconds between two trials to connect, at first and at most
+VIEW = '{"accepted":'  # with which the line of a view begins
 MOST_BYTES = 1 << 20  # of a line: 64 nodes and 128 links take some ten thousand
 
 
@@ -63,6 +64,18 @@ class Pushed:
     def views(self, seconds: float) -> list[View]:
         """The views that have come, after at most so many seconds; `is_over` is then true if no more will. Raises Away
         after a silence, NotTaken (Garbled, Faulted) if what came is no view, and Untrusted."""
+        return [view_of(line, str(self.address)) for line in self._lines(seconds)]
+
+    def newest(self, seconds: float) -> View | None:
+        """The same, but only the last one of them, since the others are of the past by now."""
+        lines = self._lines(seconds)
+        for line in lines[:-1]:
+            if not line.startswith(VIEW):
+                view_of(line, str(self.address))  # it is no view, and raises what it is
+        return view_of(lines[-1], str(self.address)) if lines else None
+
+    def _lines(self, seconds: float) -> list[str]:
+        """What has come, but for the answers to orders."""
         silence = self.heard + SILENCE_SECONDS - time.monotonic()
         if self._is_ready(max(0.0, min(seconds, silence))):
             self._read()
@@ -76,11 +89,11 @@ class Pushed:
             raise refusal
         if len(self._rest) > MOST_BYTES:
             raise Garbled(self._rest[:100].decode("utf-8", "replace"), str(self.address))
-        return [view_of(line.decode("utf-8", "replace"), str(self.address)) for line in lines]
+        return [line.decode("utf-8", "replace") for line in lines]
 
     def _takes(self, line: bytes, place: int) -> bool:
         """Takes the answer to an order. The first line of all is the answer to `watch`."""
-        if line.startswith(b'{"accepted":') or not self.awaited or not (self._is_answered or place):
+        if line.startswith(VIEW.encode()) or not self.awaited or not (self._is_answered or place):
             return False
         self.awaited -= 1
         self.answers.append(line.decode("utf-8", "replace"))
@@ -138,8 +151,7 @@ class Watched:
         """Waits until there is a view to be taken, at most so long, and not for a connection."""
         until = time.monotonic() + seconds
         while self._pushed is not None and not self.has_view and (left := until - time.monotonic()) > 0:
-            for view in self._views(left):
-                self._note(view)
+            self._wait_for_view(left)
 
     def ask_many(self, requests: Sequence[Request], on_view: Callable[[View], None] = lambda view: None,
                  view: View | None = None) -> list[str]:
@@ -153,7 +165,7 @@ class Watched:
                 on_view(view)
             until = time.monotonic() + REPLY_SECONDS
             while pushed.awaited:
-                for each in pushed.views(until - time.monotonic()):
+                if (each := pushed.newest(until - time.monotonic())) is not None:
                     with suppress(Past):  # an order that is carried out there makes it count
                         self._take(pushed, each)
                         on_view(each)
@@ -200,8 +212,8 @@ class Watched:
         (Garbled, or Faulted where the policy allows no watch) and Untrusted."""
         until = time.monotonic() + seconds
         while True:
-            for view in [] if self._is_untold else self._views(until - time.monotonic()):
-                self._note(view)
+            if not self._is_untold:
+                self._wait_for_view(until - time.monotonic())
             if self._is_untold:
                 self._is_untold = False
                 return Wake.CAME
@@ -219,30 +231,32 @@ class Watched:
             self._pushed.close()
             self._pushed = None
 
-    def _views(self, seconds: float) -> list[View]:
-        """The views that come in so many seconds; none while the front is away."""
+    def _wait_for_view(self, seconds: float) -> None:
+        """Takes the newest view that comes in so many seconds; none while the front is away, or shows the past: then the next one
+        is tried."""
         try:
             if self._pushed is None:
                 self._connect(seconds)
-            return self._came(self._pushed, seconds) if self._pushed is not None else []
+            if self._pushed is not None:
+                self._receive(self._pushed, max(0.0, seconds))
         except Away:
             self.close()
             self._put_off()
-            return []
         except BaseException:
             self.close()
             raise
 
-    def _came(self, pushed: Pushed, seconds: float) -> list[View]:
-        """Raises Past: then the next front is tried."""
-        views = pushed.views(max(0.0, seconds))
-        for view in views:
-            self._newest.take(pushed.address, view)
+    def _receive(self, pushed: Pushed, seconds: float) -> None:
+        view = pushed.newest(seconds)
+        if view is not None:
+            self._take(pushed, view)
             self._pause = FIRST_PAUSE
         if pushed.is_over:
+            is_untold, new, seen = self._is_untold, self._new, self._seen
             self.close()
             self._put_off()
-        return views
+            if view is not None:  # it came before the end
+                self._is_untold, self._new, self._seen = is_untold, new, seen
 
     def _connect(self, seconds: float) -> None:
         """Connects with the next front, once its pause is over; waits no longer than so many seconds."""

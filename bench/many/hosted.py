@@ -1,0 +1,53 @@
+"""Some members in one process, each with a thread of its own: a line for each time that one may talk, with its node, the moment and
+the run. usage: hosted.py front ADDRESS FOLDER WORK NODE..      through a front, each over a connection of its own
+       hosted.py gateway FOLDER WORK NODE..            behind a gateway"""
+
+import os
+import sys
+import threading
+import time
+
+sys.dont_write_bytecode = True
+sys.path.insert(0, os.path.join(os.path.dirname(os.path.abspath(__file__)), "..", "..", "client"))
+from resetd_client import AtFront, Member, Port, Run, Served, Work, keep  # noqa: E402
+
+
+def say(node: int, tag: str) -> None:
+    os.write(1, f"{node} {time.monotonic_ns()} {tag.partition('-')[0]}\n".encode())
+
+
+def at_front(address: str, folder: str, work: Work, node: int) -> None:
+    own = f"{folder}/{node}"
+
+    def begin(epoch: int) -> None:
+        if work is not Work.MEMORY:
+            keep(f"{own}/work", f"epoch {epoch}\n")
+
+    def on_run(run: Run | None) -> None:
+        if run:
+            say(node, run.tag)
+    orders = AtFront(Port(address), own)
+    Member(orders.port, orders, node, None, begin, on_run=on_run, work=work).follow(orders)
+
+
+def served(folder: str, work: Work, node: int) -> None:
+    member, talks = Served(f"{folder}/{node}"), ""
+    while True:
+        if member.wanted() is not None:
+            member.has_begun("the common start\n", is_synced=work is not Work.MEMORY)
+        tag = member.tag() or ""
+        if tag and tag != talks:
+            say(node, tag)
+        talks = tag
+        member.wait()
+
+
+def main() -> None:
+    kind, *words = sys.argv[1:]
+    address = words.pop(0) if kind == "front" else ""
+    folder, work = words.pop(0), Work[words.pop(0)]
+    for node in map(int, words):
+        threading.Thread(target=at_front if kind == "front" else served, args=(*([address] if address else []), folder, work, node)).start()
+
+
+main()
