@@ -10,3 +10,4 @@ pub mod Session
 pub mod Fair
 pub mod Ordering
 pub mod WorkedSession
+pub mod Held

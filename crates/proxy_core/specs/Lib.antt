@@ -1,5 +1,6 @@
 pub mod Rules
 pub mod Pending
+pub mod Held
 pub mod Machine
 pub mod Fair
 pub mod Run

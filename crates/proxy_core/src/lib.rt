@@ -7,6 +7,7 @@
 #![tactic(auto)]
 
 mod choice;
+mod counts;
 pub mod laws;
 mod pending;
 mod policy;

@@ -1,17 +1,16 @@
 //! The state machine.
 
-ghost use Rattle.std.specs.Prelude.{◌≡◌, ◌≢◌, ◌≤◌, ◌<◌, ◌↔◌, [], true, false, ℕ, List, IfOk, OnOk, OnErr, IsTrue, IsSome, length, filter, count_by, not, nat_lt, ◌&&◌};
-ghost use Rattle.std.specs.BTreeSet.{contains};
-ghost use Rattle.std.specs.Ordering.{nat_cmp};
+ghost use Rattle.std.specs.Prelude.{◌≡◌, ◌<◌, ◌↔◌, [], true, IfOk, OnErr, IsTrue, IsSome, length, filter, not};
 ghost use Rattle.proxy_core.specs.Rules.{Rules, as_sent, needs_number};
 ghost use Rattle.proxy_core.specs.Pending.{is_from};
-ghost use Rattle.proxy_core.specs.Machine.{joins, left, lost_of, picked, picks_of};
+ghost use Rattle.proxy_core.specs.Machine.{is_none, lost_of, picked, picks_of};
 
 use crate::choice::{choose, take_out};
+use crate::counts::{held_by, hold, release};
 use crate::pending::Pending;
 use crate::policy::Policy;
 use std::alloc::{AllocError, Global};
-use std::collections::VecDeque;
+use std::collections::{BTreeMap, VecDeque};
 use std::marker::Model;
 
 /// The most lines of one connection that may be without an answer. Further lines are deferred.
@@ -49,6 +48,7 @@ pub enum Outcome {
 pub struct Proxy {
     flight: VecDeque<Pending>,
     waiting: VecDeque<Pending>,
+    held: BTreeMap<u64, usize>,
     is_up: bool,
     is_resent: bool,
     number: u64,
@@ -58,16 +58,19 @@ pub struct Proxy {
 }
 
 impl Model for Proxy {
+    ghost use Rattle.proxy_core.specs.Held.{AreHeld};
     ghost use Rattle.proxy_core.specs.Machine.{Proxy};
 
     ghost Value = { Proxy };
+
+    ghost invariant = { λ f. AreHeld f.held f.flight.items f.waiting.items };
 
     ghost view = { λ f. record { flight = f.flight.items; waiting = f.waiting.items; is_up = f.is_up; is_resent = f.is_resent; number = f.number; last = f.last; is_counted = f.is_counted; has_refusal = f.has_refusal } };
 }
 
 impl Proxy {
     ghost use Rattle.proxy_core.specs.Pending.{is_from, new_pending, text_of};
-    ghost use Rattle.proxy_core.specs.Machine.{after_broken, after_number, after_outcome, after_admission, counted, without_connection, outcome, flown, held, is_none, lost, may_go, new_proxy, picks_of, admission};
+    ghost use Rattle.proxy_core.specs.Machine.{after_broken, after_number, after_outcome, after_admission, counted, without_connection, outcome, flown, held, lost, may_go, new_proxy, picks_of, admission};
 
     /// Returns a proxy without lines and without a connection to the server.
     pub fn new(alloc: Global) -> Self
@@ -76,6 +79,7 @@ impl Proxy {
         Proxy {
             flight: VecDeque::new(alloc),
             waiting: VecDeque::new(alloc),
+            held: BTreeMap::new(alloc),
             is_up: false,
             is_resent: false,
             number: 0,
@@ -89,8 +93,7 @@ impl Proxy {
     fn holds_fewer(&self, connection: u64, most: usize) -> bool
         ensures { IsTrue result ↔ (held connection self.now < most) }
     {
-        let flying = count_from(&self.flight, connection);
-        flying < most && count_from(&self.waiting, connection) < most - flying
+        held_by(&self.held, connection) < most
     }
 
     /// Takes a line that arrived from a connection in this role. Errors: out of memory; nothing changes.
@@ -120,13 +123,17 @@ impl Proxy {
         let copy = Vec::from_slice(alloc, line)?;
         let is_once = policy.is_once(line);
         let is_unnumbered = policy.is_unnumbered(line) && !is_once;
-        self.waiting.push_back(Pending::new(
+        let pending = Pending::new(
             connection,
             copy,
             is_once,
             policy.is_query(line),
             is_unnumbered,
-        ))?;
+        );
+        self.waiting.reserve(1)?;
+        let count = held_by(&self.held, connection);
+        hold(&mut self.held, connection, count + 1)?;
+        self.waiting.push_back_reserved(pending);
         Ok(Admission::Queued)
     }
 
@@ -143,7 +150,7 @@ impl Proxy {
         ensures goes { IfOk result (λ n. self.old.is_up ≡ true → self.old.flight ≡ [] → n ≡ length (picked (picks_of self.old.is_counted self.old.waiting) self.old.waiting)) }
         ensures err { OnErr result (self.new ≡ self.old) }
     {
-        if !self.is_up || !self.flight.is_empty() {
+        if !self.is_up || !is_none(&self.flight) {
             return Ok(0);
         }
         let Some(picks) = choose(alloc, &self.waiting, self.is_counted)? else {
@@ -200,6 +207,7 @@ impl Proxy {
             self.count(policy, answer);
             return Ok(Outcome::Retry(connection));
         }
+        release(&mut self.held, connection, 1);
         if is_unnumbered {
             self.count(policy, answer);
         }
@@ -239,7 +247,13 @@ impl Proxy {
     pub fn forget(&mut self, connection: u64)
         ensures { self.new ≡ without_connection connection self.old }
     {
+        let before = self.waiting.len();
         keep_others(&mut self.waiting, connection);
+        release(
+            &mut self.held,
+            connection,
+            before.saturating_sub(self.waiting.len()),
+        );
     }
 
     /// Notes that the connection to the server broke. The flight is sent again as it was. Only a line
@@ -256,6 +270,7 @@ impl Proxy {
         }
         let first = self.flight.pop_front()?;
         let connection = first.from();
+        release(&mut self.held, connection, 1);
         self.forget(connection);
         Some(connection)
     }
@@ -317,24 +332,18 @@ fn written<P: Policy>(
     }
 }
 
-/// Counts the lines of a connection.
-fn count_from(pending: &VecDeque<Pending>, connection: u64) -> usize
-    ensures { result ≡ count_by (is_from connection) pending.now.items }
-{
-    let mut count = 0;
-    for i in 0..pending.len() {
-        if pending[i].from() == connection {
-            count += 1;
-        }
-    }
-    count
-}
-
 /// Drops the lines of a connection.
 fn keep_others(waiting: &mut VecDeque<Pending>, connection: u64)
     ensures { waiting.new.items ≡ filter (λ a. not (is_from connection a)) waiting.old.items }
 {
     waiting.retain(|pending| pending.from() != connection);
+}
+
+/// Returns whether there is no line.
+fn is_none(lines: &VecDeque<Pending>) -> bool
+    ensures { result ≡ is_none lines.now.items }
+{
+    lines.is_empty()
 }
 
 /// Returns whether the first line must not be sent twice.
