@@ -1,4 +1,4 @@
--- What a client keeps of its orders, and what it makes of an answer.
+-- A client's order book, and how it handles an answer.
 use Rattle.std.specs.Prelude.{ℕ, ◌+◌, ◌==◌, Bool, false, Option, Some, None, if◌then◌else◌}
 use Rattle.coord_types.specs.declared.steps.Command.{Command}
 use Rattle.coord_orders.specs.declared.book.Kept.{Kept}
@@ -20,7 +20,7 @@ abbrev pub written_over : Option Command → ℕ → Command → Option OrderBoo
 written_over None last x = Some (with_order last x)
 written_over (Some y) last x = None
 
--- an order is written down where none is in hand
+-- writes an order down, if none is in hand
 abbrev pub written : OrderBook → Command → Option OrderBook
 written b x = written_over b.kept.in_hand b.kept.last x
 
@@ -42,14 +42,14 @@ is_at serial (Some n) = n == serial
 abbrev pub is_awaited : OrderBook → ℕ → Bool
 is_awaited b serial = is_at serial b.awaited
 
--- what is kept where the answer means this
+-- the book after an answer with this meaning
 abbrev pub kept_after : Kept → Meaning → Kept
 kept_after kept (Done reply) = record { last = kept.last + 1; in_hand = None }
 kept_after kept NotDone = record { last = kept.last; in_hand = None }
 kept_after kept SendAgain = kept
 kept_after kept CountLost = kept
 
--- an answer to another line than the one that is awaited tells nothing
+-- an answer to any other line than the awaited one means nothing
 abbrev pub heard : OrderBook → ℕ → Answer → Heard
 heard b serial a =
     if is_awaited b serial then record { book = opened (kept_after b.kept (meaning_of a)); meaning = Some (meaning_of a) }

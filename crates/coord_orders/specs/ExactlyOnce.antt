@@ -1,4 +1,4 @@
--- The server carries out each order of a client once.
+-- The server carries out each order of a client exactly once.
 use Rattle.std.specs.Prelude.{◌≡◌, ◌≢◌, ℕ, ◌+◌, List, [], ◌∷◌, ◌++◌, Some, take, slice_get}
 use Rattle.coord_types.specs.Table.{get}
 use Rattle.coord_types.specs.declared.steps.Session.{Session}
@@ -14,22 +14,22 @@ IsInHand kept [] = Unit {0}
 IsInHand kept (s ∷ []) = (s.number ≡ kept.last + 1) × (kept.in_hand ≡ Some s.command)
 IsInHand kept (s ∷ t ∷ ss) = ⊥
 
--- the numbers rise by one, from behind the first number to the last one
+-- the numbers rise by one, from the one after the first to the last one
 abbrev pub Counts : ℕ → ℕ → List Session → Type 0
 Counts first last [] = last ≡ first
 Counts first last (s ∷ ss) = (s.number ≡ first + 1) × Counts s.number last ss
 
 pub record IsOnce (c : ℕ) (base : World) (first : ℕ) (e : Exchange) : Type 0 where
-  -- the client's orders in the trail are those that it noted as done, with their replies and in turn, and behind them at most the
-  -- one in hand: none that was refused
+  -- the client's orders in the trail are those that it noted as done, with their replies and in order, followed by at most the
+  -- order in hand: no refused order is among them
   pub orders : (more : List Session) × ((orders_of c base e.trail ≡ e.done ++ more) × IsInHand e.book.kept more)
-  -- those noted as done are settled, so no crash takes one away
+  -- orders noted as done are settled, so no crash removes one
   pub settled : (more : List Session) × (orders_of c base (take e.settled e.trail) ≡ e.done ++ more)
-  -- none is there twice
+  -- no order occurs twice
   pub numbers : Counts first e.book.kept.last e.done
-  -- no answer that counts tells of a lost count
+  -- no counted answer reports a lost count
   pub counted : (k : ℕ) (g : Given) → slice_get e.answers k ≡ Some g → e.book.awaited ≡ Some g.serial → meaning_of g.answer ≢ CountLost
 
--- over any world, and whatever happens, if the client begins with its last number there
+-- over any world, and for any list of events, if the client begins with its last number there
 abbrev pub ExactlyOnce : Type 0
 ExactlyOnce = (c : ℕ) (base : World) (events : List Event) → IsOnce c base (last_number (get base.sessions c)) (run c base (begun (last_number (get base.sessions c))) events)

@@ -1,4 +1,4 @@
--- A client, the lines and answers on their way, and the server as far as the client's orders go.
+-- A client, the lines and answers in transit, and the server as far as it concerns the client's orders.
 use Rattle.std.specs.Prelude.{ℕ, zero, suc, ◌+◌, ◌==◌, nat_le, max, min, Bool, false, List, [], ◌∷◌, ◌++◌, Option, Some, None, Result, Ok, Err, if◌then◌else◌, length, take, slice_get}
 use Rattle.coord_types.specs.declared.refusals.Refusal.{Refusal}
 use Rattle.coord_types.specs.declared.steps.Command.{Command}
@@ -47,7 +47,7 @@ pub record Exchange : Type 0 where
 abbrev pub begun : ℕ → Exchange
 begun last = record { book = opened (record { last = last; in_hand = None }); done = []; sent = 0; under_way = []; trail = []; settled = 0; owed = []; answers = [] }
 
--- what may happen next
+-- the events
 pub data Event : Type 0 where
   Write : Command → Event  -- the client writes an order down
   Send : Event  -- it sends what it has in hand, first or again
@@ -75,7 +75,7 @@ abbrev pub noted_as : ℕ → Option Command → Reply → List Session
 noted_as last None r = []
 noted_as last (Some x) r = record { number = last + 1; command = x; reply = r } ∷ []
 
--- what is noted where the answer means this
+-- the notes after an answer with this meaning
 abbrev pub noted : Kept → Meaning → List Session
 noted kept (Done r) = noted_as kept.last kept.in_hand r
 noted kept NotDone = []
@@ -102,7 +102,7 @@ without (suc k) (l ∷ ls) = l ∷ without k ls
 abbrev pub order_by : ℕ → Line → Step
 order_by c line = Order c line.number line.command
 
--- what the server makes of a line over its world
+-- the server's verdict on a line over its world
 abbrev pub answered : ℕ → World → Sent → Exchange → Result Verdict Refusal → Exchange
 answered c w l e (Ok (Fresh kind)) = record e {
   trail = e.trail ++ (order_by c l.line ∷ []);

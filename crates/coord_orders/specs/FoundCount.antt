@@ -1,4 +1,4 @@
--- What the answers to a probe, the order to confirm epoch 0 with some number, tell of a client's last number.
+-- The information about a client's last number in the answers to a probe: the order to confirm epoch 0, with some number.
 use Rattle.std.specs.Prelude.{◌≡◌, ◌≢◌, ℕ, ◌+◌, ◌==◌, false, Option, Some, None, Err, if◌then◌else◌}
 use Rattle.coord_types.specs.Table.{get}
 use Rattle.coord_types.specs.declared.refusals.Refusal.{Refusal}

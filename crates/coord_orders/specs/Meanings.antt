@@ -1,4 +1,4 @@
--- What an answer says of the order that it answers.
+-- The meaning of an answer for its order.
 use Rattle.coord_types.specs.declared.refusals.Refusal.{Refusal}
 use Rattle.coord_types.specs.declared.refusals.Refusal.TheVariants.{Stopped, OutOfMemory, Exhausted, OutOfTurn, NumberReused, UnknownNode, NodeExists, HasLinks, SameNode, OtherGroup, LinkExists, NoLink, DegreeFull, LinksFull, BadEpoch, Old, Early, Differs, NotReleased, PendingFull, Behind, Stranger}
 use Rattle.coord_orders.specs.declared.meaning.Answer.{Answer}

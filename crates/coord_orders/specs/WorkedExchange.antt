@@ -1,4 +1,4 @@
--- Exchanges from the empty world whose outcomes are known.
+-- Worked examples: exchanges from the empty world.
 use Rattle.std.specs.Prelude.{◌≡◌, List, [], ◌∷◌, ◌++◌, None}
 use Rattle.coord_types.specs.declared.steps.Command.TheVariants.{Add}
 use Rattle.coord_types.specs.declared.steps.Kind.TheVariants.{Done}
@@ -17,11 +17,11 @@ after events = run 1 base (begun 0) events
 abbrev pub added : Session
 added = record { number = 1; command = Add 1 1; reply = record { step = 1; kind = Done } }
 
--- a line is lost, the client crashes, the line comes again, and its first answer late
+-- a line is lost, the client crashes, the line arrives again, and its first answer late
 abbrev pub repeats : List Event
 repeats = Write (Add 1 1) ∷ Send ∷ Lose 0 ∷ Send ∷ Arrive ∷ Crash ∷ Send ∷ Arrive ∷ Settle 1 ∷ Release 0 ∷ Release 1 ∷ Hear 0 ∷ Hear 1 ∷ Hear 1 ∷ []
 
--- the node is there already
+-- the node already exists
 abbrev pub again : List Event
 again = Write (Add 1 1) ∷ Send ∷ Arrive ∷ Hear 2 ∷ []
 

@@ -11,7 +11,7 @@ ghost use Rattle.coord_world.specs.laws.Waves.{OncePerWave};
 ghost use Rattle.coord_world.specs.laws.Between.{BoundBetween};
 ghost use Rattle.coord_world.specs.laws.Overlaps.{AllOrNone, AloneAsFinished, AskedIsSignalled, AskedReachesAll, EpochsCountSignals, NoMoreThanStarted, OnceIfOneStarted, OnceOrMore};
 
-/// A step that a world takes over some settled world, it takes over itself.
+/// A world that takes a step over some settled world also takes it over itself.
 #[tactic(auto, using(crate::proofs::Acceptance::itself))]
 pub fn fresh_over_itself()
     ensures { FreshOverItself }
@@ -181,12 +181,12 @@ pub fn resend_law()
     ensures { ResendLaw }
 {}
 
-/// What is released stays so as more steps are settled.
+/// A released packet stays released as more steps are settled.
 pub fn released_grows()
     ensures { ReleasedGrows }
 {}
 
-/// What is released from a world that the trail came to is released from its base.
+/// A packet that is released from a world of the trail is released from its base.
 pub fn released_from_base()
     ensures { ReleasedFromBase }
 {}

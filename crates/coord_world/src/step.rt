@@ -1,4 +1,4 @@
-//! A step: whether it is taken, what it makes of a world, and what it gives out.
+//! A step: its verdict, the world after it, and its outputs.
 
 mod apply;
 mod execute;

@@ -59,7 +59,7 @@ impl Tables {
         self.nodes.get(id)
     }
 
-    /// The lane from one node to another, where it has this incarnation.
+    /// Returns the lane from one node to another, if it has this incarnation.
     pub fn lane_of(&self, from: NodeId, to: NodeId, inc: u64) -> Option<&Lane>
         ensures { option_copied result ≡ lane self.now from to inc }
     {

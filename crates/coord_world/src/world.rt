@@ -26,7 +26,7 @@ use coord_types::{Client, NodeId, Output, Refusal, Reply, Session, Step, Version
 use std::alloc::{AllocError, Global};
 use std::marker::Model;
 
-/// A step's reply, and what is to be released after it, in order.
+/// A step's reply, and the outputs to be released after it, in order.
 #[derive(Drop, Debug)]
 pub struct StepOutcome {
     pub reply: Reply,
@@ -140,7 +140,7 @@ impl World {
         })
     }
 
-    /// The node of this number, where it was added.
+    /// Returns the node with this number, if it is present.
     pub fn node(&self, id: NodeId) -> Option<&Node>
         ensures { option_copied result ≡ table.get self.now.nodes id }
     {

@@ -16,7 +16,7 @@ abbrev pub near_with : ℕ → NodeSet → List LinkRow → NodeSet
 near_with u near [] = near
 near_with u near (r ∷ rs) = near_with u (if u == r.a then set.insert near r.b else (if u == r.b then set.insert near r.a else near)) rs
 
--- a node's neighbours, where those of node k stand at place k - 1
+-- the neighbours of node k, at index k - 1
 abbrev pub near_in : List NodeSet → ℕ → NodeSet
 near_in near u = slice_index_or near (u - 1) set.empty
 

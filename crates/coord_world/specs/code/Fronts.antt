@@ -21,7 +21,7 @@ HasNumber e = e.1.base < 2 ^ 64 - 1
 abbrev pub AreNumbered : Links → Type 0
 AreNumbered links = (u v : ℕ) (l : Lane) → lane_at links u v ≡ Some l → l.base < 2 ^ 64 - 1
 
--- the packet of a lane's front, where it has one
+-- the packet of a lane's front, if it has one
 abbrev pub packets_of : ℕ × ℕ → Lane → List Msg → List Output
 packets_of k l [] = []
 packets_of k l (m ∷ ms) = Sent (front_packet k l m) ∷ []
@@ -36,7 +36,7 @@ abbrev pub fronts_sent : Links → ℕ → List (ℕ × Msg) → List Output
 fronts_sent links u [] = []
 fronts_sent links u (s ∷ ss) = front_sent (lane_at links u s.0) (u, s.0) s.1 ++ fronts_sent links u ss
 
--- the message behind a front becomes the front when that one is cleared
+-- when a front is cleared, the message after it becomes the front
 abbrev pub front_behind : Option Lane → ℕ × ℕ → List Output
 front_behind None k = []
 front_behind (Some l) k = packets_of k (cleared l) (behind_front l.queue)

@@ -1,4 +1,4 @@
--- The program's record of what a node does, and the transition that it stands for.
+-- The program's record of a node's transition, and the ideal transition that it represents.
 use Rattle.std.specs.Prelude.{◌≡◌, ℕ, ◌-◌, ◌^◌, ◌<◌, true, List, [], ◌∷◌, length, Some, IsSome, if◌then◌else◌}
 use Rattle.coord_link.specs.declared.lane.TheConstants.{PLACES}
 use Rattle.coord_types.specs.NodeSet as set
@@ -28,7 +28,7 @@ node_changed w u r sends = record w { nodes = insert w.nodes u r; links = sent_l
 abbrev pub signal_of : NodeTransition → List Output
 signal_of node_transition = if node_transition.effects.finished then Signalled node_transition.id node_transition.node.epoch ∷ [] else []
 
--- a node can do a transition: it is there, its epoch can rise, and its lanes have room for what it sends
+-- a node can make a transition: it is present, its epoch can rise, and its lanes have room for its messages
 pub record CanApply (w : World) (u : ℕ) (d : Transition) (links : Links) : Type 0 where
   pub there : IsSome (get w.nodes u)
   pub epoch : (state w u).epoch < 2 ^ 64 - 1

@@ -24,7 +24,7 @@ pub record BoundSignals (w : World) (steps : List Step) (part : ℕ → Bool) (c
   pub most : (v x : ℕ) → part v ≡ true → is_linked w v x ≡ true → count v ≤ count_by part (started w steps)
   pub least : (before rest : List Step) (c n u : ℕ) → steps ≡ before ++ Order c n (Reset u) ∷ rest → part u ≡ true → (v : ℕ) → Connected w u v → 1 ≤ signals_of v (outs w steps)
 
--- both bounds hold of the signals that the steps between give out
+-- both bounds hold for the signals of the steps between
 abbrev pub BoundBetween : Type 0
 BoundBetween = (base : World) (earlier between rest : List Step) (part : ℕ → Bool) → IsTrail base (earlier ++ (between ++ rest)) → IsReadyAgain base earlier between part →
     BoundSignals (fold base earlier) between part (λ v. signals_of v (outs (fold base earlier) between))

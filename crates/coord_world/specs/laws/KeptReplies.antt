@@ -15,7 +15,7 @@ IsNotBy c (Order d n x) = d ≢ c
 IsNotBy c (Take p) = Unit {0}
 IsNotBy c (Clear p) = Unit {0}
 
--- what client c's last order among these steps leaves: its number, its command, and its reply, as it stands among the outputs
+-- the session that client c's last order among these steps leaves: its number, its command, and its reply from the outputs
 pub record IsLastOrder (base : World) (steps : List Step) (c : ℕ) (o : Session) : Type 0 where
   pub before : List Step
   pub rest : List Step
@@ -25,7 +25,7 @@ pub record IsLastOrder (base : World) (steps : List Step) (c : ℕ) (o : Session
   pub replied : slice_get (outs base steps) (length before) ≡ Some (record { reply = o.reply; outputs = given })
   pub step : o.reply.step ≡ base.count + length before + 1
 
--- the kept-reply law: the fold keeps what a client's last order leaves, or what the base keeps where there is no order of the client
+-- the kept-reply law: the fold keeps the session of a client's last order, or that of the base if the steps have no order of the client
 abbrev pub KeptReplyLaw : Type 0
 KeptReplyLaw = (base : World) (steps : List Step) (c : ℕ) →
     ((o : Session) × ((get (fold base steps).sessions c ≡ Some o) × IsLastOrder base steps c o))

@@ -14,7 +14,7 @@ use Rattle.coord_world.specs.protocol.Links.{aborts}
 use Rattle.coord_world.specs.protocol.Ranges.{InRange, StepInRange}
 use Rattle.coord_world.specs.protocol.Rows.{RowsFit, rows_of}
 
--- a step that a world takes over some settled world, it takes over itself
+-- a world that takes a step over some settled world also takes it over itself
 abbrev pub FreshOverItself : Type 0
 FreshOverItself = (w settled : World) (s : Step) → IsFresh w settled s → IsFresh w w s
 

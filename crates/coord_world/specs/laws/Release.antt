@@ -22,11 +22,11 @@ outputs_of base steps = flat_map (λ r. r.outputs) (outs base steps)
 abbrev pub IsReleased : World → List Step → Output → Type 0
 IsReleased base settled o = Contains (outputs_of base settled) o ⊎ Contains (again base) o
 
--- the front world has the lane of a packet, which takes it: what is left to ask is whether the packet was released
+-- the front world has the lane of a packet, and the lane takes it: the only open question is whether the packet was released
 abbrev pub IsTakeable : World → DataPacket → Type 0
 IsTakeable front p = (l : Lane) × ((lane front p.from p.to p.inc ≡ Some l) × (judged_take l p.number p.msg ≡ Ok tt))
 
--- the front world has the lane of a receipt, and clears its front by it: what is left to ask is whether the receipt was
+-- the front world has the lane of a receipt, and the receipt clears its front: the only open question is whether the receipt was released
 -- released
 abbrev pub IsClearable : World → ReceiptPacket → Type 0
 IsClearable front p = (l : Lane) × ((lane front p.from p.to p.inc ≡ Some l) × (judged_clear l p.number ≡ Ok tt))
@@ -36,7 +36,7 @@ pub record TellsReleased (front settled : World) (IsOut : Output → Type 0) : T
   pub packets : (p : DataPacket) → IsTakeable front p → (has_sent (lane settled p.from p.to p.inc) p.number ≡ true) ↔ IsOut (Sent p)
   pub receipts : (p : ReceiptPacket) → IsClearable front p → (has_receipted (lane settled p.from p.to p.inc) p.number ≡ true) ↔ IsOut (Receipted p)
 
--- the release law: a packet that nothing else refuses is not refused as not released exactly where it is released
+-- the release law: a packet that no other rule refuses is accepted exactly if it was released
 abbrev pub ReleaseLaw : Type 0
 ReleaseLaw = (base : World) (trail : List Step) (d : ℕ) → IsTrail base trail → TellsReleased (fold base trail) (fold base (take d trail)) (IsReleased base (take d trail))
 
@@ -46,12 +46,12 @@ NamesReleased IsOut (Order c n x) = Unit {0}
 NamesReleased IsOut (Take p) = IsOut (Sent p)
 NamesReleased IsOut (Clear p) = IsOut (Receipted p)
 
--- the same of the verdict: a step that the front world takes over itself, it takes over the settled one exactly where the packet that it names is released
+-- the same for the verdict: a step that the front world takes over itself is taken over the settled world exactly if its packet was released
 abbrev pub FreshWhereReleased : Type 0
 FreshWhereReleased = (base : World) (trail : List Step) (d : ℕ) (s : Step) → IsTrail base trail → IsFresh (fold base trail) (fold base trail) s →
     IsFresh (fold base trail) (fold base (take d trail)) s ↔ NamesReleased (IsReleased base (take d trail)) s
 
--- a release stays: what is not refused as not released is judged the same once more steps are settled
+-- a release stays: a step that is not refused as not released is judged the same after more steps are settled
 abbrev pub ReleaseStays : Type 0
 ReleaseStays = (base : World) (trail : List Step) (d e : ℕ) (s : Step) → IsTrail base trail → d ≤ e → accepts (fold base trail) (fold base (take d trail)) s ≢ Err NotReleased →
     accepts (fold base trail) (fold base (take e trail)) s ≡ accepts (fold base trail) (fold base (take d trail)) s
@@ -60,10 +60,10 @@ ReleaseStays = (base : World) (trail : List Step) (d e : ℕ) (s : Step) → IsT
 abbrev pub ResendLaw : Type 0
 ResendLaw = (base : World) (trail : List Step) (d : ℕ) → IsTrail base trail → All (IsReleased base (take d trail)) (again (fold base (take d trail)))
 
--- what is released stays so as more steps are settled
+-- a released packet stays released as more steps are settled
 abbrev pub ReleasedGrows : Type 0
 ReleasedGrows = (base : World) (trail : List Step) (d e : ℕ) (o : Output) → d ≤ e → IsReleased base (take d trail) o → IsReleased base (take e trail) o
 
--- what is released from a world that the trail came to is released from its base
+-- a packet that is released from a world of the trail is released from its base
 abbrev pub ReleasedFromBase : Type 0
 ReleasedFromBase = (base : World) (trail : List Step) (n d : ℕ) (o : Output) → IsTrail base trail → IsReleased (fold base (take n trail)) (take d (drop n trail)) o → IsReleased base (take (n + d) trail) o

@@ -24,7 +24,7 @@ linked = fold (no_world 1) two_linked
 abbrev pub after : ℕ → World
 after n = fold linked (first n one_reset)
 
--- what a step is answered after n steps, where the first of them are settled, for each of these numbers
+-- the verdict on a step after n steps, the first of which are settled, for each of these numbers
 abbrev pub answers : ℕ → Step → List ℕ → List (Result Verdict Refusal)
 answers n s settled = map (λ d. accepts (after n) (after d) s) settled
 
@@ -41,7 +41,7 @@ pub record ReleasedRun : Type 0 where
   -- what its steps give out, in order
   pub given : outputs_of linked one_reset
       ≡ data_out 1 2 3 1 (msg.Abort 0) ∷ receipt_out 1 2 3 1 ∷ data_out 2 1 3 1 msg.Ack ∷ receipt_out 2 1 3 1 ∷ Signalled 1 1 ∷ data_out 1 2 3 2 msg.Ready ∷ receipt_out 1 2 3 2 ∷ Signalled 2 1 ∷ []
-  -- what is sent again after each of them
+  -- the resend list after each of them
   pub resent : map (λ d. again (after d)) (0 ∷ 1 ∷ 2 ∷ 3 ∷ 4 ∷ 5 ∷ [])
       ≡ [] ∷ (data_out 1 2 3 1 (msg.Abort 0) ∷ [])
       ∷ (data_out 1 2 3 1 (msg.Abort 0) ∷ receipt_out 1 2 3 1 ∷ data_out 2 1 3 1 msg.Ack ∷ [])

@@ -7,7 +7,7 @@ use Rattle.coord_world.specs.protocol.Links.{has_right_distances, link}
 use Rattle.coord_world.specs.protocol.NumberedWorld.{World, view}
 use Rattle.coord_world.specs.protocol.Ranges.{InRange}
 
--- N without what it asks of the distance
+-- N without its condition on the distance
 abbrev pub is_legal_but_for_distance : ℕ → NodeState → Bool
 is_legal_but_for_distance count r =
     awaits_rightly r.mode r.pend && has_right_parent r.mode r.parent && is_parent_near r.parent r.pend r.neighbours && set.is_subset r.pend r.neighbours && nat_le r.confirmed r.epoch && nat_le r.epoch count

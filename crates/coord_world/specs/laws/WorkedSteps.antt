@@ -100,7 +100,7 @@ TwoInitiators =
     ∷ gives 13 Taken (receipt_out 1 2 3 3 ∷ []) ∷ []
     )
 
--- a list of steps from two linked nodes on that begins and ends where both are Ready, with starts at these nodes, and so many signals of each
+-- a list of steps from two linked nodes that begins and ends with both Ready, with starts at these nodes and this many signals of each
 pub record IsOverlap (steps : List Step) (at : List ℕ) (times : ℕ) : Type 0 where
   pub begins : BeginsReady (fold (no_world 1) two_linked) steps (λ _. true)
   pub ends : PartReady (fold (fold (no_world 1) two_linked) steps) (λ _. true)
@@ -139,7 +139,7 @@ third_meets =
     order 8 (Reset 3) ∷ take 2 3 5 1 (msg.Abort 0) ∷ take 3 2 5 1 (msg.Abort 0) ∷ clear 2 3 5 1 ∷ take 2 3 5 2 msg.Ack ∷ clear 3 2 5 1
     ∷ take 3 2 5 2 msg.Ack ∷ []
 
--- so not every node that is connected with one where a reset was started is signalled after that
+-- so not every node that is connected with the node of a start is signalled after that start
 pub record NotAllAfterEach : Type 0 where
   pub begins : BeginsReady (fold (no_world 1) path_linked) (two_meet ++ third_meets) (λ _. true)
   pub ends : PartReady (fold (fold (no_world 1) path_linked) (two_meet ++ third_meets)) (λ _. true)

@@ -46,7 +46,7 @@ abbrev pub of_incarnation : ℕ → Option Lane → Option Lane
 of_incarnation i None = None
 of_incarnation i (Some l) = if l.inc == i then Some l else None
 
--- the lane from u to v, where it has this incarnation
+-- the lane from u to v, if it has this incarnation
 abbrev pub lane : World → ℕ → ℕ → ℕ → Option Lane
 lane w u v i = of_incarnation i (lane_at w.links u v)
 
@@ -74,7 +74,7 @@ abbrev pub last_number : Option Session → ℕ
 last_number None = 0
 last_number (Some s) = s.number
 
--- neither the last number nor the one after it; the last one, with another command
+-- the number is not the last one or the next one; or it is the last one, with another command
 abbrev pub against_number : ℕ → ℕ → Tests
 against_number last n = (not (n == last + 1) && (not (n == last) || (n == 0)), OutOfTurn) ∷ (n == last, NumberReused) ∷ []
 
@@ -95,7 +95,7 @@ abbrev pub or_repeat : Option Session → ℕ → Command → Result Verdict Ref
 or_repeat None n x verdict = verdict
 or_repeat (Some o) n x verdict = if (o.number == n) && same_command o.command x then Ok (Repeat o.reply) else verdict
 
--- acceptance: what the front world, with what is settled of it, says to a step
+-- acceptance: the verdict of the front world on a step, given the settled world
 abbrev pub accepts : World → World → Step → Result Verdict Refusal
 accepts front settled (Order c n x) = or_repeat (get front.sessions c) n x (judged front settled (Order c n x))
 accepts front settled (Take p) = judged front settled (Take p)

@@ -9,7 +9,7 @@ use Rattle.coord_node.specs.Rules.{is_empty}
 use Rattle.coord_world.specs.protocol.NumberedWorld.{World, lane_at, view, is_linked}
 use Rattle.coord_world.specs.protocol.Links.{link, LegalLink}
 
--- a node is Abort exactly where it awaits somebody
+-- a node is Abort exactly if it awaits somebody
 abbrev pub awaits_rightly : Mode → NodeSet → Bool
 awaits_rightly Ready pend = is_empty pend
 awaits_rightly Abort pend = not (is_empty pend)
@@ -34,7 +34,7 @@ is_distance_right Ready distance count = distance == 0
 is_distance_right Abort distance count = nat_lt distance count
 is_distance_right Converge distance count = nat_lt distance count
 
--- N: that, all that are awaited are neighbours, and no epoch is confirmed that was not entered, nor more entered than steps were taken
+-- N: that, a node awaits only neighbours, and confirmed ≤ epoch ≤ the count of steps
 abbrev pub is_legal_node : ℕ → NodeState → Bool
 is_legal_node count r =
     awaits_rightly r.mode r.pend && has_right_parent r.mode r.parent && is_parent_near r.parent r.pend r.neighbours && set.is_subset r.pend r.neighbours && nat_le r.confirmed r.epoch && nat_le r.epoch count && is_distance_right r.mode r.distance count

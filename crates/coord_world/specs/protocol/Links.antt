@@ -1,4 +1,4 @@
--- The predicates B to H over the two ends of a link and what is on the way between them, each a test. Predicate A, over a lane, stands in the lane machine.
+-- The predicates B to H over the two ends of a link and the messages in transit between them, each a test. Predicate A, over a lane, is in the lane machine.
 use Rattle.std.specs.Prelude.{◌≡◌, ℕ, ◌+◌, ◌==◌, nat_le, Bool, true, false, ◌&&◌, ◌||◌, not, List, [], ◌∷◌, if◌then◌else◌}
 use Rattle.coord_types.specs.NodeSet as set
 use Rattle.coord_types.specs.Facade.{Ideal, NodeState}
@@ -53,7 +53,7 @@ readies (msg.Abort k ∷ ms) = readies ms
 readies (msg.Ack ∷ ms) = readies ms
 readies (msg.Ready ∷ ms) = 1 + readies ms
 
--- how many Readies stand behind an Abort
+-- the number of Readies after an Abort
 abbrev pub readies_behind : List Msg → ℕ
 readies_behind [] = 0
 readies_behind (msg.Abort k ∷ ms) = readies ms
@@ -90,7 +90,7 @@ owes_ack e = is_abort e.mode && e.child
 abbrev pub waits_for_ready : End → Bool
 waits_for_ready e = is_converge e.mode && e.child
 
--- B: an acknowledgement that is awaited stands in one place, and no other does: in the Abort on the way, at the end that owes it, or in the Ack on the way back
+-- B: an awaited acknowledgement is in exactly one place, and no other exists: in the Abort in transit, at the end that owes it, or in the Ack in transit back
 abbrev pub has_ack_in_one_place : Link → Bool
 has_ack_in_one_place l = (aborts l.out + one (owes_ack l.there) + acks l.back) == one l.here.awaits
 
@@ -98,11 +98,11 @@ has_ack_in_one_place l = (aborts l.out + one (owes_ack l.there) + acks l.back) =
 abbrev pub has_one_ready_at_most : Link → Bool
 has_one_ready_at_most l = nat_le (readies l.out) 1
 
--- D: no Ready stands behind an Abort
+-- D: no Ready follows an Abort
 abbrev pub has_readies_first : Link → Bool
 has_readies_first l = readies_behind l.out == 0
 
--- E: where the other end waits for this one's Ready, it is on the way, or this end isn't Ready
+-- E: if the other end waits for this end's Ready, it is in transit, or this end is not Ready
 abbrev pub has_ready_for_child : Link → Bool
 has_ready_for_child l = not (waits_for_ready l.there) || not (readies l.out == 0) || not (is_ready l.here.mode)
 
@@ -114,7 +114,7 @@ has_one_parent_at_most l = not (l.here.child && l.there.child)
 abbrev pub has_no_early_ready : Link → Bool
 has_no_early_ready l = is_ready l.here.mode || l.here.child || not (aborts l.out == 0) || (readies l.out == 0)
 
--- H: each Abort on the way carries what this end sends, and so far is the other end from it, where it is in this end's wave and its Ready is not on the way.
+-- H: each Abort in transit carries the distance that this end sends; the other end has that distance if it is in this end's wave and no Ready is in transit to it.
 -- In version 1, where all distances are 0, it always holds
 abbrev pub has_right_distances : Link → Bool
 has_right_distances l = (strays l.here.carries l.out == 0) && (is_ready l.there.mode || not l.there.child || not (readies l.out == 0) || (l.there.distance == l.here.carries))

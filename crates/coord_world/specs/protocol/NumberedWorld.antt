@@ -39,7 +39,7 @@ abbrev pub transit_or_none : Option Lane → List Msg
 transit_or_none None = []
 transit_or_none (Some l) = transit l
 
--- the ideal world that a numbered one stands for: each lane is what is on the way on it
+-- the ideal world of a numbered one: each lane becomes the list of its messages in transit
 abbrev pub view : World → Ideal
 view w = record { version = w.version; state = state w; linked = is_linked w; in_transit = λ u v. transit_or_none (lane_at w.links u v) }
 

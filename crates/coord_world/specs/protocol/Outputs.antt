@@ -1,4 +1,4 @@
--- What a step gives out, and what is sent again.
+-- The outputs of a step, and the resend list.
 use Rattle.std.specs.Prelude.{ℕ, ◌+◌, ◌==◌, ◌&&◌, Bool, false, not, List, [], ◌∷◌, ◌++◌, Option, Some, None, if◌then◌else◌}
 use Rattle.coord_types.specs.Facade.{is_nil}
 use Rattle.coord_types.specs.declared.messages.Msg.{Msg}
@@ -52,7 +52,7 @@ all_sent before (e ∷ es) = sent_by (lane_at before e.0.0 e.0.1) e.0 e.1 e.1.qu
 abbrev pub outputs : World → Step → List Output
 outputs w s = receipts s ++ signals (transitions w.version (state w) s) ++ all_sent w.links (lanes_in_order (next w s).links)
 
--- a step's reply, and what it gives out after that
+-- a step's reply, followed by its outputs
 pub record StepOutcome : Type 0 where
   pub reply : Reply
   pub outputs : List Output
@@ -62,7 +62,7 @@ abbrev pub outs : World → List Step → List StepOutcome
 outs w [] = []
 outs w (s ∷ ss) = record { reply = reply w s; outputs = outputs w s } ∷ outs (next w s) ss
 
--- a lane's front, and its receipt where it was taken
+-- a lane's front, and its receipt if it was taken
 abbrev pub again_by : ℕ × ℕ → Lane → List Msg → List Output
 again_by k l [] = []
 again_by k l (m ∷ ms) = Sent (front_packet k l m) ∷ (if is_front_taken l then Receipted (receipt (front_packet k l m)) ∷ [] else [])

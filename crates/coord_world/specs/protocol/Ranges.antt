@@ -1,4 +1,4 @@
--- The ranges of a world, which its type keeps: what is true of every world by its form, legal or not.
+-- The ranges of a world, the invariant of its type: they hold for every world, legal or not.
 use Rattle.std.specs.Prelude.{◌≡◌, ℕ, ◌==◌, ◌≤◌, Bool, true, false, List, Some, length, if◌then◌else◌}
 use Rattle.coord_link.specs.declared.lane.TheConstants.{PLACES}
 use Rattle.std.specs.List.{AllByRecursion}
@@ -35,7 +35,7 @@ pub record LaneInRange (count : ℕ) (l : Lane) : Type 0 where
   pub base : l.base ≤ count
   pub got : l.got ≤ count
 
--- the greatest distance in a world of this version, of so many steps
+-- the greatest distance in a world of this version with this many steps
 abbrev pub farthest : ℕ → ℕ → ℕ
 farthest version count = if version == 1 then 0 else count
 
@@ -43,7 +43,7 @@ farthest version count = if version == 1 then 0 else count
 abbrev pub CarryWithin : ℕ → List Msg → Type 0
 CarryWithin n ms = AllByRecursion (λ m. carried m ≤ n) ms
 
--- a node has a distance that the version allows, 0 where it is Ready
+-- a node has a distance that the version allows, 0 if it is Ready
 pub record IsDistant (version count : ℕ) (r : NodeState) : Type 0 where
   pub within : r.distance ≤ farthest version count
   pub ready : r.mode ≡ Ready → r.distance ≡ 0

@@ -63,7 +63,7 @@ pub record NodeRowFits (count : ℕ) (r : NodeRow) : Type 0 where
   pub epoch : r.epoch ≤ count
   pub confirmed : r.confirmed ≤ count
 
--- the group of the node with this number, where it is listed
+-- the group of the node with this number, if it is listed
 abbrev pub group_in : Option NodeRow → Option ℕ
 group_in None = None
 group_in (Some r) = Some r.group

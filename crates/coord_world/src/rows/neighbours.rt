@@ -8,7 +8,7 @@ ghost use Rattle.coord_world.specs.code.Assembly.{AreNear, near_in};
 use coord_tables::LinkRow;
 use coord_types::{NODES, NodeId, NodeSet};
 
-/// Each node's neighbours: those of node k stand at place k - 1.
+/// Each node's neighbours: those of node k at index k - 1.
 #[derive(Drop)]
 pub struct Neighbours {
     pub sets: [NodeSet; NODES],

@@ -1,4 +1,4 @@
-//! What comes of a world: the one after a step, and what is sent again.
+//! The world after a step, and the resend list.
 
 ghost use Rattle.std.specs.Prelude.{◌≡◌, ◌++◌, IfOk, OnOk, OnErr};
 ghost use Rattle.coord_node.specs.Steps.{transitions, transitions_ordered};
@@ -16,7 +16,7 @@ use coord_types::{Client, Command, Kind, Output, Reply, Session, Step};
 use std::alloc::{AllocError, Global};
 
 impl Tables {
-    /// Takes a step, and gives what it gives out. All memory is there before anything changes.
+    /// Takes a step, and returns its outputs. It allocates before it changes anything.
     pub fn apply(&mut self, alloc: Global, step: &Step) -> Result<StepOutcome, AllocError>
         requires { IsReadyFor self.old step.now }
         ensures world { OnOk result (self.new ≡ next self.old step.now) }
@@ -56,7 +56,7 @@ impl Tables {
         }
     }
 
-    /// What is sent again.
+    /// Returns the resend list.
     pub fn again(&self, alloc: Global) -> Result<Vec<Output>, AllocError>
         requires { InRange self.now }
         ensures { IfOk result (λ outputs. outputs.items ≡ again self.now) }

@@ -12,7 +12,7 @@ use coord_node::{Effects, Node};
 use coord_types::{DataPacket, Msg, NodeId};
 use std::alloc::{AllocError, Global};
 
-/// A node as it will be, and what it sends.
+/// A node's new state, and its messages.
 #[derive(Drop, Debug)]
 pub struct NodeTransition {
     pub id: NodeId,

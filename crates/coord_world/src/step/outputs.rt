@@ -1,4 +1,4 @@
-//! What a step gives out, computed before the step is carried out, and what is sent again.
+//! The outputs of a step, computed before the step is carried out, and the resend list.
 
 ghost use Rattle.std.specs.Prelude.{◌≡◌, ◌<◌, ◌-◌, ◌^◌, ◌∷◌, [], ◌++◌, length, IfOk, OnOk};
 ghost use Rattle.std.specs.List.{All};
@@ -80,7 +80,7 @@ pub fn push_fronts_of_both(
     }
 }
 
-/// Adds the packet of a message that becomes a front: nothing stands before it on its lane.
+/// Appends the packet of a message that becomes a front because its lane is empty.
 fn push_front(
     links: &LinkTable,
     from: NodeId,
@@ -107,7 +107,7 @@ fn push_front(
     Ok(())
 }
 
-/// The packet of the message behind a lane's front, where there is one: it becomes the front.
+/// Returns the packet of the message after a lane's front, if there is one: it becomes the front.
 pub fn front_behind(
     alloc: Global,
     links: &LinkTable,
@@ -135,7 +135,7 @@ pub fn front_behind(
     Ok(vec![in alloc; Output::Sent(packet)]?)
 }
 
-/// Adds what is sent again on a lane: its front, and its receipt where the front was taken.
+/// Appends the packets that a lane resends: its front, and its receipt if the front was taken.
 fn push_again(entry: &((NodeId, NodeId), Lane), outputs: &mut Vec<Output>) -> Result<(), AllocError>
     requires { HasNumber entry.now }
     ensures { OnOk result (outputs.new.items ≡
@@ -164,7 +164,7 @@ fn push_again(entry: &((NodeId, NodeId), Lane), outputs: &mut Vec<Output>) -> Re
     Ok(())
 }
 
-/// Adds what is sent again on all lanes, in ascending order.
+/// Appends the packets that all lanes resend, in ascending order.
 pub fn push_all_again(
     alloc: Global,
     links: &LinkTable,

@@ -15,7 +15,7 @@ use crate::tables::Tables;
 use coord_types::{Msg, NodeId};
 
 impl Tables {
-    /// Has a node be as it will be, and puts what it sends into its lanes.
+    /// Stores a node's new state, and appends its messages to its lanes.
     pub fn carry_out(&mut self, node_transition: NodeTransition)
         requires there { IsSome (table.get self.old.nodes node_transition.id) }
         requires room { CanSend node_transition.id node_transition.effects.sends.items self.old.links }
