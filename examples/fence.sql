@@ -1,4 +1,4 @@
 -- The fence of a database that one group of members shares: SQLite and PostgreSQL take it as it is (docs/SERVICES.md, "A database
--- behind a fence"). One row: the greatest count that a member came with, and the name of its run.
-CREATE TABLE fence (settled BIGINT NOT NULL, tag TEXT NOT NULL);
-INSERT INTO fence VALUES (-1, '');
+-- behind a fence"). One row: the count, tag and nodes of the fence that was accepted last, and the floor, below which none is accepted.
+CREATE TABLE fence (floor BIGINT NOT NULL, count BIGINT NOT NULL, tag TEXT NOT NULL, nodes TEXT NOT NULL);
+INSERT INTO fence VALUES (0, 0, '', '');

@@ -225,9 +225,7 @@ class Members(OfLibrary):
             text = self.read(f"{turn}/starts.json")
             self.alike_in(state, due, kept_in(text, node), self.read(f"{turn}/starts.history").removesuffix(b"torn"))
             if text and due is Due.TALK:
-                row = json.loads(text)
-                row[str(node)].pop("count", None)  # of the fence
-                self.assertEqual(json.dumps(row).encode() + b"\n", start_text(node, kept_in(text, node)))
+                self.assertEqual(text, start_text(node, kept_in(text, node)))
 
     def test_a_gateway(self) -> None:
         """The members behind it have begun what it told them, or have lost it."""

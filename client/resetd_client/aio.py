@@ -20,7 +20,7 @@ from __future__ import annotations
 
 import asyncio
 import threading
-from collections.abc import AsyncIterator, Awaitable, Callable
+from collections.abc import AsyncIterator, Awaitable, Callable, Iterable
 from contextlib import asynccontextmanager, suppress
 
 from . import LOOK_SECONDS, AtFront, Fence, Orders, Port, ResetdError, Run, Wakes, Work
@@ -32,12 +32,12 @@ class Member:
     """A `resetd_client.Member` for the coroutines of one event loop, which is the one that runs when it is made."""
 
     def __init__(self, port: Port, orders: Orders | AtFront, node: int, begun: int | None, begin: Callable[[int], Awaitable[None]], *,
-                 word: str = "", told: Callable[[str], None] = warn, work: Work = Work.PARTS) -> None:
+                 word: str = "", told: Callable[[str], None] = warn, work: Work = Work.PARTS, generation: int = 0) -> None:
         """As for a Member. `begin` is a coroutine: it must not use `in_run`, since none is let in meanwhile. Raises
         Unreadable and BadWords, and RuntimeError where no loop runs."""
         self._loop = asyncio.get_running_loop()
         self._begin = begin
-        self._member = Blocking(port, orders, node, begun, self._begin_in_loop, word=word, told=told, work=work)
+        self._member = Blocking(port, orders, node, begun, self._begin_in_loop, word=word, told=told, work=work, generation=generation)
 
     @property
     def begun(self) -> int | None:
@@ -53,6 +53,10 @@ class Member:
     def fence(self) -> Fence | None:
         """The fence of the run (`Member.fence`)."""
         return self._member.fence
+
+    def note_overtaken(self, nodes: Iterable[int]) -> None:
+        """As `Member.note_overtaken`."""
+        self._member.note_overtaken(nodes)
 
     async def follow(self, wakes: Wakes, every: float = LOOK_SECONDS) -> None:
         """Follows as a Member does, until nothing more will come, `stop` is called or its task is cancelled; then it ends

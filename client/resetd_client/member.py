@@ -6,9 +6,9 @@ import enum
 import math
 import os
 import threading
-from collections.abc import Callable, Iterator
+from collections.abc import Callable, Iterable, Iterator
 from contextlib import contextmanager
-from dataclasses import dataclass
+from dataclasses import dataclass, field
 
 from .answers import Away
 from .at_front import AtFront
@@ -19,7 +19,7 @@ from .party import are_parted, is_same_run
 from .port import Port
 from .rule import Due
 from .signals import Clock, Wake, Wakes
-from .starts import Fence, Shelf, Starts
+from .starts import GENERATIONS, Fence, Shelf, Starts
 from .view import Node, View
 
 MOST_TURNS = 100  # of one look: each begins or confirms an epoch that is new, or asks for a reset
@@ -30,11 +30,11 @@ MOST_REFUSED = 64  # tags that are remembered until the next look: a group has n
 class Run:
     """In a run a member may exchange messages. Each message or connection has the tag, one string; refuse another run's.
     The tag is empty if the member was connected with nobody when its start first talked: then it sends no message.
-    `fence` is for a database that refuses members of earlier runs; a member without a tag has none."""
+    `fence` is for a database that refuses members of earlier runs."""
 
     epoch: int
     tag: str
-    fence: Fence | None = None
+    fence: Fence | None = field(default=None, compare=False)
 
     def takes(self, tag: str) -> bool:
         """Whether a message with this tag is of this run. Two tags of one run need not be equal."""
@@ -71,13 +71,18 @@ class Member(Following):
 
     def __init__(self, port: Port, orders: Orders | AtFront, node: int, begun: int | None, begin: Callable[[int], None], *,
                  word: str = "", told: Callable[[str], None] = warn, wakes: Wakes | None = None,
-                 every: float = LOOK_SECONDS, on_run: Callable[[Run | None], None] = lambda run: None, work: Work = Work.PARTS) -> None:
+                 every: float = LOOK_SECONDS, on_run: Callable[[Run | None], None] = lambda run: None, work: Work = Work.PARTS,
+                 generation: int = 0) -> None:
         """`orders` are an AtFront where every address of the port is a front's; it wakes the member too, where no `wakes` are
-        given. Raises Unreadable if a file of its own does not read, and BadWords where work in memory is said to be begun."""
+        given. `generation` is for the fence: one number of all members, 0 to 8,388,607, and a greater one after each restore of
+        the coordinator's store. Raises Unreadable if a file of its own does not read, and BadWords where work in memory is
+        said to be begun, or at another generation."""
         super().__init__(orders, told)
         if work is Work.MEMORY and begun is not None:
             raise BadWords("work in memory alone does not outlive its process: give begun=None")
-        self.port, self.node = port, node
+        if generation not in GENERATIONS:
+            raise BadWords(f"a generation is to be a whole number from 0 to {GENERATIONS[-1]}, and not {generation}")
+        self.port, self.node, self._generation = port, node, generation
         self._shelf = Shelf(os.path.join(orders.folder, f"start-{node}.json"))
         self._starts = Starts(self._shelf, node, begun)
         if work is Work.MEMORY:
@@ -91,6 +96,7 @@ class Member(Following):
         self._changes = threading.Condition(threading.RLock())  # over the run, and the work that belongs to it
         self._is_there = True
         self._refused: set[str] = set()  # the tags of messages of other runs, since the last look
+        self._takers: set[int] = set()  # the nodes of the fences by which resources have refused its own, since then
         self._epoch: int | None = None  # of its node, in the last view
         self._why: str | None = None  # why somebody wants a reset
 
@@ -107,8 +113,8 @@ class Member(Following):
 
     @property
     def fence(self) -> Fence | None:
-        """The fence of the run: None while there is no run, for a member that is alone, and after an update from a version
-        that had no fence, until the next reset. Take it from the run of `in_run`, so that work and fence are of one start."""
+        """The fence of the run: None while there is no run, and after an update from a version that had no fence, until the next
+        reset. Take it from the run of `in_run`, so that work and fence are of one start."""
         run = self._run
         return run.fence if run else None
 
@@ -136,6 +142,14 @@ class Member(Following):
         """Has the thread that looks ask for a reset of the member's node, at once or with its next look. From any thread
         or a signal's handler; several calls before that are one."""
         self._why = why
+        self._bell.ring()
+
+    def note_overtaken(self, nodes: Iterable[int]) -> None:
+        """A resource has refused the member's fence, and keeps one with these nodes. The member looks. If it may talk by that look
+        too, and one of the nodes is connected with it, it asks for a reset: the resource was taken by a start of its own
+        group. Else another group has it. From any thread."""
+        with self._changes:
+            self._takers |= set(nodes)
         self._bell.ring()
 
     def look(self) -> View:
@@ -195,7 +209,7 @@ class Member(Following):
     def _sooner(self, began: float) -> float:
         if self._why is not None:
             return began
-        return began + DOUBT_SECONDS if self._refused else math.inf
+        return began + DOUBT_SECONDS if self._refused or self._takers else math.inf
 
     def _refuse(self, tag: str) -> None:
         if len(self._refused) < MOST_REFUSED:
@@ -213,13 +227,16 @@ class Member(Following):
         """Does what the view asks for. Answers whether to look again."""
         due = self._starts.due(view, row)
         self._shelf.keep()
-        run = Run(row.epoch, self._starts.tag(view, self._word), self._starts.fence(self._word)) if due is Due.TALK else None
-        refused = self._set_run(run)
+        run = Run(row.epoch, self._starts.tag(view, self._word), self._starts.fence(self._word, self._generation)) if due is Due.TALK else None
+        refused, takers = self._set_run(run)
         is_parted = run is not None and any(are_parted(run.tag, tag) for tag in refused)
+        is_overtaken = run is not None and any(node.node in takers for node in view.connected(self.node))
         if due is Due.BEGIN:
             self._begin_anew(view, row)
         elif is_parted:
             self._ask_reset(self.node, "a member that is connected talks in another run, and the same is shown to it", row.epoch)
+        elif is_overtaken:
+            self._ask_reset(self.node, "a start of its group, in another run, has taken what they share", row.epoch)
         elif due is Due.RESET:
             self._ask_reset(self.node, self._starts.why(row), row.epoch)
         else:
@@ -245,17 +262,18 @@ class Member(Following):
         self._shelf.write()
         self._shelf.keep()
 
-    def _set_run(self, run: Run | None) -> set[str]:
-        """Says which run is on. Answers the tags that were refused before."""
+    def _set_run(self, run: Run | None) -> tuple[set[str], set[int]]:
+        """Says which run is on. Answers the tags that it refused before, and the nodes by which it was refused."""
         with self._changes:
             before, self._run = self._run, run
             refused, self._refused = self._refused, set()
+            takers, self._takers = self._takers, set()
             self._changes.notify_all()
         if run is None and before is not None:
             self._on_run(None)
         elif run is not None and (before is None or not is_one_run(before, run)):
             self._on_run(run)
-        return refused
+        return refused, takers
 
     def _served_node(self) -> int:
         return self.node

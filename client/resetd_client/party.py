@@ -27,6 +27,11 @@ def is_alone(party: Party) -> bool:
     return len(party) == 1
 
 
+def nodes_of(party: Party) -> frozenset[int]:
+    """The nodes that it has lines of."""
+    return frozenset(int(words[0]) for line in party if len(words := line.split()) == 2)
+
+
 def tag_of(first: Party, shown: Party, word: str = "") -> str:
     """The tag of a start that first talked with `first` and is shown `shown` now: 32 digits of either's digest with `-`
     between. A start that was alone has none: the empty text."""

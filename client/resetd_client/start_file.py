@@ -12,7 +12,7 @@ A row is one of these, in one line of JSON for all nodes:
     {"begun": null, "party": null}                              nothing is begun
 
 A gateway's rows have `told` too: what the members of the node were told last. The file may be torn by a power cut, since it is
-not always synced. A torn text, and an empty one, say that nothing is begun.
+not always synced. A text without its last line feed is torn; it says that nothing is begun, as an empty one does.
 
 Earlier versions wrote `{"begun": E, "party": null}` for a start that has not talked (the file was synced then), and before that
 `{"epoch": E, "party": [..]}` with the greatest epoch that was ever begun.
@@ -46,11 +46,11 @@ class Row:
 
 def read_rows(path: str, text: str | None, boot: str) -> dict[int, Row]:
     """What the text of a file says in this boot. Raises Unreadable."""
+    if not text or not text.endswith("\n"):
+        return {}
     try:
-        rows = dict(json.loads(text or "{}").items())
+        rows = dict(json.loads(text).items())
     except (ValueError, AttributeError) as fault:
-        if text and not text.endswith("\n"):
-            return {}  # torn
         raise Unreadable(path, ": remove it, and a reset is asked for") from fault
     unknown = sorted({name for row in rows.values() if isinstance(row, dict) for name in row} - KNOWN)
     if unknown:

@@ -3,26 +3,36 @@
 from __future__ import annotations
 
 import os
-from dataclasses import replace
-from typing import NamedTuple
+from dataclasses import dataclass, replace
 
 from . import files
 from .history import History
-from .party import TAG_DIGITS, digest_of, is_alone, tag_of
+from .party import TAG_DIGITS, digest_of, is_alone, nodes_of, tag_of
 from .rule import Due, Judged, Kept, judge, shown_to
 from .since import boot_name
 from .start_file import Row, read_rows, text_of
 from .view import Node, View
 
 
-class Fence(NamedTuple):
-    """What a database needs to refuse a member that was paused while its group went on (docs/SERVICES.md, "A database behind a
-    fence"): the settled steps of the view in which the run's party was fixed for this member, and the name of the run, which
-    all of its members have. The database keeps the greatest pair that it was given, and takes exactly those with the same
-    name or a greater count."""
+GENERATIONS = range(1 << 23)
+STEPS_BITS = 40  # a store has fewer steps than 2 to this
 
-    settled: int
+
+@dataclass(frozen=True)
+class Fence:
+    """What a database, or another resource that one group shares, needs to refuse a member that was paused while its group went on
+    (docs/SERVICES.md, "A database behind a fence"): a count that is greater for each later run, the name of the run, which all of its
+    members have, and the nodes that it began with. It stays the same as long as the start lives."""
+
+    count: int
     tag: str
+    nodes: frozenset[int]
+
+    def passes(self, floor: int, count: int, tag: str) -> bool:
+        """Whether a resource accepts it that keeps this floor, and the count and the tag of what it accepted last; at first 0, 0
+        and the empty text. If it does, the floor becomes the old count where the tag is another one, and the greater count and
+        this tag are kept."""
+        return self.count > count or self.tag == tag and self.count > floor
 
 
 class Shelf:
@@ -199,13 +209,16 @@ class Starts:
         party = self._kept.party
         return tag_of(party, view.party(self._node), word) if party is not None else ""
 
-    def fence(self, word: str = "") -> Fence | None:
-        """The fence of a start that has first talked. None for one that was alone then, and if an earlier version of the
-        library fixed its party: the next reset brings one."""
-        party, count = self._kept.party, self._shelf.count(self._node)
-        if party is None or count is None or is_alone(party):
+    def fence(self, word: str = "", generation: int = 0) -> Fence | None:
+        """The fence of a start that has first talked. None if an earlier version of the library fixed its party: the next reset
+        brings one. A start that was alone shares its run with nobody, and may come again with the same party: so its tag has the
+        count in it. `generation` is greater after each restore of the coordinator's store."""
+        party, settled = self._kept.party, self._shelf.count(self._node)
+        if party is None or settled is None:
             return None
-        return Fence(count, digest_of(party, word)[:TAG_DIGITS])
+        count = (generation << STEPS_BITS) + settled
+        digest = digest_of(party, f"{word}@{count}" if is_alone(party) else word)
+        return Fence(count, digest[:TAG_DIGITS], nodes_of(party))
 
     def why(self, row: Node) -> str:
         """Why a reset is due, in words."""

@@ -119,11 +119,11 @@ def read_torn(path: str, text: str | None, boot: str) -> dict[int, Row]:
     """Reads a torn text as far as it goes."""
     try:
         json.loads(text or "{}")
-        return read_rows(path, text, boot)
+        return read_rows(path, f"{text}\n" if text else text, boot)
     except ValueError:
         found, lines = re.search(r'"begun": (\d+)', text or ""), re.findall(r'"(\d+ \d+(?: \d+)?)"', text or "")
         row = {"1": {"begun": int(found[1]), "party": lines or None}} if found else {}
-        return read_rows(path, json.dumps(row), boot)
+        return read_rows(path, json.dumps(row) + "\n", boot)
 
 
 class Now:

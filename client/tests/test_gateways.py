@@ -342,7 +342,7 @@ class Gateways(Case):
         self.all_begin()
         self.book.close()
         party = sorted(self.port.show().party(1))
-        keep(f"{self.folder}/members/starts.json", json.dumps({str(node): {"epoch": 1, "party": party} for node in (1, 2, 3)}))
+        keep(f"{self.folder}/members/starts.json", json.dumps({str(node): {"epoch": 1, "party": party} for node in (1, 2, 3)}) + "\n")
         for node in (1, 2, 3):
             for name in ("wanted", "begun"):
                 keep(f"{self.folder}/members/{node}/{name}", "1 0123456789abcdef\n")

@@ -344,6 +344,23 @@ class Refusals(MemberCase):
             self.look(member)
             self.assertEqual(self.begun, begun)
 
+    def test_a_resource_that_was_taken_by_its_own_group(self) -> None:
+        """One reset is asked for, and none if those who took it are not connected with the member, or it may not talk any more."""
+        member = self.in_a_run()
+        for takers, begun in (({7, 9}, [1]), ({2, 9}, [1, 2]), ({2, 9}, [1, 2])):
+            member.note_overtaken(takers)
+            self.look(member)
+            self.assertEqual(self.begun, begun)
+
+    def test_generations(self) -> None:
+        for generation in (-1, 1 << 23):
+            self.assertRaises(ValueError, Member, self.port, self.orders(1, f"{generation}"), 1, None, self.begun.append, generation=generation)
+        self.in_a_run().orders.close()
+        member = Member(self.port, self.orders(1, "member", True), 1, 1, self.begun.append, generation=2)
+        self.look(member)
+        assert member.fence
+        self.assertEqual((member.fence.count >> 40, member.fence.nodes), (2, {1, 2}))
+
     def test_what_was_refused_before_the_last_look_counts_no_more(self) -> None:
         member = self.in_a_run()
         self.refuse(member, self.other(member, True))

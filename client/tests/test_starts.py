@@ -157,7 +157,7 @@ class Kept(Case):
         for text in ("[]", "{", '{"1": {}}', '{"1": {"begun": 4}}', '{"1": {"begun": "4", "party": null}}', '{"1": {"begun": 4, "party": "1 4"}}'):
             keep(self.path, f"{text}\n")
             self.assertRaises(ValueError, Shelf, self.path)
-        for torn in ("{", '{"1": {"begun": 4, "par'):  # by a power cut
+        for torn in ("{", '{"1": {"begun": 4, "par', '{"1": {"begun": 4, "party": null}}'):  # by a power cut
             keep(self.path, torn)
             self.assertIsNone(Shelf(self.path).get(1).begun)
 
@@ -255,15 +255,32 @@ class Fences(Case):
         starts._shelf.keep()
         again = Starts(Shelf(self.path), 1, 4)
         for each in (starts, again):
-            self.assertEqual((each.fence(), each.fence("w")), (Fence(9, DIGEST[:32]), Fence(9, digest_of(PARTY, "w")[:32])))
+            nodes = frozenset({1, 2})
+            self.assertEqual((each.fence(), each.fence("w", 3)), (
+                Fence(9, DIGEST[:32], nodes), Fence(3 * 2**40 + 9, digest_of(PARTY, "w")[:32], nodes)))
 
-    def test_who_has_none(self) -> None:
-        """A start that has not talked, one that was alone, and one whose party an earlier version fixed."""
-        alone = self.begun()
-        self.due(alone, view_of((1, 4, 4)))
-        keep(self.path, json.dumps({"1": {"begun": 4, "party": sorted(PARTY)}}))
+    def test_one_whose_party_an_earlier_version_fixed_has_none(self) -> None:
+        keep(self.path, json.dumps({"1": {"begun": 4, "party": sorted(PARTY)}}) + "\n")
         earlier = Starts(Shelf(self.path), 1, 4)
-        self.assertEqual((alone.fence(), earlier.fence(), self.due(earlier, THROUGH)), (None, None, Due.TALK))
+        self.assertEqual((earlier.fence(), self.due(earlier, THROUGH)), (None, Due.TALK))
+
+    def test_two_that_were_alone_differ(self) -> None:
+        """Though the party is the same: a node that was removed and added again."""
+        fences = []
+        for settled in (9, 20):
+            starts = Starts(Shelf(f"{self.folder}/{settled}.json"), 1, None)
+            starts.note_begun(4)
+            self.due(starts, replace(view_of((1, 4, 4)), settled=settled))
+            fences.append(starts.fence("w"))
+        tags = [digest_of(frozenset({"1 4"}), f"w@{settled}")[:32] for settled in (9, 20)]
+        self.assertEqual(fences, [Fence(settled, tag, frozenset({1})) for settled, tag in zip((9, 20), tags)])
+
+    def test_what_a_resource_accepts(self) -> None:
+        """The same run, if it is above the floor; and any later one."""
+        fence = Fence(12, "a", frozenset())
+        for kept, passes in (((0, 0, ""), True), ((0, 12, "a"), True), ((11, 30, "a"), True), ((12, 30, "a"), False), ((0, 11, "b"), True),
+                             ((0, 12, "b"), False)):
+            self.assertEqual(fence.passes(*kept), passes, kept)
 
     def test_the_next_start_has_its_own(self) -> None:
         starts = self.begun()
@@ -272,7 +289,8 @@ class Fences(Case):
         starts.note_begun(5)
         self.assertIsNone(starts.fence())
         self.due(starts, replace(view_of((1, 5, 5), (2, 8, 8)), settled=30))
-        self.assertEqual((starts.fence() or Fence(0, "")).settled, 30)
+        fence = starts.fence()
+        self.assertEqual(fence and fence.count, 30)
 
 
 class Versions(Case):
@@ -412,7 +430,7 @@ class Earlier(Case):
     """The file of an earlier version, which had the greatest epoch and the party of that start."""
 
     def of(self, epoch: int, party: View | None) -> Starts:
-        keep(self.path, json.dumps({"1": {"epoch": epoch, "party": sorted(party.party(1)) if party else None}}))
+        keep(self.path, json.dumps({"1": {"epoch": epoch, "party": sorted(party.party(1)) if party else None}}) + "\n")
         return Starts(Shelf(self.path), 1, 4)
 
     def test_a_reset_is_asked_for_once(self) -> None:

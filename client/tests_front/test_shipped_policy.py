@@ -1,0 +1,103 @@
+"""The policy of docs/FRONT.md, as it is printed: with its certificate the member of node 3 begins, confirms and is told of resets
+over TLS, in Python, behind a gateway, and in Go."""
+
+from __future__ import annotations
+
+import os
+import re
+import shutil
+import subprocess
+import sys
+import unittest
+
+from case import ROOT, Case, until
+from test_peers import certificates, sign
+
+GROUPS = {"resetd": "daemon", "resetd-look": "games"}  # of this machine, in the place of those of the units
+NODE = 3
+
+
+def printed_policy() -> str:
+    """What docs/FRONT.md prints, and a rule for the one who runs the test."""
+    with open(f"{ROOT}/docs/FRONT.md", encoding="utf-8") as file:
+        [policy] = re.findall(r"^```\n(\[\[allow\]\].*?)^```", file.read(), re.MULTILINE | re.DOTALL)
+    for name, here in GROUPS.items():
+        policy = policy.replace(f'group = "{name}"', f'group = "{here}"')
+    return f'{policy}\n[[allow]]\nuser = "root"\nops = ["show", "confirm", "reset"]\n'
+
+
+@unittest.skipUnless(shutil.which("openssl") and os.getuid() == 0, "it needs openssl, and root, whom the policy names")
+class Shipped(Case):
+    has_front = False
+
+    def setUp(self) -> None:
+        super().setUp()
+        shutil.copytree(certificates().name, self.folder, dirs_exist_ok=True)
+        sign(self.folder, "front", "-addext", "subjectAltName=IP:127.0.0.1")
+        sign(self.folder, "service3")
+        with open(f"{self.folder}/policy", "w", encoding="utf-8") as file:
+            file.write(printed_policy())
+        self.front = self.started("--policy", f"{self.folder}/policy", "--signals", self.server.signals, "--tls", "127.0.0.1:0", "--certificate",
+                                  f"{self.folder}/front.pem", "--key", f"{self.folder}/front.key", "--authority", f"{self.folder}/authority.pem")
+        self.address = f"tls:127.0.0.1:{self.front.listening('tls:')[1]}"
+
+    def run_as_service3(self, *words: str) -> subprocess.Popen[bytes]:
+        paths = {"RESETD_CERTIFICATE": "service3.pem", "RESETD_KEY": "service3.key", "RESETD_AUTHORITY": "authority.pem"}
+        with open(f"{self.folder}/member.said", "ab") as said:
+            process = subprocess.Popen(words, stdin=subprocess.DEVNULL, stdout=said, stderr=said,
+                                       env={**os.environ, **{name: f"{self.folder}/{path}" for name, path in paths.items()}})
+        self.addCleanup(process.wait)
+        self.addCleanup(process.kill)
+        return process
+
+    def row(self, node: int) -> list[int]:
+        return next(row for row in self.front.ask(op="show")["nodes"] if row[0] == node)
+
+    def confirm_others(self) -> bool:
+        """Confirms for the other members; whether all are through."""
+        for node in (1, 2, 4):
+            if self.row(node)[4] > self.row(node)[5]:
+                self.front.ask(op="confirm", node=node, epoch=self.row(node)[4])
+        return all(self.row(node)[4] == self.row(node)[5] > 0 for node in range(1, 5))
+
+    def expect_member(self, *processes: subprocess.Popen[bytes]) -> None:
+        """It begins as a new one does, and at each of two resets, of which nothing tells it but the front."""
+        until("a group that is through", self.confirm_others)
+        for _ in range(2):
+            epoch = self.row(NODE)[4]
+            self.front.ask(op="reset", node=1)
+            until("the member's confirm", lambda: self.row(NODE)[5] > epoch, 60)
+            until("a group that is through", self.confirm_others)
+        for process in processes:
+            self.assertIsNone(process.poll())
+        denied = [line for line in self.front.audited() if line["event"] == "denied"]
+        self.assertEqual(denied, [])
+
+    def test_the_service(self) -> None:
+        self.expect_member(self.run_as_service3(sys.executable, f"{ROOT}/examples/service", "3", self.address, f"{self.folder}/3",
+                                                "--no-signals", "--look", "3600"))
+
+    def test_the_gateway(self) -> None:
+        """Of two members of the node."""
+        gateway = self.run_as_service3(sys.executable, f"{ROOT}/examples/gateway", "3x2", "3", self.address, f"{self.folder}/g", "--look", "3600")
+        members = [self.run_as_service3(sys.executable, f"{ROOT}/examples/member", f"{self.folder}/g/3.{place}") for place in (1, 2)]
+        self.expect_member(gateway, *members)
+
+    def test_the_member_in_go(self) -> None:
+        if not shutil.which("go"):
+            self.skipTest("go is not installed")
+        folders = {name: f"{self.folder}/{name}" for name in ("GOCACHE", "GOPATH", "GOTMPDIR")}
+        os.mkdir(folders["GOTMPDIR"])
+        subprocess.run(["go", "build", "-o", f"{self.folder}/member", f"{ROOT}/examples/members/plain_member.go"], check=True, capture_output=True,
+                       env={**os.environ, **folders, "CGO_ENABLED": "0"}, timeout=600)
+        self.expect_member(self.run_as_service3(f"{self.folder}/member", "3", self.address, f"{self.folder}/3"))
+
+    def test_the_policy_allows_no_other_node(self) -> None:
+        ended = self.run_as_service3(sys.executable, f"{ROOT}/examples/service", "2", self.address, f"{self.folder}/2", "--no-signals")
+        self.assertEqual(ended.wait(60), 1)
+        with open(f"{self.folder}/member.said", encoding="utf-8") as said:
+            self.assertIn("NotAllowed", said.read())
+
+
+if __name__ == "__main__":
+    unittest.main()
