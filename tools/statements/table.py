@@ -32,6 +32,11 @@ class Table:
         self.wrong: list[str] = []
         self.rows: list[Row] = []
         self.names = self.all_names()
+        self.of_crate: dict[str, list[Function]] = collections.defaultdict(list)
+        for function in repository.functions:
+            self.of_crate[function.crate].append(function)
+        self.labels = {label.split()[-1] for function in repository.functions for label, _ in function.clauses}
+        self.labels |= {ghost.name for ghost in repository.ghosts}
         for line in (repository.root / TABLE).read_text().splitlines():
             cells = [cell.strip() for cell in line.strip().strip("|").split("|")]
             if line.startswith("|") and len(cells) == 3 and cells[2] not in ("---", "Carried by"):
@@ -85,8 +90,7 @@ class Table:
 
     def is_clause(self, name: str) -> bool:
         """Whether a clause or a ghost member is called so."""
-        labels = {label.split()[-1] for function in self.repository.functions for label, _ in function.clauses}
-        return name in labels | {ghost.name for ghost in self.repository.ghosts}
+        return name in self.labels
 
     def look_up(self, crates: list[str], name: str, cell: str) -> list[Function]:
         """The functions that a name means. It has to be of these crates or of those below them."""
@@ -94,11 +98,12 @@ class Table:
             return []
         words = re.findall(r"\w\w+", name)
         last = max(map(self.repository.crates.index, crates))
-        known = set[str]().union(*(self.names[crate] for crate in self.repository.crates[: last + 1]))
-        if not known.issuperset(words):
+        below = self.repository.crates[: last + 1]
+        if not all(any(word in self.names[crate] for crate in below) for word in words):
             where = f"not in {', '.join(crates)} or below"
             self.wrong.append(f"{TABLE}: a row names `{name}`, which is {where}: {cell[:80]}")
-        found = [function for function in self.repository.functions if self.is_named(function, words, crates)]
+        found = [function for crate in self.repository.crates if crate in crates
+                 for function in self.of_crate[crate] if self.is_named(function, words)]
         self.named |= {(function.crate, function.path) for function in found}
         return found
 
@@ -119,8 +124,8 @@ class Table:
         fields = {field for text in written for field in re.findall(r"^\s+pub (\w+) :", text, re.M)}
         return fields | {name for _, name in reached}
 
-    def is_named(self, function: Function, words: list[str], crates: list[str]) -> bool:
-        if function.crate not in crates:
+    def is_named(self, function: Function, words: list[str]) -> bool:
+        if function.name != words[-1] and function.owner.split(" ")[0] != words[-1]:
             return False
         parts = re.findall(r"\w+", function.path)
         is_method = function.name == words[-1] and set(words) <= set(parts)
