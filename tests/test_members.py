@@ -346,12 +346,12 @@ class InOtherLanguages(OfLibrary):
     takes = 100
     programs = ("RESETD", "RESETD_MEMBER")
 
-    def keeps_the_rule(self, compiler: str, *words: str) -> None:
-        """The compiler makes a member of the library, and tools/try_member finds nothing wrong with it."""
+    def keeps_the_rule(self, compiler: str, *words: str, address: tuple[str, ...] = ("{host}", "{port}")) -> None:
+        """The compiler makes a member, and tools/try_member finds nothing wrong with it."""
         self.needs(f"the compiler {compiler}", shutil.which(compiler) is not None, is_optional=True)
         made = subprocess.run([compiler, *words], capture_output=True, text=True, cwd=EXAMPLES, timeout=600)
         self.assertEqual((made.returncode, made.stderr), (0, ""))
-        tried = subprocess.run([tool("try_member"), self.path("member"), "{node}", "{host}", "{port}", "{folder}"],
+        tried = subprocess.run([tool("try_member"), self.path("member"), "{node}", *address, "{folder}"],
                                capture_output=True, text=True, env={**os.environ, "RESETD": PROGRAM, "TMPDIR": self.folder})
         self.assertEqual(tried.returncode, 0, tried.stdout + tried.stderr)
 
@@ -363,18 +363,19 @@ class InOtherLanguages(OfLibrary):
         self.keeps_the_rule("rustc", "--edition", "2024", "-O", "-o", self.path("member"), "member.rs",
                             "-L", os.path.dirname(PATH), "-l", "static=resetd_member")
 
-    def keeps_the_rule_in_go(self, words: list[str], *files: str) -> None:
+    def keeps_the_rule_in_go(self, words: list[str], *files: str, address: tuple[str, ...] = ("{host}", "{port}")) -> None:
         self.needs("the compiler go", shutil.which("go") is not None, is_optional=True)
         folders = [f"{name}={self.path(name)}" for name in ("GOCACHE", "GOPATH", "GOTMPDIR")]
         os.mkdir(self.path("GOTMPDIR"))
-        self.keeps_the_rule("env", *folders, *words, "go", "build", "-o", self.path("member"), *files)
+        self.keeps_the_rule("env", *folders, *words, "go", "build", "-o", self.path("member"), *files, address=address)
 
     def test_go(self) -> None:
         words = [f"CGO_CFLAGS=-I{HEADER}", f"CGO_LDFLAGS={PATH.replace('.so', '.a')}"]
         self.keeps_the_rule_in_go(words, "member.go", "resetd_member.go")
 
     def test_go_without_the_library(self) -> None:
-        self.keeps_the_rule_in_go(["CGO_ENABLED=0"], "plain_member.go")
+        """Through a front, over one connection."""
+        self.keeps_the_rule_in_go(["CGO_ENABLED=0"], "plain_member.go", address=("{front}",))
 
 
 class Vectors(OfLibrary):

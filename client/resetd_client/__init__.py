@@ -38,7 +38,7 @@ docs/SERVICES.md says what a service has to do, and why.
 
 from .address import Credentials
 from .answers import (Away, Fault, Faulted, Garbled, NotNow, NotTaken, Refusal, Refused, Reply)
-from .at_front import AtFront, orders_of, wakes_of
+from .at_front import AtFront, EarlierFront, orders_of, wakes_of
 from .errors import BadWords, InLoop, ResetdError, Unreadable, Untrusted
 from .files import Held, hold, keep, read
 from .following import LOOK_SECONDS
@@ -61,7 +61,7 @@ __version__ = "0.16.0"  # that of the first heading of CHANGELOG.md
 
 __all__ = [
     "AtFront", "Away", "BadTopology", "BadWords", "CLIENTS", "Clock", "CountLost", "CountNotFound", "Credentials", "Due",
-    "Fault", "Faulted", "Fence", "Follower", "GROUPS", "Garbled", "Gateway", "Held", "InLoop", "LOOK_SECONDS", "Link",
+    "EarlierFront", "Fault", "Faulted", "Fence", "Follower", "GROUPS", "Garbled", "Gateway", "Held", "InLoop", "LOOK_SECONDS", "Link",
     "Member", "NODES", "NoStore", "Node", "NotNow", "NotTaken", "Orders", "OutOfRun", "Past", "Port", "Refusal", "Refused",
     "Reply", "ResetdError", "Restless", "Run", "Served", "Shelf", "Starts", "Stream", "TooLong", "Unreadable", "Untrusted",
     "View", "Wake", "Wakes", "Watched", "Work", "find_count", "hold", "keep", "orders_of", "patiently", "read", "views", "wakes_of",

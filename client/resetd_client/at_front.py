@@ -10,7 +10,7 @@ from __future__ import annotations
 from collections.abc import Callable, Sequence
 
 from . import files
-from .answers import Away, NotTaken, Outcome, Refusal, Refused, members_of, reply_of
+from .answers import Away, Fault, Faulted, Garbled, NotTaken, Outcome, Refusal, Refused, members_of, reply_of
 from .errors import BadWords
 from .limits import check_order
 from .orders import Order, Orders, warn
@@ -20,6 +20,16 @@ from .view import View
 from .watching import Watched
 
 LOST_COUNT = frozenset({Refusal.OUT_OF_TURN, Refusal.NUMBER_REUSED})  # the front's own, which it finds by itself
+
+
+class EarlierFront(NotTaken):
+    """The front does not know orders without a number, or a reset that names an epoch: it is of an earlier version than this library.
+    Needs a person: who upgrades the front first."""
+
+    name = "EarlierFront"
+
+    def __init__(self) -> None:
+        super().__init__("the front is of an earlier version than this library, and does not know its orders: upgrade the front first")
 
 
 class AtFront:
@@ -51,7 +61,7 @@ class AtFront:
         """Sends orders together, and returns what came of each: one that is refused does not hold those after it. While they
         are on their way `on_view` is called, with `view` and with each view that the front pushes. After Away call it
         again with the same orders. Raises Away, BadWords at a number out of its range (before it sends anything),
-        Garbled and Untrusted."""
+        EarlierFront, Garbled and Untrusted."""
         for order in orders:
             check_order(order)
         return [self._outcome(line) for line in self._watched.ask_many(orders, on_view, view)]
@@ -64,8 +74,10 @@ class AtFront:
                 raise Away(f"the front has lost its count: {refused}") from refused
             return refused
         except NotTaken as fault:
-            if fault.name == "Garbled":
+            if isinstance(fault, Garbled):
                 raise
+            if isinstance(fault, Faulted) and fault.fault is Fault.BAD_REQUEST:
+                raise EarlierFront from fault
             return fault
         self._watched.note_order(reply.step)
         return reply
@@ -91,7 +103,8 @@ class AtFront:
         self._watched.await_view(seconds)
 
 
-def orders_of(port: Port, client: int | None, folder: str, *, held_seconds: float = 0.0, told: Callable[[str], None] = warn) -> Orders | AtFront:
+def orders_of(port: Port, client: int | None, folder: str, *, held_seconds: float = 0.0,
+              told: Callable[[str], None] = warn) -> Orders | AtFront:
     """What a Member or a Gateway orders with: an AtFront where every address is a front's, else the numbered Orders of a client
     (1 to 16). Raises BadWords where a client is needed and is None, and what both raise."""
     if all(address.is_front for address in port.addresses):

@@ -94,7 +94,7 @@ def put(path: str, text: str) -> None:
 
 def overwrite(path: str, text: str) -> None:
     """The same as `put`, for a file that nobody else reads: a short text goes over the old one, with blanks before its last
-    line feed where it is shorter, in one call, which no kill cuts. A longer one is put. No new file is made, and nothing waits for the disk."""
+    line feed where it is shorter, in one call, which no kill cuts. A longer one is put. Nothing waits for the disk."""
     try:
         descriptor = os.open(path, os.O_WRONLY | os.O_CLOEXEC | os.O_NOFOLLOW)
     except FileNotFoundError:

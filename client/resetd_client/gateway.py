@@ -30,7 +30,8 @@ GATHER_SECONDS = 0.01  # for which others may begin after the last one, and are 
 class Desk:
     """A node's members, which begin and talk together: their seats, and what is kept of their starts."""
 
-    def __init__(self, node: int, shelf: Shelf, folder: str, names: Iterable[str], numbers: Mapping[str, int] = MappingProxyType({})) -> None:
+    def __init__(self, node: int, shelf: Shelf, folder: str, names: Iterable[str],
+                 numbers: Mapping[str, int] = MappingProxyType({})) -> None:
         """`numbers` are what the members were told before, by their names."""
         self.node, self._shelf = node, shelf
         self.seats = [Seat(os.path.join(folder, name)) for name in names]

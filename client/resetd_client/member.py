@@ -227,7 +227,7 @@ class Member(Following):
         """Does what the view asks for. Answers whether to look again."""
         due = self._starts.due(view, row)
         self._shelf.keep()
-        run = Run(row.epoch, self._starts.tag(view, self._word), self._starts.fence(self._word, self._generation)) if due is Due.TALK else None
+        run = self._run_in(view, row) if due is Due.TALK else None
         refused, takers = self._set_run(run)
         is_parted = run is not None and any(are_parted(run.tag, tag) for tag in refused)
         is_overtaken = run is not None and any(node.node in takers for node in view.connected(self.node))
@@ -245,6 +245,9 @@ class Member(Following):
             return False
         self._waits = 0
         return True
+
+    def _run_in(self, view: View, row: Node) -> Run:
+        return Run(row.epoch, self._starts.tag(view, self._word), self._starts.fence(self._word, self._generation))
 
     def _begin_anew(self, view: View, row: Node) -> None:
         """No run is on: no work `in_run` is under way, and none begins."""

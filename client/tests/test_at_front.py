@@ -14,7 +14,7 @@ from unittest import mock
 
 from case import Case  # first: it says where the library is
 from pushing import Pushing, make_certificates, of_tls, of_unix
-from resetd_client import (AtFront, Away, BadWords, Credentials, Faulted, Garbled, Held, Member, NotTaken, Port, Refusal, Refused, Reply, Run,
+from resetd_client import (AtFront, Away, BadWords, Credentials, EarlierFront, Faulted, Garbled, Held, Member, NotTaken, Port, Refusal, Refused, Reply, Run,
                            View, Wake, Work, aio)
 
 SECONDS = 60.0
@@ -73,6 +73,13 @@ class Orders(FrontCase):
         for text in ('{"x":1}', "[]"):
             self.front.to_order = text
             self.assertRaises(Garbled, self.order, op="reset", node=1)
+
+    def test_a_front_of_an_earlier_version(self) -> None:
+        """It takes these orders for none: that is said in one line, and ends the member."""
+        self.front.to_order = '{"fault":"BadRequest"}'
+        member = Member(self.port, self.at_front, 1, None, lambda epoch: None, told=self.told.append)
+        with self.assertRaisesRegex(EarlierFront, "the front is of an earlier version than this library"):
+            member.look()
 
     def test_a_number_out_of_its_range_is_not_sent(self) -> None:
         self.assertRaises(BadWords, self.at_front.order_all, [{"op": "reset", "node": 1}, {"op": "reset", "node": 65}])

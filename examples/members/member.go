@@ -141,6 +141,11 @@ func main() {
 	startFile, historyFile = fmt.Sprintf("start-%d.json", node), fmt.Sprintf("start-%d.history", node)
 	check(os.MkdirAll(os.Args[4], 0o777))
 	check(os.Chdir(os.Args[4]))
+	for _, path := range []string{"work", startFile, historyFile, "orders", "."} {
+		if file, err := os.Open(path); err == nil {
+			sync(file) // what is there lasts: whoever wrote it may have been killed before its sync
+		}
+	}
 	os.Remove("run") // before the first look nothing is known
 	for ; ; time.Sleep(300 * time.Millisecond) {
 		look()

@@ -139,6 +139,12 @@ fn main() -> Result<()> {
     };
     fs::create_dir_all(folder)?;
     env::set_current_dir(folder)?;
+    // what is there lasts: whoever wrote, renamed or removed it may have been killed before its sync
+    for path in ["work", &format!("start-{node}.json"), &format!("start-{node}.history"), "orders", "."] {
+        if let Ok(file) = File::open(path) {
+            file.sync_all()?;
+        }
+    }
     let _ = fs::remove_file("run"); // before the first look nothing is known
     let member = Member { node: node.parse().expect("a node"), address: format!("{host}:{port}") };
     loop {
