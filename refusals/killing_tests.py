@@ -61,7 +61,7 @@ def build_together(scratch: str, tests: str, edits: list[Edit]) -> tuple[list[Ed
 
 def build(scratch: str, tests: str, edits: list[Edit]) -> str:
     """Builds what these tests run. What a build says where it fails, and nothing where it does not."""
-    chosen = ["tools/trial_build", "--schemata", *(word for edit in edits for word in ("--edit", edit.id))]
+    chosen = ["tools/trial_build", "--schemata", *(word for edit in edits for word in ("--mutant", edit.id))]
     if tests == "tests":
         file_of = {file: f"{scratch}/{file}" for file in FILES.values()}
         wanted = [[*chosen, *(file_of.get(word, word) for word in PROGRAM)], ["tools/trial_library", scratch]]
@@ -121,7 +121,7 @@ def run_alone(edits: list[Edit], depends: Depends, jobs: int) -> list[str]:
 def try_alone(edit: Edit, copies: Queue[str]) -> str:
     """Puts an edit into a copy that is free, runs the tests of its killing test's crate there, and says what that test did."""
     if edit.tests == "tests":
-        done = subprocess.run(["tests/run", "--edit", edit.id, edit.test], capture_output=True, text=True)
+        done = subprocess.run(["tests/run", "--mutant", edit.id, edit.test], capture_output=True, text=True)
         return tell(edit, outcome_in(edit.test, done.stdout))
     copy = copies.get()
     try:
