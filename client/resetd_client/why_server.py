@@ -14,6 +14,7 @@ from .port import Port
 from .processes import Condition, commanded, condition_of, has_other_network, join_network, listening, lock_holders
 from .same_store import NotCompared, Reading, difference, reading
 from .view import View
+from .waiting import AUDIT, of_groups
 
 KEPT_SECONDS = "11 minutes"  # the longest that one client keeps all others out
 CONDITIONS = {
@@ -24,8 +25,9 @@ CONDITIONS = {
 }
 
 
-def of_address(text: str, seconds: float, path: str) -> Iterator[Finding]:
-    """What listens at an address, whether a server could, and whether a coordinator there has the store on this file."""
+def of_address(text: str, seconds: float, path: str, audit: str = AUDIT) -> Iterator[Finding]:
+    """What listens at an address, whether a server could, whether a coordinator there has the store on this file, and for which
+    members its groups wait, by the times of a front's audit."""
     yield from of_network(path)
     try:
         host, port = host_and_port(text)
@@ -43,7 +45,7 @@ def of_address(text: str, seconds: float, path: str) -> Iterator[Finding]:
     listeners = sorted(listening(host, port))
     for process in listeners:
         yield Finding("address", f"process {process}{commanded(process)} listens there: a second one can't", "Socket")
-    yield from of_answer(f"{host}:{port}", seconds, path, listeners)
+    yield from of_answer(f"{host}:{port}", seconds, path, listeners, audit)
 
 
 def of_network(path: str) -> Iterator[Finding]:
@@ -58,7 +60,7 @@ def of_network(path: str) -> Iterator[Finding]:
         return
 
 
-def of_answer(address: str, seconds: float, path: str, listeners: list[int]) -> Iterator[Finding]:
+def of_answer(address: str, seconds: float, path: str, listeners: list[int], audit: str) -> Iterator[Finding]:
     """What answers at an address."""
     fault = "" if listeners else "Socket"
     before = read_if_allowed(path)
@@ -77,6 +79,7 @@ def of_answer(address: str, seconds: float, path: str, listeners: list[int]) -> 
     else:
         yield Finding("answer", f"a coordinator with {len(view.nodes)} nodes and {view.settled:,} steps on the disk", fault)
         yield from of_store_behind(path, before, view)
+        yield from of_groups(view, audit)
 
 
 def read_if_allowed(path: str) -> Reading | None:

@@ -3,6 +3,7 @@
 from __future__ import annotations
 
 import fcntl
+import json
 import os
 import pwd
 import re
@@ -155,6 +156,28 @@ class Files(Case):
         for address, name in (("localhost:4170", "Usage"), ("127.0.0.1:0", "Usage"), ("192.0.2.7:4170", "Socket")):
             status, lines = self.why(store, address)
             self.assertTrue(lines[-1].startswith(f"a start now would end with {name}: address: "), lines)
+
+    def test_for_whom_a_group_waits(self) -> None:
+        """By name, since when, and with the last sign of life; all are through, and nothing is said."""
+        self.server.ring(3)
+        store = self.put(FRESH)
+        quiet = self.why(store, self.server.address)[1]
+        self.assertFalse([line for line in quiet if line.startswith("group")])
+        self.server.reset(1)
+        self.server.by_somebody("confirm", node=1, epoch=1)
+        lines = self.why(store, self.server.address, "--audit", f"{self.folder}/none")[1]
+        self.assertIn("group    node 2 has not confirmed epoch 1: the 3 nodes of its group wait", lines)
+        self.assertTrue(any("the audit of a front tells" in line for line in lines), lines)
+        with open(f"{self.folder}/audit", "w", encoding="utf-8") as audit:
+            for time, op, node, kind in (("T1", "confirm", 2, "done"), ("T2", "reset", 3, "started"), ("T3", "reset", 3, "joined"), ("T4", "confirm", 1, "done")):
+                audit.write(json.dumps({"time": time, "event": "answered", "who": {"user": "service"}, "line": {"op": op, "node": node},
+                                        "answer": {"kind": kind, "step": 1}}) + "\n")
+            audit.write("torn")
+        lines = self.why(store, self.server.address, "--audit", f"{self.folder}/audit")[1]
+        waits = "since T2: the 3 nodes of its group wait; its last sign of life:"
+        self.assertEqual([line for line in lines if line.startswith("group")], [
+            f"group    node 2 has not confirmed epoch 1, {waits} confirm at T1 by service",
+            f"group    node 3 has not confirmed epoch 1, {waits} reset at T3 by service"])
 
     def test_a_coordinator_with_another_store(self) -> None:
         self.server.ring(2)

@@ -194,10 +194,14 @@ class OverPostgres(Workers):
             raise AssertionError(f"{statement}: {done.stderr}")
         return done.stdout.strip()
 
+    def taken(self) -> int:
+        time.sleep(0.2)  # each query is a process
+        return int(self.query("SELECT count(*) FROM taken"))
+
     def test_no_item_is_taken_twice(self) -> None:
         assert self.python
         self.start(f"postgresql:host={self.data} user=resetd dbname=postgres", python=self.python)
-        self.pause_at_random(lambda: int(self.query("SELECT count(*) FROM taken")), 1, PAUSES)
+        self.pause_at_random(self.taken, 1, PAUSES)
         self.assertEqual(self.query(TWICE), "0")
 
 

@@ -13,6 +13,7 @@ from ..files import sync_folder
 from ..finding import Finding
 from ..processes import lock_holders
 from ..store_file import HEADER, MAGIC, Store, open_store, read_half, read_store, reader_of, store_of
+from ..waiting import AUDIT
 from ..why import of_file
 from ..why_server import of_address
 from . import ranges
@@ -23,7 +24,7 @@ def why(control: Control) -> int:
     """Prints what is behind a fault of a start, of a store's file and of an address."""
     words = control.words
     findings = []
-    for finding in looked_at(words.file, words.user, words.at, control.seconds):
+    for finding in looked_at(words.file, words.user, words.at, control.seconds, words.audit):
         if not words.json:
             print(f"{finding.about:8s} {finding.text}", flush=True)
         findings.append(finding)
@@ -36,11 +37,11 @@ def why(control: Control) -> int:
     return REFUSED if told else DONE
 
 
-def looked_at(path: str, user: Account | None, address: str | None, seconds: float) -> Iterator[Finding]:
+def looked_at(path: str, user: Account | None, address: str | None, seconds: float, audit: str = AUDIT) -> Iterator[Finding]:
     """What there is to say of a store's file, and of the server at an address, where one is given."""
     yield from of_file(path, user)
     if address:
-        yield from of_address(address, seconds, path)
+        yield from of_address(address, seconds, path, audit)
 
 
 def told_start(findings: list[Finding]) -> str:
@@ -141,6 +142,7 @@ def add_why_words(parser: argparse.ArgumentParser) -> None:
     add_json(parser)
     add_file_words(parser)
     parser.add_argument("at", metavar="ADDRESS", nargs="?", help="the address of the server, A.B.C.D:P")
+    parser.add_argument("--audit", metavar="FILE", default=AUDIT, help=f"the audit of a front, which tells since when a group waits ({AUDIT})")
     parser.add_argument("--user", type=ranges.account, metavar="NAME", help="the user as whom the server runs (who owns the folder)")
 
 

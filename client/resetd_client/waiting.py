@@ -1,0 +1,86 @@
+"""For which members a group waits: those that have not confirmed, since when, and their last sign of life."""
+
+from __future__ import annotations
+
+import json
+from collections.abc import Iterable, Iterator, Mapping
+from typing import Any
+
+from .finding import Finding
+from .view import Node, Part, View
+
+AUDIT = "/var/log/resetd-front/audit"  # of a front, which has the times
+Entry = Mapping[str, Any]
+
+
+def of_groups(view: View, audit: str) -> Iterator[Finding]:
+    """What each group waits for that is not through. `audit` is the file of a front's audit, which tells the times."""
+    parts = {part.nodes[0].node: part for node in view.nodes if not (part := view.part(node.node)).is_through}
+    if not parts:
+        return
+    entries, fault = read_entries(audit)
+    for part in parts.values():
+        yield from of_group(part, entries)
+    if fault:
+        yield Finding("group", f"since when, and a sign of life, the audit of a front tells: {fault}", left_out="since when a group waits")
+
+
+def of_group(part: Part, entries: list[Entry]) -> Iterator[Finding]:
+    in_reset = [str(node.node) for node in part.nodes if node.mode != "ready"]
+    if in_reset:
+        yield Finding("group", f"a reset is at {', '.join(in_reset)}")
+    nodes = {node.node for node in part.nodes}
+    since = last_time(entry for entry in entries if is_reset_of(entry, nodes))
+    for node in part.nodes:
+        if node.epoch > node.confirmed:
+            yield Finding("group", f"node {node.node} has not confirmed epoch {node.epoch}{f', since {since}' if since else ''}: "
+                                   f"{others(part)}{sign_of_life(node, entries)}")
+
+
+def others(part: Part) -> str:
+    """Who waits for a member."""
+    return f"the {len(part.nodes)} nodes of its group wait" if len(part.nodes) > 1 else "it is connected with nobody"
+
+
+def sign_of_life(node: Node, entries: list[Entry]) -> str:
+    """When the node's member was last heard of: an order that names the node and is a member's."""
+    mine = [entry for entry in entries if request_of(entry).get("op") in ("confirm", "reset") and request_of(entry).get("node") == node.node]
+    if not mine:
+        return "; the audit has no sign of life of it" if entries else ""
+    last = mine[-1]
+    who = last.get("who") if isinstance(last.get("who"), dict) else {}
+    name = who.get("certificate") or who.get("user") or "somebody" if isinstance(who, dict) else "somebody"
+    return f"; its last sign of life: {request_of(last)['op']} at {last['time']} by {name}"
+
+
+def is_reset_of(entry: Entry, nodes: set[int]) -> bool:
+    """Whether an entry is of a reset of one of these nodes that was carried out."""
+    request, answer = request_of(entry), entry.get("answer")
+    return request.get("op") == "reset" and request.get("node") in nodes and isinstance(answer, dict) and answer.get("kind") in (
+        "started", "finished", "carried out")
+
+
+def last_time(entries: Iterable[Entry]) -> str:
+    return max((str(entry["time"]) for entry in entries), default="")
+
+
+def request_of(entry: Entry) -> Entry:
+    line = entry.get("line")
+    return line if isinstance(line, dict) else {}
+
+
+def read_entries(path: str) -> tuple[list[Entry], str]:
+    """The entries of an audit, and why there are none."""
+    entries: list[Entry] = []
+    try:
+        with open(path, encoding="utf-8", errors="replace") as lines:
+            for line in lines:
+                try:
+                    entry = json.loads(line)
+                except ValueError:
+                    continue
+                if isinstance(entry, dict) and "time" in entry:
+                    entries.append(entry)
+    except OSError as fault:
+        return [], f"{path}: {fault.strerror}"
+    return entries, ""
