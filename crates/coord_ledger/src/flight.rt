@@ -153,7 +153,6 @@ impl<D: Disk> Flight<D> {
         drop(next);
         (size, mark, store)
     }
-
 }
 
 impl<D: Disk + Takable> Flight<D> {
@@ -167,6 +166,8 @@ impl<D: Disk + Takable> Flight<D> {
 }
 
 impl<D: Disk> Flight<D> {
+    ghost use Rattle.coord_ledger.specs.ledger.Calls.{FlightGives};
+
     /// Does nothing: its contract is what the type keeps of every flight.
     pub fn lemma_images_give_world(&self)
         ensures some { 1 ≤ length self.now.steps }
