@@ -46,16 +46,24 @@ def row_of(view: View, node: int) -> Node:
     return row
 
 
-def start_text(node: int, kept: Kept) -> bytes:
-    """The file of a start, as the Python library writes it."""
+def start_text(node: int, kept: Kept, count: int | None = None) -> bytes:
+    """The file of a start that counts in any boot, as the Python library writes it. `count` is that of the settled steps in the
+    view that it first talked by."""
     party = None if kept.party is None else sorted(kept.party)
-    return (json.dumps({str(node): {"begun": kept.begun, "party": party}}) + "\n").encode()
+    counted = {} if count is None else {"count": count}
+    return (json.dumps({str(node): {"begun": kept.begun, "party": party, **counted}}) + "\n").encode()
+
+
+def loaded_text(node: int, epoch: int, boot: str) -> bytes:
+    """The file of a start that has talked with nobody, as the Python library writes it."""
+    row = {"begun": None, "party": None, "loaded": epoch, "foreseen": [], "boot": boot}
+    return (json.dumps({str(node): row}) + "\n").encode()
 
 
 def kept_in(text: bytes, node: int) -> Kept:
-    """What a file of a start keeps."""
+    """What a file of a start keeps, in the boot that it names."""
     row = json.loads(text or b"{}").get(str(node), {"begun": None, "party": None})
-    return Kept(row["begun"], None if row["party"] is None else frozenset(row["party"]))
+    return Kept(row.get("loaded", row["begun"]), None if row["party"] is None else frozenset(row["party"]))
 
 
 def history_text(digests: Iterable[str], torn: str = "") -> bytes:
@@ -167,7 +175,8 @@ class Members(OfLibrary):
         self.assertEqual((told.due, told.epoch, told.history_size), (wanted.due.name, row.epoch, 65 * len(history)), state)
         self.assertEqual(told.line, history_text([wanted.digest]) if wanted.digest else b"", state)
         changes = wanted.due is Due.BEGIN or wanted.due is Due.TALK and kept.party is None
-        self.assertEqual(told.start, start_text(node, wanted.kept) if changes else b"", state)
+        count = None if wanted.due is Due.BEGIN else view.settled
+        self.assertEqual(told.start, start_text(node, wanted.kept, count) if changes else b"", state)
         if wanted.due is Due.TALK:
             assert wanted.kept.party is not None
             for word in ("", "blue"):
@@ -225,7 +234,8 @@ class Members(OfLibrary):
             text = self.read(f"{turn}/starts.json")
             self.alike_in(state, due, kept_in(text, node), self.read(f"{turn}/starts.history").removesuffix(b"torn"))
             if text and due is Due.TALK:
-                self.assertEqual(text, start_text(node, kept_in(text, node)))
+                count = view.settled if kept.party is None else None
+                self.assertEqual(json.dumps(json.loads(text)).encode() + b"\n", start_text(node, kept_in(text, node), count), state)
 
     def test_a_gateway(self) -> None:
         """The members behind it have begun what it told them, or have lost it."""
@@ -238,7 +248,7 @@ class Members(OfLibrary):
             os.makedirs(f"{folder}/a")
             kept_row = json.loads(start_text(node, kept))
             kept_row[str(node)]["told"] = told
-            self.write(f"{turn}/starts.json", json.dumps(kept_row))
+            self.write(f"{turn}/starts.json", json.dumps(kept_row) + "\n")
             self.write(f"{turn}/starts.history", history_text(digests))
             if work is not None:
                 self.write(f"{turn}/a/begun", told)
@@ -277,6 +287,42 @@ class Members(OfLibrary):
     def test_begun(self) -> None:
         for node, epoch in ((1, 0), (64, (1 << 64) - 1), (7, 12)):
             self.assertEqual(self.library.begun(node, epoch), start_text(node, Kept(epoch)))
+            self.assertEqual(self.library.loaded(node, epoch, b"boot-1"), loaded_text(node, epoch, "boot-1"))
+
+    def test_what_a_file_says_in_a_boot(self) -> None:
+        """What was loaded counts in its boot alone, files of earlier versions are carried over, and a torn one says nothing."""
+        party = frozenset({"1 2", "2 2", "1 2 3"})
+        loaded, nothing = loaded_text(2, 7, "boot-1"), start_text(2, Kept())
+        for text, boot, wanted in (
+                (loaded, b"boot-1", start_text(2, Kept(7))), (loaded, b"boot-2", nothing), (loaded, b"", nothing),
+                (loaded.replace(b"[]", b'["ab"]'), b"boot-1", start_text(2, Kept(7))), (b"", b"boot-1", nothing),
+                (start_text(2, Kept(7)), b"boot-1", start_text(2, Kept(7))), (start_text(3, Kept(7)), b"boot-1", nothing),
+                (start_text(2, Kept(7, party)), b"", start_text(2, Kept(7, party))),
+                (start_text(2, Kept(7, party), 9), b"boot-1", start_text(2, Kept(7, party), 9)),
+                (loaded[:-1] + b"    \n", b"boot-1", start_text(2, Kept(7)))):
+            self.assertEqual(self.library.carried(2, text, boot), wanted, (text, boot))
+        for text in (loaded, start_text(2, Kept(7, party), 9)):
+            for size in range(len(text)):
+                self.assertEqual(self.library.carried(2, text[:size], b"boot-1"), nothing, text[:size])
+        for text in (b"[]\n", loaded.replace(b"7", b"-7"), start_text(2, Kept(7, party)).replace(b"]}", b'], "count": null}')):
+            with self.assertRaises(Refused) as refused:
+                self.library.carried(2, text, b"boot-1")
+            self.assertEqual(refused.exception.status, 5, text)
+
+    def test_fences(self) -> None:
+        """Of a start that talked with another, of one that was alone, and of those that have none."""
+        both, alone = frozenset({"1 2", "2 2", "1 2 3"}), frozenset({"2 2"})
+        for word, generation in itertools.product(("", "blue"), (0, 1, (1 << 23) - 1)):
+            count = (generation << 40) + 9
+            for party, tag in ((both, digest_of(both, word)[:32]), (alone, digest_of(alone, f"{word}@{count}")[:32])):
+                fence = self.library.fence(2, start_text(2, Kept(2, party), 9), generation, word.encode())
+                self.assertEqual(fence, (count, tag.encode()))
+        for text in (b"", start_text(2, Kept(7)), start_text(2, Kept(7, both)), loaded_text(2, 7, "boot-1")):
+            self.assertEqual(self.library.fence(2, text), (0, b""))
+        for status, text, generation in ((7, b"", 1 << 23), (5, start_text(2, Kept(2, both), (1 << 40) + 1), 0), (5, b"[]\n", 0)):
+            with self.assertRaises(Refused) as refused:
+                self.library.fence(2, text, generation)
+            self.assertEqual(refused.exception.status, status)
 
     def test_tags_that_came(self) -> None:
         tags = ["", "torn", "-", "a-b-c"]
@@ -296,8 +342,9 @@ class Members(OfLibrary):
             self.refuses(3, torn, 1)
         self.refuses(4, line, 2)
         for start in (b"{", b"[]", b"7", b'{"1": {}}', b'{"1": {"begun": true, "party": null}}',
-                      b'{"1": {"begun": 1, "party": [1]}}'):
-            self.refuses(5, line, 1, start)
+                      b'{"1": {"begun": 1, "party": [1]}}', b'{"1": {"begun": 1, "party": null, "count": -1}}'):
+            self.refuses(5, line, 1, start + b"\n")
+            self.assertEqual(self.library.judge(line, 1, start), self.library.judge(line, 1), start)  # torn
         for history in (b"\n", b"a" * 63 + b"\n", b"A" * 64 + b"\n", b"a" * 64 + b"\nb\n"):
             self.refuses(6, line, 1, b"", history)
         for node in (0, 65, 255):

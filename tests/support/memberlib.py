@@ -79,6 +79,18 @@ class Library:
     def begun(self, node: int, epoch: int) -> bytes:
         return self._text(self._calls.resetd_begun, word(node), ctypes.c_uint64(epoch))
 
+    def loaded(self, node: int, epoch: int, boot: bytes) -> bytes:
+        return self._text(self._calls.resetd_loaded, word(node), ctypes.c_uint64(epoch), *text_and_size(boot))
+
+    def carried(self, node: int, start: bytes, boot: bytes) -> bytes:
+        return self._text(self._calls.resetd_carried, word(node), *text_and_size(start), *text_and_size(boot))
+
+    def fence(self, node: int, start: bytes, generation: int = 0, word_of_group: bytes = b"") -> tuple[int, bytes]:
+        """The count and the tag."""
+        count = ctypes.c_uint64()
+        tag = self._text(self._calls.resetd_fence, word(node), *text_and_size(start), ctypes.c_uint32(generation), *text_and_size(word_of_group), ctypes.byref(count))
+        return count.value, tag
+
     def tag(self, show: bytes, node: int, start: bytes, word_of_group: bytes = b"") -> bytes:
         return self._text(self._calls.resetd_tag, *text_and_size(show), word(node), *text_and_size(start), *text_and_size(word_of_group))
 

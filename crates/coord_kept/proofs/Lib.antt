@@ -1,2 +1,3 @@
 mod Dashes
 mod Rows
+pub mod Torn

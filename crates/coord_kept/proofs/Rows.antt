@@ -1,5 +1,5 @@
 -- The lines of an array, row by row.
-use Rattle.std.proofs.Common.{◌≡◌, List, [], ◌∷◌, ◌++◌, Option, Some, None, map, refl, sym, ap, ◌∙◌, append_assoc, append-nil}
+use Rattle.std.proofs.Common.{◌≡◌, List, [], ◌∷◌, ◌++◌, Option, Some, None, refl, sym, ap, ◌∙◌, append_assoc, append-nil}
 use Rattle.std.specs.Option.{option_map}
 use Rattle.serde_json.specs.View.{items_view, view}
 use Rattle.serde_json.specs.declared.value.Value.{Value}

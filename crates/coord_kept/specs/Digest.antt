@@ -1,5 +1,5 @@
 -- The digest of a party's lines, and the tag of a start's messages.
-use Rattle.std.specs.Prelude.{ℕ, ◌==◌, List, [], ◌∷◌, ◌++◌, codes, length, take, if◌then◌else◌, String, string_bytes}
+use Rattle.std.specs.Prelude.{ℕ, ◌==◌, List, [], ◌++◌, codes, decimal, length, take, if◌then◌else◌, String, string_bytes}
 use Rattle.std.specs.declared.alloc.Global.{Global}
 use Rattle.std.specs.List.{flat_map}
 use Rattle.hex.specs.Hex.{encode_lower}
@@ -26,6 +26,10 @@ half_of word lines = encode_lower (take 16 (sha256 (text_of word lines)))
 -- of the party that the start first talked with, and of the one that is shown now; a start that was alone has none
 abbrev pub tag_of : List ℕ → List (String Global) → List (String Global) → List ℕ
 tag_of word first shown = if length first == 1 then [] else half_of word first ++ (codes "-" ++ half_of word shown)
+
+-- of a start's fence: what names its run; a start that was alone shares its run with nobody, so the count names it too
+abbrev pub fence_tag : List ℕ → ℕ → List (String Global) → List ℕ
+fence_tag word count first = if length first == 1 then half_of (word ++ (codes "@" ++ decimal count)) first else half_of word first
 
 -- what the history gets
 abbrev pub history_line : List (String Global) → List ℕ

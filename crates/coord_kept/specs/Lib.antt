@@ -3,3 +3,4 @@ pub mod Digest
 pub mod History
 pub mod Start
 pub mod Tag
+pub mod Torn

@@ -1,8 +1,12 @@
--- The file of a start, as JSON: for the node, the epoch that is begun, and the lines of the party that the start first talked with.
-use Rattle.std.specs.Prelude.{ℕ, ◌==◌, List, [], ◌∷◌, ◌++◌, codes, decimal, length, map, is_some, if◌then◌else◌, Option, Some, None, option_and_then, String, string_bytes}
+-- The file of a start, as JSON: for the node, the epoch that is begun, the lines of the party that the start first talked with, and
+-- how many steps were settled then.
+-- As long as it has talked with nobody, `loaded` has the epoch in the place of `begun`, with the name of the machine's boot: the file
+-- is not synced, so after a power cut it may say so of a start that has talked.
+use Rattle.std.specs.Prelude.{ℕ, ◌-◌, ◌==◌, ◌&&◌, not, Bool, false, List, [], ◌∷◌, ◌++◌, codes, decimal, length, map, slice_index, is_some, if◌then◌else◌, Option, Some, None, option_and_then, String, string_bytes}
 use Rattle.std.specs.declared.alloc.Global.{Global}
 use Rattle.std.specs.List.{flat_map}
 use Rattle.std.specs.Option.{option_map}
+use Rattle.std.specs.Str.{bytes_eq}
 use Rattle.serde_json.specs.Data.{Data, Items, no_items, item}
 use Rattle.serde_json.specs.Find.{as_array, as_null, as_number, as_object, as_str, as_u64, get}
 use Rattle.serde_json.specs.Read.{read}
@@ -13,15 +17,19 @@ use Rattle.coord_kept.specs.declared.start.Start.{Start}
 abbrev pub Line : Type 0
 Line = List ℕ
 
--- the epoch that is begun, and the lines of the party
+-- the epoch that is begun, the lines of the party, and how many steps were settled where the start first talked with it
 abbrev pub Seen : Type 0
-Seen = Option ℕ × Option (List Line)
+Seen = Option ℕ × Option (List Line) × Option ℕ
+
+-- nothing is begun
+abbrev pub nothing : Seen
+nothing = (None, None, None)
 
 abbrev pub texts : List (String Global) → List Line
 texts lines = map (λ line. string_bytes line) lines
 
 abbrev pub seen : Start → Seen
-seen start = (start.begun, option_map (λ lines. texts lines.items) start.party)
+seen start = (start.begun, option_map (λ lines. texts lines.items) start.party, start.count)
 
 abbrev pub begun_of : Data → Option (Option ℕ)
 begun_of d = if is_some (as_null d) then Some None else option_map Some (option_and_then as_u64 (as_number d))
@@ -37,22 +45,55 @@ lines_in (item d ds) = in_front (as_str d) (lines_in ds)
 abbrev pub party_of : Data → Option (Option (List Line))
 party_of d = if is_some (as_null d) then Some None else option_map Some (option_and_then lines_in (as_array d))
 
-abbrev pub seen_with : Option (Option ℕ) → Option (Option (List Line)) → Option Seen
-seen_with None party = None
-seen_with (Some begun) None = None
-seen_with (Some begun) (Some party) = Some (begun, party)
+-- files of earlier versions have none
+abbrev pub count_of : Option Data → Option (Option ℕ)
+count_of None = Some None
+count_of (Some d) = option_map Some (option_and_then as_u64 (as_number d))
+
+abbrev pub seen_with : Option (Option ℕ) → Option (Option (List Line)) → Option (Option ℕ) → Option Seen
+seen_with None party count = None
+seen_with (Some begun) None count = None
+seen_with (Some begun) (Some party) None = None
+seen_with (Some begun) (Some party) (Some count) = Some (begun, party, count)
+
+abbrev pub is_named : List ℕ → Option Line → Bool
+is_named boot None = false
+is_named boot (Some name) = bytes_eq name boot
+
+-- what is written with the name of a boot counts in that boot alone
+abbrev pub is_of_boot : List ℕ → Data → Bool
+is_of_boot boot d = not (length boot == 0) && is_named boot (option_and_then as_str (get (codes "boot") d))
+
+abbrev pub loaded_of : Data → Option ℕ
+loaded_of d = option_and_then as_u64 (option_and_then as_number (get (codes "loaded") d))
+
+-- work was loaded for an epoch, and its start has talked with nobody
+abbrev pub loaded_in : Option ℕ → Option Seen
+loaded_in epoch = option_map (λ e. (Some e, None, None)) epoch
+
+abbrev pub at_boot : List ℕ → Data → Option Seen → Option Seen
+at_boot boot d None = None
+at_boot boot d (Some known) = if is_of_boot boot d then loaded_in (loaded_of d) else Some known
 
 -- where the node is not in it, nothing is begun
-abbrev pub seen_of : Option Data → Option Seen
-seen_of None = Some (None, None)
-seen_of (Some d) = seen_with (option_and_then begun_of (get (codes "begun") d)) (option_and_then party_of (get (codes "party") d))
+abbrev pub carried_of : List ℕ → Option Data → Option Seen
+carried_of boot None = Some nothing
+carried_of boot (Some d) = at_boot boot d (seen_with (option_and_then begun_of (get (codes "begun") d)) (option_and_then party_of (get (codes "party") d)) (count_of (get (codes "count") d)))
 
-abbrev pub seen_at : ℕ → Data → Option Seen
-seen_at node d = if is_some (as_object d) then seen_of (get (decimal node) d) else None
+abbrev pub carried_at : List ℕ → ℕ → Data → Option Seen
+carried_at boot node d = if is_some (as_object d) then carried_of boot (get (decimal node) d) else None
 
--- an empty text is a file that is not there; None: it does not read
-unfoldable pub seen_in : ℕ → List ℕ → Option Seen
-seen_in node text = if length text == 0 then Some (None, None) else option_and_then (seen_at node) (read text)
+-- a text that has no line feed at its end was torn by a power cut, or is a file that is not there
+abbrev pub is_whole : List ℕ → Bool
+is_whole text = not (length text == 0) && (slice_index text (length text - 1) == 10)
+
+-- in a boot of this name. None: it does not read
+unfoldable pub carried_in : List ℕ → ℕ → List ℕ → Option Seen
+carried_in boot node text = if is_whole text then option_and_then (carried_at boot node) (read text) else Some nothing
+
+-- in whatever boot
+abbrev pub seen_in : ℕ → List ℕ → Option Seen
+seen_in node text = carried_in [] node text
 
 -- ---- its text
 
@@ -71,6 +112,15 @@ abbrev pub party_text : Option (List (String Global)) → List ℕ
 party_text None = codes "null"
 party_text (Some lines) = lines_text lines
 
-abbrev pub start_text : ℕ → Option ℕ → Option (List (String Global)) → List ℕ
-start_text node begun party =
-    codes "{\"" ++ (decimal node ++ (codes "\": {\"begun\": " ++ (begun_text begun ++ (codes ", \"party\": " ++ (party_text party ++ codes "}}\n")))))
+abbrev pub count_text : Option ℕ → List ℕ
+count_text None = []
+count_text (Some count) = codes ", \"count\": " ++ decimal count
+
+abbrev pub start_text : ℕ → Option ℕ → Option (List (String Global)) → Option ℕ → List ℕ
+start_text node begun party count =
+    codes "{\"" ++ (decimal node ++ (codes "\": {\"begun\": " ++ (begun_text begun ++ (codes ", \"party\": " ++ (party_text party ++ (count_text count ++ codes "}}\n"))))))
+
+-- work is loaded for an epoch, in the boot of this name
+abbrev pub loaded_text : ℕ → ℕ → List ℕ → List ℕ
+loaded_text node epoch boot =
+    codes "{\"" ++ (decimal node ++ (codes "\": {\"begun\": null, \"party\": null, \"loaded\": " ++ (decimal epoch ++ (codes ", \"foreseen\": [], \"boot\": \"" ++ (boot ++ codes "\"}}\n")))))

@@ -1,7 +1,7 @@
 //! The digest of a party's lines, and the tag of a start's messages.
 
 ghost use Rattle.std.specs.Prelude.{◌≡◌, ◌++◌, [], codes, IfOk, OnOk, string_bytes};
-ghost use Rattle.coord_kept.specs.Digest.{digest_of, half_of, history_line, line_of, tag_of, text_of, word_line};
+ghost use Rattle.coord_kept.specs.Digest.{digest_of, fence_tag, half_of, history_line, line_of, tag_of, text_of, word_line};
 
 use sha2::{Digest, Sha256};
 use std::alloc::{AllocError, Global};
@@ -63,6 +63,22 @@ pub fn tag_of(
     tag.push_str("-")?;
     tag.push_str(half_of(alloc, word, shown)?.as_str())?;
     Ok(tag)
+}
+
+/// The tag of a start's fence, where it first talked with these, and its fence has this count.
+pub fn fence_tag(
+    alloc: Global,
+    word: &str,
+    count: u64,
+    first: &[String],
+) -> Result<String, AllocError>
+    ensures { IfOk result (λ tag. string_bytes tag ≡ fence_tag word.now count first.now) }
+{
+    if first.len() == 1 {
+        let own = format!(in alloc; "{word}@{count}")?;
+        return half_of(alloc, own.as_str(), first);
+    }
+    half_of(alloc, word, first)
 }
 
 /// The line of the history for a party.

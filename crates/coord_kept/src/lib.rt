@@ -2,19 +2,21 @@
 //! the client library.
 //!
 //! [`lines_of`] makes the lines of a party in the order of their bytes, [`digest_of`] their digest,
-//! and [`tag_of`] the tag. [`read_start`] and [`start_text`] are the file of a start, [`look_up`] and
+//! and [`tag_of`] the tag. [`read_start`], [`carried_start`], [`start_text`] and [`loaded_text`] are the
+//! file of a start, of which a power cut leaves a part that says nothing ([`laws`]), [`look_up`] and
 //! [`history_line`] that of the history. [`is_same_run`] and [`are_parted`] judge a tag that came.
 //! The definitions stand in `specs/`, one file for each.
 #![tactic(auto)]
 
 mod digest;
 mod history;
+pub mod laws;
 mod lines;
 mod start;
 mod tag;
 
-pub use digest::{digest_of, history_line, tag_of};
+pub use digest::{digest_of, fence_tag, history_line, tag_of};
 pub use history::{Found, look_up};
 pub use lines::{known, lines_of};
-pub use start::{ReadFault, Start, read_start, start_text};
+pub use start::{ReadFault, Start, carried_start, loaded_text, read_start, start_text};
 pub use tag::{are_parted, is_same_run};

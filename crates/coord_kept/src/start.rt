@@ -1,10 +1,11 @@
 //! The file of a start.
 
-ghost use Rattle.std.specs.Prelude.{◌≡◌, ◌++◌, Some, None, Err, IfOk, OnOk, string_bytes};
+ghost use Rattle.std.specs.Prelude.{◌≡◌, ◌++◌, Some, None, Err, IfOk, OnOk, codes, option_and_then, string_bytes};
 ghost use Rattle.std.specs.Option.{option_map};
 ghost use Rattle.serde_json.specs.View.{items_view, view};
 ghost use Rattle.coord_kept.specs.declared.start.ReadFault.TheVariants.{BadStart};
-ghost use Rattle.coord_kept.specs.Start.{begun_of, begun_text, lines_in, lines_text, party_of, party_text, quoted, seen, seen_at, seen_in, seen_of, start_text, texts};
+ghost use Rattle.serde_json.specs.Find.{as_number, as_str, as_u64, get};
+ghost use Rattle.coord_kept.specs.Start.{at_boot, begun_of, begun_text, carried_at, carried_in, carried_of, count_of, count_text, is_named, is_of_boot, is_whole, lines_in, lines_text, loaded_text, nothing, party_of, party_text, quoted, seen, seen_in, start_text, texts};
 
 use serde_json::Value;
 use std::alloc::{AllocError, Global};
@@ -16,6 +17,22 @@ pub struct Start {
     pub begun: Option<u64>,
     /// The lines of the party that the start first talked with; None: it talked with nobody yet.
     pub party: Option<Vec<String>>,
+    /// How many steps were settled in the view that it first talked by; None: it has not, or its file
+    /// is of an earlier version.
+    pub count: Option<u64>,
+}
+
+impl Start {
+    /// Nothing is begun.
+    fn nothing() -> Self
+        ensures { seen result ≡ nothing }
+    {
+        Start {
+            begun: None,
+            party: None,
+            count: None,
+        }
+    }
 }
 
 /// Why a start is not read.
@@ -26,20 +43,34 @@ pub enum ReadFault {
     BadStart,
 }
 
-/// What a file says of the start of a node's member. An empty text is a file that is not there.
-#[tactic(auto, unfolding(crate::specs::Start::seen_in))]
+/// Whether a text has a line feed at its end.
+fn is_whole(text: &[u8]) -> bool
+    ensures { result ≡ is_whole text.now }
+{
+    !text.is_empty() && text[text.len() - 1] == b'\n'
+}
+
+/// What a file says of the start of a node's member, in whatever boot of the machine. A text without a
+/// line feed at its end was torn by a power cut, and says that nothing is begun; so does one of no
+/// bytes, a file that is not there.
 pub fn read_start(alloc: Global, node: u8, text: &str) -> Result<Start, ReadFault>
     ensures read { IfOk result (λ start. seen_in node text.now ≡ Some (seen start)) }
     ensures bad { result ≡ Err BadStart → seen_in node text.now ≡ None }
 {
-    if text.is_empty() {
-        return Ok(Start {
-            begun: None,
-            party: None,
-        });
+    carried_start(alloc, node, text, "")
+}
+
+/// The same in the boot of this name: work that was loaded in it is begun.
+#[tactic(auto, unfolding(crate::specs::Start::carried_in))]
+pub fn carried_start(alloc: Global, node: u8, text: &str, boot: &str) -> Result<Start, ReadFault>
+    ensures read { IfOk result (λ start. carried_in boot.now node text.now ≡ Some (seen start)) }
+    ensures bad { result ≡ Err BadStart → carried_in boot.now node text.now ≡ None }
+{
+    if !is_whole(text.as_bytes()) {
+        return Ok(Start::nothing());
     }
     match Value::from_str(alloc, text) {
-        Ok(value) => match start_at(alloc, node, &value) {
+        Ok(value) => match start_at(alloc, node, &value, boot) {
             Ok(Some(start)) => Ok(start),
             Ok(None) => Err(ReadFault::BadStart),
             Err(_) => Err(ReadFault::OutOfMemory),
@@ -49,24 +80,21 @@ pub fn read_start(alloc: Global, node: u8, text: &str) -> Result<Start, ReadFaul
     }
 }
 
-fn start_at(alloc: Global, node: u8, value: &Value) -> Result<Option<Start>, AllocError>
-    ensures { IfOk result (λ start. option_map seen start ≡ seen_at node (view value.now)) }
+fn start_at(alloc: Global, node: u8, value: &Value, boot: &str) -> Result<Option<Start>, AllocError>
+    ensures { IfOk result (λ start. option_map seen start ≡ carried_at boot.now node (view value.now)) }
 {
     if !value.is_object() {
         return Ok(None);
     }
     let key = format!(in alloc; "{node}")?;
     match value.get(key.as_str()) {
-        Some(row) => start_of(alloc, row),
-        None => Ok(Some(Start {
-            begun: None,
-            party: None,
-        })),
+        Some(row) => start_of(alloc, row, boot),
+        None => Ok(Some(Start::nothing())),
     }
 }
 
-fn start_of(alloc: Global, row: &Value) -> Result<Option<Start>, AllocError>
-    ensures { IfOk result (λ start. option_map seen start ≡ seen_of (Some (view row.now))) }
+fn start_of(alloc: Global, row: &Value, boot: &str) -> Result<Option<Start>, AllocError>
+    ensures { IfOk result (λ start. option_map seen start ≡ carried_of boot.now (Some (view row.now))) }
 {
     let Some(begun) = row.get("begun").and_then(begun_of) else {
         return Ok(None);
@@ -74,10 +102,76 @@ fn start_of(alloc: Global, row: &Value) -> Result<Option<Start>, AllocError>
     let Some(party) = row.get("party") else {
         return Ok(None);
     };
+    let Some(count) = count_in(row) else {
+        return Ok(None);
+    };
     match party_of(alloc, party)? {
-        Some(party) => Ok(Some(Start { begun, party })),
+        Some(party) => Ok(at_boot(
+            Start {
+                begun,
+                party,
+                count,
+            },
+            row,
+            boot,
+        )),
         None => Ok(None),
     }
+}
+
+fn count_in(row: &Value) -> Option<Option<u64>>
+    ensures { result ≡ count_of (get (codes "count") (view row.now)) }
+{
+    match row.get("count") {
+        Some(value) => Some(Some(value.as_u64()?)),
+        None => Some(None),
+    }
+}
+
+/// What a row with this start says: in the boot that it names, what was loaded.
+fn at_boot(known: Start, row: &Value, boot: &str) -> Option<Start>
+    ensures { option_map seen result ≡ at_boot boot.now (view row.now) (Some (seen known)) }
+{
+    if !is_of_boot(row, boot) {
+        return Some(known);
+    }
+    drop(known);
+    match row.get("loaded").and_then(epoch_in) {
+        Some(epoch) => Some(Start {
+            begun: Some(epoch),
+            party: None,
+            count: None,
+        }),
+        None => None,
+    }
+}
+
+/// Whether a row was written in the boot of this name.
+fn is_of_boot(row: &Value, boot: &str) -> bool
+    ensures { result ≡ is_of_boot boot.now (view row.now) }
+{
+    if boot.is_empty() {
+        return false;
+    }
+    match row.get("boot") {
+        Some(name) => is_text(name, boot),
+        None => false,
+    }
+}
+
+fn is_text(value: &Value, text: &str) -> bool
+    ensures { result ≡ is_named text.now (as_str (view value.now)) }
+{
+    match value.as_str() {
+        Some(own) => own == text,
+        None => false,
+    }
+}
+
+fn epoch_in(value: &Value) -> Option<u64>
+    ensures { result ≡ option_and_then as_u64 (as_number (view value.now)) }
+{
+    value.as_u64()
 }
 
 fn begun_of(value: &Value) -> Option<Option<u64>>
@@ -123,14 +217,30 @@ pub fn start_text(
     node: u8,
     begun: Option<u64>,
     party: Option<&[String]>,
+    count: Option<u64>,
 ) -> Result<String, AllocError>
-    ensures { IfOk result (λ text. string_bytes text ≡ start_text node begun (option_map (λ p. p.now) party.entry)) }
+    ensures { IfOk result (λ text. string_bytes text ≡ start_text node begun (option_map (λ p. p.now) party.entry) count) }
 {
     let mut text = format!(in alloc; "{{\"{node}\": {{\"begun\": ")?;
     push_begun(&mut text, begun)?;
     text.push_str(", \"party\": ")?;
     push_party(&mut text, party)?;
+    push_count(&mut text, count)?;
     text.push_str("}}\n")?;
+    Ok(text)
+}
+
+/// The text of the file once the common start is loaded for an epoch, as long as its start has talked
+/// with nobody: it counts in the boot of this name alone, and so need not be synced.
+pub fn loaded_text(alloc: Global, node: u8, epoch: u64, boot: &str) -> Result<String, AllocError>
+    ensures { IfOk result (λ text. string_bytes text ≡ loaded_text node epoch boot.now) }
+{
+    let mut text = format!(in alloc;
+        "{{\"{node}\": {{\"begun\": null, \"party\": null, \"loaded\": {epoch}"
+    )?;
+    text.push_str(", \"foreseen\": [], \"boot\": \"")?;
+    text.push_str(boot)?;
+    text.push_str("\"}}\n")?;
     Ok(text)
 }
 
@@ -140,6 +250,15 @@ fn push_begun(text: &mut String, begun: Option<u64>) -> Result<(), AllocError>
     match begun {
         Some(epoch) => write!(text, "{epoch}"),
         None => text.push_str("null"),
+    }
+}
+
+fn push_count(text: &mut String, count: Option<u64>) -> Result<(), AllocError>
+    ensures { OnOk result (string_bytes text.new ≡ string_bytes text.old ++ count_text count) }
+{
+    match count {
+        Some(count) => write!(text, ", \"count\": {count}"),
+        None => Ok(()),
     }
 }
 

@@ -64,16 +64,45 @@ struct resetd_judged {
   size_t history_size; /* where in the history the line goes, in the place of all that is behind it */
 };
 
+/* The two files of a member, and in which order they are read, written and synced:
+ *
+ * - At the start of a process, before the first look, sync what is there: both files and their folder.
+ *   The process before may have been killed in front of its sync; a power cut would then bring back
+ *   what was there earlier, and a start could talk in two runs. Then read them, and pass the text of the
+ *   start through resetd_carried.
+ * - The line of the history is on the disk (fdatasync; fsync and the folder, where the file is new)
+ *   before the file of the start is written, and before the first message.
+ * - The file of the start is written before the first message. It need not be synced: a power cut may
+ *   leave an earlier text of it, or a part of one, which says that nothing is begun; then a reset is
+ *   asked for. That of resetd_loaded counts in one boot alone, and needs no sync. Where the file has the
+ *   text of resetd_begun, which counts in any boot (earlier versions wrote it, and synced it), sync the
+ *   next one before the first message. Write a text over the old one in one call where both have 512
+ *   bytes at most (with blanks in front of its line feed, if it is shorter), or put another file in its
+ *   place.
+ * - At RESETD_BEGIN the text "nothing begun" is synced before the work is dropped, unless the work is
+ *   replaced as a whole, with its epoch, and its epoch is above all that the file ever said. */
+
 /* Judges a line that answers `show`, for the member of a node. `start` and `history` are what its files
  * hold; no bytes, where there is no file. `out` gets the text for the file of the start, and behind it
- * the line for the history. Put both on the disk before you do what is due, the line first. */
+ * the line for the history. Put both down before you do what is due, the line first. */
 uint32_t resetd_judge(const uint8_t *show, size_t show_length, uint8_t node, const uint8_t *start,
                       size_t start_length, const uint8_t *history, size_t history_length,
                       const struct resetd_work *work, uint8_t *out, size_t room,
                       struct resetd_judged *judged);
 
-/* The text for the file of the start, once the common start is on the disk for an epoch. */
+/* The text for the file of the start, once the common start is loaded for an epoch, and what resetd_judge
+ * takes from then on. It counts in any boot: write that of resetd_loaded, or sync this one. */
 uint32_t resetd_begun(uint8_t node, uint64_t epoch, uint8_t *out, size_t room, size_t *length);
+
+/* The same for a file that is not synced: it counts in the boot of this name alone, the line of
+ * /proc/sys/kernel/random/boot_id. Pass that of resetd_begun to resetd_judge all the same. */
+uint32_t resetd_loaded(uint8_t node, uint64_t epoch, const uint8_t *boot, size_t boot_length,
+                       uint8_t *out, size_t room, size_t *length);
+
+/* What the file of the start says in the boot of this name, as the text that resetd_judge takes: once, at
+ * the start of a process. A text that a power cut tore says that nothing is begun. */
+uint32_t resetd_carried(uint8_t node, const uint8_t *start, size_t start_length, const uint8_t *boot,
+                        size_t boot_length, uint8_t *out, size_t room, size_t *length);
 
 /* The tag of a start that is due to talk, by its file after what resetd_judge gave is put down. `word` is
  * the first line of each digest; no bytes, where the group has no word. A tag of no bytes is none: the
@@ -88,6 +117,22 @@ bool resetd_is_same_run(const uint8_t *own, size_t own_length, const uint8_t *ot
 /* After a refused tag: look. If that look says RESETD_TALK and this is so with the tag of now, ask for a
  * reset: no look of either can bring the two together. */
 bool resetd_are_parted(const uint8_t *own, size_t own_length, const uint8_t *other, size_t other_length);
+
+/* ---- the fence ---- */
+
+/* The most generations. */
+#define RESETD_GENERATIONS 8388608
+
+/* What a start brings to a resource that several members use, by its file after what resetd_judge gave is
+ * put down: a count and a tag, the same as long as the start lives. No bytes: it has none yet. The
+ * resource keeps three values, at first 0, 0 and no bytes: a floor, a count and a tag. It accepts a fence
+ * whose count is above its count, or is above the floor with its own tag. Then, where the tag is another
+ * one, the floor becomes its count; its count becomes the greater of both, and the tag that of the fence.
+ * So a start that one of another run has replaced never gets in again, however late it comes. After a
+ * restore of the coordinator's store start all members with a greater `generation`. */
+uint32_t resetd_fence(uint8_t node, const uint8_t *start, size_t start_length, uint32_t generation,
+                      const uint8_t *word, size_t word_length, uint64_t *count, uint8_t *out,
+                      size_t room, size_t *length);
 
 /* ---- the order book ---- */
 

@@ -10,6 +10,7 @@ use Rattle.resetd_member.specs.declared.order.Orders.{Orders}
 use Rattle.resetd_member.specs.declared.orders.Heard.{Heard}
 use Rattle.resetd_member.specs.declared.status.Fault.{Fault}
 use Rattle.resetd_member.specs.declared.status.Fault.TheVariants.{OutOfMemory, NoText}
+use Rattle.resetd_member.specs.Files.{Brought, IsCarried, IsFenceFor, IsLoaded}
 use Rattle.resetd_member.specs.Judgement.{IsGivenTo, IsTagged}
 use Rattle.resetd_member.specs.Orders.{heard_in, line_for, written_down}
 use Rattle.resetd_member.specs.Status.{IsGiven, status_of}
@@ -27,13 +28,32 @@ pub record IsJudgedAs (show : List ℕ) (node : ℕ) (file history : List ℕ) (
   pub told : IsTold made judged status
 
 abbrev pub IsStartText : ℕ → ℕ → Result (String Global) Fault → Type 0
-IsStartText node epoch (Ok text) = string_bytes text ≡ start_text node (Some epoch) None
+IsStartText node epoch (Ok text) = string_bytes text ≡ start_text node (Some epoch) None None
 IsStartText node epoch (Err fault) = fault ≡ OutOfMemory
 
 pub record IsBegunGiven (node epoch : ℕ) (room : List ℕ) (size status : ℕ) : Type 0 where
   pub made : Result (String Global) Fault
   pub is : IsStartText node epoch made
   pub given : IsGiven made room size status
+
+pub record IsLoadedGiven (node epoch : ℕ) (boot room : List ℕ) (size status : ℕ) : Type 0 where
+  pub made : Result (String Global) Fault
+  pub is : IsLoaded node epoch boot made
+  pub given : IsGiven made room size status
+
+pub record IsCarriedGiven (node : ℕ) (file boot room : List ℕ) (size status : ℕ) : Type 0 where
+  pub made : Result (String Global) Fault
+  pub is : IsCarried node file boot made
+  pub given : IsGiven made room size status
+
+abbrev pub IsToldFence : Result Brought Fault → ℕ → List ℕ → ℕ → ℕ → Type 0
+IsToldFence (Ok fence) count room size status = (count ≡ fence.0) × IsGiven (Ok fence.1) room size status
+IsToldFence (Err fault) count room size status = status ≡ status_of fault
+
+pub record IsFenceGiven (node : ℕ) (file : List ℕ) (generation : ℕ) (word : List ℕ) (count : ℕ) (room : List ℕ) (size status : ℕ) : Type 0 where
+  pub made : Result Brought Fault
+  pub is : IsFenceFor node file generation word made
+  pub told : IsToldFence made count room size status
 
 pub record IsTagGiven (show : List ℕ) (node : ℕ) (file word room : List ℕ) (size status : ℕ) : Type 0 where
   pub made : Result (String Global) Fault

@@ -13,7 +13,6 @@ use Rattle.coord_member.specs.declared.rule.Change.{Change}
 use Rattle.coord_member.specs.declared.rule.Change.TheVariants.{Keeps, Drops, NotesAlone, NotesFirst}
 use Rattle.coord_member.specs.Rule.{change_of, due_of}
 use Rattle.coord_look.specs.Reading.{IsReadOf, is_of}
-use Rattle.coord_look.specs.declared.reading.Look.{Look}
 use Rattle.coord_wire.specs.ShowLine.{from_1_to, shown_in}
 use Rattle.coord_wire.specs.declared.answer_line.ReadFault.TheVariants.{NoAnswer}
 use Rattle.coord_kept.specs.Lines.{AreLinesOf, known}
@@ -23,6 +22,7 @@ use Rattle.coord_kept.specs.Start.{seen, seen_in, start_text}
 use Rattle.coord_kept.specs.declared.history.Found.{Found}
 use Rattle.coord_kept.specs.declared.start.Start.{Start}
 use Rattle.resetd_member.specs.declared.judge.Judgement.{Judgement}
+use Rattle.resetd_member.specs.declared.judge.Sight.{Sight}
 use Rattle.resetd_member.specs.declared.judge.Judged.{Judged}
 use Rattle.resetd_member.specs.declared.status.Fault.{Fault}
 use Rattle.resetd_member.specs.declared.status.Fault.TheVariants.{OutOfMemory, NoRoom, BadLine, NoNode, BadStart, BadHistory, BadNumber, InHand, NoText}
@@ -30,13 +30,14 @@ use Rattle.resetd_member.specs.Status.{due_number}
 
 -- ---- what is shown
 
--- the line shows this row and these to the member of the node
-pub record IsShown (show : List ℕ) (node : ℕ) (row : Row) (party : List Entry) : Type 0 where
+-- the line shows this row and these to the member of the node, where so many steps are settled
+pub record IsShown (show : List ℕ) (node : ℕ) (row : Row) (party : List Entry) (settled : ℕ) : Type 0 where
   pub view : Shown
   pub own : NodeView
   pub shown : shown_in show ≡ Ok view
   pub there : find (is_of node) view.nodes ≡ Some own
   pub read : IsReadOf view node own row party
+  pub settled_is : settled ≡ view.settled
 
 -- the line is an answer to `show`, without the node
 pub record IsAbsent (show : List ℕ) (node : ℕ) : Type 0 where
@@ -56,8 +57,8 @@ IsUnseen show node BadNumber = ⊥
 IsUnseen show node InHand = ⊥
 IsUnseen show node NoText = ⊥
 
-abbrev pub IsLooked : List ℕ → ℕ → Result Look Fault → Type 0
-IsLooked show node (Ok look) = IsShown show node look.row look.party.items
+abbrev pub IsLooked : List ℕ → ℕ → Result Sight Fault → Type 0
+IsLooked show node (Ok sight) = IsShown show node sight.look.row sight.look.party.items sight.settled
 IsLooked show node (Err fault) = IsUnseen show node fault
 
 -- ---- what is due
@@ -73,11 +74,11 @@ abbrev pub first_known : Start → List Entry → Option (List Entry)
 first_known kept party = option_map (λ lines. known lines.items party) kept.party
 
 -- what the file of the start has to hold; empty: what it holds already
-abbrev pub start_after : ℕ → Option ℕ → List (String Global) → Change → List ℕ
-start_after node begun lines Keeps = []
-start_after node begun lines Drops = start_text node None None
-start_after node begun lines NotesAlone = start_text node begun (Some lines)
-start_after node begun lines NotesFirst = start_text node begun (Some lines)
+abbrev pub start_after : ℕ → Option ℕ → List (String Global) → ℕ → Change → List ℕ
+start_after node begun lines settled Keeps = []
+start_after node begun lines settled Drops = start_text node None None None
+start_after node begun lines settled NotesAlone = start_text node begun (Some lines) (Some settled)
+start_after node begun lines settled NotesFirst = start_text node begun (Some lines) (Some settled)
 
 -- where `line` is the history's line of the party that is shown
 abbrev pub line_of_change : List ℕ → Change → List ℕ
@@ -87,20 +88,20 @@ line_of_change line NotesAlone = []
 line_of_change line NotesFirst = line
 
 -- where these are shown and kept
-pub record IsDueBy (node : ℕ) (row : Row) (party : List Entry) (lines : List (String Global)) (shown_line : List ℕ) (kept : Start) (found : Found) (work : Option ℕ) (j : Judgement) : Type 0 where
+pub record IsDueBy (node : ℕ) (row : Row) (party : List Entry) (lines : List (String Global)) (settled : ℕ) (shown_line : List ℕ) (kept : Start) (found : Found) (work : Option ℕ) (j : Judgement) : Type 0 where
   pub due : j.due ≡ due_of (begun_at kept.begun work) (first_known kept party) found.has row party
   pub epoch : j.epoch ≡ row.epoch
-  pub start : string_bytes j.start ≡ start_after node (begun_at kept.begun work) lines (change_of j.due (is_some kept.party) party)
+  pub start : string_bytes j.start ≡ start_after node (begun_at kept.begun work) lines settled (change_of j.due (is_some kept.party) party)
   pub line : string_bytes j.line ≡ line_of_change shown_line (change_of j.due (is_some kept.party) party)
   pub size : j.history_size ≡ found.size
 
 -- where these are shown, and the files read
-pub record IsDueOf (node : ℕ) (row : Row) (party : List Entry) (lines : List (String Global)) (file history : List ℕ) (work : Option ℕ) (j : Judgement) : Type 0 where
+pub record IsDueOf (node : ℕ) (row : Row) (party : List Entry) (lines : List (String Global)) (settled : ℕ) (file history : List ℕ) (work : Option ℕ) (j : Judgement) : Type 0 where
   pub kept : Start
   pub found : Found
   pub kept_is : seen_in node file ≡ Some (seen kept)
   pub found_is : looked_up history (history_line lines) ≡ Some found
-  pub is : IsDueBy node row party lines (history_line lines) kept found work j
+  pub is : IsDueBy node row party lines settled (history_line lines) kept found work j
 
 -- why a file does not read
 abbrev pub IsUnread : ℕ → List ℕ → List ℕ → Fault → Type 0
@@ -114,9 +115,9 @@ IsUnread node file history BadNumber = ⊥
 IsUnread node file history InHand = ⊥
 IsUnread node file history NoText = ⊥
 
-abbrev pub IsJudgedWith : ℕ → Row → List Entry → List (String Global) → List ℕ → List ℕ → Option ℕ → Result Judgement Fault → Type 0
-IsJudgedWith node row party lines file history work (Ok j) = IsDueOf node row party lines file history work j
-IsJudgedWith node row party lines file history work (Err fault) = IsUnread node file history fault
+abbrev pub IsJudgedWith : ℕ → Row → List Entry → List (String Global) → ℕ → List ℕ → List ℕ → Option ℕ → Result Judgement Fault → Type 0
+IsJudgedWith node row party lines settled file history work (Ok j) = IsDueOf node row party lines settled file history work j
+IsJudgedWith node row party lines settled file history work (Err fault) = IsUnread node file history fault
 
 abbrev pub IsRead : ℕ → List ℕ → Result Start Fault → Type 0
 IsRead node file (Ok kept) = seen_in node file ≡ Some (seen kept)
@@ -128,9 +129,10 @@ pub record IsJudgement (show : List ℕ) (node : ℕ) (file history : List ℕ) 
   pub row : Row
   pub party : List Entry
   pub lines : List (String Global)
-  pub shown : IsShown show node row party
+  pub settled : ℕ
+  pub shown : IsShown show node row party settled
   pub lines_are : AreLinesOf party lines
-  pub is : IsDueOf node row party lines file history work j
+  pub is : IsDueOf node row party lines settled file history work j
 
 -- why nothing is judged
 abbrev pub IsUnjudged : List ℕ → ℕ → List ℕ → List ℕ → Fault → Type 0
@@ -158,8 +160,9 @@ pub record IsTagOf (show : List ℕ) (node : ℕ) (file word : List ℕ) (tag : 
   pub row : Row
   pub party : List Entry
   pub lines : List (String Global)
+  pub settled : ℕ
   pub kept : Start
-  pub shown : IsShown show node row party
+  pub shown : IsShown show node row party settled
   pub lines_are : AreLinesOf party lines
   pub kept_is : seen_in node file ≡ Some (seen kept)
   pub tag_is : tag ≡ tag_with word kept.party lines

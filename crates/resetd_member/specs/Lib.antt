@@ -1,4 +1,5 @@
 pub mod Status
 pub mod Judgement
 pub mod Orders
+pub mod Files
 pub mod Exports

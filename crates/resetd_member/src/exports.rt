@@ -2,8 +2,9 @@
 
 ghost use Rattle.std.specs.Prelude.{◌≡◌, Ok, Err};
 ghost use Rattle.coord_kept.specs.Tag as tag;
-ghost use Rattle.resetd_member.specs.Exports.{IsBegunGiven, IsHeardAs, IsJudgedAs, IsLineGiven, IsTagGiven, IsWrittenAs, work_of};
+ghost use Rattle.resetd_member.specs.Exports.{IsBegunGiven, IsCarriedGiven, IsFenceGiven, IsHeardAs, IsJudgedAs, IsLineGiven, IsLoadedGiven, IsTagGiven, IsWrittenAs, work_of};
 
+use crate::files::{carried, fence_in, loaded};
 use crate::judge::{Judged, judge_into, tag_of_bytes};
 use crate::order::{Order, Orders};
 use crate::orders::{hear, line_for, write_down};
@@ -63,11 +64,64 @@ pub extern "C" fn resetd_begun(
 ) -> u32
     ensures { IsBegunGiven node epoch out.new length.new result }
 {
-    let text = match start_text(alloc, node, Some(epoch), None) {
+    let text = match start_text(alloc, node, Some(epoch), None, None) {
         Ok(text) => Ok(text),
         Err(_) => Err(Fault::OutOfMemory),
     };
     give(text, out, length)
+}
+
+/// The same with the name of the boot in which it counts.
+#[unsafe(no_mangle)]
+pub extern "C" fn resetd_loaded(
+    alloc: Global,
+    node: u8,
+    epoch: u64,
+    boot: &[u8],
+    out: &mut [u8],
+    length: &mut usize,
+) -> u32
+    ensures { IsLoadedGiven node epoch boot.now out.new length.new result }
+{
+    give(loaded(alloc, node, epoch, boot), out, length)
+}
+
+/// What the file of a start says in the boot of this name.
+#[unsafe(no_mangle)]
+pub extern "C" fn resetd_carried(
+    alloc: Global,
+    node: u8,
+    start: &[u8],
+    boot: &[u8],
+    out: &mut [u8],
+    length: &mut usize,
+) -> u32
+    ensures { IsCarriedGiven node start.now boot.now out.new length.new result }
+{
+    give(carried(alloc, node, start, boot), out, length)
+}
+
+/// The fence of the start that a file keeps.
+#[unsafe(no_mangle)]
+pub extern "C" fn resetd_fence(
+    alloc: Global,
+    node: u8,
+    start: &[u8],
+    generation: u32,
+    word: &[u8],
+    count: &mut u64,
+    out: &mut [u8],
+    length: &mut usize,
+) -> u32
+    ensures { IsFenceGiven node start.now generation word.now count.new out.new length.new result }
+{
+    match fence_in(alloc, node, start, generation, word) {
+        Ok((own, tag)) => {
+            *count = own;
+            give(Ok(tag), out, length)
+        }
+        Err(fault) => status_of(fault),
+    }
 }
 
 /// The tag of a start that is due to talk. Its file is as it was put down; `word` is the group's.

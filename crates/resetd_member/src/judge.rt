@@ -16,6 +16,14 @@ use coord_types::NodeId;
 use coord_wire::read_show;
 use std::alloc::{AllocError, Global};
 
+/// What a view shows to the member of a node.
+#[derive(Drop, Debug)]
+pub struct Sight {
+    pub look: Look,
+    /// How many steps are settled.
+    pub settled: u64,
+}
+
 /// What a view asks of a member, and what has to be on the disk before it is done.
 #[derive(Drop, Debug)]
 pub struct Judgement {
@@ -48,7 +56,7 @@ pub struct Judged {
 }
 
 /// What the line that answers `show` shows to the member of a node.
-pub(crate) fn look_at(alloc: Global, show: &str, node: NodeId) -> Result<Look, Fault>
+pub(crate) fn look_at(alloc: Global, show: &str, node: NodeId) -> Result<Sight, Fault>
     ensures { IsLooked show.now node result }
 {
     let view = match read_show(alloc, show) {
@@ -56,10 +64,11 @@ pub(crate) fn look_at(alloc: Global, show: &str, node: NodeId) -> Result<Look, F
         Err(coord_wire::ReadFault::OutOfMemory) => return Err(Fault::OutOfMemory),
         Err(coord_wire::ReadFault::NoAnswer) => return Err(Fault::BadLine),
     };
+    let settled = view.settled;
     let found = look_of(alloc, &view, node);
     drop(view);
     match found {
-        Ok(Some(look)) => Ok(look),
+        Ok(Some(look)) => Ok(Sight { look, settled }),
         Ok(None) => Err(Fault::NoNode),
         Err(_) => Err(Fault::OutOfMemory),
     }
@@ -108,14 +117,17 @@ fn start_after(
     node: u8,
     begun: Option<u64>,
     lines: &[String],
+    settled: u64,
     change: Change,
 ) -> Result<String, AllocError>
-    ensures { IfOk result (λ text. string_bytes text ≡ start_after node begun lines.now change) }
+    ensures { IfOk result (λ text. string_bytes text ≡ start_after node begun lines.now settled change) }
 {
     match change {
         Change::Keeps => Ok(String::new(alloc)),
-        Change::Drops => start_text(alloc, node, None, None),
-        Change::NotesAlone | Change::NotesFirst => start_text(alloc, node, begun, Some(lines)),
+        Change::Drops => start_text(alloc, node, None, None, None),
+        Change::NotesAlone | Change::NotesFirst => {
+            start_text(alloc, node, begun, Some(lines), Some(settled))
+        }
     }
 }
 
@@ -146,12 +158,13 @@ fn judged_by(
     node: u8,
     look: &Look,
     lines: &[String],
+    settled: u64,
     line: &str,
     kept: &Start,
     found: Found,
     work: Option<u64>,
 ) -> Result<Judgement, AllocError>
-    ensures { IfOk result (λ j. IsDueBy node look.now.row look.now.party.items lines.now line.now kept.now found work j) }
+    ensures { IfOk result (λ j. IsDueBy node look.now.row look.now.party.items lines.now settled line.now kept.now found work j) }
 {
     let begun = begun_at(kept.begun, work);
     let due = due_at(alloc, begun, kept, found.has, look)?;
@@ -159,7 +172,7 @@ fn judged_by(
     Ok(Judgement {
         due,
         epoch: look.row.epoch,
-        start: start_after(alloc, node, begun, lines, change)?,
+        start: start_after(alloc, node, begun, lines, settled, change)?,
         line: line_after(alloc, line, change)?,
         history_size: found.size,
     })
@@ -169,13 +182,13 @@ fn judged_by(
 fn judged_with(
     alloc: Global,
     node: u8,
-    look: &Look,
+    sight: &Sight,
     lines: &[String],
     file: &str,
     history: &[u8],
     work: Option<u64>,
 ) -> Result<Judgement, Fault>
-    ensures { IsJudgedWith node look.now.row look.now.party.items lines.now file.now history.now work result }
+    ensures { IsJudgedWith node sight.now.look.row sight.now.look.party.items lines.now sight.now.settled file.now history.now work result }
 {
     let line = history_line(alloc, lines)?;
     let Some(found) = look_up(history, line.as_bytes()) else {
@@ -183,7 +196,17 @@ fn judged_with(
         return Err(Fault::BadHistory);
     };
     let kept = read(alloc, node, file)?;
-    let judged = judged_by(alloc, node, look, lines, line.as_str(), &kept, found, work);
+    let judged = judged_by(
+        alloc,
+        node,
+        &sight.look,
+        lines,
+        sight.settled,
+        line.as_str(),
+        &kept,
+        found,
+        work,
+    );
     drop(kept);
     drop(line);
     Ok(judged?)
@@ -200,19 +223,19 @@ pub(crate) fn judge(
 ) -> Result<Judgement, Fault>
     ensures { IsJudged show.now node file.now history.now work result }
 {
-    let look = look_at(alloc, show, node)?;
-    let lines = lines_of(alloc, look.party.as_slice())?;
+    let sight = look_at(alloc, show, node)?;
+    let lines = lines_of(alloc, sight.look.party.as_slice())?;
     let judged = judged_with(
         alloc,
         node.number(),
-        &look,
+        &sight,
         lines.as_slice(),
         file,
         history,
         work,
     );
     drop(lines);
-    drop(look);
+    drop(sight);
     judged
 }
 
@@ -226,9 +249,9 @@ pub(crate) fn tag(
 ) -> Result<String, Fault>
     ensures { IsTagged show.now node file.now word.now result }
 {
-    let look = look_at(alloc, show, node)?;
-    let lines = lines_of(alloc, look.party.as_slice())?;
-    drop(look);
+    let sight = look_at(alloc, show, node)?;
+    let lines = lines_of(alloc, sight.look.party.as_slice())?;
+    drop(sight);
     let kept = read(alloc, node.number(), file)?;
     let tag = match &kept.party {
         Some(first) => tag_of(alloc, word, first.as_slice(), lines.as_slice()),

@@ -4,11 +4,12 @@
 //! file or a socket, and nothing is kept between two calls. `include/resetd_member.h` declares them.
 //! What they give is what the crates below define: coord_wire reads the port's lines, coord_look the
 //! view, coord_member has the rule, coord_kept the files' texts and the tag, coord_orders the order
-//! book. `specs/Judgement.antt` and `specs/Orders.antt` join these, and `specs/Exports.antt` says what
-//! C is given.
+//! book. `specs/Judgement.antt`, `specs/Files.antt` and `specs/Orders.antt` join these, and
+//! `specs/Exports.antt` says what C is given.
 #![tactic(auto)]
 
 mod exports;
+mod files;
 mod judge;
 mod order;
 mod orders;

@@ -1,4 +1,4 @@
-use Rattle.std.proofs.Common.{◌≡◌, map, take, take_all, ap, sym, ◌∙◌, subst, string_bytes, List, String}
+use Rattle.std.proofs.Common.{map, take_all, ap, ◌∙◌, subst, string_bytes, List, String}
 use Rattle.std.specs.declared.alloc.Global.{Global}
 use Rattle.std.specs.List.Sorted.{IsPermutation}
 use Rattle.std.proofs.lemmas.List.Sorted.{IsPermutation-map}
