@@ -3,3 +3,4 @@ pub mod Lives
 pub mod Views
 pub mod OverStores
 pub mod OverLedgers
+pub mod OverFences

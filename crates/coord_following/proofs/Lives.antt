@@ -1,21 +1,14 @@
 -- The lives of a node: how often it was added. A link belongs to one life of each of its ends, and as long as a node lives its
 -- confirmed epoch doesn't fall.
-use Rattle.std.proofs.Common.{◌≡◌, ◌⊎◌, ℕ, zero, suc, ◌+◌, ◌<◌, ◌≤◌, nat_le, eqb, Bool, true, false, List, [], ◌∷◌, Some, is_some, refl, sym, ap, subst, ◌∙◌, arith, inl, inr, if◌then◌else◌, ◌==◌}
+use Rattle.std.proofs.Common.{◌≡◌, ◌⊎◌, ℕ, zero, suc, ◌+◌, ◌<◌, ◌≤◌, nat_le, eqb, Bool, true, false, List, [], ◌∷◌, Some, is_some, refl, sym, ap, ◌∙◌, arith, inl, inr, if◌then◌else◌}
 use Rattle.std.proofs.lemmas.Bool.Decides.{nat_tests}
 use Rattle.coord_types.specs.Table.{has}
-use Rattle.coord_types.specs.declared.steps.Step.{Step}
 use Rattle.coord_link.specs.LaneMachine.{Lane}
-use Rattle.coord_world.specs.Facade.{World, lane_at, next, state}
+use Rattle.coord_world.specs.Facade.{World, lane_at, state}
 use Rattle.coord_world.specs.laws.Trails.{IsSound}
 use Rattle.coord_world.proofs.Facade.{raised_is_legal, trail_keeps_worlds, trail_of}
-use Rattle.coord_following.specs.Histories.{Turn, Takes, Raises, IsTurn, IsHistory, turned, world_at}
-use Rattle.coord_following.proofs.Steps.{IsOld, WasThere, adds, adds_none, stays, was_or_new}
-
--- how often node u was added in the first k turns
-abbrev pub life_at : ℕ → List Turn → ℕ → ℕ
-life_at zero turns u = 0
-life_at (suc k) [] u = 0
-life_at (suc k) (t ∷ turns) u = adds u t + life_at k turns u
+use Rattle.coord_following.specs.Histories.{Turn, Takes, Raises, IsTurn, IsHistory, adds, life_at, turned, world_at}
+use Rattle.coord_following.proofs.Steps.{IsOld, WasThere, adds_none, stays, was_or_new}
 
 -- the life of node u in which a link of this incarnation was made
 abbrev pub made_by : World → List Turn → ℕ → ℕ → ℕ
@@ -33,7 +26,7 @@ sound_at w zero turns sound history = sound
 sound_at w (suc k) [] sound history = sound
 sound_at w (suc k) (t ∷ turns) sound history = sound_at (turned w t) k turns (sound_turned w t sound history.0) history.1
 
-counts_more : (w : World) (t : Turn) → w.count ≤ (turned w t).count
+pub counts_more : (w : World) (t : Turn) → w.count ≤ (turned w t).count
 counts_more w (Takes s) = omega arith
 counts_more w Raises = omega arith
 

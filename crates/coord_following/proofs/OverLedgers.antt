@@ -1,10 +1,9 @@
 -- What a ledger shows, crashes included, are the worlds of one history.
-use Rattle.std.proofs.Common.{◌≡◌, ℕ, zero, suc, ◌==◌, ◌≤◌, Bool, true, false, List, [], ◌∷◌, map, take, length, refl, sym, ap, subst, ◌∙◌, arith, if◌then◌else◌}
+use Rattle.std.proofs.Common.{◌≡◌, ℕ, zero, suc, ◌==◌, ◌≤◌, Bool, true, false, List, [], ◌∷◌, map, take, refl, sym, ap, subst, ◌∙◌, arith, if◌then◌else◌}
 use Rattle.std.proofs.lemmas.List.{take-take}
 use Rattle.std.specs.List.{AllByRecursion}
 use Rattle.coord_types.specs.declared.steps.Step.{Step}
 use Rattle.coord_world.specs.Facade.{World, fold, next}
-use Rattle.coord_world.specs.laws.Trails.{IsSound}
 use Rattle.coord_world.proofs.Facade.{EachFresh, trail_each_fresh, trail_is_cut}
 use Rattle.coord_member.specs.Members as member
 use Rattle.coord_ledger.specs.declared.events.Answer.{Answer}

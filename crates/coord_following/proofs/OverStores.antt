@@ -1,17 +1,16 @@
 -- Members that are shown the worlds of one store mix no runs.
-use Rattle.std.proofs.Common.{◌≡◌, ◌⊎◌, ℕ, zero, suc, ◌==◌, ◌<◌, ◌≤◌, eqb, Bool, true, false, List, [], ◌∷◌, refl, sym, ap, subst, ◌∙◌, arith, inl, inr, if◌then◌else◌}
+use Rattle.std.proofs.Common.{◌≡◌, ℕ, ◌==◌, ◌≤◌, eqb, Bool, true, false, List, [], ◌∷◌, refl, sym, subst, arith, inl, inr, if◌then◌else◌}
 use Rattle.std.proofs.lemmas.Bool.Decides.{nat_tests}
 use Rattle.coord_types.specs.Table.{has}
 use Rattle.coord_world.specs.Facade.{World, state}
 use Rattle.coord_world.specs.laws.Trails.{IsSound}
-use Rattle.coord_member.specs.declared.view.Entry.{Entry}
 use Rattle.coord_member.specs.declared.view.Row.{Row}
 use Rattle.coord_member.specs.Honest.{Shown, nothing_shown, with_shown, IsHonest, IsLater}
 use Rattle.coord_member.specs.Members.{Event, Look, Load, Crash, Forget, Lose, Send, Hear}
 use Rattle.coord_member.proofs.Fair.{no_mix_honest}
-use Rattle.coord_following.specs.Histories.{Turn, IsHistory, world_at}
+use Rattle.coord_following.specs.Histories.{Turn, IsHistory, life_at, world_at}
 use Rattle.coord_following.specs.Stores.{AreShown, NoMixOverAStore}
-use Rattle.coord_following.proofs.Lives.{IsFurther, further_at, life_at}
+use Rattle.coord_following.proofs.Lives.{IsFurther, further_at}
 use Rattle.coord_following.proofs.Views.{made, view_of}
 
 from_nothing : (life confirmed : ℕ) → IsFurther 0 0 life confirmed

@@ -1,5 +1,5 @@
 -- What one step does to a node that stays, and to the links.
-use Rattle.std.proofs.Common.{◌≡◌, ◌⊎◌, ℕ, ◌+◌, ◌<◌, ◌≤◌, ◌&&◌, ◌||◌, not, nat_lt, nat_le, eqb, Bool, true, false, List, [], ◌∷◌, Option, Some, None, Result, Ok, Err, cond, is_some, refl, sym, ap, subst, ◌∙◌, arith, inl, inr, if◌then◌else◌, ◌==◌}
+use Rattle.std.proofs.Common.{◌≡◌, ◌⊎◌, ℕ, ◌+◌, ◌≤◌, ◌&&◌, ◌||◌, eqb, Bool, true, false, List, [], ◌∷◌, Option, Some, None, Result, Ok, Err, cond, is_some, refl, sym, ap, subst, ◌∙◌, arith, inl, inr, if◌then◌else◌, ◌==◌}
 use Rattle.std.specs.Cmp.{nat_cmp_total}
 use Rattle.std.specs.Option.{option_map}
 use Rattle.std.proofs.lemmas.Bool.Decides.{nat_tests}
@@ -28,12 +28,7 @@ use Rattle.coord_world.specs.declared.verdicts.Verdict.{Verdict}
 use Rattle.coord_world.specs.declared.verdicts.Verdict.TheVariants.{Fresh, Repeat}
 use Rattle.coord_world.specs.Facade.{InRange, IsFresh, Links, World, against, against_data, is_exhausted, judged, lane, lane_at, next, of_incarnation, or_repeat, prepared, state, state_or_none, with_transition, with_transitions}
 use Rattle.coord_world.proofs.Facade.{fresh_order}
-use Rattle.coord_following.specs.Histories.{Turn, Takes, Raises, IsTurn, turned}
-
--- how often a turn adds a node
-abbrev pub adds : ℕ → Turn → ℕ
-adds u (Takes (Order c n (Add v g))) = if v == u then 1 else 0
-adds u t = 0
+use Rattle.coord_following.specs.Histories.{Turn, Takes, Raises, IsTurn, adds, turned}
 
 -- ---- tests that a fresh step passes
 

@@ -14,8 +14,8 @@ use Rattle.coord_member.specs.Honest as honest
 use Rattle.coord_member.specs.Honest.{IsView}
 use Rattle.coord_member.specs.NoMix.{IsOneOf}
 use Rattle.coord_look.specs.Shown.{AllDistinct, IsPartyOf, IsShownTo, IsWorldLink}
-use Rattle.coord_following.specs.Histories.{Turn, IsHistory, world_at}
-use Rattle.coord_following.proofs.Lives.{life_at, made_by, made_in_life, sound_at}
+use Rattle.coord_following.specs.Histories.{Turn, IsHistory, life_at, world_at}
+use Rattle.coord_following.proofs.Lives.{made_by, made_in_life, sound_at}
 
 -- the life of a node in which a link was made
 abbrev pub made : World → List Turn → ℕ → Entry → ℕ
@@ -107,10 +107,10 @@ shown_alone w i now sound there party none = only (Node i (state w i).epoch) now
 
 -- ---- the view
 
--- a link of node i that is shown is of its present life
-link_made : (w : World) (k : ℕ) (turns : List Turn) (i : ℕ) (now : List Entry) → IsSound w → IsHistory w turns → IsPartyOf (world_at w k turns) i now → (link : Entry) → IsOneOf link now → honest.IsLinkOf i link → made w turns i link ≡ life_at k turns i
-link_made w k turns i now sound history party (Node n e) in_now none = absurd none
-link_made w k turns i now sound history party (Link a b incarnation) in_now ends = of ends (party.links a b incarnation in_now).1
+-- a link of node i that is shown, to whomever, is of its present life
+pub link_made : (w : World) (k : ℕ) (turns : List Turn) (j i : ℕ) (now : List Entry) → IsSound w → IsHistory w turns → IsPartyOf (world_at w k turns) j now → (link : Entry) → IsOneOf link now → honest.IsLinkOf i link → made w turns i link ≡ life_at k turns i
+link_made w k turns j i now sound history party (Node n e) in_now none = absurd none
+link_made w k turns j i now sound history party (Link a b incarnation) in_now ends = of ends (party.links a b incarnation in_now).1
   where
     of : (a ≡ i) ⊎ (b ≡ i) → IsWorldLink (world_at w k turns) a b incarnation → made_by w turns i incarnation ≡ life_at k turns i
     of (inl first) is = subst (λ n. made_by w turns n incarnation ≡ life_at k turns n) first (subst (λ n. made_by w turns a n ≡ life_at k turns a) is.made (made_in_life w k turns a b is.lane sound history is.there))
@@ -127,7 +127,7 @@ view_of w k turns i row now sound history is =
     record {
       own = subst (λ e. IsOneOf (Node i e) now) (sym is.epoch) (is.party.every_node i is.there ([], refl));
       one = λ e in_now. (is.party.nodes i e in_now).1.1 ∙ sym is.epoch;
-      links = λ link in_now of_i. link_made w k turns i now sound history is.party link in_now of_i;
+      links = λ link in_now of_i. link_made w k turns i i now sound history is.party link in_now of_i;
       linked = elim (link_in i now) [
         | inl found ↦ inl found
         | inr none ↦ inr (shown_alone v i now sound_v is.there is.party none ∙ ap (λ e. Node i e ∷ []) (sym is.epoch))

@@ -1,6 +1,8 @@
 -- What a store goes through in all its life: steps, and its migration to version 2.
-use Rattle.std.specs.Prelude.{◌≡◌, ℕ, zero, suc, List, [], ◌∷◌}
+use Rattle.std.specs.Prelude.{◌≡◌, ℕ, zero, suc, ◌+◌, ◌==◌, List, [], ◌∷◌, if◌then◌else◌}
+use Rattle.coord_types.specs.declared.steps.Command.TheVariants.{Add}
 use Rattle.coord_types.specs.declared.steps.Step.{Step}
+use Rattle.coord_types.specs.declared.steps.Step.TheVariants.{Order}
 use Rattle.coord_world.specs.Facade.{IsFresh, StepInRange, World, next}
 use Rattle.coord_world.specs.laws.Raised.{raised}
 use Rattle.coord_world.specs.laws.Waves.{AllReady}
@@ -27,3 +29,16 @@ abbrev pub world_at : World → ℕ → List Turn → World
 world_at w zero turns = w
 world_at w (suc k) [] = w
 world_at w (suc k) (t ∷ turns) = world_at (turned w t) k turns
+
+-- ---- the lives of a node
+
+-- how often a turn adds a node
+abbrev pub adds : ℕ → Turn → ℕ
+adds u (Takes (Order c n (Add v g))) = if v == u then 1 else 0
+adds u t = 0
+
+-- how often node u was added in the first k turns
+abbrev pub life_at : ℕ → List Turn → ℕ → ℕ
+life_at zero turns u = 0
+life_at (suc k) [] u = 0
+life_at (suc k) (t ∷ turns) u = adds u t + life_at k turns u

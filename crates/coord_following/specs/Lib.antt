@@ -1,3 +1,4 @@
 pub mod Histories
 pub mod Stores
 pub mod Ledgers
+pub mod Fences

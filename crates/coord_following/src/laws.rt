@@ -1,6 +1,7 @@
 //! The laws of members that follow one coordinator: functions that do nothing, whose contracts are the
 //! laws.
 
+ghost use Rattle.coord_following.specs.Fences.{NewerHasMore, OlderStaysOut};
 ghost use Rattle.coord_following.specs.Ledgers.{NoMixOverALedger};
 ghost use Rattle.coord_following.specs.Stores.{NoMixOverAStore};
 
@@ -18,4 +19,15 @@ pub fn no_mix_over_a_store()
 #[tactic(auto, using(crate::proofs::OverLedgers::no_mix_over_a_ledger))]
 pub fn no_mix_over_a_ledger()
     ensures { NoMixOverALedger }
+{}
+
+/// If the party of one start has the node of another one in a later life or at a greater epoch, the
+/// first one's fence has the greater count, whichever of their members' looks fixed the parties.
+pub fn newer_fences_have_more()
+    ensures { NewerHasMore }
+{}
+
+/// So a resource that has accepted the newer start never accepts the older one, however late it comes.
+pub fn older_starts_stay_out()
+    ensures { OlderStaysOut }
 {}

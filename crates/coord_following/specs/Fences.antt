@@ -1,0 +1,50 @@
+-- Fences of starts that were shown the worlds of one store.
+use Rattle.std.specs.Prelude.{◌≡◌, ◌⊎◌, ℕ, ◌<◌, true, false, List}
+use Rattle.coord_world.specs.Facade.{World}
+use Rattle.coord_world.specs.laws.Trails.{IsSound}
+use Rattle.coord_member.specs.declared.view.Entry.{Entry}
+use Rattle.coord_member.specs.declared.view.Entry.TheVariants.{Node}
+use Rattle.coord_member.specs.declared.view.Row.{Row}
+use Rattle.coord_member.specs.Rule.{is_alone}
+use Rattle.coord_member.specs.NoMix.{IsOneOf}
+use Rattle.coord_member.specs.Fence.{Fence, Resource, accepts, behind, behind_all}
+use Rattle.coord_look.specs.Shown.{IsShownTo}
+use Rattle.coord_following.specs.Histories.{IsHistory, Turn, life_at, world_at}
+
+-- the tag of a party that was fixed where so many steps were settled
+abbrev pub Tags : Type 0
+Tags = List Entry → ℕ → List ℕ
+
+-- equal tags are of equal parties, and of one look if the start was alone, since it shares its run with nobody
+abbrev pub NamesRuns : Tags → Type 0
+NamesRuns tag = (p q : List Entry) (m n : ℕ) → tag p m ≡ tag q n → (p ≡ q) × (is_alone p ≡ true → m ≡ n)
+
+-- a start of node i fixes its party where it is shown the world after so many turns: all are through, its own node too. Its fence
+-- has the count of that world
+pub record Fixes (w : World) (turns : List Turn) (tag : Tags) (i : ℕ) (f : Fence) : Type 0 where
+  pub turn : ℕ
+  pub row : Row
+  pub party : List Entry
+  pub shown : IsShownTo (world_at w turn turns) i row party
+  pub through : row.through ≡ true
+  pub count_is : f.count ≡ (world_at w turn turns).count
+  pub tag_is : f.tag ≡ tag party f.count
+
+-- the party of another one has the node of this start in a later life, or in the same at a greater epoch
+pub record IsOlder (w : World) (turns : List Turn) (tag : Tags) (i j : ℕ) (f g : Fence) (older : Fixes w turns tag i f) (newer : Fixes w turns tag j g) : Type 0 where
+  pub epoch : ℕ
+  pub there : IsOneOf (Node i epoch) newer.party
+  pub later : (life_at older.turn turns i < life_at newer.turn turns i) ⊎ ((life_at older.turn turns i ≡ life_at newer.turn turns i) × (older.row.epoch < epoch))
+
+-- then the other one's count is greater, whichever was fixed by which of its members' looks, and by looks that were late
+abbrev pub NewerHasMore : Type 0
+NewerHasMore =
+    (w : World) (turns : List Turn) (tag : Tags) (i j : ℕ) (f g : Fence) (older : Fixes w turns tag i f) (newer : Fixes w turns tag j g) →
+    IsSound w → IsHistory w turns → IsOlder w turns tag i j f g older newer → f.count < g.count
+
+-- so a resource that has accepted the newer one never accepts the older one, whatever is presented to it in between
+abbrev pub OlderStaysOut : Type 0
+OlderStaysOut =
+    (w : World) (turns : List Turn) (tag : Tags) (i j : ℕ) (f g : Fence) (older : Fixes w turns tag i f) (newer : Fixes w turns tag j g) →
+    IsSound w → IsHistory w turns → NamesRuns tag → IsOlder w turns tag i j f g older newer →
+    (r : Resource) (between : List Fence) → accepts r g ≡ true → accepts (behind_all (behind r g) between) f ≡ false
