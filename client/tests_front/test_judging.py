@@ -57,5 +57,41 @@ class Confirms(unittest.TestCase):
         self.assertEqual(self.judged(Request("show", {})), (Place.LOOK, False))
 
 
+class Gathering(unittest.TestCase):
+    """Nodes 1 and 2 are linked, a reset is over at both, and neither is confirmed; node 3 is alone."""
+
+    def setUp(self) -> None:
+        temporary = tempfile.TemporaryDirectory()
+        self.addCleanup(temporary.cleanup)
+        self.own = OwnOrders(15, temporary.name)
+        self.addCleanup(self.own.close)
+        self.own.found(7)
+        self.views = Views()
+        nodes = [[node, 1, "ready", 0, 1, 0] for node in (1, 2, 3)]
+        view = {"accepted": 9, "links": [[1, 2, 5]], "nodes": nodes, "settled": 9}
+        self.views.note(json.dumps(view, separators=(",", ":")).encode(), 99.0)
+
+    def judged(self, node: int, waited: float, confirming: dict[int, float]) -> tuple[Verdict, bool]:
+        """The verdict of a confirm that has waited for so long, and whether it is held for others. `confirming` has when those came
+        that wait."""
+        judging = Judging(self.own, self.views, False, 100.0 + waited, confirming, 0.05)
+        return judging(Asked("x", Request("confirm", {"node": node, "epoch": 1}), 100.0)), judging.wants_more
+
+    def test_a_confirm_waits_for_those_of_its_group(self) -> None:
+        self.assertEqual(self.judged(1, 0.01, {1: 100.0}), (Hold.HOLD, True))
+        self.assertEqual(self.judged(1, 0.01, {1: 100.0, 2: 100.01}), (Place.ORDER, False))
+
+    def test_no_longer_than_a_flight_after_the_last_one_came(self) -> None:
+        """A member may be down."""
+        self.assertEqual(self.judged(1, 0.049, {1: 100.0}), (Hold.HOLD, True))
+        self.assertEqual(self.judged(1, 0.051, {1: 100.0}), (Place.ORDER, False))
+
+    def test_who_is_alone_does_not_wait(self) -> None:
+        self.assertEqual(self.judged(3, 0.0, {3: 100.0}), (Place.ORDER, False))
+
+    def test_the_confirms_of_other_groups_keep_nobody(self) -> None:
+        self.assertEqual(self.judged(1, 0.051, {1: 100.0, 3: 100.05}), (Place.ORDER, False))
+
+
 if __name__ == "__main__":
     unittest.main()

@@ -184,6 +184,7 @@ class Between:
         self.on_confirm: Callable[[], None] | None = None
         self.lives, self.lock = 0, threading.RLock()  # how often the member died
         self.watching, self.is_asked = set[socket.socket](), False  # who watches, and whether one of them asks for a look
+        self.text = b""  # the last view that was shown in this life
         self.path = f"{trial.folder}/between.socket"
         self.front = Port(f"unix:{trial.start_front().path}", 30)
         self.listen()
@@ -226,7 +227,7 @@ class Between:
             self.is_asked = True  # it may not have seen yet what was pushed before
             return True
         if request["op"] in ("show", "watch"):
-            goes_on = self.show(connection, lives)
+            goes_on = self.show(connection, lives, request["op"] == "watch" or bool(self.watching))
             if goes_on and request["op"] == "watch":
                 self.watching.add(connection)
                 threading.Thread(target=self.push, args=[connection, lives], daemon=True).start()
@@ -243,28 +244,32 @@ class Between:
             connection.sendall(text + b"\n")
         return True
 
-    def show(self, connection: socket.socket, lives: int) -> bool:
-        """Shows the present to the member, which has done what was due by the last view. Whether more is answered."""
+    def show(self, connection: socket.socket, lives: int, watches: bool = False) -> bool:
+        """Shows the present to the member, which has done what was due by the last view. To one that watches and has not yet, perhaps
+        since it has not seen that view, it is shown again. Whether more is answered."""
+        self.direct(SHOW)  # waits while the server is away, and keeps nobody else waiting
         with self.lock:
             if lives != self.lives:
                 return False
+            if watches and self.text and not self.rule.has_done():
+                connection.sendall(self.text + b"\n")
+                return True
             self.rule.looks_again()
-            spoiled = self.spoil.pop(0) if self.spoil else None
-        text = self.direct(SHOW)
-        if spoiled:
-            return spoiled(connection, text)
-        with self.lock:
-            if lives == self.lives:
-                self.rule.answered(View.of(json.loads(text)))
+            text = self.direct(SHOW)
+            if self.spoil:
+                return self.spoil.pop(0)(connection, text)
+            self.rule.answered(View.of(json.loads(text)))
+            self.text = text
             connection.sendall(text + b"\n")
-        return True
+            return True
 
     def push(self, connection: socket.socket, lives: int) -> None:
         """Shows the present again and again to a member that watches, each time that it has done what was due, or has had all the
         time for it; and where nothing has changed not so often."""
         with contextlib.suppress(OSError):
             while self.await_done(lives):
-                if not self.show(connection, lives):
+                is_done = self.rule.has_done()  # else it had all the time for it
+                if not self.show(connection, lives, watches=is_done):
                     connection.shutdown(socket.SHUT_RDWR)
                     return
 
@@ -290,6 +295,7 @@ class Between:
     def died(self) -> None:
         with self.lock:
             self.lives += 1
+            self.watching, self.text = set(), b""
             self.rule.died()
             self.end()
             self.listen()
