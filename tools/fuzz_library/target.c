@@ -1,0 +1,191 @@
+/* What libFuzzer calls: the functions of resetd_member.h with any bytes, held to what the header says of them.
+ *
+ * An input is a list of fields, each of them two bytes of length (the high one first) and its bytes; the last field is what is left. The
+ * first field has the numbers: node, client, an op with two nodes, the epoch of the work, the last number of the orders, and how many
+ * bytes too small the room is. Then come the answer to `show`, the file of the start, the history, the word and another tag. */
+#include <resetd_member.h>
+#include <stdio.h>
+#include <stdlib.h>
+#include <string.h>
+
+struct text {
+  uint8_t *bytes;
+  size_t length;
+};
+
+struct input {
+  uint8_t node, client, short_of;
+  struct resetd_order order;
+  struct resetd_work work;
+  struct resetd_orders orders;
+  struct text show, start, history, word, tag;
+};
+
+#define EXPECT(holds) \
+  do { if (!(holds)) { fprintf(stderr, "%s:%d: it does not hold that %s\n", __FILE__, __LINE__, #holds); abort(); } } while (0)
+
+static int are_same(const struct resetd_orders *a, const struct resetd_orders *b) {
+  return a->last == b->last && a->in_hand.op == b->in_hand.op && a->in_hand.a == b->in_hand.a && a->in_hand.b == b->in_hand.b &&
+         a->in_hand.epoch == b->in_hand.epoch;
+}
+
+static int are_judged_alike(const struct resetd_judged *a, const struct resetd_judged *b) {
+  return a->due == b->due && a->epoch == b->epoch && a->start_length == b->start_length && a->line_length == b->line_length &&
+         a->history_size == b->history_size;
+}
+
+/* A copy in memory of just that size: AddressSanitizer sees each byte that is read behind it. */
+static struct text copy(const uint8_t *bytes, size_t length) {
+  struct text made = {malloc(length ? length : 1), length};
+  EXPECT(made.bytes);
+  if (length) memcpy(made.bytes, bytes, length);
+  return made;
+}
+
+static struct text take_field(const uint8_t **at, size_t *left) {
+  if (*left < 2) { struct text rest = copy(*at, *left); *at += *left; *left = 0; return rest; }
+  size_t length = (size_t)(*at)[0] << 8 | (*at)[1];
+  *at += 2, *left -= 2;
+  if (length > *left) length = *left;
+  struct text field = copy(*at, length);
+  *at += length, *left -= length;
+  return field;
+}
+
+static uint64_t number_at(const struct text *text, size_t at) {
+  uint64_t number = 0;
+  for (size_t each = at; each < at + 8; each++) number = number << 8 | (each < text->length ? text->bytes[each] : 0);
+  return number;
+}
+
+static uint8_t byte_at(const struct text *text, size_t at) { return at < text->length ? text->bytes[at] : 0; }
+
+static struct input read_input(const uint8_t *bytes, size_t size) {
+  struct text numbers = take_field(&bytes, &size);
+  struct input in = {.node = byte_at(&numbers, 0), .client = byte_at(&numbers, 1), .short_of = byte_at(&numbers, 5)};
+  in.order = (struct resetd_order){byte_at(&numbers, 2), byte_at(&numbers, 3), byte_at(&numbers, 4), number_at(&numbers, 15)};
+  in.work = (struct resetd_work){byte_at(&numbers, 6) & 1, number_at(&numbers, 7)};
+  in.orders = (struct resetd_orders){number_at(&numbers, 23), {byte_at(&numbers, 31), byte_at(&numbers, 32), byte_at(&numbers, 33), number_at(&numbers, 34)}};
+  in.show = take_field(&bytes, &size);
+  in.start = take_field(&bytes, &size);
+  in.history = take_field(&bytes, &size);
+  in.word = take_field(&bytes, &size);
+  in.tag = copy(bytes, size);
+  free(numbers.bytes);
+  return in;
+}
+
+static void free_input(struct input *in) {
+  free(in->show.bytes);
+  free(in->start.bytes);
+  free(in->history.bytes);
+  free(in->word.bytes);
+  free(in->tag.bytes);
+}
+
+/* A judgement into a room of this size, of which no byte behind it may be written. Its status, and the text if it is 0. */
+static uint32_t judge(const struct input *in, const struct text *start, size_t room, struct resetd_judged *judged, struct text *given) {
+  *given = (struct text){malloc(room ? room : 1), 0};
+  EXPECT(given->bytes);
+  uint32_t status = resetd_judge(in->show.bytes, in->show.length, in->node, start->bytes, start->length, in->history.bytes, in->history.length,
+                                 &in->work, given->bytes, room, judged);
+  if (status == RESETD_OK) given->length = judged->start_length + judged->line_length;
+  EXPECT(given->length <= room);
+  return status;
+}
+
+static uint32_t tag(const struct input *in, const uint8_t *start, size_t length, size_t room, struct text *given) {
+  *given = (struct text){malloc(room ? room : 1), 0};
+  EXPECT(given->bytes);
+  uint32_t status = resetd_tag(in->show.bytes, in->show.length, in->node, start, length, in->word.bytes, in->word.length, given->bytes, room,
+                               &given->length);
+  EXPECT(status == RESETD_NO_ROOM || given->length <= room);
+  return status;
+}
+
+/* Statuses that a text of a caller can lead to; memory is never short here. */
+static void expect_status(uint32_t status) {
+  EXPECT(status <= RESETD_NO_TEXT && status != RESETD_OUT_OF_MEMORY && status != RESETD_IN_HAND);
+}
+
+/* A start that is due to talk has a tag, and the file that was given for it is read again. */
+static void expect_talk(const struct input *in, const struct resetd_judged *judged, const struct text *given) {
+  const struct text start = judged->start_length ? (struct text){given->bytes, judged->start_length} : in->start;
+  struct resetd_judged again;
+  struct text text, own;
+  EXPECT(judged->due == RESETD_TALK);
+  uint32_t status = tag(in, start.bytes, start.length, RESETD_MOST_TAG, &own);
+  EXPECT(status == RESETD_OK || (status == RESETD_NO_TEXT && in->word.length));
+  if (status == RESETD_OK && own.length) EXPECT(resetd_is_same_run(own.bytes, own.length, own.bytes, own.length));
+  if (status == RESETD_OK) EXPECT(!resetd_are_parted(own.bytes, own.length, own.bytes, own.length));
+  resetd_is_same_run(own.bytes, own.length, in->tag.bytes, in->tag.length);
+  resetd_are_parted(own.bytes, own.length, in->tag.bytes, in->tag.length);
+  EXPECT(judge(in, &start, RESETD_MOST_TEXT, &again, &text) == RESETD_OK && again.due == RESETD_TALK && again.epoch == judged->epoch);
+  free(own.bytes);
+  free(text.bytes);
+}
+
+static void try_judge(const struct input *in) {
+  struct resetd_judged judged = {0}, other = {0};
+  struct text given, shorter;
+  uint32_t status = judge(in, &in->start, RESETD_MOST_TEXT, &judged, &given);
+  expect_status(status);
+  EXPECT(status != RESETD_NO_ROOM);
+  if (status == RESETD_OK) {
+    EXPECT(judged.due >= RESETD_TALK && judged.due <= RESETD_RESET);
+    EXPECT(judged.history_size <= in->history.length && judged.history_size % 65 == 0);
+    EXPECT(judged.line_length == 0 || judged.line_length == 65);
+    size_t room = given.length > in->short_of ? given.length - in->short_of : 0;
+    uint32_t wanted = room < given.length ? RESETD_NO_ROOM : RESETD_OK;
+    EXPECT(judge(in, &in->start, room, &other, &shorter) == wanted);
+    if (wanted == RESETD_OK) EXPECT(are_judged_alike(&judged, &other) && !memcmp(given.bytes, shorter.bytes, given.length));
+    free(shorter.bytes);
+    if (judged.due == RESETD_TALK) expect_talk(in, &judged, &given);
+  }
+  free(given.bytes);
+}
+
+static void try_begun(const struct input *in) {
+  uint8_t text[RESETD_MOST_TEXT];
+  size_t length = 0;
+  uint32_t status = resetd_begun(in->node, in->work.epoch, text, sizeof text, &length);
+  EXPECT(status == RESETD_OK && length < sizeof text);
+}
+
+static void try_tag(const struct input *in) {
+  struct text given;
+  expect_status(tag(in, in->start.bytes, in->start.length, in->short_of, &given));
+  free(given.bytes);
+  resetd_is_same_run(in->word.bytes, in->word.length, in->tag.bytes, in->tag.length);
+  resetd_are_parted(in->word.bytes, in->word.length, in->tag.bytes, in->tag.length);
+}
+
+/* Orders of any numbers, and then ones in which no order is in hand: what is refused leaves them as they were. */
+static void try_orders(const struct input *in, struct resetd_orders orders) {
+  uint8_t line[RESETD_MOST_LINE];
+  size_t length = 0;
+  uint32_t meaning = 0;
+  struct resetd_orders before = orders;
+  uint32_t status = resetd_write_down(&orders, &in->order);
+  EXPECT(status == RESETD_OK || status == RESETD_BAD_NUMBER || status == RESETD_IN_HAND);
+  if (status != RESETD_OK) EXPECT(are_same(&before, &orders));
+  status = resetd_order_line(&orders, in->client, line, sizeof line, &length);
+  EXPECT(status == RESETD_BAD_NUMBER || (status == RESETD_OK && length <= sizeof line));
+  before = orders;
+  status = resetd_hear(&orders, in->show.bytes, in->show.length, &meaning);
+  expect_status(status);
+  if (status != RESETD_OK) EXPECT(are_same(&before, &orders));
+  if (status == RESETD_OK && meaning == RESETD_DONE) EXPECT(orders.last == before.last + 1 && orders.in_hand.op == 0);
+}
+
+int LLVMFuzzerTestOneInput(const uint8_t *bytes, size_t size);
+int LLVMFuzzerTestOneInput(const uint8_t *bytes, size_t size) {
+  struct input in = read_input(bytes, size);
+  try_judge(&in);
+  try_begun(&in);
+  try_tag(&in);
+  try_orders(&in, in.orders);
+  try_orders(&in, (struct resetd_orders){in.orders.last, {0, 0, 0, 0}});
+  free_input(&in);
+  return 0;
+}
