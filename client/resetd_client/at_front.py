@@ -19,7 +19,7 @@ from .signals import Clock, Follower, Wake, Wakes
 from .view import View
 from .watching import Watched
 
-LOST_COUNT = frozenset({Refusal.OUT_OF_TURN, Refusal.NUMBER_REUSED})  # the front's own, which it finds by itself
+LOST_COUNT = frozenset({Refusal.OUT_OF_TURN, Refusal.NUMBER_REUSED})  # the front's own, which it finds again on its own
 
 
 class EarlierFront(NotTaken):
@@ -37,8 +37,8 @@ class AtFront:
     Its folder has the member's own files, and one process at a time holds it."""
 
     def __init__(self, port: Port, folder: str, *, held_seconds: float = 0.0) -> None:
-        """Another process may hold the folder for so many seconds more. Raises BadWords if an address is not a front's, and
-        Held."""
+        """Waits at most `held_seconds` for another process to release the folder. Raises BadWords if an address is not a front's,
+        and Held."""
         if not all(address.is_front for address in port.addresses):
             raise BadWords("orders without a number are for a front (unix:PATH, tls:HOST:PORT)")
         self.port, self.folder = port, folder
@@ -58,8 +58,8 @@ class AtFront:
 
     def order_all(self, orders: Sequence[Order], *, on_view: Callable[[View], None] = lambda view: None,
                   view: View | None = None) -> list[Outcome]:
-        """Sends orders together, and returns what came of each: one that is refused does not hold those after it. While they
-        are on their way `on_view` is called, with `view` and with each view that the front pushes. After Away call it
+        """Sends orders together and returns the outcome of each; a refused order does not stop those after it. Until the answers
+        come it calls `on_view`, with `view` and with each view that the front pushes. After Away call it
         again with the same orders. Raises Away, BadWords at a number out of its range (before it sends anything),
         EarlierFront, Garbled and Untrusted."""
         for order in orders:
@@ -105,8 +105,8 @@ class AtFront:
 
 def orders_of(port: Port, client: int | None, folder: str, *, held_seconds: float = 0.0,
               told: Callable[[str], None] = warn) -> Orders | AtFront:
-    """What a Member or a Gateway orders with: an AtFront where every address is a front's, else the numbered Orders of a client
-    (1 to 16). Raises BadWords where a client is needed and is None, and what both raise."""
+    """Returns an AtFront if every address is a front's, else the numbered Orders of a client (1 to 16), for a Member or a Gateway.
+    Raises BadWords if a client is needed and is None, and whatever both raise."""
     if all(address.is_front for address in port.addresses):
         return AtFront(port, folder, held_seconds=held_seconds)
     if client is None:
@@ -115,8 +115,8 @@ def orders_of(port: Port, client: int | None, folder: str, *, held_seconds: floa
 
 
 def wakes_of(port: Port, signals: str | None = None, orders: Orders | AtFront | None = None) -> Wakes:
-    """What wakes a member: its own connection where it orders at a front, else the file of signals where one is named, a front
-    where there is one, else only time."""
+    """Returns the wake-ups for a member: its own connection if it orders at a front, else a Follower of the named file of signals,
+    else a Watched at a front, else a Clock."""
     if isinstance(orders, AtFront):
         return orders
     if signals is not None:

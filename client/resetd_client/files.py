@@ -70,8 +70,8 @@ def empty(path: str) -> None:
 
 
 def sync(path: str) -> None:
-    """Syncs a file as it is, and its folder, also where the file is not there. So what was read of it lasts, although whoever
-    wrote, renamed or removed it has not synced it."""
+    """Syncs a file as it is, and its folder, even if the file is missing: so its present state lasts, although the process that
+    wrote, renamed or removed it may not have synced."""
     try:
         descriptor = os.open(path, os.O_RDONLY | os.O_CLOEXEC)
         try:

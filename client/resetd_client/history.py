@@ -34,7 +34,7 @@ class History:
         return len(self._digests)
 
     def sync(self) -> None:
-        """Puts what was read on the disk: whoever wrote it may have been killed in front of its sync."""
+        """Syncs the file as it was read: the process that wrote it may have been killed before its sync."""
         files.sync(self._path)
 
     def add(self, digest: str) -> None:

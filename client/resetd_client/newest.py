@@ -10,18 +10,17 @@ from .view import View
 
 
 class Past(Away):
-    """An address shows fewer settled steps than another one has shown, so it is an earlier coordinator of the same store, or
-    its store went back. Ask the other address. It counts once an order is carried out there. Needs no person, unless it
-    lasts."""
+    """An address shows fewer settled steps than another address has shown: it is an earlier coordinator of the same store, or its
+    store went back. Ask the other address. This one counts again once it carries out an order. Needs no person, unless it lasts."""
 
 
 class Newest:
-    """The newest view that was taken, and the address that showed it.
+    """Remembers the newest view and the address that showed it, and rejects older views.
 
-    An old coordinator, whose store another one serves by now, still answers `show`. No member may be shown the past, since
-    its rule rests on looks in their order. So a view of another address than the last one's counts only if it has as many
-    settled steps; else the address is passed over, until it carries out an order: an old coordinator carries out none. A store
-    that was put back is shown at the address of before, where a smaller count is no past."""
+    An old coordinator, whose store another coordinator serves now, still answers `show`. The rule of a member assumes that its looks
+    are in order. So a view from another address than the last one counts only if it has at least as many settled steps;
+    otherwise the address is skipped until it carries out an order, which an old coordinator can't do. At the same address the
+    count may go down: its store was restored."""
 
     def __init__(self) -> None:
         self._turn = threading.Lock()
@@ -30,7 +29,7 @@ class Newest:
         self._past: dict[Address, int] = {}  # of addresses that are passed over: how many steps they had accepted
 
     def take(self, address: Address, view: View) -> None:
-        """Takes a view of an address. Raises Past."""
+        """Accepts a view from an address. Raises Past."""
         with self._turn:
             if self._address not in (None, address) and view.settled < self._settled:
                 self._past[address] = view.accepted
@@ -38,8 +37,7 @@ class Newest:
             self._note(address, view.settled)
 
     def note_order(self, address: Address, step: int) -> None:
-        """An address has carried out an order as this step, if it is one that it had not shown as accepted: so it serves the
-        store now."""
+        """Accepts an address that has carried out an order as this step, if the step is new there: it serves the store now."""
         with self._turn:
             if step > self._past.get(address, self._settled):
                 self._note(address, step)

@@ -1,4 +1,4 @@
-"""The text of a file of starts: for each node, what is kept of its present start.
+"""The text of a start file: one row per node, for the present start of its member.
 
 A row is one of these, in one line of JSON for all nodes:
 
@@ -32,20 +32,25 @@ KNOWN = frozenset({"begun", "party", "count", "loaded", "foreseen", "boot", "tol
 
 @dataclass(frozen=True)
 class Row:
-    """What a file says of one node's start. `count` is of the view in which the party was fixed, None where that is not known.
-    `floor` is the greatest epoch that was ever begun, by a file of that time. `is_synced_form` says that an earlier version wrote
-    that the start has not talked: such a text has to be replaced before it talks."""
+    """One node's row. `count` is the number of settled steps in the view that fixed the party, None if it is not known. `floor` is
+    the greatest epoch that was ever begun, in a file of the oldest form. `is_synced_form` marks a row of an earlier version for a
+    start that has not talked yet: replace it, synced, before the start talks."""
 
     kept: Kept = Kept()
     count: int | None = None
-    foreseen: frozenset[str] = frozenset()
+    foreseen: tuple[str, ...] = ()
     told: str | None = None
     floor: int | None = None
     is_synced_form: bool = False
 
+    @property
+    def is_empty(self) -> bool:
+        """Whether the file says no more than that nothing is begun."""
+        return self.kept == Kept() and self.told is None and self.floor is None
+
 
 def read_rows(path: str, text: str | None, boot: str) -> dict[int, Row]:
-    """What the text of a file says in this boot. Raises Unreadable."""
+    """Parses the text of a start file, for this boot. Raises Unreadable."""
     if not text or not text.endswith("\n"):
         return {}
     try:
@@ -71,14 +76,14 @@ def read_row(row: dict[str, object], boot: str) -> Row:
     if "boot" in row:
         if row["boot"] != boot or not boot:
             return Row(told=told)
-        return Row(Kept(_number(row["loaded"])), foreseen=frozenset(map(str, _list(row["foreseen"]))), told=told)
+        return Row(Kept(_number(row["loaded"])), foreseen=tuple(map(str, _list(row["foreseen"]))), told=told)
     begun = None if row["begun"] is None else _number(row["begun"])
     count = _number(row["count"]) if "count" in row else None
     return Row(Kept(begun, party), count, told=told, is_synced_form=begun is not None and party is None)
 
 
 def text_of(rows: dict[int, Row], boot: str) -> str:
-    """The text that says these rows in this boot."""
+    """Formats rows as the text of a start file, for this boot."""
     return json.dumps({str(node): members_of(row, boot) for node, row in rows.items()}) + "\n"
 
 
@@ -87,7 +92,7 @@ def members_of(row: Row, boot: str) -> dict[str, object]:
     if row.floor is not None:
         return {"epoch": row.floor, "party": lines_of(kept.party)}
     if kept.begun is not None and kept.party is None:
-        return {"begun": None, "party": None, "loaded": kept.begun, "foreseen": sorted(row.foreseen), "boot": boot, **told}
+        return {"begun": None, "party": None, "loaded": kept.begun, "foreseen": list(row.foreseen), "boot": boot, **told}
     count = {} if row.count is None else {"count": row.count}
     return {"begun": kept.begun, "party": lines_of(kept.party), **count, **told}
 

@@ -15,34 +15,34 @@ from .view import Node, View
 
 
 GENERATIONS = range(1 << 23)
+MOST_FORESEEN = 4  # parties of a node: of an earlier one a start may have talked, for all that is known
 STEPS_BITS = 40  # a store has fewer steps than 2 to this
 
 
 @dataclass(frozen=True)
 class Fence:
-    """What a database, or another resource that one group shares, needs to refuse a member that was paused while its group went on
-    (docs/SERVICES.md, "A database behind a fence"): a count that is greater for each later run, the name of the run, which all of its
-    members have, and the nodes that it began with. It stays the same as long as the start lives."""
+    """Lets a database, or another resource of one group, refuse a member that was paused while its group went on
+    (docs/SERVICES.md, "A database behind a fence"): a count that is greater for each later run, the name of the run, which all
+    members of the run share, and the nodes of the run. It stays the same as long as the start lives."""
 
     count: int
     tag: str
     nodes: frozenset[int]
 
     def passes(self, floor: int, count: int, tag: str) -> bool:
-        """Whether a resource accepts it that keeps this floor, and the count and the tag of what it accepted last; at first 0, 0
-        and the empty text. If it does, the floor becomes the old count where the tag is another one, and the greater count and
-        this tag are kept."""
+        """Whether a resource with this floor, count and tag (at first 0, 0 and "") accepts the fence. If so, the resource sets its
+        floor to its old count if the tag differs, and then keeps the greater count and this tag."""
         return self.count > count or self.tag == tag and self.count > floor
 
 
 class Shelf:
-    """What is kept of the starts of one or more nodes: in one file (start_file.py), for each node, which epoch is begun and
-    with whom its start first talked; and beside it, in a file `.history` that only grows, all parties that any of them may
-    have talked with. Nothing is known of a node that is not in it.
+    """Stores the starts of one or more nodes: in one file (start_file.py) which epoch each node has begun and with whom its start
+    first talked, and in a `.history` file, which only grows, all parties that any of them may have talked with. A node without a
+    row has begun nothing.
 
-    The history is on the disk before a start talks with a party, and the file of starts is only written: a power cut may take
-    it, and then a reset is asked for. What was read is synced before anything rests on it, since the process before may
-    have been killed in front of its sync."""
+    The history is on the disk before a start talks with a party. The start file is written without a sync: after a power cut it may
+    be lost, and then the member asks for a reset. Both files are synced when they are read, since the previous process may have
+    been killed before its own sync."""
 
     def __init__(self, path: str) -> None:
         """Raises Unreadable if a file does not read."""
@@ -71,65 +71,65 @@ class Shelf:
             self._write(is_synced=True)
 
     def get(self, node: int) -> Kept:
-        """What is kept of a node's start."""
+        """Returns the epoch and the party of a node's start."""
         row = self._row(node)
         return Kept() if row.floor is not None else row.kept
 
     def count(self, node: int) -> int | None:
-        """The settled steps of the view in which the party of a node's start was fixed; None where that is not known."""
+        """Returns the number of settled steps in the view that fixed the party of a node's start; None if it is not known."""
         return self._row(node).count
 
     def told(self, node: int) -> str:
-        """What a gateway told the members of a node last; the empty text for nothing."""
+        """Returns the last command of a gateway to the members of a node, `EPOCH NUMBER` and a line feed; empty for none."""
         return self._row(node).told or ""
 
     def floor(self, node: int) -> int | None:
-        """The greatest epoch of a node that was ever begun, if a file of the oldest form says it."""
+        """Returns the greatest epoch that a node has ever begun, if the file has the oldest form."""
         return self._row(node).floor
 
     def put(self, node: int, kept: Kept, *, told: str | None = None) -> None:
-        """Replaces what is kept of a node's start. It is in the file after the next `keep` or `write`."""
+        """Replaces a node's start; the next `keep` or `write` puts it into the file."""
         before = self._row(node)
-        row = Row(kept, before.count if kept == before.kept else None, told=before.told if told is None else told)
-        if row != replace(before, foreseen=frozenset()):
+        row = Row(kept, before.count if kept == before.kept else None, before.foreseen, before.told if told is None else told)
+        if row != before:
             self._set(node, row)
 
     def fix_party(self, node: int, kept: Kept, digest: str | None, count: int) -> None:
-        """The same for a start that is to talk for the first time, in a view of so many settled steps. Its digest, if it is not
-        alone, is on the disk after the next `keep`, before the file says that it talks."""
+        """Records that a start talks for the first time, in a view of `count` settled steps. The next `keep` puts its digest on the
+        disk (unless it is alone) before it writes the start file."""
         if digest is not None:
             self.history.add(digest)
             self._talking.add(digest)
         self._set(node, replace(self._row(node), kept=kept, count=count))
 
     def foresee(self, node: int, digest: str) -> None:
-        """Adds a party to the history that no start has talked with yet. Call `write`, and then `keep`."""
+        """Adds a party to the history before any start talks with it. Call `write`, and then `keep`."""
         row = self._row(node)
         self.history.add(digest)
-        self._set(node, replace(row, foreseen=row.foreseen | {digest}))
+        self._set(node, replace(row, foreseen=(*row.foreseen, digest)[-MOST_FORESEEN:]))
 
     def is_barred(self, digest: str) -> bool:
-        """Whether a start may have talked with this party: it is in the history, and was not merely foreseen."""
+        """Whether a start may have talked with this party: it is in the history, and not only foreseen."""
         return digest in self.history and not any(digest in row.foreseen for row in self._rows.values())
 
     def keep(self, is_synced: bool = False) -> None:
-        """Puts the history on the disk, and then writes the file, which is on the disk too if it is to be synced. After an
-        error call it again."""
+        """Syncs the history, and then writes the start file and, with `is_synced`, syncs it. After an error call it again."""
         self.history.keep()
         talking, self._talking = self._talking, set()
         for node, row in list(self._rows.items()):
-            if row.foreseen & talking:
-                self._set(node, replace(row, foreseen=row.foreseen - talking))
+            if not talking.isdisjoint(row.foreseen):
+                self._set(node, replace(row, foreseen=tuple(digest for digest in row.foreseen if digest not in talking)))
         self.write(is_synced)
 
     def write(self, is_synced: bool = False) -> None:
-        """Writes the file alone: before the history has what was foreseen, so that the next process knows it."""
+        """Writes the start file alone. It names the foreseen parties before the history has them, so that the next process can tell
+        them from those that a start has talked with."""
         if self._keeps_starts and not (self._is_on_disk if is_synced else self._is_written):
             self._write(is_synced)
 
     def _write(self, is_synced: bool) -> None:
         """Writes it. Only where "nothing begun" is to be on the disk it is emptied: that takes one sync."""
-        if is_synced and all(row == Row() for row in self._rows.values()):
+        if is_synced and all(row.is_empty for row in self._rows.values()):
             files.empty(self._path)
         else:
             (files.keep if is_synced else files.overwrite)(self._path, text_of(self._rows, self._boot))
@@ -140,15 +140,15 @@ class Shelf:
         return max([row.kept.begun for row in self._rows.values() if row.kept.begun is not None], default=-1)
 
     def keep_no_starts(self) -> None:
-        """From now on the history alone is kept: no work outlives the process, so nothing is begun at its next start."""
+        """Stops writing the start file, for work that does not outlive the process: its next process has begun nothing."""
         if self._rows:
             self._rows = {}
             files.empty(self._path)
         self._keeps_starts = False
 
     def may_say_begun(self, epoch: int) -> bool:
-        """Whether the disk may say that this epoch is begun, of an earlier start: then "nothing begun" has to be on the disk
-        before it is begun again."""
+        """Whether the start file on the disk may name this epoch, for an earlier start. If so, sync "nothing begun" before you begin
+        the epoch again."""
         return epoch <= self._most
 
     def _row(self, node: int) -> Row:
@@ -160,7 +160,7 @@ class Shelf:
 
 
 class Barred:
-    """The parties that a start must not talk with, as the rule asks for them."""
+    """The parties that a start must not talk with, in the form that the rule takes."""
 
     def __init__(self, shelf: Shelf) -> None:
         self._shelf = shelf

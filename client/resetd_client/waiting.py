@@ -14,7 +14,7 @@ Entry = Mapping[str, Any]
 
 
 def of_groups(view: View, audit: str) -> Iterator[Finding]:
-    """What each group waits for that is not through. `audit` is the file of a front's audit, which tells the times."""
+    """Yields what each group waits for, if it is not through. `audit` is the path of a front's audit, which has the times."""
     parts = {part.nodes[0].node: part for node in view.nodes if not (part := view.part(node.node)).is_through}
     if not parts:
         return

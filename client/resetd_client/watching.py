@@ -75,7 +75,7 @@ class Pushed:
         return view_of(lines[-1], str(self.address)) if lines else None
 
     def _lines(self, seconds: float) -> list[str]:
-        """What has come, but for the answers to orders."""
+        """Returns the lines that have come, without the answers to orders."""
         silence = self.heard + SILENCE_SECONDS - time.monotonic()
         if self._is_ready(max(0.0, min(seconds, silence))):
             self._read()
@@ -185,7 +185,7 @@ class Watched:
             self._newest.note_order(self._pushed.address, step)
 
     def _connected(self) -> Pushed:
-        """The connection, which is made where there is none. Raises Away."""
+        """Returns the connection, after connecting if there is none. Raises Away."""
         if self._pushed is None:
             self._connect(self._seconds)
         if self._pushed is None:
@@ -232,8 +232,7 @@ class Watched:
             self._pushed = None
 
     def _wait_for_view(self, seconds: float) -> None:
-        """Takes the newest view that comes in so many seconds; none while the front is away, or shows the past: then the next one
-        is tried."""
+        """Waits at most `seconds` for a view and keeps the newest. If the front is away or shows the past, the next one is tried."""
         try:
             if self._pushed is None:
                 self._connect(seconds)

@@ -14,7 +14,7 @@ from collections.abc import Callable
 from typing import Any
 
 from resetd_client import Due, View
-from resetd_client.party import is_same_run, tag_of
+from resetd_client.party import digest_of, is_same_run, tag_of
 from resetd_client.rule import Kept, judge, shown_to
 
 from .clients import Json
@@ -57,6 +57,9 @@ class Guess:
             self.run = f"{row.epoch} {tag_of(judged.kept.party, view.party(NODE)) or '-'}"
         elif judged.due is Due.BEGIN:
             self.steps += [(Kept(), self.history), (Kept(row.epoch), self.history)]
+        if judged.due is not Due.TALK:  # it may know more parties than it talked with: that which it is shown, ahead of its talk
+            more = self.history | {digest_of(view.party(NODE))}
+            self.steps += [(kept, more) for kept, _ in self.steps]
         self.kept = judged.kept
 
     def fit(self, view: View | None) -> set[Order]:
