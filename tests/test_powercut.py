@@ -1,0 +1,116 @@
+"""The parts of tools/powercut that need no machine: what a cut may leave of a list of writes, the disk, and what a store's bytes say."""
+
+import random
+import socket
+import struct
+import sys
+
+from support.case import Case, tool
+from support.program import PROGRAM, ran
+
+sys.path.insert(0, tool("powercut"))
+from cutting import nbd, stores  # noqa: E402
+from cutting.cuts import UNITS, Cut, Volatile, ends_of_checkpoints, moments  # noqa: E402
+from cutting.disk import SECTOR, Disk, Entry, sectors_of  # noqa: E402
+from cutting.verdicts import Looker, verdict_of  # noqa: E402
+
+A, B, C = (letter * 4_096 for letter in (b"a", b"b", b"c"))
+VOLATILE: Volatile = [(0, A), (8_192, A + B), (0, B), (4_096, C)]
+
+
+class Cuts(Case):
+    programs = ()
+
+    def left(self, way: str, unit: int, seed: int) -> dict[int, bytes]:
+        return Cut(random.Random(seed), unit).leave(way, VOLATILE)
+
+    def test_each_way_leaves_what_was_written(self) -> None:
+        """Each sector that is left is that of a write, and a unit is of one moment."""
+        written = [sectors_of(*write) for write in VOLATILE]
+        for way in Cut.WAYS:
+            for unit in UNITS:
+                for seed in range(50):
+                    left = self.left(way, unit, seed)
+                    for number, data in left.items():
+                        self.assertIn(data, [sectors[number] for sectors in written if number in sectors])
+                    if unit == 4_096:
+                        for first in range(0, 32, 8):
+                            self.assertIn(len({left.get(number) for number in range(first, first + 8)}), (1,), (way, seed))
+
+    def test_what_differs_between_the_ways(self) -> None:
+        self.assertEqual(self.left("lost", 512, 1), {})
+        self.assertEqual(self.left("kept", 512, 1), {**sectors_of(0, B), **sectors_of(8_192, A + B), **sectors_of(4_096, C)})
+        for seed in range(20):
+            self.assertIn(self.left("only", 512, seed), [sectors_of(*write) for write in VOLATILE])
+        self.assertIn(sectors_of(0, A)[0], [self.left("but", 512, seed).get(0) for seed in range(20)])
+        self.assertIn(sectors_of(0, A)[0], [self.left("stale", 512, seed).get(0) for seed in range(20)])
+
+    def test_moments(self) -> None:
+        """A flush makes durable what was written before it; markers say what was answered."""
+        log: list[Entry] = [("marker", "start"), ("write", 0, A), ("marker", "signal 3 7\nleast 12"), ("flush",), ("write", 0, B)]
+        found = [(len(at.volatile), at.newly_durable, at.answered, dict(at.signalled), at.phase) for at in moments(log)]
+        self.assertEqual(found[1:], [(1, {}, 0, {}, "start"), (1, {}, 12, {3: 7}, "start"), (0, sectors_of(0, A), 12, {3: 7}, "start"),
+                                     (1, {}, 12, {3: 7}, "start")])
+        self.assertEqual([len(at.volatile) for at in moments(log, has_flushes=False)], [0, 1, 1, 1, 2])
+
+    def test_ends_of_checkpoints(self) -> None:
+        """The writes that change the first byte of a store."""
+        heads = [bytes([selector]) + stores.MAGIC + bytes(SECTOR - 9) for selector in (0, 1, 1, 2)]
+        self.assertEqual(ends_of_checkpoints([("write", 8_192, head) for head in heads]), [1, 3])
+
+
+class Disks(Case):
+    programs = ()
+
+    def test_what_is_shown(self) -> None:
+        """An image is what is durable with some sectors over it; the base stays as it is."""
+        disk = Disk(self.write("base", bytes(3 * SECTOR)))
+        disk.settle({1: b"d" * SECTOR})
+        disk.show({2: b"v" * SECTOR})
+        disk.write(0, b"w" * SECTOR)
+        self.assertEqual(bytes(disk.now[:]), b"w" * SECTOR + b"d" * SECTOR + b"v" * SECTOR)
+        disk.show({0: b"x" * SECTOR})
+        self.assertEqual(bytes(disk.now[:]), b"x" * SECTOR + b"d" * SECTOR + bytes(SECTOR))
+        self.assertEqual(self.read("base"), bytes(3 * SECTOR))
+
+    def test_over_nbd(self) -> None:
+        """What a client writes, flushes and reads; of what waits together the flush comes first."""
+        disk = Disk(self.write("base", bytes(4_096)), is_recording=True)
+        nbd.serve(disk, self.path("socket"))
+        with socket.socket(socket.AF_UNIX) as client:
+            client.settimeout(60)
+            client.connect(self.path("socket"))
+            nbd.receive(client, len(nbd.GREETING))
+            client.sendall(struct.pack(">I", 1) + b"IHAVEOPT" + struct.pack(">II", nbd.EXPORT_NAME, 0))
+            self.assertEqual(struct.unpack(">QH", nbd.receive(client, 10)), (4_096, nbd.FLAGS))
+
+            def request(kind: int, handle: bytes, at: int = 0, size: int = 0, data: bytes = b"") -> bytes:
+                return nbd.REQUEST.pack(0x25609513, 0, kind, handle, at, size or len(data)) + data
+            together = request(nbd.WRITE, b"1" * 8, 512, data=b"w" * 512) + request(nbd.FLUSH, b"2" * 8)
+            client.sendall(together + request(nbd.READ, b"3" * 8, 512, 512))
+            answers = {nbd.receive(client, 16)[8:]: nbd.receive(client, 512 if handle == 2 else 0) for handle in range(3)}
+            client.sendall(request(nbd.DISCONNECT, b"4" * 8))
+        self.assertEqual(answers[b"3" * 8], b"w" * 512)
+        self.assertEqual(disk.log, [("flush",), ("write", 512, b"w" * 512)])
+
+
+class Stores(Case):
+    def test_what_a_store_says(self) -> None:
+        """One that was just made, and one of version 1: by their bytes, and by the program."""
+        path, looker = self.made(stores.TOPOLOGY), Looker(PROGRAM)
+        for data, version in ((self.read("store"), 2), (stores.store_of_version_1(), 1)):
+            content = stores.read_store(data)
+            self.assertEqual((content.version, content.snapshot_count + len(content.steps)), (version, stores.STEPS_MADE))
+            verdict = verdict_of(looker.look(data), data)
+            self.assertEqual((verdict.kind, verdict.count, set(verdict.epochs.values())), ("legal", stores.STEPS_MADE, {0}))
+            self.assertEqual(verdict_of(looker.look(data[:-200]), data[:-200]).kind, "refused")
+        self.assertEqual(verdict_of(looker.look(b""), b"").kind, "empty")
+        self.assertEqual(ran("check", path).printed, f"legal {stores.STEPS_MADE}\n")
+
+    def test_one_history(self) -> None:
+        history = stores.History()
+        content = stores.Content(2, 7, b"snapshot", {8: b"a", 9: b"b"})
+        self.assertIsNone(history.differs(content))
+        self.assertIsNone(history.differs(content._replace(steps={8: b"a"})))
+        self.assertEqual(history.differs(content._replace(steps={9: b"c"})), "another step 9")
+        self.assertEqual(history.differs(content._replace(snapshot=b"other")), "another snapshot of 7 steps")

@@ -1,0 +1,1 @@
+"""Power cuts of real file systems: README.md says how."""

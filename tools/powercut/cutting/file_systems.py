@@ -1,0 +1,72 @@
+"""The file systems that are tried, and disks with one of them."""
+
+import os
+import struct
+import subprocess
+from dataclasses import dataclass
+
+MEBIBYTE = 1 << 20
+START = MEBIBYTE  # where the file system begins
+MARKER_SIZE = MEBIBYTE  # of the partition at the end, to which markers are written
+DEVICE, MARKER_DEVICE = "/dev/vda1", "/dev/vda2"
+MKFS = {
+    "ext4": ["mkfs.ext4", "-F", "-q", "-b", "4096", "-J", "size=4"],
+    "xfs": ["mkfs.xfs", "-f", "-q"],
+    "btrfs": ["mkfs.btrfs", "-f", "-q"],
+    "f2fs": ["mkfs.f2fs", "-f", "-q"],
+}
+MEBIBYTES = {"ext4": 48, "xfs": 320, "btrfs": 128, "f2fs": 64}  # about the least of each
+
+
+@dataclass(frozen=True)
+class FileSystem:
+    """A file system with its mount options. `no_barrier` is the option with which it sends no flush, where it has one."""
+
+    name: str
+    kind: str
+    options: str = ""
+    no_barrier: str | None = None
+
+
+ALL = {
+    each.name: each for each in (
+        FileSystem("ext4", "ext4", no_barrier="barrier=0"),
+        FileSystem("ext4-writeback", "ext4", "data=writeback", "data=writeback,barrier=0"),
+        FileSystem("ext4-journal", "ext4", "data=journal", "data=journal,barrier=0"),
+        FileSystem("xfs", "xfs"),
+        FileSystem("btrfs", "btrfs", no_barrier="nobarrier"),
+        FileSystem("f2fs", "f2fs", no_barrier="nobarrier"),
+    )
+}
+
+
+def partition_table(*partitions: tuple[int, int]) -> bytes:
+    """A first sector with these partitions: the place and the size of each."""
+    table = bytearray(512)
+    for number, (at, size) in enumerate(partitions):
+        struct.pack_into("<BBBBBBBBII", table, 446 + 16 * number, 0, 0, 2, 0, 0x83, 0, 0, 0, at // 512, size // 512)
+    table[510:] = b"\x55\xaa"
+    return bytes(table)
+
+
+def copy_sparse(source: str, target: str, at: int) -> None:
+    """Copies a file to a place of another one, but for blocks of zeroes."""
+    with open(source, "rb") as read, open(target, "r+b") as written:
+        while block := read.read(1 << 16):
+            if any(block):
+                written.seek(at)
+                written.write(block)
+            at += len(block)
+
+
+def make_disk(path: str, kind: str) -> None:
+    """Makes a disk with an empty file system and a partition for markers."""
+    size, scratch = MEBIBYTES[kind] * MEBIBYTE, f"{path}.new"
+    with open(scratch, "wb") as file:
+        file.truncate(size)
+    subprocess.run([*MKFS[kind], scratch], check=True, stdout=subprocess.DEVNULL)
+    with open(path, "wb") as disk:
+        disk.truncate(START + size + MARKER_SIZE)
+        disk.write(partition_table((START, size), (START + size, MARKER_SIZE)))
+    copy_sparse(scratch, path, START)
+    os.remove(scratch)

@@ -1,0 +1,188 @@
+"""Images that a cut may leave, each judged: is the store legal, does it have all that was answered and signalled, and is it of the one
+history of its run?"""
+
+import collections
+import hashlib
+import itertools
+import os
+import pickle
+import random
+import struct
+from collections.abc import Iterator
+from dataclasses import dataclass, field
+from typing import NamedTuple
+
+from .cuts import UNITS, Cut, Moment, ends_of_checkpoints, moments
+from .disk import Disk, Entry, Sectors
+from .machine import Gone, Machine, Maker
+from .recording import Run, load_run
+from .stores import History
+from .verdicts import Disagreement, Looker, Verdict, hung, judge_image
+
+INSIDE = 25  # the machine's own program looks at one image of this many
+MOST_TOLD = 8
+BEFORE_MIGRATED = ("start", "made", "migrating")
+
+
+@dataclass(frozen=True)
+class Places:
+    """Where a run is cut: in these phases, or near the ends of checkpoints; anywhere after its begin if neither is named."""
+
+    phases: tuple[str, ...] = ()
+    is_near_checkpoints: bool = False
+
+    def of(self, log: list[Entry], has_flushes: bool) -> list[int]:
+        found = [moment.place for moment in moments(log, has_flushes)
+                 if (moment.phase in self.phases if self.phases else moment.phase != "before")]
+        if self.is_near_checkpoints:
+            ends = ends_of_checkpoints(log)
+            found = [place for place in found if any(end - 8 <= place <= end + 6 for end in ends)]
+        return found
+
+
+class Image(NamedTuple):
+    """Which image it is."""
+
+    place: int
+    phase: str
+    way: str
+    unit: int
+    answered: int
+
+
+@dataclass
+class Tally:
+    """What became of the images. `refused` are those that the file system did not mount or gave no file of, or whose store the
+    program refused; `lost` those in which something answered is missing, or that tell another history. By the bytes of a unit.
+    `faults` are those that may not be: a lost one, or a refused one where 4,096 bytes are written whole. `told` has all."""
+
+    images: collections.Counter[int] = field(default_factory=collections.Counter)
+    refused: collections.Counter[int] = field(default_factory=collections.Counter)
+    lost: collections.Counter[int] = field(default_factory=collections.Counter)
+    kinds: collections.Counter[str] = field(default_factory=collections.Counter)
+    apart: int = 0
+    told: list[str] = field(default_factory=list)
+    faults: list[str] = field(default_factory=list)
+
+    def add(self, other: "Tally") -> None:
+        self.images += other.images
+        self.refused += other.refused
+        self.lost += other.lost
+        self.kinds += other.kinds
+        self.apart += other.apart
+        self.told += other.told
+        self.faults += other.faults
+
+    def note(self, image: Image, verdict: Verdict, lost: str | None) -> None:
+        self.images[image.unit] += 1
+        self.kinds[verdict.kind] += 1
+        is_refused = verdict.kind != "legal" and image.answered > 0
+        self.refused[image.unit] += is_refused
+        self.lost[image.unit] += lost is not None
+        if not is_refused and lost is None:
+            return
+        why = f"{image}: {lost or f'{verdict.kind}: {verdict.said.strip()[:300]}'}"
+        if len(self.told) < MOST_TOLD:
+            self.told.append(why)
+        if lost is not None or image.unit == max(UNITS):
+            self.faults.append(why)
+
+
+def key_of(sectors: Sectors, durable: Sectors) -> bytes:
+    """The same for images with the same bytes."""
+    changed = (struct.pack(">Q", number) + sectors[number] for number in sorted(sectors) if durable.get(number) != sectors[number])
+    return hashlib.sha256(b"".join(changed)).digest()
+
+
+class Judge:
+    """Judges images of one run, in a machine that is started again if it hangs."""
+
+    def __init__(self, make: Maker, folder: str, program: str, has_flushes: bool = True) -> None:
+        self._make, self._folder, self._has_flushes = make, folder, has_flushes
+        self.run, self.log = load_run(folder)
+        self._disk, self._looker = Disk(f"{folder}/base"), Looker(program, self.run.mutant)
+        self._machine: Machine | None = None
+        self.history, self.tally = History(), Tally()
+        self._known = dict[bytes, Verdict]()  # verdicts over the bytes that are durable now
+        if has_flushes and os.path.exists(f"{folder}/history"):
+            with open(f"{folder}/history", "rb") as file:
+                self.history = pickle.load(file)
+
+    def judge(self, images: int, seed: int, places: Places = Places(), is_until_fault: bool = False) -> Tally:
+        """Judges this many images, or until the first fault. There are none if the run has no such place."""
+        choice = random.Random(seed)
+        where = places.of(self.log, self._has_flushes)
+        wanted = collections.Counter(choice.choice(where) for _ in range(images)) if where else collections.Counter[int]()
+        try:
+            for moment in self._moments(wanted):
+                for _ in range(wanted[moment.place]):
+                    self._judge_one(moment, choice)
+                if is_until_fault and self.tally.faults:
+                    break
+        finally:
+            if self._machine:
+                self._machine.end()
+        self._save()
+        return self.tally
+
+    def _moments(self, wanted: collections.Counter[int]) -> Iterator[Moment]:
+        """The moments that are wanted, with all that was durable there on the disk."""
+        for moment in moments(self.log, self._has_flushes):
+            if moment.newly_durable:
+                self._disk.settle(moment.newly_durable)
+                self._known.clear()
+            if moment.place in wanted:
+                yield moment
+
+    def _judge_one(self, moment: Moment, choice: random.Random) -> None:
+        unit, way = choice.choice(UNITS), choice.choice(Cut.WAYS)
+        left = Cut(choice, unit).leave(way, moment.volatile)
+        image = Image(moment.place, moment.phase, way, unit, max(moment.answered, self.run.owed))
+        key, disagreement = key_of(left, self._disk.durable), None
+        if key not in self._known:
+            self.tally.apart += 1
+            try:
+                self._known[key] = self._look(left)
+            except Disagreement as found:
+                self._known[key], disagreement = Verdict("legal"), str(found)
+        verdict = self._known[key]
+        self.tally.note(image, verdict, disagreement or self._lost(image, moment, verdict))
+
+    def _look(self, left: Sectors) -> Verdict:
+        """The machine's verdict, at the second try if it hangs at the first."""
+        for is_last in (False, True):
+            try:
+                if self._machine is None:
+                    self._disk.show({})
+                    self._machine = self._make(self._disk)
+                    if self.run.mutant is not None:
+                        self._machine.must("variable", "MUTANT", 0)
+                self._disk.show(left)
+                return judge_image(self._machine, self.run, self._looker, self.tally.apart % INSIDE == 1)
+            except Gone as gone:
+                if self._machine:
+                    self._machine.end()
+                self._machine = None
+                if is_last:
+                    return hung(gone)
+        raise AssertionError
+
+    def _lost(self, image: Image, moment: Moment, verdict: Verdict) -> str | None:
+        """What a legal store lacks; None if it lacks nothing."""
+        if verdict.kind != "legal" or verdict.content is None:
+            return None
+        if verdict.count < image.answered:
+            return f"it has {verdict.count} steps, and step {image.answered} was answered"
+        signalled = itertools.chain(((int(node), epoch) for node, epoch in self.run.signalled.items()), moment.signalled.items())
+        for node, epoch in signalled:
+            if verdict.epochs.get(node, -1) < epoch:
+                return f"node {node} was signalled epoch {epoch}, and has {verdict.epochs.get(node)}"
+        if self.run.scenario == "migration" and moment.phase not in BEFORE_MIGRATED and verdict.content.version != 2:
+            return "it has version 1, and `migrated` was printed"
+        return self.history.differs(verdict.content)
+
+    def _save(self) -> None:
+        """Keeps the history for the next judgement of this run."""
+        if self._has_flushes:
+            with open(f"{self._folder}/history", "wb") as file:
+                pickle.dump(self.history, file)

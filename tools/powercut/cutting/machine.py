@@ -1,0 +1,158 @@
+"""A virtual machine over a disk: QEMU, or Linux as a process."""
+
+import os
+import re
+import select
+import shutil
+import signal
+import socket
+import subprocess
+import tempfile
+import time
+from collections.abc import Callable
+
+from . import nbd
+from .disk import Disk
+
+BOOT_SECONDS = 300
+QEMU_MEMORY, USER_MEMORY = "384", "256M"
+COMMAND_LINE = "console=ttyS0 panic=-1 oops=panic quiet loglevel=4 mitigations=off no_timer_check rdinit=/init"
+
+
+class Gone(Exception):
+    """The machine does not answer; the text is what its console said last."""
+
+
+class Refused(Exception):
+    """The machine did not do what it was asked to."""
+
+
+class Machine:
+    """What both machines have: an agent at the other end of a socket, which takes an order and answers it."""
+
+    def __init__(self) -> None:
+        self.folder = tempfile.mkdtemp(prefix="powercut-")
+        self.console = f"{self.folder}/console"
+        self._processes = list[subprocess.Popen[bytes]]()
+        self._buffer = b""
+        self._socket: socket.socket
+
+    def _start(self, *words: str, files: tuple[int, ...] = (), output: str | None = None) -> None:
+        with open(output or os.devnull, "ab") as out:
+            self._processes.append(subprocess.Popen(["setpriv", "--pdeathsig", "KILL", "nice", "-n", "10", *words], stdin=subprocess.DEVNULL, stdout=out, stderr=out,
+                                                    pass_fds=files, start_new_session=True, env={**os.environ, "TMPDIR": self.folder}))
+
+    def _await_agent(self) -> None:
+        until = time.monotonic() + BOOT_SECONDS
+        while self._line(until) != "agent":
+            pass
+
+    def ask(self, *words: object, data: bytes = b"", seconds: float = 300) -> tuple[int, bytes, bytes]:
+        """Gives an order: its status, what was printed, and what was printed as errors. Raises Gone."""
+        until = time.monotonic() + seconds
+        try:
+            self._socket.sendall("\t".join(map(str, words)).encode() + b"\n" + data)
+        except OSError as fault:
+            raise Gone(f"{fault}: {self.last_words()}") from fault
+        head = re.fullmatch(r"R (\d+) (\d+) (\d+)", self._line(until))
+        if not head:
+            raise Gone(f"no answer: {self.last_words()}")
+        status, printed, errors = map(int, head.groups())
+        while len(self._buffer) < printed + errors:
+            self._fill(until)
+        out, self._buffer = self._buffer[:printed + errors], self._buffer[printed + errors:]
+        return status, out[:printed], out[printed:]
+
+    def must(self, *words: object, data: bytes = b"", seconds: float = 300) -> bytes:
+        """Gives an order that has to succeed: what was printed. Raises Gone and Refused."""
+        status, printed, errors = self.ask(*words, data=data, seconds=seconds)
+        if status:
+            raise Refused(f"{' '.join(map(str, words[:4]))}: {status} {(printed + errors)[-2000:].decode(errors='replace')}")
+        return printed
+
+    def put(self, path: str, data: bytes) -> None:
+        self.must("put", path, len(data), data=data)
+
+    def last_words(self) -> str:
+        with open(self.console, errors="replace") as file:
+            return file.read()[-2000:]
+
+    def end(self) -> None:
+        """Signal 9 to all that was started."""
+        for process in self._processes:
+            os.killpg(process.pid, signal.SIGKILL) if process.poll() is None else None
+            process.wait()
+        self._socket.close()
+        shutil.rmtree(self.folder, ignore_errors=True)
+
+    def _fill(self, until: float) -> None:
+        left = until - time.monotonic()
+        if left <= 0 or not select.select([self._socket], [], [], left)[0]:
+            raise Gone(f"it is silent: {self.last_words()}")
+        more = self._socket.recv(1 << 20)
+        if not more:
+            raise Gone(f"it has ended: {self.last_words()}")
+        self._buffer += more
+
+    def _line(self, until: float) -> str:
+        while b"\n" not in self._buffer:
+            self._fill(until)
+        line, self._buffer = self._buffer.split(b"\n", 1)
+        return line.decode(errors="replace").strip("\r")
+
+
+class Qemu(Machine):
+    """QEMU with Debian's kernel, in software unless POWERCUT_ACCEL names something else (kvm)."""
+
+    def __init__(self, work: str, disk: Disk) -> None:
+        super().__init__()
+        nbd.serve(disk, f"{self.folder}/disk")
+        listener = socket.socket(socket.AF_UNIX)
+        listener.bind(f"{self.folder}/control")
+        listener.listen(1)
+        listener.settimeout(60)
+        kernel = next(f"{work}/kernel/boot/{name}" for name in os.listdir(f"{work}/kernel/boot") if name.startswith("vmlinuz"))
+        self._start("qemu-system-x86_64", "-accel", os.environ.get("POWERCUT_ACCEL", "tcg,thread=single,tb-size=256"), "-cpu", "max", "-m",
+                    QEMU_MEMORY, "-smp", "1", "-display", "none", "-nodefaults", "-no-reboot", "-serial", f"file:{self.console}", "-kernel",
+                    kernel, "-initrd", f"{work}/initrd", "-append", COMMAND_LINE, "-chardev", f"socket,id=c,path={self.folder}/control",
+                    "-device", "virtio-serial-pci", "-device", "virtserialport,chardev=c,name=c", "-blockdev",
+                    f"driver=nbd,node-name=d,server.type=unix,server.path={self.folder}/disk", "-device",
+                    "virtio-blk-pci,drive=d,write-cache=on", output=f"{self.folder}/qemu")
+        try:
+            self._socket, _ = listener.accept()
+        except TimeoutError as late:
+            with open(f"{self.folder}/qemu", encoding="utf-8") as said:
+                raise Gone(said.read()) from late
+        self._await_agent()
+
+
+class UserModeLinux(Machine):
+    """Linux as a process; qemu-storage-daemon serves its virtio disk. It is some ten times as fast as QEMU in software. It can't run a
+    program with AddressSanitizer, since it has fewer addresses."""
+
+    def __init__(self, work: str, disk: Disk) -> None:
+        super().__init__()
+        nbd.serve(disk, f"{self.folder}/disk")
+        self._start("qemu-storage-daemon", "--blockdev", f"driver=nbd,node-name=d,server.type=unix,server.path={self.folder}/disk", "--export",
+                    f"type=vhost-user-blk,id=e,node-name=d,addr.type=unix,addr.path={self.folder}/virtio,writable=on")
+        until = time.monotonic() + 60
+        while not os.path.exists(f"{self.folder}/virtio"):
+            if time.monotonic() > until:
+                raise Gone("qemu-storage-daemon serves nothing")
+            time.sleep(0.02)
+        self._socket, other = socket.socketpair()
+        self._start(f"{work}/user/usr/bin/linux.uml", f"mem={USER_MEMORY}", f"initrd={work}/user-initrd",
+                    f"virtio_uml.device={self.folder}/virtio:2", "con=null", "con0=fd:0,fd:1", f"ssl0=fd:{other.fileno()},fd:{other.fileno()}",
+                    "rdinit=/init", "panic=-1", "quiet", f"uml_dir={self.folder}/", files=(other.fileno(),), output=self.console)
+        other.close()
+        try:
+            self._await_agent()
+            self.must("set", "/sys/block/vda/cache_type", "write back")
+        except (Gone, Refused):
+            self.end()
+            raise
+
+
+# What makes a machine over a disk.
+Maker = Callable[[Disk], Machine]
+MACHINES: dict[str, Callable[[str, Disk], Machine]] = {"qemu": Qemu, "user": UserModeLinux}

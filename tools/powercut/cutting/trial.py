@@ -1,0 +1,125 @@
+"""All that is tried of one file system: its runs, their images, and the controls, each of which has to find something."""
+
+import dataclasses
+import os
+from collections.abc import Callable
+from functools import partial
+from typing import Any
+
+from .file_systems import FileSystem
+from .judging import Judge, Places, Tally
+from .lives import cut_disk
+from .machine import MACHINES, Maker
+from .recording import Run, load_run, record
+
+MUTANTS = ("body_not_synced", "gate_not_synced", "barrier_left_out")
+TRIES = 4  # seeds with which a control is tried until it finds something
+# A run in which many kills find writes that are not synced, and where it is cut then.
+KILLS: dict[str, Any] = {"orders": 120, "kills": 20, "noise": False, "has_late_syncs": True}
+KILLED = Places(("killed",))
+
+
+@dataclasses.dataclass
+class Setting:
+    """What the trials of all file systems share. `wrong` is a program that has MUTANTS to choose from."""
+
+    work: str
+    program: str
+    wrong: str | None
+    images: int
+    orders: int
+    seed: int
+    machine: str = "user"
+    wrong_machine: str = "user"
+
+
+class Trial:
+    """The trial of one file system, in a folder of its own."""
+
+    def __init__(self, setting: Setting, file_system: FileSystem) -> None:
+        self._setting, self._of = setting, file_system
+        self._folder = f"{setting.work}/runs/{file_system.name}"
+        self.tally, self.controls = Tally(), dict[str, str]()
+
+    def _make(self, machine: str) -> Maker:
+        return lambda disk: MACHINES[machine](self._setting.work, disk)
+
+    def _run(self, scenario: str = "life", **values: Any) -> Run:
+        """A run of this file system, with these fields of its own."""
+        run = Run(scenario, self._of.kind, self._of.options, self._setting.seed, self._setting.orders)
+        return dataclasses.replace(run, **values)
+
+    def _tell(self, text: str) -> None:
+        print(f"{self._of.name}: {text}", flush=True)
+
+    def _record(self, name: str, run: Run, machine: str | None = None) -> str:
+        """Carries a run out: its folder."""
+        said = record(self._make(machine or self._setting.machine), f"{self._folder}/{name}", run)
+        self._tell(f"{name}: {said}")
+        return f"{self._folder}/{name}"
+
+    def _judge(self, folder: str, share: int, seed: int, places: Places = Places()) -> None:
+        """Judges images / share images of a run, and adds what came of them."""
+        judge = Judge(self._make(self._setting.machine), folder, self._setting.program)
+        tally = judge.judge(self._setting.images // share, self._setting.seed + seed, places)
+        where = "near checkpoints" if places.is_near_checkpoints else ", ".join(places.phases) or "anywhere"
+        self._tell(f"{os.path.basename(folder)}, {where}: {dict(tally.images)} images, refused {dict(tally.refused)}, lost {dict(tally.lost)}, {dict(tally.kinds)}")
+        for line in tally.told:
+            self._tell(f"  {line}")
+        self.tally.add(tally)
+
+    def judge_runs(self) -> None:
+        """Each run, cut anywhere, near the ends of checkpoints, and where a command makes or migrates a store."""
+        seed = self._setting.seed
+        life = self._record("life", self._run(kills=3))
+        self._judge(life, 2, 1)
+        self._judge(life, 8, 2, Places(is_near_checkpoints=True))
+        self._judge(life, 8, 3, Places(("start",)))
+        self._judge(self._record("kills", self._run(**KILLS)), 16, 4, KILLED)
+        migration = self._record("migration", self._run("migration", orders=20))
+        self._judge(migration, 8, 5, Places(("migrating", "migrated")))
+        self._judge(self._record("folder", self._run(orders=4, noise=False, store="/mnt/folder/store")), 16, 6)
+        for life_number in (2, 3):
+            again = f"{self._folder}/life{life_number}"
+            cut_disk(life, again, seed + life_number)
+            run, _ = load_run(again)
+            life = self._record(f"life{life_number}", dataclasses.replace(run, orders=self._setting.orders // 2, seed=seed + 10 * life_number))
+            self._judge(life, 8, 6 + life_number)
+
+    def judge_controls(self) -> None:
+        """Each control until it finds something, or has been tried with all seeds."""
+        life = f"{self._folder}/life"
+        self._control("a disk that ignores flushes", lambda seed: self._finds(life, seed, has_flushes=False))
+        if self._of.no_barrier is None:
+            self.controls["no flushes"] = f"not tried: {self._of.kind} has no option to send none"
+        else:
+            self._control("no flushes", self._without_flushes)
+        for number, name in enumerate(MUTANTS, 1):
+            if self._setting.wrong is not None:
+                self._control(name, partial(self._of_mutant, number))
+
+    def _control(self, name: str, finds: Callable[[int], str | None]) -> None:
+        for each in range(TRIES):
+            if found := finds(self._setting.seed + 100 * each):
+                self.controls[name] = "caught"
+                self._tell(f"control {name}: caught: {found}")
+                return
+        self.controls[name] = "NOT CAUGHT"
+        self._tell(f"control {name}: NOT CAUGHT")
+
+    def _finds(self, folder: str, seed: int, places: Places = Places(), has_flushes: bool = True) -> str | None:
+        """The first fault of a run, if there is one."""
+        judge = Judge(self._make(self._setting.machine), folder, self._setting.program, has_flushes)
+        tally = judge.judge(max(50, self._setting.images // 8), seed, places, is_until_fault=True)
+        return tally.faults[0] if tally.faults else None
+
+    def _without_flushes(self, seed: int) -> str | None:
+        run = self._run(seed=seed, orders=self._setting.orders // 2, options=self._of.no_barrier)
+        return self._finds(self._record("no-flushes", run), seed)
+
+    def _of_mutant(self, number: int, seed: int) -> str | None:
+        """A mutant. The barrier at a start matters if a kill has left unsynced bytes."""
+        name = MUTANTS[number - 1]
+        values, places = (KILLS, KILLED) if name == "barrier_left_out" else ({"orders": 40, "noise": False}, Places())
+        folder = self._record(name, self._run(seed=seed, program=1, mutant=number, **values), self._setting.wrong_machine)
+        return self._finds(folder, seed, places)
