@@ -1,5 +1,5 @@
 # What a person would ask for. The toolchain's command `rt` has to be on the PATH.
-.PHONY: help check demo drill trial example services soak lives takeover build prove lib test program load refusals bench sweep nightly install install-lib uninstall deb release
+.PHONY: help check demo drill trial example services soak soak-door lives powercut takeover build prove lib test program load refusals bench sweep nightly install install-lib uninstall deb release
 
 PREFIX ?= /usr/local
 PROGRAM ?= bin/resetd
@@ -21,10 +21,12 @@ help:
 	@echo 'make refusals  tries the mutants, which the prover has to refuse (CRATE=NAME for one crate)'
 	@echo 'make bench     measures the drill, its parts, the store, the ledger, the engine and the server, and writes the tables of docs/MEASURES.md'
 	@echo 'make soak      kills a coordinator 200 times and 50 migrations, and looks for what was lost (ROUNDS=N for N kills)'
+	@echo 'make soak-door soaks the coordinator, the front and 64 members in C, Go and Python for 30 minutes, each killed at random (MINUTES=N)'
+	@echo 'make powercut  cuts the power of ext4, xfs, btrfs and f2fs under the program in a virtual machine, 2,000 times each (IMAGES=N)'
 	@echo 'make lives     a trial build whose lives are short, which change in the midst of resets: kills it there 100 times (ROUNDS=N)'
 	@echo 'make takeover  a coordinator on a replicated volume of three hosts, each in namespaces; hosts and bricks are lost'
 	@echo 'make sweep     refuses each allocation of every test and of the programs in turn, for 12 seconds each (EACH=N for N, 0 for all)'
-	@echo 'make nightly   what is too long for make test (soak, lives, services, load, takeover, sweep, refusals), with a line for each in docs/nightly.tsv'
+	@echo 'make nightly   what is too long for make test (powercut, soak-door, a fuzzer, soak, lives, services, load, takeover, sweep, refusals), with a line for each in docs/nightly.tsv'
 	@echo 'make install   copies the program, resetctl, the client library, examples, documents and manual pages below PREFIX (/usr/local); make uninstall takes them away (with PROGRAM=bin/resetd-trial the trial build)'
 	@echo 'make deb       builds a Debian package of all that with dpkg-deb'
 	@echo 'make release   makes what a release has in dist/, of the file LOG into which make test has printed (without one of the trial build)'
@@ -51,6 +53,12 @@ soak:
 
 lives:
 	@tools/soak --lives 32 --rounds $(or $(ROUNDS),100)
+
+soak-door: bin/resetd lib/libresetd_member.a
+	@tools/soak_door --minutes $(or $(MINUTES),30)
+
+powercut: bin/resetd
+	@tools/powercut/run --jobs $(JOBS) --images $(or $(IMAGES),2000)
 
 takeover: bin/resetd
 	@tools/takeover
@@ -84,7 +92,7 @@ bench: build
 sweep:
 	bench/refused_allocations --seconds $(or $(EACH),12) units resetd
 
-nightly: bin/resetd
+nightly: bin/resetd lib/libresetd_member.a
 	@tools/nightly --jobs $(JOBS)
 
 test:
@@ -158,6 +166,10 @@ release:
 bin/resetd:
 	@echo 'there is no proved program yet: make build makes it in some 30 minutes.' >&2
 	@echo 'To go on with a trial build, of which nothing is proved: make trial, and then PROGRAM=bin/resetd-trial behind this' >&2
+	@exit 1
+
+lib/libresetd_member.a:
+	@echo 'there is no proved library of the members yet: make lib makes it.' >&2
 	@exit 1
 
 bin/resetd-trial:
