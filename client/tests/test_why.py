@@ -169,15 +169,15 @@ class Files(Case):
         self.assertIn("group    node 2 has not confirmed epoch 1: the 3 nodes of its group wait", lines)
         self.assertTrue(any("the audit of a front tells" in line for line in lines), lines)
         with open(f"{self.folder}/audit", "w", encoding="utf-8") as audit:
-            for time, op, node, kind in (("T1", "confirm", 2, "done"), ("T2", "reset", 3, "started"), ("T3", "reset", 3, "joined"), ("T4", "confirm", 1, "done")):
+            for time, op, node, kind in (("11:01", "confirm", 2, "done"), ("11:02", "reset", 3, "started"), ("11:03", "reset", 3, "joined"), ("11:04", "confirm", 1, "done")):
                 audit.write(json.dumps({"time": time, "event": "answered", "who": {"user": "service"}, "line": {"op": op, "node": node},
                                         "answer": {"kind": kind, "step": 1}}) + "\n")
             audit.write("torn")
         lines = self.why(store, self.server.address, "--audit", f"{self.folder}/audit")[1]
-        waits = "since T2: the 3 nodes of its group wait; its last sign of life:"
+        waits = "since 11:02: the 3 nodes of its group wait; its last sign of life:"
         self.assertEqual([line for line in lines if line.startswith("group")], [
-            f"group    node 2 has not confirmed epoch 1, {waits} confirm at T1 by service",
-            f"group    node 3 has not confirmed epoch 1, {waits} reset at T3 by service"])
+            f"group    node 2 has not confirmed epoch 1, {waits} confirm at 11:01 by service",
+            f"group    node 3 has not confirmed epoch 1, {waits} reset at 11:03 by service"])
 
     def test_a_coordinator_with_another_store(self) -> None:
         self.server.ring(2)
