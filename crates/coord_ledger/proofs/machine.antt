@@ -3,6 +3,7 @@ pub mod Lists
 pub mod Verdicts
 pub mod Logs
 pub mod SignalsOnce
+pub mod SignalsBetween
 pub mod Replies
 pub mod ConsistentSteps
 pub mod ConsistentFlights

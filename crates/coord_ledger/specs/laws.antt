@@ -2,3 +2,4 @@
 pub mod Laws
 pub mod Commits
 pub mod Rebasing
+pub mod SignalsBetween

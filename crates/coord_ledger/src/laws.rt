@@ -3,6 +3,7 @@
 
 ghost use Rattle.coord_ledger.specs.laws.Commits.{CommitIsSafe};
 ghost use Rattle.coord_ledger.specs.laws.Laws.{AdoptedIsConsistent, FinishKeepsKept, HasAnswer, KeptIsSafe, LogStays, NoSignalTwice, PrefixFromImages, RunGoesOn, RunIsConsistent, SettledStays, StaysConsistent, SubmitOrder};
+ghost use Rattle.coord_ledger.specs.laws.SignalsBetween.{ReleasedBetween};
 ghost use Rattle.coord_ledger.specs.laws.Rebasing.{CrashReopens, RebasedAnswersAlike, RebasedGoesOn, RebasedIsConsistent};
 
 /// The first refusal that applies: Stopped; unless it is a repeat, PendingFull; then Exhausted, and
@@ -72,6 +73,14 @@ pub fn commit_is_safe()
 /// No step has signalled a node twice, crashes included.
 pub fn signals_once()
     ensures { NoSignalTwice }
+{}
+
+/// Between two moments of its settled steps at which every node of a part that no link leaves is
+/// Ready, if no node or link comes or goes meanwhile: a ledger releases no more signals of a node that
+/// has a link than resets were started in the part, and each node that is connected with one that was
+/// asked to reset is signalled.
+pub fn released_between()
+    ensures { ReleasedBetween }
 {}
 
 /// Taking a flight back at the end of a run changes nothing of what a crash may keep.

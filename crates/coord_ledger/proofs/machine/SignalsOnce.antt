@@ -126,7 +126,7 @@ all_signals n u w (s ∷ ss) each =
 abbrev weight : {A : Type 0} → (A → Bool) → A → ℕ
 weight p x = cond (p x) 1 0
 
-in_part : {A : Type 0} (p : A → Bool) (xs ys : List A) → IsPartOf xs ys → count_by p xs ≤ count_by p ys
+pub in_part : {A : Type 0} (p : A → Bool) (xs ys : List A) → IsPartOf xs ys → count_by p xs ≤ count_by p ys
 in_part p [] ys part = omega arith
 in_part p (x ∷ xs) [] part = absurd part
 in_part p (x ∷ xs) (y ∷ ys) (inl same) =

@@ -1,0 +1,20 @@
+-- How often a ledger releases signals between two moments at which every node of a part is Ready.
+use Rattle.std.specs.Prelude.{◌≡◌, ℕ, ◌+◌, ◌&&◌, Bool, List, ◌++◌, length, count_by, nat_le, nat_lt}
+use Rattle.coord_types.specs.declared.steps.Step.{Step}
+use Rattle.coord_world.specs.Facade.{fold}
+use Rattle.coord_world.specs.laws.Between.{BoundSignals, IsReadyAgain}
+use Rattle.coord_world.specs.laws.Waves.{is_signal_of}
+use Rattle.coord_ledger.specs.declared.release.Release.{Release}
+use Rattle.coord_ledger.specs.machine.Consistent.{IsConsistent}
+use Rattle.coord_ledger.specs.machine.Log.{settled_steps}
+use Rattle.coord_ledger.specs.machine.Machine.{Machine}
+
+-- whether a release is a signal of node v by a step after step a, up to step b
+abbrev pub is_signal_within : ℕ → ℕ → ℕ → Release → Bool
+is_signal_within a b v r = (nat_lt a r.step && nat_le r.step b) && is_signal_of v r.output
+
+-- What a ledger has ever released, crashes included, keeps the bounds between two moments of its settled steps: the signals that the
+-- steps between have released are no more than resets were started there.
+abbrev pub ReleasedBetween : Type 0
+ReleasedBetween = (s : Machine) (earlier between rest : List Step) (part : ℕ → Bool) → IsConsistent s → settled_steps s.log ≡ earlier ++ (between ++ rest) → IsReadyAgain s.log.base earlier between part →
+    BoundSignals (fold s.log.base earlier) between part (λ v. count_by (is_signal_within (s.log.base.count + length earlier) (s.log.base.count + length earlier + length between) v) s.released)
