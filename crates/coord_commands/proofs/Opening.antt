@@ -18,7 +18,7 @@ use Rattle.coord_server.specs.declared.fault.ServerFault.{ServerFault}
 use Rattle.coord_server.specs.declared.server_end.ServerEnd.{ServerEnd}
 use Rattle.coord_commands.specs.Faults.{fault_of_server}
 use Rattle.coord_commands.specs.Inspection.{IsOfOpening}
-use Rattle.coord_commands.specs.Serving.{EndsServing, GivesWorld, IsNotOpened, IsOfServing, IsOpenedStore, IsPutBack, IsServed, RunsWithOutput, ServedWhole, ServedWithOutput}
+use Rattle.coord_commands.specs.Serving.{EndsServing, GivesWorld, IsNotOpened, IsOfServing, IsOpenedStore, IsPutBack, IsServedDisk, RunsWithOutput, ServedWhole, ServedWithOutput}
 use Rattle.coord_commands.specs.declared.fault.Fault.{Fault}
 use Rattle.coord_commands.specs.declared.fault.Fault.TheVariants.{OutOfMemory, Socket, Store}
 use Rattle.coord_commands.proofs.Raising.{closed, if_both, unread}
@@ -70,7 +70,7 @@ module _ {D : Type 0} (model : DiskModel D) where
   opened before taken store was world failures same_model moments same = grind (arith, nat_tests, if_keeps)
 
   -- a server ran over an opened store, and its disk was put back
-  abbrev is_served : (before after : Option Present) (old new : Option (List ℕ)) (store : Kept D) (ended : ServerEnd D Patience (Option (List ℕ))) (left : Closed D) (back : D) → IsOpenedStore model before store → RunsWithOutput model store old new ended → left ≡ ended.closed → back ≡ left.store.disk → IfSome after (λ known. known_of model back ≡ Some known) → IsServed model before after old new
+  abbrev is_served : (before after : Option Present) (old new : Option (List ℕ)) (store : Kept D) (ended : ServerEnd D Patience (Option (List ℕ))) (left : Closed D) (back : D) → IsOpenedStore model before store → RunsWithOutput model store old new ended → left ≡ ended.closed → back ≡ left.store.disk → IfSome after (λ known. known_of model back ≡ Some known) → IsServedDisk model before after old new
   is_served before after old new store ended left back is run same home put = record {
     store = store;
     opened = is;

@@ -95,7 +95,7 @@ module _ {D : Type 0} (model : DiskModel D) where
   IsNotBound before after told = (told ≡ Socket) × GivesWorld (reads before) × IsPutBack 0 before after
 
   -- The store of a disk was opened, a server ran over it, and the disk was put back as the server left it.
-  pub record IsServed (before after : Option Present) (old new : Option (List ℕ)) : Type 0 where
+  pub record IsServedDisk (before after : Option Present) (old new : Option (List ℕ)) : Type 0 where
     pub store : Kept D
     pub opened : IsOpenedStore before store
     pub ended : ServerEnd D Patience (Option (List ℕ))
@@ -108,7 +108,7 @@ module _ {D : Type 0} (model : DiskModel D) where
 
   -- a server over the disk has ended, and tells this
   abbrev pub HasEnded : Option Present → Option Present → Option (List ℕ) → Option (List ℕ) → Fault → Type 0
-  HasEnded before after old new told = (is : IsServed before after old new) × (fault : ServerFault) × (fault_of_end is.ended ≡ Some fault) × (told ≡ fault_of_server fault)
+  HasEnded before after old new told = (is : IsServedDisk before after old new) × (fault : ServerFault) × (fault_of_end is.ended ≡ Some fault) × (told ≡ fault_of_server fault)
 
   -- the faults of `serve` at an address, and what then became of its output: nothing was printed before a server began, over an open store and a bound socket
   abbrev pub EndsServing : Option Present → Option Present → Option (List ℕ) → Option (List ℕ) → Fault → Type 0
@@ -117,7 +117,7 @@ module _ {D : Type 0} (model : DiskModel D) where
 
 -- The store of a disk was served, and no fault is told: a line has closed it. The bytes that are put back give the world that it left.
 abbrev pub ServedWhole : {D : Type 0} → DiskModel D → Option Present → Option Present → Option (List ℕ) → Option (List ℕ) → Type 0
-ServedWhole model before after old new = (is : IsServed model before after old new) × (fault_of_end is.ended ≡ None) × IfSome (reads after) (λ known. Recovered known is.ended.closed.store.world)
+ServedWhole model before after old new = (is : IsServedDisk model before after old new) × (fault_of_end is.ended ≡ None) × IfSome (reads after) (λ known. Recovered known is.ended.closed.store.world)
 
 -- the store was served until a line closed it, and the disk put back
 pub record ServesToEnd (word : List ℕ) (bytes after : Option (List ℕ)) (status : ℕ) (old new : Option (List ℕ)) : Type 0 where

@@ -92,7 +92,11 @@ fn make<F: Folder>(
 }
 
 /// Makes the store of a topology on a disk, and answers how many steps it has.
-fn make_on<D: Disk + Takable>(alloc: Global, disk: D, topology: &Topology) -> (Result<u64, Fault>, D)
+fn make_on<D: Disk + Takable>(
+    alloc: Global,
+    disk: D,
+    topology: &Topology,
+) -> (Result<u64, Fault>, D)
     ensures made { OnOk result.0 (IsFounded (content topology.now) (begun (content topology.now))
         (bytes_of D.model disk) (bytes_of D.model result.1)) }
     ensures count { IfOk result.0 (λ count. count ≡ (begun (content topology.now)).count) }

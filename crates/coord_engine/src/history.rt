@@ -188,7 +188,7 @@ impl Writer {
 
     /// Writes on, so that the steps of the history are those of earlier lives, as `L` names them, and
     /// behind them these.
-    pub fn write_on<L: Origin>(&mut self, history: &History, steps: &[Step])
+    pub(crate) fn write_on<L: Origin>(&mut self, history: &History, steps: &[Step])
         requires here { history.now ≡ self.old.history }
         requires on { StartsWith (L.earlier ++ steps.now) self.old.steps }
         ensures { self.new ≡ record { history = self.old.history; steps = L.earlier ++ steps.now } }

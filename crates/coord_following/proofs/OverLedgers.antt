@@ -24,12 +24,12 @@ use Rattle.coord_following.proofs.OverStores.{no_mix_over_a_store}
 
 -- ---- steps as turns
 
-world_of_steps : (w : World) (k : ℕ) (steps : List Step) → world_at w k (map Takes steps) ≡ fold w (take k steps)
+pub world_of_steps : (w : World) (k : ℕ) (steps : List Step) → world_at w k (map Takes steps) ≡ fold w (take k steps)
 world_of_steps w zero steps = refl
 world_of_steps w (suc k) [] = refl
 world_of_steps w (suc k) (s ∷ steps) = world_of_steps (next w s) k steps
 
-history_of : (w : World) (steps : List Step) → EachFresh w steps → IsHistory w (map Takes steps)
+pub history_of : (w : World) (steps : List Step) → EachFresh w steps → IsHistory w (map Takes steps)
 history_of w [] each = tt
 history_of w (s ∷ steps) each = (each.0, history_of (next w s) steps each.1)
 

@@ -174,11 +174,11 @@ module _ {D : Type 0} (answers : D → Request → Answer → D → Type 0) (bas
     all_served d e [] is = same d e is
     all_served d e (c ∷ cs) is = (reads is.0, served d is.0 c.talk.bytes_read c.talk.bytes_written c.ended is.1.1, all_served is.0 e cs is.3)
 
-earlier_on : (first now : List Step) (told : List Told) (last : List Step) → StartsWith now first → GoOn now told last → GoOn first told last
+pub earlier_on : (first now : List Step) (told : List Told) (last : List Step) → StartsWith now first → GoOn now told last → GoOn first told last
 earlier_on first now [] last by on = first_of_first first now last by on
 earlier_on first now (t ∷ told) last by on = (first_of_first first now t.after by on.0, on.1)
 
-from_earlier : (base : World) (first now : List Step) (talk : Talk) (last : List Step) → StartsWith now first → WritesInOrder base now talk last → WritesInOrder base first talk last
+pub from_earlier : (base : World) (first now : List Step) (talk : Talk) (last : List Step) → StartsWith now first → WritesInOrder base now talk last → WritesInOrder base first talk last
 from_earlier base first now talk last by w = record { told = w.told; torn = w.torn; left = w.left; lines = w.lines; go_on = earlier_on first now (w.told ++ w.torn) last by w.go_on; borne_out = w.borne_out; part = w.part; broken = w.broken; text_is = w.text_is }
 
 and_last : (base : World) (first : List Step) (cs : List Connection) (now last : List Step) (c : Connection) → AllInOrder base first cs now → WritesInOrder base now c.talk last → AllInOrder base first (cs ++ c ∷ []) last

@@ -4,6 +4,7 @@ pub mod InOrder
 pub mod Moments
 pub mod OneHistory
 pub mod Reading
+pub mod RunTold
 pub mod Settled
 pub mod Signals
 pub mod Starts

@@ -104,7 +104,7 @@ module _ {D : Type 0} (m : DiskModel D) where
   leads_of first now steps (inr come) = come.leads
 
   -- the settled steps of a life behind those before it
-  settled_behind : (first : World) (steps : List Step) (world : World) (left : Closed D) → fold first steps ≡ world → Tells world left → first_settled first (steps ++ left.trail.items) left.settled ≡ steps ++ first_settled left.base left.trail.items left.settled
+  pub settled_behind : (first : World) (steps : List Step) (world : World) (left : Closed D) → fold first steps ≡ world → Tells world left → first_settled first (steps ++ left.trail.items) left.settled ≡ steps ++ first_settled left.base left.trail.items left.settled
   settled_behind first steps world left leads t =
       let trail = left.trail.items in
       let count : world.count ≡ first.count + length steps = ap (λ (w : World). w.count) (sym leads) ∙ fold_counts first steps in
@@ -114,7 +114,7 @@ module _ {D : Type 0} (m : DiskModel D) where
       ap (λ n. take n (steps ++ trail)) by ∙ take-append-add steps trail t.done ∙ ap (λ n. steps ++ take n trail) own
 
   -- of a life of which all is settled
-  all_of_settled : (left : Closed D) → left.settled ≡ left.base.count + length left.trail.items → first_settled left.base left.trail.items left.settled ≡ left.trail.items
+  pub all_of_settled : (left : Closed D) → left.settled ≡ left.base.count + length left.trail.items → first_settled left.base left.trail.items left.settled ≡ left.trail.items
   all_of_settled left all =
       let n : left.settled - left.base.count ≡ length left.trail.items = omega (arith, all) in
       ap (λ k. take k left.trail.items) n ∙ take-length left.trail.items

@@ -6,6 +6,7 @@ pub mod Lines
 pub mod Lives
 pub mod Moments
 pub mod Printed
+pub mod RunTold
 pub mod ServerRun
 pub mod Signals
 pub mod Told

@@ -1,16 +1,19 @@
--- The headline of the server: what it did, from the store that it was given to what is left of it.
+-- The main theorem of the server: its run, from the store that it was given to the one that it returned.
 --
--- It had lives one after the other, each over an engine of its own. In each of them those who called were served over
--- some connections by a desk that answers as its engine can. The steps that all lives accepted are one trail from the
--- world of the store, and the store that is left has the world after the first of them, so many as were settled. At
--- every moment between, whatever a crash may leave of the disk is the world after the first of them, some number. Its
--- output got the line of an address and then only signals that settled steps give out, each behind the one before it;
--- where the output failed, a first part of one more such line.
+-- It had lives, one after another, each with its own engine. In each life a desk served the connections of those
+-- who called, and answered as its engine can. The steps that all lives accepted are one trail from the world of the
+-- store. The settled ones are the first of them, and the store that is returned has the world after these. At every
+-- moment in between, a crash leaves the world after the first n accepted steps, for some n. The output got the line of
+-- an address, and then only lines of signals that settled steps give out, in order; if the output failed, also the
+-- first part of one more line.
 --
--- `AreLives` says how lives follow one another, and how each was served and left; `LivesAreOne` what follows of their
--- numbers and of what they gave out. `model` has the ghost members of the disk's type, `talked` and `failed` say what
--- those who call may do, `contents` are the bytes of an output, where they are known, and `gives` says which signals
--- some steps give out, by step, node and epoch.
+-- `AreLives` says how one life follows another, how each was served and left. Two laws say what follows:
+-- `LivesAreOne`, that steps and signals are numbered as one history, and `RunTellsOneHistory`, that each reply and each
+-- view is that of a first part of it.
+--
+-- `model` is the meaning of the disk. `talked` and `failed` say what those who call may do, and `most` how many steps a
+-- life has. `contents` are the bytes of an output, where they are known. `gives` says which signals a list of steps gives
+-- out, by step, node and epoch.
 use Rattle.std.specs.Prelude.{◌≡◌, ⊤, ℕ, ◌+◌, ◌≤◌, List, Option, length}
 use Rattle.coord_disk.specs.Model.DiskModel.{DiskModel}
 use Rattle.coord_types.specs.declared.steps.Step.{Step}
@@ -27,14 +30,14 @@ use Rattle.coord_server.specs.Printed.{IsPrinted, PrinterState, new_printer}
 use Rattle.coord_server.specs.declared.server_end.ServerEnd.{ServerEnd}
 
 pub record ServerRun {D V W : Type 0} (model : DiskModel D) (talked : V → List Talk → V → Type 0) (failed : V → V → Type 0) (most : ℕ) (contents : W → Option (List ℕ)) (gives : List Step → ℕ → ℕ → ℕ → Type 0) (store : Kept D) (v : V) (printer : PrinterState W) (ended : ServerEnd D V W) : Type 0 where
-  -- the lives, the first one first
+  -- the lives, in order
   pub lives : List (LifeRun D V)
   pub served : AreLives model talked failed most store.world v lives ended.served ended.closed ended.callers
-  -- all steps that they accepted are one trail, and the first ones of it are settled
+  -- the steps that they accepted are one trail, of which the first ones are settled
   pub trail : IsTrail store.world (all_steps lives)
   pub counted : (store.world.count ≤ ended.closed.settled) × (ended.closed.settled ≤ store.world.count + length (all_steps lives))
   pub settled : ended.closed.store.world ≡ fold store.world (first_settled store.world (all_steps lives) ended.closed.settled)
-  -- at every moment the disk is on their way
+  -- at every moment the disk gives the world after the first n of these steps, for some n
   pub along : KeepsAlong model store (all_steps lives) ended.closed.store
   -- what was printed
   pub printed : IsPrinted contents (gives (first_settled store.world (all_steps lives) ended.closed.settled)) printer ended.printer

@@ -4,12 +4,15 @@
 ghost use Rattle.std.specs.Prelude.{ℕ};
 ghost use Rattle.coord_server.specs.InOrder.{ToldInOrder};
 ghost use Rattle.coord_server.specs.Lives.{LivesAreOne};
+ghost use Rattle.coord_server.specs.RunTold.{RunTellsOneHistory};
 ghost use Rattle.coord_server.specs.Told.{LivesLeaveSteps, NotesAreReplies, NotesEndALife, RepliesNameSteps, ToldIsSettled};
 ghost use Rattle.coord_server.specs.WorkedTold.{TellUpToThird};
 
+use crate::Telling;
 use coord_admin::Callers;
 use coord_disk::Disk;
 use coord_engine::Port;
+use std::io::Write;
 
 /// All lives of a server are one history: one trail from the world of its first store, over which each
 /// life began where the one before ended, and of which each step has a number of its own.
@@ -42,6 +45,13 @@ pub fn told_is_settled<D: Disk, C: Callers, P: Port>()
 /// world after them. None goes back behind those of an answer before.
 pub fn told_in_order<D: Disk, C: Callers, P: Port>()
     ensures { ToldInOrder D P C.talked }
+{}
+
+/// All that a server told over the connections of its lives follows from the first n settled steps of its
+/// one history, and n never falls, from one connection or one life to the next either. A view shows the
+/// world of the store after these n steps.
+pub fn run_tells_one_history<D: Disk, C: Callers, W: Write, O: Telling>()
+    ensures { RunTellsOneHistory D.model C.talked C.failed W.contents O.gives }
 {}
 
 /// The reply to the third step and a world with three settled steps tell of three steps, and not of

@@ -146,8 +146,15 @@ fn run_in<
         return Err((callers, opening));
     };
     let mut callers = callers;
-    let (own, seen, reader, left) =
-        serve_over(setting, &*engine, &crew, own, reader, &mut callers, opening);
+    let (own, seen, reader, left) = serve_over(
+        setting,
+        &*engine,
+        &crew,
+        own,
+        reader,
+        &mut callers,
+        opening,
+    );
     let Crew { flushing, workers } = crew;
     engine.finish(rt);
     let flushed = flushing.join(rt);

@@ -1,0 +1,49 @@
+-- What a server told over all the connections of its lives, in terms of its one history.
+--
+-- Each answer follows from the first n settled steps of all lives, and n never falls: not along a connection, nor from
+-- one connection or one life to the next. A view shows the world of the store after these n steps. A reply is the one
+-- that the order's own step got among them, or that the store kept for the order. Nothing is said here of two things:
+-- how many accepted steps a view counts, and why an order was refused.
+use Rattle.std.specs.Prelude.{◌≡◌, ◌⊎◌, ℕ, List, [], ◌∷◌, ◌++◌, Option}
+use Rattle.coord_disk.specs.Model.DiskModel.{DiskModel}
+use Rattle.coord_types.specs.declared.steps.Step.{Step}
+use Rattle.coord_store.specs.Kept.{Kept}
+use Rattle.coord_world.specs.Facade.{World, fold}
+use Rattle.coord_admin.specs.Connections.{Connection, Talk, talks}
+use Rattle.coord_engine.specs.Facade.{StartsWith, first_settled}
+use Rattle.coord_server.specs.InOrder.{AllInOrder}
+use Rattle.coord_server.specs.Lives.{LifeRun, all_steps}
+use Rattle.coord_server.specs.Printed.{PrinterState}
+use Rattle.coord_server.specs.ServerRun.{ServerRun}
+use Rattle.coord_server.specs.declared.server_end.ServerEnd.{ServerEnd}
+
+-- `talked v talks w`: those who call were v, had these talks, and then are w; `failed v w`: they were v, and have failed
+module _ {V : Type 0} (talked : V → List Talk → V → Type 0) (failed : V → V → Type 0) where
+  -- those who call had these connections, and then may have failed
+  pub record HadConnections (v : V) (connections : List Connection) (w : V) : Type 0 where
+    pub last : V
+    pub talks : talked v (talks connections) last
+    pub ended : (w ≡ last) ⊎ failed last w
+
+  -- the connections of some lives, in order
+  abbrev pub AreConnectionsOf : {D : Type 0} → V → List (LifeRun D V) → List Connection → Type 0
+  AreConnectionsOf v [] connections = connections ≡ []
+  AreConnectionsOf v (life ∷ later) connections = (own : List Connection) × (rest : List Connection) × (connections ≡ own ++ rest) × HadConnections v own life.callers × AreConnectionsOf life.callers later rest
+
+-- Each life began with the world after the steps of the lives before it. What its desk read, behind those steps, is a first part of the settled ones.
+abbrev pub EachReads : {D V : Type 0} → World → List Step → List Step → List (LifeRun D V) → Type 0
+EachReads world settled before [] = Unit {0}
+EachReads world settled before (life ∷ later) = (life.left.base ≡ fold world before) × StartsWith settled (before ++ life.desk.read) × EachReads world settled (before ++ life.left.trail.items) later
+
+-- all that lives from a world told over their connections follows from these settled steps
+pub record TellsOneHistory {D V : Type 0} (talked : V → List Talk → V → Type 0) (failed : V → V → Type 0) (world : World) (settled : List Step) (v : V) (lives : List (LifeRun D V)) : Type 0 where
+  pub connections : List Connection
+  pub had : AreConnectionsOf talked failed v lives connections
+  pub told : AllInOrder world [] connections settled
+  pub reads : EachReads world settled [] lives
+
+-- and so it is for each run of a server, with the settled steps of all its lives
+abbrev pub RunTellsOneHistory : {D V W : Type 0} → DiskModel D → (V → List Talk → V → Type 0) → (V → V → Type 0) → (W → Option (List ℕ)) → (List Step → ℕ → ℕ → ℕ → Type 0) → Type 0
+RunTellsOneHistory {D} {V} {W} model talked failed contents gives =
+    (most : ℕ) (store : Kept D) (v : V) (printer : PrinterState W) (ended : ServerEnd D V W) → (run : ServerRun model talked failed most contents gives store v printer ended)
+    → TellsOneHistory talked failed store.world (first_settled store.world (all_steps run.lives) ended.closed.settled) v run.lives
