@@ -57,7 +57,7 @@ from .topology import BadTopology
 from .view import Link, Node, View
 from .watching import Watched, views
 
-__version__ = "0.16.0"  # that of the first heading of CHANGELOG.md
+__version__ = "0.17.0"  # that of the first heading of CHANGELOG.md
 
 __all__ = [
     "AtFront", "Away", "BadTopology", "BadWords", "CLIENTS", "Clock", "CountLost", "CountNotFound", "Credentials", "Due",
