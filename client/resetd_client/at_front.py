@@ -19,6 +19,7 @@ from .signals import Clock, Follower, Wake, Wakes
 from .view import View
 from .watching import Watched
 
+FIRST_VIEW_SECONDS = 1.0
 LOST_COUNT = frozenset({Refusal.OUT_OF_TURN, Refusal.NUMBER_REUSED})  # the front's own, which it finds again on its own
 
 
@@ -95,7 +96,10 @@ class AtFront:
     # as a look
 
     def take(self) -> View | None:
-        """The newest view that was pushed, once, if it is of after this member's last order."""
+        """The newest view that was pushed, once, if it is of after this member's last order. Without a connection it connects, and
+        waits a little for the first view."""
+        if self._watched.descriptors() is None:
+            self._watched.wait(FIRST_VIEW_SECONDS)
         return self._watched.take()
 
     def await_view(self, seconds: float) -> None:

@@ -107,6 +107,10 @@ class Orders(FrontCase):
 
 
 class Views(FrontCase):
+    def test_the_first_look_needs_no_other_connection(self) -> None:
+        self.assertIsNotNone(self.at_front.take())
+        self.assertEqual(self.front.connections, 1)
+
     def test_a_view_is_taken_once_and_only_if_it_has_the_last_order(self) -> None:
         self.assertIs(self.at_front.wait(SECONDS), Wake.CAME)
         before = self.at_front.take()
