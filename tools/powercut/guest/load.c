@@ -223,7 +223,8 @@ static int send_burst_again(int burst) {
 
 /* Kills the server soon after a burst, while its answers come, and starts it again. What went wrong, or NULL. */
 static const char *kill_and_start(int burst) {
-  double until = now() + random_below(30000) / 1e6;
+  static const unsigned most_microseconds[] = {10000, 30000, 90000};
+  double until = now() + random_below(most_microseconds[random_below(3)]) / 1e6;
   while (now() < until && replies < burst && listen_until(replies + 1, until - now()) != IS_GONE) {}
   kill(server, SIGKILL);
   listen_until(0, 5);
