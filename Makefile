@@ -98,6 +98,7 @@ nightly: bin/resetd lib/libresetd_member.a
 test:
 	@tools/layers
 	@tools/forms
+	@tools/crates_picture --check
 	rt ci
 	mkdir -p bin
 	cp crates/resetd/out/resetd bin/resetd
