@@ -7,6 +7,7 @@ pub mod Reading
 pub mod RunTold
 pub mod Settled
 pub mod Signals
+pub mod SignalsBetween
 pub mod Starts
 pub mod Told
 pub mod WorkedTold

@@ -9,6 +9,7 @@ pub mod Printed
 pub mod RunTold
 pub mod ServerRun
 pub mod Signals
+pub mod SignalsBetween
 pub mod Told
 pub mod WorkedTold
 pub mod Workers

@@ -5,6 +5,7 @@ ghost use Rattle.std.specs.Prelude.{ℕ};
 ghost use Rattle.coord_server.specs.InOrder.{ToldInOrder};
 ghost use Rattle.coord_server.specs.Lives.{LivesAreOne};
 ghost use Rattle.coord_server.specs.RunTold.{RunTellsOneHistory};
+ghost use Rattle.coord_server.specs.SignalsBetween.{PrintedBetween};
 ghost use Rattle.coord_server.specs.Told.{LivesLeaveSteps, NotesAreReplies, NotesEndALife, RepliesNameSteps, ToldIsSettled};
 ghost use Rattle.coord_server.specs.WorkedTold.{TellUpToThird};
 
@@ -52,6 +53,14 @@ pub fn told_in_order<D: Disk, C: Callers, P: Port>()
 /// world of the store after these n steps.
 pub fn run_tells_one_history<D: Disk, C: Callers, W: Write, O: Telling>()
     ensures { RunTellsOneHistory D.model C.talked C.failed W.contents O.gives }
+{}
+
+/// Between two moments of the settled steps at which every node of a part that no link leaves is Ready,
+/// if no node or link comes or goes meanwhile: a server prints no more signals of a node that has a link
+/// than resets were started in the part, and each node that is connected with one that was asked to
+/// reset is signalled by those steps.
+pub fn printed_between<D: Disk, C: Callers, W: Write>()
+    ensures { PrintedBetween D.model C.talked C.failed W.contents }
 {}
 
 /// The reply to the third step and a world with three settled steps tell of three steps, and not of
