@@ -66,7 +66,7 @@ class Shipped(Case):
         for _ in range(2):
             epoch = self.row(NODE)[4]
             self.front.ask(op="reset", node=1)
-            until("the member's confirm", lambda: self.row(NODE)[5] > epoch, 60)
+            until("the member's confirm", lambda: self.row(NODE)[5] > epoch)
             until("a group that is through", self.confirm_others)
         for process in processes:
             self.assertIsNone(process.poll())

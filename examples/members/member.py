@@ -37,12 +37,18 @@ class Files:
             keep(self.run, line)
 
     def refuse(self, member):
-        """Refuses a message with the tag that somebody has written down."""
+        """Refuses a message with the tag that somebody has written down, again and again as its sender would send it, until the run is
+        over or has that tag."""
         tag = read(self.refused)
-        if tag:
-            os.remove(self.refused)
-            with suppress(OutOfRun), member.in_run(tag.strip()):
-                pass
+        if not tag:
+            return
+        if member.run is not None:
+            try:
+                with member.in_run(tag.strip()):
+                    pass
+            except OutOfRun:
+                return
+        os.remove(self.refused)
 
 
 def main():

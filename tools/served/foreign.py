@@ -162,7 +162,7 @@ class Rule:
         is_gone = not os.path.exists(f"{self.folder}/refused")
         for guess in self.guesses:
             has_asked = ("reset", NODE, None) in self.orders and guess.due is Due.TALK
-            guess.is_refused = guess.is_refused and not (is_gone and (has_asked or self.has_heeded))
+            guess.is_refused = guess.is_refused and not (has_asked or is_gone and self.has_heeded)
         self.has_heeded = is_gone
         self.talks = self.talks + 1 if self.due is Due.TALK else 0
         self.orders = []
