@@ -1,3 +1,4 @@
 mod Lines
 mod Rows
 mod Heard
+pub mod Orders

@@ -148,7 +148,16 @@ fed d is = lexed d (10 ∷ []) is refl ∙ sym (lexed d [] is refl) ∙ ap (lex 
 line_tokens : (d : Data) → IsPlain d → tokens (compact_text d ++ 10 ∷ []) ≡ json_tokens (outline d)
 line_tokens d is = ap (punctuate fresh) (fed d is) ∙ ap tokens (sym (print-outline d)) ∙ tokens-print (json_tokens (outline d)) (ArePrintable-json_tokens (outline d) (numbers d is))
 
+text_tokens : (d : Data) → IsPlain d → tokens (compact_text d) ≡ json_tokens (outline d)
+text_tokens d is = ap tokens (sym (print-outline d)) ∙ tokens-print (json_tokens (outline d)) (ArePrintable-json_tokens (outline d) (numbers d is))
+
 -- ---- its value
+
+-- also if the members of an object are not sorted
+pub text_read : (d : Data) → IsPlain d → depth (outline d) ≤ max_depth → read (compact_text d) ≡ of_json (outline d)
+text_read d is shallow =
+    ap (λ ts. option_and_then of_json (option_and_then (λ p. json.if_last p.0 p.1) (json.value max_depth ts))) (text_tokens d is ∙ sym (append-nil (json_tokens (outline d))))
+    ∙ ap (λ o. option_and_then of_json (option_and_then (λ p. json.if_last p.0 p.1) o)) (value-json_tokens (outline d) max_depth [] shallow)
 
 abbrev pub IsSame : Data → Type 0
 IsSame d = of_json (outline d) ≡ Some d

@@ -1,15 +1,21 @@
--- The line that the server prints of a view, of a reply and of a refusal is read as that.
-use Rattle.std.specs.Prelude.{◌≡◌, ◌≤◌, ◌<◌, ◌^◌, ℕ, List, Option, Some, None, Ok}
+-- The lines that the server prints of a view, a reply and a refusal are read as these, and the line that a client prints of an order as that order.
+use Rattle.std.specs.Prelude.{◌≡◌, ◌≤◌, ◌<◌, ◌^◌, ℕ, List, [], ◌∷◌, ◌++◌, Option, Some, None, Ok}
 use Rattle.std.specs.List.{AllByRecursion}
-use Rattle.coord_types.specs.declared.limits.TheConstants.{MAX_GROUPS, MAX_NODES}
+use Rattle.coord_types.specs.declared.limits.TheConstants.{MAX_CLIENTS, MAX_GROUPS, MAX_NODES}
+use Rattle.coord_types.specs.declared.steps.Command.{Command}
+use Rattle.coord_types.specs.declared.steps.Command.TheVariants.{Add, Remove, Join, Drop, Reset, Confirm}
 use Rattle.coord_types.specs.declared.steps.Reply.{Reply}
 use Rattle.coord_view.specs.Shown.{Shown}
 use Rattle.coord_view.specs.declared.view.LinkView.{LinkView}
 use Rattle.coord_view.specs.declared.view.NodeView.{NodeView}
+use Rattle.coord_orders.specs.declared.book.Line.{Line}
 use Rattle.coord_orders.specs.declared.meaning.Answer.TheVariants as heard
 use Rattle.coord_admin.specs.Replies.{reply_line}
+use Rattle.coord_admin.specs.Requests.{asked_by}
 use Rattle.coord_admin.specs.declared.answer.Answer.TheVariants as printed
+use Rattle.coord_admin.specs.declared.request.Request.TheVariants.{Order}
 use Rattle.coord_wire.specs.AnswerLine.{answer_in, kinds, refusals}
+use Rattle.coord_wire.specs.OrderLine.{order_line}
 use Rattle.coord_wire.specs.ShowLine.{shown_in}
 
 -- ---- the numbers of a view are those of its types
@@ -58,3 +64,20 @@ ReplyIsRead = AllByRecursion (λ row. (step : ℕ) → IsWord step → IsReadOf 
 -- of each refusal that an order may get
 abbrev pub RefusalIsRead : Type 0
 RefusalIsRead = AllByRecursion (λ row. answer_in (reply_line (printed.Refused row.1)) ≡ Ok (heard.Refused row.1)) refusals
+
+-- ---- what a client prints
+
+-- the numbers of a command are those of its types
+abbrev pub IsCommand : Command → Type 0
+IsCommand (Add u g) = IsIn MAX_NODES u × IsIn MAX_GROUPS g
+IsCommand (Remove u) = IsIn MAX_NODES u
+IsCommand (Join a b) = IsIn MAX_NODES a × IsIn MAX_NODES b
+IsCommand (Drop a b) = IsIn MAX_NODES a × IsIn MAX_NODES b
+IsCommand (Reset u) = IsIn MAX_NODES u
+IsCommand (Confirm u e) = IsIn MAX_NODES u × IsWord e
+
+-- the line of each order, without its line feed, asks for that order of that client with that number
+abbrev pub OrderIsRead : Type 0
+OrderIsRead =
+    (client : ℕ) (line : Line) (text : List ℕ) → IsIn MAX_CLIENTS client → IsWord line.number → IsCommand line.command
+    → text ++ (10 ∷ []) ≡ order_line client line → asked_by (Some text) ≡ Ok (Order client line.number line.command)

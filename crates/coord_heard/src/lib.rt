@@ -1,5 +1,5 @@
-//! What the server prints is what a client reads: laws over coord_admin's lines and coord_wire's
-//! readings. It has no code.
+//! What the server prints is what a client reads, and what a client prints is what the server
+//! reads: laws over coord_admin's lines and readings and those of coord_wire. It has no code.
 #![tactic(auto)]
 
 pub mod laws;
