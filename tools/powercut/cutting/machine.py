@@ -39,7 +39,7 @@ class Machine:
 
     def _start(self, *words: str, files: tuple[int, ...] = (), output: str | None = None) -> None:
         with open(output or os.devnull, "ab") as out:
-            self._processes.append(subprocess.Popen(["setpriv", "--pdeathsig", "KILL", "nice", "-n", "10", *words], stdin=subprocess.DEVNULL, stdout=out, stderr=out,
+            self._processes.append(subprocess.Popen(["nice", "-n", "10", *words], stdin=subprocess.DEVNULL, stdout=out, stderr=out,
                                                     pass_fds=files, start_new_session=True, env={**os.environ, "TMPDIR": self.folder}))
 
     def _await_agent(self) -> None:

@@ -10,7 +10,7 @@ import tempfile
 COMMANDS = {
     "qemu-system-x86_64": "qemu-system-x86", "qemu-storage-daemon": "qemu-utils", "cc": "gcc", "modprobe": "kmod", "depmod": "kmod",
     "mkfs.ext4": "e2fsprogs", "e2fsck": "e2fsprogs", "mkfs.xfs": "xfsprogs", "mkfs.btrfs": "btrfs-progs", "mkfs.f2fs": "f2fs-tools",
-    "apt-get": "apt", "dpkg": "dpkg", "setpriv": "util-linux",
+    "apt-get": "apt", "dpkg": "dpkg",
 }
 KERNEL, USER_KERNEL = "linux-image-amd64", "user-mode-linux"
 
