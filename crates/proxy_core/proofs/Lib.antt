@@ -11,3 +11,4 @@ pub mod Fair
 pub mod Ordering
 pub mod WorkedSession
 pub mod Held
+pub mod Server

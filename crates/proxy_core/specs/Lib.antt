@@ -8,3 +8,4 @@ pub mod Numbers
 pub mod Promises
 pub mod Session
 pub mod WorkedRun
+pub mod Server

@@ -2,6 +2,7 @@
 
 ghost use Rattle.proxy_core.specs.Fair.{FairShares, OldestFlies};
 ghost use Rattle.proxy_core.specs.Promises.{EveryRun};
+ghost use Rattle.proxy_core.specs.Server.{SessionRule};
 ghost use Rattle.proxy_core.specs.Session.{AtMostOnce, OwnReplies};
 ghost use Rattle.proxy_core.specs.WorkedRun.{WorkedRun, WorkedSession};
 
@@ -44,4 +45,10 @@ pub fn worked_run()
 /// order at its second sending.
 pub fn worked_session()
     ensures { WorkedSession }
+{}
+
+/// A server that judges the sendings of the proxy's client by its session rule, one connection after the
+/// other, gives the premise of `at_most_once` and `own_replies`.
+pub fn session_rule()
+    ensures { SessionRule }
 {}
