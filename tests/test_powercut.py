@@ -12,6 +12,7 @@ sys.path.insert(0, tool("powercut"))
 from cutting import nbd, stores  # noqa: E402
 from cutting.cuts import UNITS, Cut, Volatile, ends_of_checkpoints, moments  # noqa: E402
 from cutting.disk import SECTOR, Disk, Entry, sectors_of  # noqa: E402
+from cutting.judging import Places  # noqa: E402
 from cutting.verdicts import Looker, verdict_of  # noqa: E402
 
 A, B, C = (letter * 4_096 for letter in (b"a", b"b", b"c"))
@@ -52,6 +53,15 @@ class Cuts(Case):
         self.assertEqual(found[1:], [(1, {}, 0, {}, "start"), (1, {}, 12, {3: 7}, "start"), (0, sectors_of(0, A), 12, {3: 7}, "start"),
                                      (1, {}, 12, {3: 7}, "start")])
         self.assertEqual([len(at.volatile) for at in moments(log, has_flushes=False)], [0, 1, 1, 1, 2])
+
+    def test_places(self) -> None:
+        """Where a run is cut."""
+        log: list[Entry] = [("write", 0, A), ("marker", "start"), ("write", 0, B), ("marker", "killed"), ("flush",), ("marker", "least 9"),
+                            ("write", 0, A), ("marker", "served")]
+        self.assertEqual(Places().of(log, True), [1, 2, 3, 4, 5, 6, 7])
+        self.assertEqual(Places(("killed",)).of(log, True), [3, 4, 5, 6])
+        self.assertEqual(Places(("killed",), is_at_markers=True).of(log, True), [3, 5])
+        self.assertEqual(Places(is_near_checkpoints=True).of(log, True), [])
 
     def test_ends_of_checkpoints(self) -> None:
         """The writes that change the first byte of a store."""

@@ -26,10 +26,12 @@ BEFORE_MIGRATED = ("start", "made", "migrating")
 
 @dataclass(frozen=True)
 class Places:
-    """Where a run is cut: in these phases, or near the ends of checkpoints; anywhere after its begin if neither is named."""
+    """Where a run is cut: in these phases, near the ends of checkpoints, or just after an answer or a signal was marked; anywhere after
+    its begin if nothing is named."""
 
     phases: tuple[str, ...] = ()
     is_near_checkpoints: bool = False
+    is_at_markers: bool = False
 
     def of(self, log: list[Entry], has_flushes: bool) -> list[int]:
         found = [moment.place for moment in moments(log, has_flushes)
@@ -37,6 +39,8 @@ class Places:
         if self.is_near_checkpoints:
             ends = ends_of_checkpoints(log)
             found = [place for place in found if any(end - 8 <= place <= end + 6 for end in ends)]
+        if self.is_at_markers:
+            found = [place for place in found if log[place][0] == "marker"]
         return found
 
 

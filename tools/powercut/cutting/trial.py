@@ -14,9 +14,9 @@ from .recording import Run, load_run, record
 
 MUTANTS = ("body_not_synced", "gate_not_synced", "barrier_left_out")
 TRIES = 4  # seeds with which a control is tried until it finds something
-# A run in which many kills find writes that are not synced, and where it is cut then.
+# A run in which many kills find writes that are not synced, and where it is cut: as soon as an answer after a kill was read.
 KILLS: dict[str, Any] = {"orders": 120, "kills": 20, "noise": False, "has_late_syncs": True}
-KILLED = Places(("killed",))
+KILLED = Places(("killed",), is_at_markers=True)
 
 
 @dataclasses.dataclass
