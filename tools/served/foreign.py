@@ -230,9 +230,10 @@ class Between:
             self.is_asked = True  # it may not have seen yet what was pushed before
             return True
         if request["op"] in ("show", "watch"):
-            goes_on = self.show(connection, lives, request["op"] == "watch" or bool(self.watching))
-            if goes_on and request["op"] == "watch":
+            if request["op"] == "watch":
                 self.watching.add(connection)
+            goes_on = self.show(connection, lives, bool(self.watching))
+            if goes_on and request["op"] == "watch":
                 threading.Thread(target=self.push, args=[connection, lives], daemon=True).start()
             return goes_on
         with self.lock:
@@ -305,7 +306,7 @@ class Between:
 
     def direct(self, line: bytes) -> bytes:
         request: Json = json.loads(line)
-        return patiently(lambda: self.front.raw(request), 20).encode()
+        return patiently(lambda: self.front.raw(request), self.trial.words.seconds).encode()
 
 
 def away(connection: socket.socket, text: bytes) -> bool:
