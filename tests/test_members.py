@@ -56,7 +56,7 @@ def start_text(node: int, kept: Kept, count: int | None = None) -> bytes:
 
 def loaded_text(node: int, epoch: int, boot: str) -> bytes:
     """The file of a start that has talked with nobody, as the Python library writes it."""
-    row = {"begun": None, "party": None, "loaded": epoch, "foreseen": [], "boot": boot}
+    row: dict[str, object] = {"begun": None, "party": None, "loaded": epoch, "foreseen": [], "boot": boot}
     return (json.dumps({str(node): row}) + "\n").encode()
 
 

@@ -120,8 +120,9 @@ class Listeners:
 
     async def _shake_hands(self, client: socket.socket, where: str) -> None:
         """Makes a client of a stranger, or notes in the audit why not."""
-        this = asyncio.current_task()
-        assert this
+        task = asyncio.current_task()
+        assert task
+        this: asyncio.Task[Any] = task
 
         def is_let_in(transport: asyncio.Transport) -> Peer:
             self._handshakes.pop(this, None)
