@@ -44,6 +44,15 @@ class Front(Run):
     def test_the_page(self) -> None:
         self.files("test_page")
 
+    def test_silent_servers(self) -> None:
+        self.files("test_silent_servers")
+
+    def test_the_shipped_policy(self) -> None:
+        self.files("test_shipped_policy")
+
+    def test_a_fenced_database(self) -> None:
+        self.files("test_fence")
+
     def test_no_file_is_left_out(self) -> None:
         with open(__file__, encoding="utf-8") as file:
             text = file.read()
