@@ -55,12 +55,12 @@ class GivesBack(OfLibrary):
             "a torn row": lambda: judge(SHOW.replace(b"[7,8,107]", b"[7,8]"), 1),
             "a node that is not shown": lambda: judge(SHOW, 63),
             "no node": lambda: judge(SHOW, 0),
-            "a torn start": lambda: judge(SHOW, 1, b"{"),
-            "a start of another form": lambda: judge(SHOW, 1, b'{"1": {"begun": 1, "party": ["a", 1]}}'),
+            "a start that is not JSON": lambda: judge(SHOW, 1, b"{\n"),
+            "a start of another form": lambda: judge(SHOW, 1, b'{"1": {"begun": 1, "party": ["a", 1]}}\n'),
             "a history of another form": lambda: judge(SHOW, 1, b"", b"x\n"),
             "a line that is not UTF-8": lambda: judge(b"\xff", 1),
-            "a start that is not UTF-8": lambda: judge(SHOW, 1, b"\xff"),
-            "the tag of a torn start": lambda: self.library.tag(SHOW, 1, b"{", WORD),
+            "a start that is not UTF-8": lambda: judge(SHOW, 1, b"\xff\n"),
+            "the tag of a start that is not JSON": lambda: self.library.tag(SHOW, 1, b"{\n", WORD),
             "the tag of a torn line": lambda: self.library.tag(b"{", 1, self.talk.start, WORD),
         }
 
