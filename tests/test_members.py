@@ -398,7 +398,7 @@ class InOtherLanguages(OfLibrary):
         self.needs(f"the compiler {compiler}", shutil.which(compiler) is not None, is_optional=True)
         made = subprocess.run([compiler, *words], capture_output=True, text=True, cwd=EXAMPLES, timeout=600)
         self.assertEqual((made.returncode, made.stderr), (0, ""))
-        tried = subprocess.run([tool("try_member"), self.path("member"), "{node}", *address, "{folder}"],
+        tried = subprocess.run([tool("try_member"), "--seconds", "180", self.path("member"), "{node}", *address, "{folder}"],
                                capture_output=True, text=True, env={**os.environ, "RESETD": PROGRAM, "TMPDIR": self.folder})
         self.assertEqual(tried.returncode, 0, tried.stdout + tried.stderr)
 
