@@ -154,7 +154,7 @@ func receive(connection net.Conn, lines chan<- []byte) {
 }
 
 func follow(connection net.Conn) { // until it ends
-	lines, isAwaited := make(chan []byte), false // whether an order has no answer yet
+	lines, isAwaited, asked := make(chan []byte), false, time.Time{} // whether an order has no answer yet, and since when
 	go receive(connection, lines)
 	fmt.Fprintln(connection, `{"op":"watch"}`)
 	for {
@@ -164,11 +164,13 @@ func follow(connection net.Conn) { // until it ends
 			if !isOpen {
 				return
 			} else if json.Unmarshal(line, &view) == nil && view.Nodes != nil {
-				if isAwaited {
+				if isAwaited && time.Since(asked) > 30*time.Second {
+					return // the answer is lost: another connection's first view says what is due
+				} else if isAwaited {
 					continue // it may be of before the order
 				}
 				if order := look(view); order != "" {
-					isAwaited = true
+					isAwaited, asked = true, time.Now()
 					fmt.Fprintln(connection, order)
 				}
 			} else if json.Unmarshal(line, &answer); answer.Fault != "" && answer.Fault != "OutOfMemory" {
