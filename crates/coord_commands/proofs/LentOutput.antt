@@ -3,8 +3,10 @@ use Rattle.std.proofs.Common.{◌≡◌, ◌⊎◌, ◌∙◌, ℕ, List, [], �
 use Rattle.std.specs.Io.KnownBytes.{Appends}
 use Rattle.std.specs.declared.net.socket_addr.SocketAddr.{SocketAddr}
 use Rattle.coord_admin.specs.declared.patience.Patience.{Patience}
+use Rattle.coord_engine.specs.Facade.{first_settled}
 use Rattle.coord_engine.specs.declared.closed.Closed.{Closed}
 use Rattle.coord_server.specs.Lines.{is_next}
+use Rattle.coord_server.specs.Lives.{all_steps}
 use Rattle.coord_server.specs.Printed.{IsPrinted, IsTornAddress, IsTornSignal, PrinterState, listening_line, new_printer, signal_lines}
 use Rattle.coord_server.specs.ServerRun.{HasServedUsual}
 use Rattle.coord_server.specs.Signals.{StepSignal}
@@ -12,6 +14,7 @@ use Rattle.coord_server.specs.declared.fault.ServerFault.{ServerFault}
 use Rattle.coord_server.specs.declared.server_end.ServerEnd.{ServerEnd}
 use Rattle.coord_disk.specs.Model.DiskModel.{DiskModel}
 use Rattle.coord_store.specs.Kept.{Kept}
+use Rattle.coord_types.specs.declared.steps.Step.{Step}
 use Rattle.coord_commands.specs.Serving.{RunsWithOutput, ServedWithOutput, ToldAtEnd, fault_of_end}
 use Rattle.coord_commands.specs.Streams.{known_as}
 
@@ -72,10 +75,12 @@ printed_back {V} contents of may since lent home ended printer first later old n
     }
 
 -- so a server that printed to it ran with this output
-pub run_back : {D V W : Type 0} (m : DiskModel D) (contents : V → Option (List ℕ)) (of : W → Option (List ℕ)) (store : Kept D) (lent home : V) (ended : ServerEnd D Patience V) (printer : PrinterState V) (first later : ℕ) (old : Option (List ℕ)) (now new : W) → HasServedUsual m contents store lent ended
-    → printer ≡ ended.printer → home ≡ printer.output → contents lent ≡ known_as first old → contents home ≡ known_as later (of now) → (later ≡ first → new ≡ now) → RunsWithOutput m store old (of new) (known_end (of new) ended)
-run_back m contents of store lent home ended printer first later old now new is came out at_first at_last same =
-    let run = is.2 in (
+pub run_back : {D V W : Type 0} (m : DiskModel D) (contents : V → Option (List ℕ)) (of : W → Option (List ℕ)) (gives : List Step → ℕ → ℕ → ℕ → Type 0) (store : Kept D) (lent home : V) (given : PrinterState V) (ended : ServerEnd D Patience V) (printer : PrinterState V) (first later : ℕ) (old : Option (List ℕ)) (now new : W) → HasServedUsual m contents gives store given ended
+    → given ≡ new_printer lent store.world.count → printer ≡ ended.printer → home ≡ printer.output → contents lent ≡ known_as first old → contents home ≡ known_as later (of now) → (later ≡ first → new ≡ now) → RunsWithOutput m gives store old (of new) (known_end (of new) ended)
+run_back m contents of gives store lent home given ended printer first later old now new is made came out at_first at_last same =
+    let run = is.2 in
+    let may = gives (first_settled store.world (all_steps run.lives) ended.closed.settled) in
+    let printed : IsPrinted contents may (new_printer lent store.world.count) ended.printer = subst (λ p. IsPrinted contents may p ended.printer) made run.printed in (
       (
         is.0,
         is.1,
@@ -86,7 +91,7 @@ run_back m contents of store lent home ended printer first later old now new is 
           counted = run.counted;
           settled = run.settled;
           along = run.along;
-          printed = printed_back contents of _ store.world.count lent home ended.printer printer first later old now new run.printed came out at_first at_last same;
+          printed = printed_back contents of may store.world.count lent home ended.printer printer first later old now new printed came out at_first at_last same;
           cause = run.cause;
         },
       ),
@@ -99,5 +104,5 @@ told_of known ended (Ok closed) is fault = is
 told_of known ended (Err told) is fault = fault
 
 -- a server ran with this output, and this is told
-pub served_with : {D W : Type 0} (m : DiskModel D) (store : Kept D) (old known : Option (List ℕ)) (ended : ServerEnd D Patience W) (told : Result (Closed D) (ServerFault × Closed D)) → RunsWithOutput m store old known (known_end known ended) → IfOk told (λ closed. (closed ≡ ended.closed) × (fault_of_end ended ≡ None)) → IfErr told (λ t. (t.1 ≡ ended.closed) × (fault_of_end ended ≡ Some t.0)) → ServedWithOutput m store old known told
-served_with m store old known ended told run is fault = record { ended = known_end known ended; run = run; tells = told_of known ended told is fault }
+pub served_with : {D W : Type 0} (m : DiskModel D) (gives : List Step → ℕ → ℕ → ℕ → Type 0) (store : Kept D) (old known : Option (List ℕ)) (ended : ServerEnd D Patience W) (told : Result (Closed D) (ServerFault × Closed D)) → RunsWithOutput m gives store old known (known_end known ended) → IfOk told (λ closed. (closed ≡ ended.closed) × (fault_of_end ended ≡ None)) → IfErr told (λ t. (t.1 ≡ ended.closed) × (fault_of_end ended ≡ Some t.0)) → ServedWithOutput m gives store old known told
+served_with m gives store old known ended told run is fault = record { ended = known_end known ended; run = run; tells = told_of known ended told is fault }

@@ -6,6 +6,7 @@ use Rattle.std.proofs.lemmas.Bool.Decides.{nat_tests}
 use Rattle.coord_disk.specs.Model.DiskModel.{DiskModel}
 use Rattle.coord_disk.specs.Model.Moments.{AddsNothing}
 use Rattle.coord_disk.specs.Model.Present.{Present, whole}
+use Rattle.coord_engine.specs.Released.{GivesSignal}
 use Rattle.coord_engine.specs.declared.closed.Closed.{Closed}
 use Rattle.coord_store.specs.Facade.{Kept, Recovered}
 use Rattle.coord_store.specs.Refused.{failed_in}
@@ -70,7 +71,7 @@ module _ {D : Type 0} (model : DiskModel D) where
   opened before taken store was world failures same_model moments same = grind (arith, nat_tests, if_keeps)
 
   -- a server ran over an opened store, and its disk was put back
-  abbrev is_served : (before after : Option Present) (old new : Option (List ℕ)) (store : Kept D) (ended : ServerEnd D Patience (Option (List ℕ))) (left : Closed D) (back : D) → IsOpenedStore model before store → RunsWithOutput model store old new ended → left ≡ ended.closed → back ≡ left.store.disk → IfSome after (λ known. known_of model back ≡ Some known) → IsServedDisk model before after old new
+  abbrev is_served : (before after : Option Present) (old new : Option (List ℕ)) (store : Kept D) (ended : ServerEnd D Patience (Option (List ℕ))) (left : Closed D) (back : D) → IsOpenedStore model before store → RunsWithOutput model (GivesSignal store.world) store old new ended → left ≡ ended.closed → back ≡ left.store.disk → IfSome after (λ known. known_of model back ≡ Some known) → IsServedDisk model before after old new
   is_served before after old new store ended left back is run same home put = record {
     store = store;
     opened = is;
@@ -80,7 +81,7 @@ module _ {D : Type 0} (model : DiskModel D) where
   }
 
   -- a store was opened, served to a close and put back
-  pub served_whole : (before after : Option Present) (old new : Option (List ℕ)) (store : Kept D) (closed : Closed D) (back : D) → IsOpenedStore model before store → ServedWithOutput model store old new (Ok closed)
+  pub served_whole : (before after : Option Present) (old new : Option (List ℕ)) (store : Kept D) (closed : Closed D) (back : D) → IsOpenedStore model before store → ServedWithOutput model (GivesSignal store.world) store old new (Ok closed)
       → IfSome (bytes_of model back) (λ known. Recovered known closed.store.world) → back ≡ closed.store.disk → IfSome after (λ known. known_of model back ≡ Some known) → ServedWhole model before after old new
   served_whole before after old new store closed back is served gives same put = (
     is_served before after old new store served.ended closed back is served.run served.tells.0 same put,
@@ -107,7 +108,7 @@ module _ {D : Type 0} (model : DiskModel D) where
       inl (inr (inr (refl, was.0, was.1)), kept)
 
   -- a server over it has ended, and its disk is put back
-  pub ended : (before after : Option Present) (old new : Option (List ℕ)) (store : Kept D) (told : ServerFault × Closed D) (back : D) → IsOpenedStore model before store → ServedWithOutput model store old new (Err told)
+  pub ended : (before after : Option Present) (old new : Option (List ℕ)) (store : Kept D) (told : ServerFault × Closed D) (back : D) → IsOpenedStore model before store → ServedWithOutput model (GivesSignal store.world) store old new (Err told)
       → back ≡ told.1.store.disk → IfSome after (λ known. known_of model back ≡ Some known) → EndsServing model before after old new (fault_of_server told.0)
   ended before after old new store told back is served disk put = inr (is_served before after old new store served.ended told.1 back is served.run served.tells.0 disk put, told.0, served.tells.1, refl)
 

@@ -7,14 +7,16 @@ use Rattle.coord_disk.specs.Model.DiskModel.{DiskModel}
 use Rattle.coord_disk.specs.Model.Moments.{AddsNothing}
 use Rattle.coord_disk.specs.Model.Present.{Present}
 use Rattle.coord_lines.specs.Written.{WritesFirstPart}
+use Rattle.coord_engine.specs.Released.{GivesSignal}
 use Rattle.coord_engine.specs.declared.closed.Closed.{Closed}
 use Rattle.coord_admin.specs.declared.patience.Patience.{Patience}
 use Rattle.coord_server.specs.Ending.{fault_at_end}
-use Rattle.coord_server.specs.Printed.{is_amiss}
+use Rattle.coord_server.specs.Printed.{is_amiss, new_printer}
 use Rattle.coord_server.specs.ServerRun.{HasServedUsual}
 use Rattle.coord_server.specs.declared.fault.ServerFault.{ServerFault}
 use Rattle.coord_server.specs.declared.server_end.ServerEnd.{ServerEnd}
 use Rattle.coord_store.specs.Facade.{Kept, Recovered}
+use Rattle.coord_types.specs.declared.steps.Step.{Step}
 use Rattle.coord_store.specs.Kept.{has_stopped}
 use Rattle.coord_store.specs.Refused.{failed_in}
 use Rattle.coord_store.specs.declared.faults.StoreFault.{StoreFault}
@@ -48,9 +50,9 @@ IsOfServing bytes fault = ⊥
 abbrev pub fault_of_end : {D V W : Type 0} → ServerEnd D V W → Option ServerFault
 fault_of_end ended = fault_at_end (has_stopped ended.closed.store) ended.served (is_amiss ended.printer ended.closed.settled)
 
--- a server ran so over this store, whose clients are waited for as usual, and printed to an output of which the one and then the other was known
-abbrev pub RunsWithOutput : {D : Type 0} → DiskModel D → Kept D → Option (List ℕ) → Option (List ℕ) → ServerEnd D Patience (Option (List ℕ)) → Type 0
-RunsWithOutput model store old new ended = HasServedUsual model (λ known. known) store old ended × (ended.printer.output ≡ new)
+-- a server ran so over this store, whose clients are waited for as usual, and printed to an output of which the one and then the other was known. `gives`: which signals some steps give out, by step, node and epoch
+abbrev pub RunsWithOutput : {D : Type 0} → DiskModel D → (List Step → ℕ → ℕ → ℕ → Type 0) → Kept D → Option (List ℕ) → Option (List ℕ) → ServerEnd D Patience (Option (List ℕ)) → Type 0
+RunsWithOutput model gives store old new ended = HasServedUsual model (λ known. known) gives store (new_printer old store.world.count) ended × (ended.printer.output ≡ new)
 
 -- what is told of a server that ended so: what it left, beside the fault if there is one
 abbrev pub ToldAtEnd : {D V W : Type 0} → ServerEnd D V W → Result (Closed D) (ServerFault × Closed D) → Type 0
@@ -58,9 +60,9 @@ ToldAtEnd ended (Ok closed) = (closed ≡ ended.closed) × (fault_of_end ended �
 ToldAtEnd ended (Err told) = (told.1 ≡ ended.closed) × (fault_of_end ended ≡ Some told.0)
 
 -- a server ran so, and this is told
-pub record ServedWithOutput {D : Type 0} (model : DiskModel D) (store : Kept D) (old new : Option (List ℕ)) (told : Result (Closed D) (ServerFault × Closed D)) : Type 0 where
+pub record ServedWithOutput {D : Type 0} (model : DiskModel D) (gives : List Step → ℕ → ℕ → ℕ → Type 0) (store : Kept D) (old new : Option (List ℕ)) (told : Result (Closed D) (ServerFault × Closed D)) : Type 0 where
   pub ended : ServerEnd D Patience (Option (List ℕ))
-  pub run : RunsWithOutput model store old new ended
+  pub run : RunsWithOutput model gives store old new ended
   pub tells : ToldAtEnd ended told
 
 -- `model`: what the disks of a folder mean
@@ -99,7 +101,7 @@ module _ {D : Type 0} (model : DiskModel D) where
     pub store : Kept D
     pub opened : IsOpenedStore before store
     pub ended : ServerEnd D Patience (Option (List ℕ))
-    pub run : RunsWithOutput model store old new ended
+    pub run : RunsWithOutput model (GivesSignal store.world) store old new ended
     pub put : IfSome after (λ known. known_of model ended.closed.store.disk ≡ Some known)
 
   -- there was no memory for a server to begin with: the store of the disk was opened, nobody was served, and the disk put back

@@ -1,5 +1,6 @@
 //! An output that is lent.
 
+use coord_server::TakableOutput;
 use std::io;
 use std::io::Write;
 
@@ -28,3 +29,5 @@ impl<W: Write> Write for Lent<'_, W> {
         Write::write_all(self.output, bytes)
     }
 }
+
+impl<W: Write> TakableOutput for Lent<'_, W> {}

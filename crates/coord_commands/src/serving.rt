@@ -1,13 +1,17 @@
 //! Serving a store in a folder.
 
-ghost use Rattle.std.specs.Prelude.{◌≡◌, false, IfErr, IfNone, IfOk, IfSome, None, OnOk};
+ghost use Rattle.std.specs.Prelude.{◌≡◌, List, [], false, IfErr, IfNone, IfOk, IfSome, None, OnOk};
 ghost use Rattle.std.specs.Io.KnownBytes.{Keeps};
 ghost use Rattle.std.specs.Net.Grammar.{IsSocketV4Text};
 ghost use Rattle.std.specs.declared.net.socket_addr.SocketAddrV4.{SocketAddrV4};
 ghost use Rattle.coord_commands.specs.Folders.{bytes_of, reads};
 ghost use Rattle.coord_commands.specs.Serving.{EndsServing, IsNotOpened, IsOfServing, IsOpenedStore, ServedWhole, ServedWithOutput, ServesAt};
+ghost use Rattle.coord_engine.specs.Released.{GivesSignal, MayTell};
+ghost use Rattle.coord_server.specs.Signals.{MaySignal};
 ghost use Rattle.coord_store.specs.Kept.{has_stopped};
 ghost use Rattle.coord_store.specs.Recovered.{Recovered};
+ghost use Rattle.coord_types.specs.declared.steps.Step.{Step};
+ghost use Rattle.coord_world.specs.Facade.{fold};
 
 use crate::fault::Fault;
 use crate::folder::{FileFolder, Folder};
@@ -15,13 +19,14 @@ use crate::lent::Lent;
 use crate::status::report;
 use crate::streams::Streams;
 use coord_disk::{Disk, Takable};
-use coord_engine::Closed;
-use coord_server::{ServerFault, serve_store};
+use coord_engine::{Closed, History, Writer};
+use coord_server::{ServerFault, SignalPrinter, Telling, serve_store};
 use coord_store::Store;
 use std::alloc::Global;
 use std::fs::File;
 use std::io;
 use std::io::{Read, Write};
+use std::marker::Brand;
 use std::net::{Net, OpenListener, OpenStream, SocketAddr, SocketAddrV4, TcpListener};
 use std::rt::Files;
 use std::sync::Wait;
@@ -135,21 +140,57 @@ fn serve_open<
     output: &mut W,
 ) -> Result<Result<Closed<D>, (ServerFault, Closed<D>)>, Store<D>>
     requires { has_stopped store ≡ false }
-    ensures served { IfOk result
-        (ServedWithOutput D.model store (W.contents output.old) (W.contents output.new)) }
+    ensures served { IfOk result (ServedWithOutput D.model (GivesSignal store.world) store
+        (W.contents output.old) (W.contents output.new)) }
     ensures going { IfOk result (λ told. IfOk told (λ closed. has_stopped closed.store ≡ false)) }
     ensures unserved { IfErr result (λ back. (back ≡ store) ×
         Keeps (W.contents output.old) (W.contents output.new)) }
 {
-    match serve_store(rt, alloc, store, listener, Lent { output }) {
+    let Ok(written) = History::new(alloc) else {
+        return Err(store);
+    };
+    serve_told::<D, S, A, W, Brand, R>(rt, alloc, store, listener, output, written)
+}
+
+/// Serves while signals are printed of the steps that are settled in a new history, which `O` names.
+fn serve_told<
+    'a,
+    D: Disk + Send,
+    S: Read + Write + OpenStream + Drop,
+    A: OpenListener<Stream = S>,
+    W: Write + Send,
+    O: Telling + Send + Sync,
+    R: Threads + Wait + Clock + Sync,
+>(
+    rt: &'a R,
+    alloc: Global,
+    store: Store<D>,
+    listener: &'a A,
+    output: &mut W,
+    written: (History, Writer),
+) -> Result<Result<Closed<D>, (ServerFault, Closed<D>)>, Store<D>>
+    requires going { has_stopped store ≡ false }
+    requires here { written.0 ≡ O.history }
+    requires new { written.1 ≡ record { history = O.history; steps = [] } }
+    requires tell { (earlier : List Step) → MayTell O.history earlier (fold store.world earlier)
+        (MaySignal O.history O.gives) }
+    ensures served { IfOk result (ServedWithOutput D.model O.gives store
+        (W.contents output.old) (W.contents output.new)) }
+    ensures going { IfOk result (λ told. IfOk told (λ closed. has_stopped closed.store ≡ false)) }
+    ensures unserved { IfErr result (λ back. (back ≡ store) ×
+        Keeps (W.contents output.old) (W.contents output.new)) }
+{
+    let since = store.world().count();
+    let printer: SignalPrinter<Lent<'_, W>, O> = SignalPrinter::new(alloc, Lent { output }, since);
+    match serve_store(rt, alloc, store, listener, printer, written) {
         Ok(ended) => {
-            let (served, printer) = ended.into_closed();
-            let Lent { output: _back } = printer.into_output();
+            let (served, printed) = ended.into_closed();
+            let Lent { output: _back } = printed.into_output();
             Ok(served)
         }
         Err(unserved) => {
-            let (store, lent) = unserved;
-            let Lent { output: _back } = lent;
+            let (store, unprinted) = unserved;
+            let Lent { output: _back } = unprinted.into_output();
             Err(store)
         }
     }

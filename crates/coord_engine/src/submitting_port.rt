@@ -1,6 +1,6 @@
 //! A port that submits packets itself.
 
-ghost use Rattle.std.specs.Prelude.{◌≡◌, [], All};
+ghost use Rattle.std.specs.Prelude.{◌≡◌, ◌⊎◌, ◌≤◌, [], All};
 ghost use Rattle.coord_engine.specs.Working.{IsOfPacket};
 
 use crate::port::Port;
@@ -46,7 +46,7 @@ impl<'e, D: Disk, L: Origin, P: Port, R: Wait> Model for SubmittingPort<'e, D, L
 }
 
 impl<'e, D: Disk, L: Origin, P: Port + Drop, R: Wait> SubmittingPort<'e, D, L, P, R> {
-    /// A port that has gathered nothing yet.
+    /// A port that has gathered nothing yet, with room for `ROOM` packets, or none if there is no memory.
     pub fn new(
         rt: &'e R,
         alloc: Global,
@@ -58,6 +58,7 @@ impl<'e, D: Disk, L: Origin, P: Port + Drop, R: Wait> SubmittingPort<'e, D, L, P
         ensures gathered { result.gathered ≡ [] }
         ensures notes { result.notes ≡ share }
         ensures waiting { result.hand.waiting ≡ [] }
+        ensures room { (ROOM ≤ result.room) ⊎ (result.room ≡ 0) }
     {
         SubmittingPort {
             rt,

@@ -1,5 +1,5 @@
 -- A server of which no fault is told was closed by a line.
-use Rattle.std.proofs.Common.{◌≡◌, ◌⊎◌, ℕ, zero, suc, ◌+◌, ◌≤◌, ◌||◌, not, nat_le, List, [], ◌∷◌, ◌++◌, All, length, Bool, true, false, Option, None, Some, IfNone, IfSome, inl, inr, refl, sym, ap, ◌∙◌, subst, append_assoc, arith, drop}
+use Rattle.std.proofs.Common.{◌≡◌, ◌⊎◌, ℕ, ◌+◌, ◌≤◌, ◌||◌, not, nat_le, List, [], ◌∷◌, ◌++◌, All, length, Bool, true, false, Option, None, Some, IfNone, IfSome, inl, inr, refl, sym, ap, ◌∙◌, subst, append_assoc, arith, drop}
 use Rattle.std.proofs.lemmas.List.Elements.{All-nil, All-push}
 use Rattle.std.proofs.lemmas.Bool.Decides.{nat_tests}
 use Rattle.coord_engine.specs.Facade.{AtSomeMoment, Basis, Beginning, Closes, HasReadSettled, IsLeftOf, IsNamed, IsOfPacket, IsSince, RefusesClosing, Retires, StartsWith, based_on, first_settled}
@@ -18,7 +18,6 @@ use Rattle.coord_server.specs.EngineDesk.{DeskState}
 use Rattle.coord_server.specs.Ending.{AddsWorkers, HasRun, IsLeftAs, IsLife, IsOneHistory, RefusesShares, LeavesLife, LeavesShares, Local, Serves, ServesLife, end_fault, fault_at_end, new_desk}
 use Rattle.coord_server.specs.Lives.{AreLives, HaveRested, IsLast, IsLastLife, IsToldForCause, LifeRun, MayGoOn, Rests}
 use Rattle.coord_server.specs.Moments.{HasLived}
-use Rattle.coord_server.specs.Printed.{is_amiss}
 use Rattle.coord_server.specs.declared.fault.ServerFault.{ServerFault}
 use Rattle.coord_server.specs.declared.fault.ServerFault.TheVariants as fault
 use Rattle.coord_server.specs.declared.life.Life.{Life}

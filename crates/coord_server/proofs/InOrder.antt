@@ -1,5 +1,5 @@
 -- All that the desk of a life told or showed is borne out by its history, in order.
-use Rattle.std.proofs.Common.{◌≡◌, ◌⊎◌, ℕ, zero, suc, ◌+◌, ◌≤◌, List, [], ◌∷◌, ◌++◌, map, Some, None, Result, Ok, Err, length, slice_get, take, refl, sym, ap, ◌∙◌, subst, inl, inr, append-nil, append_assoc, arith}
+use Rattle.std.proofs.Common.{◌≡◌, ℕ, zero, suc, ◌+◌, ◌≤◌, List, [], ◌∷◌, ◌++◌, map, Some, None, Result, Ok, Err, length, slice_get, take, refl, sym, ap, ◌∙◌, subst, inl, inr, append-nil, append_assoc, arith}
 use Rattle.std.specs.List.{AllByRecursion}
 use Rattle.std.proofs.lemmas.Grind.{flat_map-append}
 use Rattle.std.proofs.lemmas.List.{map-append}
@@ -10,7 +10,6 @@ use Rattle.coord_types.specs.declared.steps.Reply.{Reply}
 use Rattle.coord_types.specs.declared.steps.Step.{Step}
 use Rattle.coord_types.specs.declared.steps.Step.TheVariants as step
 use Rattle.coord_lines.specs.Lines.{Line, lines_of}
-use Rattle.coord_lines.specs.Written.{IsFirstPart}
 use Rattle.coord_view.specs.Shown.{Shown, shown}
 use Rattle.coord_world.specs.Facade.{World, fold, next, reply}
 use Rattle.coord_world.proofs.Facade.{fold_counts}

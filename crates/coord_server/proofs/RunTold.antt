@@ -9,11 +9,11 @@ use Rattle.coord_types.specs.declared.steps.Session.{Session}
 use Rattle.coord_types.specs.declared.steps.Step.{Step}
 use Rattle.coord_types.specs.declared.steps.Step.TheVariants as step
 use Rattle.coord_lines.specs.Written.{IsFirstPart}
-use Rattle.coord_view.specs.Shown.{Shown, shown}
+use Rattle.coord_view.specs.Shown.{shown}
 use Rattle.coord_world.specs.Facade.{StepOutcome, World, fold, next, outs, reply}
 use Rattle.coord_world.proofs.Facade.{fold-append, kept_reply_law}
 use Rattle.coord_ledger.specs.Facade.{IsKeptBy}
-use Rattle.coord_admin.specs.Connections.{Connection, Talk, talks}
+use Rattle.coord_admin.specs.Connections.{Connection, Talk}
 use Rattle.coord_admin.specs.Replies.{reply_line, reply_lines}
 use Rattle.coord_admin.specs.Requests.{asked_by}
 use Rattle.coord_admin.specs.declared.answer.Answer.{Answer}

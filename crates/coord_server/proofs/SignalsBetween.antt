@@ -1,5 +1,5 @@
 -- The lines that are printed of a node's signals are of different steps, each of which gives the signal out.
-use Rattle.std.proofs.Common.{◌≡◌, ◌≢◌, ◌⊎◌, ℕ, ◌+◌, ◌≤◌, ◌-◌, ◌&&◌, ◌==◌, Bool, true, false, List, [], ◌∷◌, ◌++◌, Option, length, refl, sym, ap, ◌∙◌, subst, inl, inr, arith, cond, count_by}
+use Rattle.std.proofs.Common.{◌≡◌, ◌⊎◌, ℕ, ◌+◌, ◌≤◌, ◌-◌, ◌&&◌, Bool, true, List, [], ◌∷◌, Option, length, refl, sym, ap, ◌∙◌, subst, inl, inr, arith, cond, count_by}
 use Rattle.std.specs.List.{AllByRecursion}
 use Rattle.std.specs.Prelude.{nat_le, nat_lt}
 use Rattle.std.proofs.lemmas.Bool.Decides.{nat_tests}
@@ -18,7 +18,7 @@ use Rattle.coord_ledger.specs.promises.Headline.{is_signal}
 use Rattle.coord_ledger.proofs.machine.SignalsBetween.{all_within, count_within}
 use Rattle.coord_admin.specs.Connections.{Talk}
 use Rattle.coord_engine.specs.Facade.{GivesSignal, first_settled}
-use Rattle.coord_server.specs.Lines.{after_line, is_next, nothing_since}
+use Rattle.coord_server.specs.Lines.{after_line, is_next}
 use Rattle.coord_server.specs.Lives.{all_steps}
 use Rattle.coord_server.specs.Printed.{Follow}
 use Rattle.coord_server.specs.Signals.{StepSignal}

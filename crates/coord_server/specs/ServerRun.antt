@@ -23,10 +23,10 @@ use Rattle.coord_world.specs.Facade.{fold}
 use Rattle.coord_admin.specs.Connections.{Talk}
 use Rattle.coord_admin.specs.Times.{IsUsual}
 use Rattle.coord_admin.specs.declared.patience.Patience.{Patience}
-use Rattle.coord_engine.specs.Facade.{GivesSignal, first_settled}
+use Rattle.coord_engine.specs.Facade.{first_settled}
 use Rattle.coord_server.specs.Lives.{AreLives, IsToldForCause, LifeRun, all_steps, life_steps}
 use Rattle.coord_server.specs.Moments.{KeepsAlong}
-use Rattle.coord_server.specs.Printed.{IsPrinted, PrinterState, new_printer}
+use Rattle.coord_server.specs.Printed.{IsPrinted, PrinterState}
 use Rattle.coord_server.specs.declared.server_end.ServerEnd.{ServerEnd}
 
 pub record ServerRun {D V W : Type 0} (model : DiskModel D) (talked : V → List Talk → V → Type 0) (failed : V → V → Type 0) (most : ℕ) (contents : W → Option (List ℕ)) (gives : List Step → ℕ → ℕ → ℕ → Type 0) (store : Kept D) (v : V) (printer : PrinterState W) (ended : ServerEnd D V W) : Type 0 where
@@ -44,10 +44,10 @@ pub record ServerRun {D V W : Type 0} (model : DiskModel D) (talked : V → List
   -- what is told of its end
   pub cause : IsToldForCause most ended
 
--- a server has run so over a store, with lives of the usual length, from those who call, and printed to this output
-abbrev pub HasServed : {D V W : Type 0} → DiskModel D → (V → List Talk → V → Type 0) → (V → V → Type 0) → (W → Option (List ℕ)) → Kept D → V → W → ServerEnd D V W → Type 0
-HasServed model talked failed contents store v output ended = ServerRun model talked failed life_steps contents (GivesSignal store.world) store v (new_printer output store.world.count) ended
+-- a run over a store, with lives of the usual length
+abbrev pub HasServed : {D V W : Type 0} → DiskModel D → (V → List Talk → V → Type 0) → (V → V → Type 0) → (W → Option (List ℕ)) → (List Step → ℕ → ℕ → ℕ → Type 0) → Kept D → V → PrinterState W → ServerEnd D V W → Type 0
+HasServed model talked failed contents gives store v printer ended = ServerRun model talked failed life_steps contents gives store v printer ended
 
--- the same over the connections of a listener, whose clients are waited for as usual
-abbrev pub HasServedUsual : {D W : Type 0} → DiskModel D → (W → Option (List ℕ)) → Kept D → W → ServerEnd D Patience W → Type 0
-HasServedUsual {D} {W} model contents store output ended = (callers : Patience) × IsUsual callers × HasServed model (λ _ _ _. ⊤) (λ _ _. ⊤) contents store callers output ended
+-- the same over the connections of a listener, with the usual patience for its clients
+abbrev pub HasServedUsual : {D W : Type 0} → DiskModel D → (W → Option (List ℕ)) → (List Step → ℕ → ℕ → ℕ → Type 0) → Kept D → PrinterState W → ServerEnd D Patience W → Type 0
+HasServedUsual {D} {W} model contents gives store printer ended = (callers : Patience) × IsUsual callers × HasServed model (λ _ _ _. ⊤) (λ _ _. ⊤) contents gives store callers printer ended

@@ -33,7 +33,7 @@ pub use fault::ServerFault;
 pub use last_line::LastLine;
 pub use lives::serve_lives;
 pub use local::{LocalPort, WORKERS};
-pub use printer::Printer;
+pub use printer::{Printer, SignalPrinter, TakableOutput};
 pub use server_end::ServerEnd;
 pub use serving::{LIFE_STEPS, serve_callers, serve_store};
 pub use signal::{Signal, Telling};

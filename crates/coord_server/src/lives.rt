@@ -6,11 +6,11 @@ ghost use Rattle.coord_store.specs.Kept.{has_stopped};
 ghost use Rattle.coord_server.specs.declared.life_end.LifeEnd.TheVariants as LifeEndAs;
 ghost use Rattle.coord_server.specs.Lives.{IsLastLife, MayGoOn};
 ghost use Rattle.coord_server.specs.Moments.{HasLived};
-ghost use Rattle.coord_server.specs.Printed.{IsPrinted, IsUnprintedFor, new_printer};
+ghost use Rattle.coord_server.specs.Printed.{IsPrinted, IsUnprintedFor};
 ghost use Rattle.coord_server.specs.ServerRun.{ServerRun};
 ghost use Rattle.coord_server.specs.Signals.{MaySignal};
 ghost use Rattle.coord_engine.specs.History.{StartsWith};
-ghost use Rattle.coord_engine.specs.Released.{GivesSignal, MayTell};
+ghost use Rattle.coord_engine.specs.Released.{MayTell};
 ghost use Rattle.coord_types.specs.declared.steps.Step.{Step};
 ghost use Rattle.coord_world.specs.Facade.{fold};
 
@@ -18,14 +18,13 @@ use crate::life::{Life, LifeStart, serve_life};
 use crate::life_end::LifeEnd;
 use crate::printing::{Channels, Opening, Outlet, Printed, Printing, PrintsFrom};
 use crate::setting::Setting;
-use crate::{ServerEnd, ServerFault, Telling};
+use crate::{Printer, ServerEnd, ServerFault, SignalPrinter, Telling};
 use coord_admin::Callers;
 use coord_disk::Disk;
 use coord_engine::{Closed, History, Writer};
 use coord_store::Store;
 use std::alloc::Global;
 use std::io::Write;
-use std::marker::Brand;
 use std::sync::Wait;
 use std::thread;
 use std::thread::{PromisedHandle, Scope, Threads};
@@ -44,35 +43,13 @@ use std::time::Clock;
 /// after a fault, all that was accepted is settled, the flusher ends, then the workers, and at the
 /// last end what is left is printed, however long the output takes it.
 ///
+/// It prints the address and signals of the history that `O` names, which is new and which it writes. Its
+/// printer can't print anything else, also if the server never returns.
+///
 /// The server's end tells what ended it, want of memory or of a thread for a life too, or of the thread
-/// that prints. Only where there was no memory to begin with there is no end: then the store and the
-/// output come back as they were, and nobody was served.
+/// that prints. Only where there was no memory to begin with there is no end: then the store and what
+/// prints come back as they were, and nobody was served.
 pub fn serve_lives<
-    D: Disk + Send,
-    C: Callers + Drop,
-    W: Write + Send + Drop,
-    R: Threads + Wait + Clock + Sync,
->(
-    rt: &R,
-    alloc: Global,
-    most: usize,
-    store: Store<D>,
-    callers: C,
-    output: W,
-) -> Result<ServerEnd<D, C, W>, (Store<D>, W)>
-    requires { has_stopped store ≡ false }
-    ensures served { IfOk result (ServerRun D.model C.talked C.failed most W.contents
-        (GivesSignal store.world) store callers (new_printer output store.world.count)) }
-    ensures unserved { IfErr result (λ back. (back.0 ≡ store) × (back.1 ≡ output)) }
-{
-    let Ok(written) = History::new(alloc) else {
-        return Err((store, output));
-    };
-    serve_told::<D, C, W, Brand, R>(rt, alloc, most, store, callers, output, written)
-}
-
-/// Serves while signals are printed of the steps that are settled in a new history. `O` names it.
-fn serve_told<
     D: Disk + Send,
     C: Callers + Drop,
     W: Write + Send + Drop,
@@ -84,33 +61,32 @@ fn serve_told<
     most: usize,
     store: Store<D>,
     callers: C,
-    output: W,
+    printer: SignalPrinter<W, O>,
     written: (History, Writer),
-) -> Result<ServerEnd<D, C, W>, (Store<D>, W)>
+) -> Result<ServerEnd<D, C, W>, (Store<D>, Printer<W>)>
     requires going { has_stopped store ≡ false }
     requires here { written.0 ≡ O.history }
     requires new { written.1 ≡ record { history = O.history; steps = [] } }
     requires tell { (earlier : List Step) → MayTell O.history earlier (fold store.world earlier)
         (MaySignal O.history O.gives) }
     ensures served { IfOk result (ServerRun D.model C.talked C.failed most W.contents O.gives
-        store callers (new_printer output store.world.count)) }
-    ensures unserved { IfErr result (λ back. (back.0 ≡ store) × (back.1 ≡ output)) }
+        store callers printer) }
+    ensures unserved { IfErr result (λ back. (back.0 ≡ store) × (back.1 ≡ printer)) }
 {
     let (history, mut writer) = written;
-    let since = store.world().count();
     let reader = writer.reader(&history);
     let (Ok(own), Ok(channels)) = (history.another(), Channels::new(alloc)) else {
-        return Err((store, output));
+        return Err((store, printer.into_printer()));
     };
     let start = match LifeStart::new(alloc, &history, store) {
         Ok(start) => start,
-        Err(store) => return Err((store, output)),
+        Err(store) => return Err((store, printer.into_printer())),
     };
     let Outlet {
         port,
         opening,
         printing,
-    } = Outlet::<&R, W, O>::new(rt, alloc, channels, output, since, own, reader);
+    } = Outlet::<&R, W, O>::new(rt, alloc, channels, printer, own, reader);
     let setting = Setting {
         rt,
         alloc,

@@ -7,18 +7,24 @@ ghost use Rattle.coord_server.specs.Lines.{after_line, is_next};
 ghost use Rattle.coord_lines.specs.Written.{WritesFirstPart};
 ghost use Rattle.coord_server.specs.Printed.{BreaksIn, IsOfPrinting, listening_line, new_printer, signal_line, with_lost};
 
-use crate::ServerFault;
 use crate::last_line::LastLine;
+use crate::{ServerFault, Signal, Telling};
 use coord_lines::write_whole;
 use coord_types::NodeId;
 use std::alloc::Global;
 use std::io;
 use std::io::{ErrorKind, Write};
-use std::marker::Model;
+use std::marker::{Model, PhantomData};
 use std::net::SocketAddr;
 
-/// An output that gets whole lines, each written at once and flushed. After one that could not be
-/// written, of which it may have a first part, no more are: what follows is lost. Signals are printed in the order of their steps, each once. Contracts see `PrinterState` (`specs/Printed.antt`).
+/// An output that may be taken out of a `Printer`. Code that is generic over an output without this bound
+/// can write to it only through a `SignalPrinter`, whether it returns or not.
+pub trait TakableOutput {}
+
+impl TakableOutput for Vec<u8> {}
+
+/// An output to which lines were printed, and how that went. It can't print: a `SignalPrinter` does.
+/// Contracts see `PrinterState` (`specs/Printed.antt`).
 #[derive(Drop)]
 pub struct Printer<W: Write> {
     alloc: Global,
@@ -39,26 +45,6 @@ impl<W: Write> Model for Printer<W> {
 }
 
 impl<W: Write> Printer<W> {
-    /// Over an output to which nothing was printed yet, for signals of the steps behind this one.
-    pub fn new(alloc: Global, output: W, since: u64) -> Self
-        ensures { result ≡ new_printer output since }
-    {
-        Printer {
-            alloc,
-            output,
-            is_broken: false,
-            lost: 0,
-            last: LastLine::since(since),
-        }
-    }
-
-    /// The output.
-    pub fn into_output(self) -> W
-        ensures { result ≡ self.output }
-    {
-        self.output
-    }
-
     /// Whether a line could not be written.
     pub fn is_broken(&self) -> bool
         ensures { result ≡ self.now.is_broken }
@@ -73,10 +59,8 @@ impl<W: Write> Printer<W> {
         self.last.step <= steps
     }
 
-    /// Prints `signal N EPOCH`: the step with this number has ended a reset at node N. Answers whether
-    /// the line was written. If it was not and later lines are, the signal did not come behind the last
-    /// one, or there was no memory for it: no part of it was written, and the signal counts as lost.
-    pub fn print_signal(&mut self, step: u64, node: NodeId, epoch: u64) -> bool
+    /// Prints the line of a signal of this step, if it is next in order.
+    fn print_step(&mut self, step: u64, node: NodeId, epoch: u64) -> bool
         ensures written { result ≡ true →
             Appends (W.contents self.old.output) (W.contents self.new.output)
             (signal_line node epoch) }
@@ -119,26 +103,6 @@ impl<W: Write> Printer<W> {
         self.lost = self.lost.saturating_add(1);
     }
 
-    /// Prints the address at which the server listens, or answers why not: the output failed, or
-    /// there was no memory for the line. In the second case no part of it was written, and later
-    /// lines are.
-    pub fn print_address(&mut self, address: SocketAddr) -> Result<(), ServerFault>
-        ensures written { OnOk result (Appends (W.contents self.old.output)
-            (W.contents self.new.output) (listening_line address)) }
-        ensures whole { OnOk result ((self.new.is_broken ≡ false) × (self.new.last ≡ self.old.last)) }
-        ensures broken { self.old.is_broken ≡ true → IsErr result × (self.new ≡ self.old) }
-        ensures failed { OnErr result (self.new.is_broken ≡ false → self.new ≡ self.old) }
-        ensures torn { self.old.is_broken ≡ false → self.new.is_broken ≡ true →
-            BreaksIn W.contents self.old (listening_line address) self.new }
-        ensures fault { IfErr result IsOfPrinting }
-        ensures write { result ≡ Err ServerFault.Write → self.new.is_broken ≡ true }
-    {
-        match format!(in self.alloc; "listening {address}\n") {
-            Ok(line) => self.print(&line),
-            Err(_) => Err(ServerFault::OutOfMemory),
-        }
-    }
-
     /// Writes a line and flushes it.
     fn print(&mut self, line: &str) -> Result<(), ServerFault>
         ensures written { OnOk result (Appends (W.contents self.old.output)
@@ -157,6 +121,108 @@ impl<W: Write> Printer<W> {
         let written = write_line(&mut self.output, line);
         self.is_broken = written.is_err();
         written
+    }
+}
+
+impl<W: Write + TakableOutput> Printer<W> {
+    /// The output.
+    pub fn into_output(self) -> W
+        ensures { result ≡ self.output }
+    {
+        self.output
+    }
+}
+
+/// Prints a server's lines: its address, and signals of the history that `O` names. It can't print
+/// anything else. Each line is written at once and flushed. If one can't be written, a first part of it may
+/// have been, and no more lines are printed. Signals are printed in the order of their steps, each once.
+/// Contracts see `PrinterState`, as of a `Printer`.
+#[derive(Drop)]
+pub struct SignalPrinter<W: Write, O: Telling> {
+    printer: Printer<W>,
+    of: PhantomData<O>,
+}
+
+impl<W: Write, O: Telling> Model for SignalPrinter<W, O> {
+    ghost use Rattle.coord_server.specs.Printed.{PrinterState};
+
+    ghost Value = { PrinterState W };
+
+    ghost view = { λ p. p.printer };
+}
+
+impl<W: Write, O: Telling> SignalPrinter<W, O> {
+    /// Creates a printer for an output to which nothing was printed yet, for signals of steps after this
+    /// one.
+    pub fn new(alloc: Global, output: W, since: u64) -> Self
+        ensures { result ≡ new_printer output since }
+    {
+        SignalPrinter {
+            printer: Printer {
+                alloc,
+                output,
+                is_broken: false,
+                lost: 0,
+                last: LastLine::since(since),
+            },
+            of: PhantomData,
+        }
+    }
+
+    /// Ends the printing, and returns the output with its state.
+    pub fn into_printer(self) -> Printer<W>
+        ensures { result ≡ self }
+    {
+        self.printer
+    }
+
+    /// Whether a line could not be written.
+    pub fn is_broken(&self) -> bool
+        ensures { result ≡ self.now.is_broken }
+    {
+        self.printer.is_broken()
+    }
+
+    /// Prints `signal N EPOCH`: a step has ended a reset at node N. Returns whether the line was written.
+    /// If not, and the output has not failed, the signal was not next in order, or there was no memory for
+    /// the line: no part of it was written, and the signal counts as lost.
+    pub fn print_signal(&mut self, signal: &Signal<O>) -> bool
+        ensures written { result ≡ true →
+            Appends (W.contents self.old.output) (W.contents self.new.output)
+            (signal_line signal.now.node signal.now.epoch) }
+        ensures next { result ≡ true →
+            (is_next self.old.last signal.now.step signal.now.node ≡ true) ×
+            (self.new.last ≡ after_line self.old.last signal.now.step signal.now.node) }
+        ensures whole { result ≡ true → (self.new.is_broken ≡ false) ×
+            (self.new.lost ≡ self.old.lost) }
+        ensures broken { self.old.is_broken ≡ true → (result ≡ false) × (self.new ≡ self.old) }
+        ensures failed { result ≡ false → self.new.is_broken ≡ false →
+            self.new ≡ with_lost self.old }
+        ensures torn { self.old.is_broken ≡ false → self.new.is_broken ≡ true →
+            (is_next self.old.last signal.now.step signal.now.node ≡ true) ×
+            BreaksIn W.contents self.old (signal_line signal.now.node signal.now.epoch) self.new }
+    {
+        self.printer
+            .print_step(signal.step(), signal.node(), signal.epoch())
+    }
+
+    /// Prints the address at which the server listens, or returns why not: the output failed, or there
+    /// was no memory for the line. In the second case no part of it was written, and later lines are.
+    pub fn print_address(&mut self, address: SocketAddr) -> Result<(), ServerFault>
+        ensures written { OnOk result (Appends (W.contents self.old.output)
+            (W.contents self.new.output) (listening_line address)) }
+        ensures whole { OnOk result ((self.new.is_broken ≡ false) × (self.new.last ≡ self.old.last)) }
+        ensures broken { self.old.is_broken ≡ true → IsErr result × (self.new ≡ self.old) }
+        ensures failed { OnErr result (self.new.is_broken ≡ false → self.new ≡ self.old) }
+        ensures torn { self.old.is_broken ≡ false → self.new.is_broken ≡ true →
+            BreaksIn W.contents self.old (listening_line address) self.new }
+        ensures fault { IfErr result IsOfPrinting }
+        ensures write { result ≡ Err ServerFault.Write → self.new.is_broken ≡ true }
+    {
+        match format!(in self.printer.alloc; "listening {address}\n") {
+            Ok(line) => self.printer.print(&line),
+            Err(_) => Err(ServerFault::OutOfMemory),
+        }
     }
 }
 

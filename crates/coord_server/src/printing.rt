@@ -3,17 +3,16 @@
 ghost use Rattle.std.specs.Prelude.{◌≡◌, ◌⊎◌, List, Err, IfErr, IsErr, None, OnOk, true};
 ghost use Rattle.std.specs.Iterator.{Drains, IsFinite};
 ghost use Rattle.coord_server.specs.Ending.{EndsUnopened};
-ghost use Rattle.coord_server.specs.Printed.{BreaksIn, HasTold, IsOfPrinting, IsPrinted, IsUnprintedFor, PrintsEach, TellsAddress, listening_line, new_printer};
+ghost use Rattle.coord_server.specs.Printed.{BreaksIn, HasTold, IsOfPrinting, IsPrinted, IsUnprintedFor, PrintsEach, TellsAddress, listening_line};
 ghost use Rattle.coord_server.specs.Signals.{StepSignal};
 
 use crate::life_end::LifeEnd;
-use crate::{LocalPort, Printer, ServerFault, Signal, Telling};
+use crate::{LocalPort, Printer, ServerFault, Signal, SignalPrinter, Telling};
 use coord_admin::Callers;
 use coord_engine::{History, Reader};
 use crossbeam_channel::{Receiver, Sender};
 use std::alloc::{AllocError, Global};
 use std::io::Write;
-use std::marker::PhantomData;
 use std::net::SocketAddr;
 use std::snapshot::Snapshot;
 use std::sync::Wait;
@@ -35,7 +34,7 @@ pub struct Printed<W: Write> {
 pub fn print_signals<W: Write, O: Telling, I: Iterator<Item = Signal<O>>>(
     history: &History,
     signals: I,
-    printer: Printer<W>,
+    printer: SignalPrinter<W, O>,
     reader: Reader,
 ) -> Printed<W>
     requires signals { I.can_next signals × IsFinite (I.remaining signals) }
@@ -51,18 +50,18 @@ pub fn print_signals<W: Write, O: Telling, I: Iterator<Item = Signal<O>>>(
     let mut printer = printer;
     let mut reader = reader;
     for signal in signals {
-        printer.print_signal(signal.step(), signal.node(), signal.epoch());
+        printer.print_signal(&signal);
         reader.join(history, signal.into_reader());
         if printer.is_broken() {
             return Printed {
-                printer,
+                printer: printer.into_printer(),
                 reader,
                 unprinted: None,
             };
         }
     }
     Printed {
-        printer,
+        printer: printer.into_printer(),
         reader,
         unprinted: None,
     }
@@ -107,9 +106,9 @@ impl Opening {
 }
 
 /// Prints the address at which the server listens; or says why it was not printed.
-fn print_listening<W: Write>(
+fn print_listening<W: Write, O: Telling>(
     address: SocketAddr,
-    printer: &mut Printer<W>,
+    printer: &mut SignalPrinter<W, O>,
 ) -> Result<(), ServerFault>
     ensures printed { OnOk result (TellsAddress W.contents printer.old printer.new) }
     ensures failed { IfErr result (λ _. (printer.new ≡ printer.old) ⊎
@@ -123,7 +122,7 @@ fn print_listening<W: Write>(
 /// What prints, and what its thread receives: the address for the first line, and signals.
 #[derive(Drop)]
 pub struct Printing<W: Write + Drop, O: Telling> {
-    pub printer: Printer<W>,
+    pub printer: SignalPrinter<W, O>,
     history: History,
     reader: Reader,
     addresses: Receiver<SocketAddr>,
@@ -154,7 +153,7 @@ impl<W: Write + Drop, O: Telling> Printing<W, O> {
         let mut printer = printer;
         let Ok(address) = addresses.recv(rt) else {
             return Printed {
-                printer,
+                printer: printer.into_printer(),
                 reader,
                 unprinted: None,
             };
@@ -165,7 +164,7 @@ impl<W: Write + Drop, O: Telling> Printing<W, O> {
                 print_signals(&history, signals.iter(rt), printer, reader)
             }
             Err(fault) => Printed {
-                printer,
+                printer: printer.into_printer(),
                 reader,
                 unprinted: Some(fault),
             },
@@ -177,18 +176,16 @@ impl<W: Write + Drop, O: Telling> Printing<W, O> {
 /// read.
 #[derive(Drop)]
 pub struct PrintsFrom<W: Write + Drop, O: Telling> {
-    pub first: Snapshot<Printer<W>>,
-    of: PhantomData<O>,
+    pub first: Snapshot<SignalPrinter<W, O>>,
 }
 
 impl<W: Write + Drop, O: Telling> PrintsFrom<W, O> {
     /// From this.
-    pub fn new(printer: &Printer<W>) -> Self
+    pub fn new(printer: &SignalPrinter<W, O>) -> Self
         ensures { result.first.value ≡ printer.now }
     {
         PrintsFrom {
             first: Snapshot::of(printer),
-            of: PhantomData,
         }
     }
 }
@@ -231,20 +228,19 @@ pub struct Outlet<R: Wait, W: Write + Drop, O: Telling> {
 }
 
 impl<R: Wait + Drop, W: Write + Drop, O: Telling> Outlet<R, W, O> {
-    /// Of an output to which nothing was printed yet, for signals of the steps behind this one, which
-    /// the history has. No clause can say that the two sides of a channel belong together.
+    /// Of a printer, with the history of its signals. No clause can say that the two sides of a channel
+    /// belong together.
     pub fn new(
         rt: R,
         alloc: Global,
         channels: Channels<O>,
-        output: W,
-        since: u64,
+        printer: SignalPrinter<W, O>,
         history: History,
         reader: Reader,
     ) -> Self
         requires here { history ≡ O.history }
         requires own { reader.history ≡ O.history }
-        ensures { result.printing.printer ≡ new_printer output since }
+        ensures { result.printing.printer ≡ printer }
     {
         let Channels {
             addresses: (to, addresses),
@@ -258,7 +254,7 @@ impl<R: Wait + Drop, W: Write + Drop, O: Telling> Outlet<R, W, O> {
                 printed: opened,
             },
             printing: Printing {
-                printer: Printer::new(alloc, output, since),
+                printer,
                 history,
                 reader,
                 addresses,

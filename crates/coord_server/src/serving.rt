@@ -1,14 +1,19 @@
 //! A store that is served until a line closes it.
 
-ghost use Rattle.std.specs.Prelude.{◌≡◌, false, IfErr, IfOk};
+ghost use Rattle.std.specs.Prelude.{◌≡◌, List, [], false, IfErr, IfOk};
 ghost use Rattle.coord_admin.specs.Times.{IsUsual};
+ghost use Rattle.coord_engine.specs.Released.{MayTell};
 ghost use Rattle.coord_store.specs.Kept.{has_stopped};
 ghost use Rattle.coord_server.specs.ServerRun.{HasServed, HasServedUsual};
+ghost use Rattle.coord_server.specs.Signals.{MaySignal};
+ghost use Rattle.coord_types.specs.declared.steps.Step.{Step};
+ghost use Rattle.coord_world.specs.Facade.{fold};
 
-use crate::ServerEnd;
 use crate::lives::serve_lives;
+use crate::{Printer, ServerEnd, SignalPrinter, Telling};
 use coord_admin::{Accepted, Callers, Patience};
 use coord_disk::Disk;
+use coord_engine::{History, Writer};
 use coord_store::Store;
 use std::alloc::Global;
 use std::io::{Read, Write};
@@ -24,32 +29,43 @@ pub const LIFE_STEPS: usize = 262_144;
 
 /// Serves a store to the connections of a listener, one after the other, until a line closes it, and
 /// gives back what is left of the engine of its last life. It is `serve_callers` over these
-/// connections, with the usual patience. Where there is no memory to begin with, the store and the output
-/// come back as they were.
+/// connections, with the usual patience. The history is new, and `O` names it. If there is no memory to
+/// begin, the store and what prints are returned as they were.
+///
+/// A server that never returns has no postcondition. But whatever it does and wherever it stops, it writes
+/// the disk only by commits of its store, and the output only by its printer's calls: its type says so,
+/// since it takes any disk and any output, and these need not be `Takable` and `TakableOutput`.
 pub fn serve_store<
     'a,
     D: Disk + Send,
     S: Read + Write + OpenStream + Drop,
     A: OpenListener<Stream = S>,
     W: Write + Send + Drop,
+    O: Telling + Send + Sync,
     R: Threads + Wait + Clock + Sync,
 >(
     rt: &'a R,
     alloc: Global,
     store: Store<D>,
     listener: &'a A,
-    output: W,
-) -> Result<ServerEnd<D, Accepted<'a, A, R>, W>, (Store<D>, W)>
-    requires { has_stopped store ≡ false }
-    ensures served { IfOk result (HasServedUsual D.model W.contents store output) }
-    ensures unserved { IfErr result (λ back. (back.0 ≡ store) × (back.1 ≡ output)) }
+    printer: SignalPrinter<W, O>,
+    written: (History, Writer),
+) -> Result<ServerEnd<D, Accepted<'a, A, R>, W>, (Store<D>, Printer<W>)>
+    requires going { has_stopped store ≡ false }
+    requires here { written.0 ≡ O.history }
+    requires new { written.1 ≡ record { history = O.history; steps = [] } }
+    requires tell { (earlier : List Step) → MayTell O.history earlier (fold store.world earlier)
+        (MaySignal O.history O.gives) }
+    ensures served { IfOk result (HasServedUsual D.model W.contents O.gives store printer) }
+    ensures unserved { IfErr result (λ back. (back.0 ≡ store) × (back.1 ≡ printer)) }
 {
     serve_accepted(
         rt,
         alloc,
         store,
         Accepted::new(rt, listener, Patience::usual()),
-        output,
+        printer,
+        written,
     )
 }
 
@@ -60,41 +76,53 @@ fn serve_accepted<
     S: Read + Write + OpenStream + Drop,
     A: OpenListener<Stream = S>,
     W: Write + Send + Drop,
+    O: Telling + Send + Sync,
     R: Threads + Wait + Clock + Sync,
 >(
     rt: &'a R,
     alloc: Global,
     store: Store<D>,
     callers: Accepted<'a, A, R>,
-    output: W,
-) -> Result<ServerEnd<D, Accepted<'a, A, R>, W>, (Store<D>, W)>
+    printer: SignalPrinter<W, O>,
+    written: (History, Writer),
+) -> Result<ServerEnd<D, Accepted<'a, A, R>, W>, (Store<D>, Printer<W>)>
     requires going { has_stopped store ≡ false }
     requires patience { IsUsual callers }
-    ensures served { IfOk result (HasServedUsual D.model W.contents store output) }
-    ensures unserved { IfErr result (λ back. (back.0 ≡ store) × (back.1 ≡ output)) }
+    requires here { written.0 ≡ O.history }
+    requires new { written.1 ≡ record { history = O.history; steps = [] } }
+    requires tell { (earlier : List Step) → MayTell O.history earlier (fold store.world earlier)
+        (MaySignal O.history O.gives) }
+    ensures served { IfOk result (HasServedUsual D.model W.contents O.gives store printer) }
+    ensures unserved { IfErr result (λ back. (back.0 ≡ store) × (back.1 ≡ printer)) }
 {
-    serve_callers(rt, alloc, store, callers, output)
+    serve_callers(rt, alloc, store, callers, printer, written)
 }
 
 /// Serves a store to those who call, one after the other, until a line closes it, and gives back
 /// what is left of the engine of its last life. It is `serve_lives` with `LIFE_STEPS`. Where there is no
-/// memory to begin with, the store and the output come back as they were.
+/// memory to begin with, the store and what prints come back as they were.
 pub fn serve_callers<
     D: Disk + Send,
     C: Callers + Drop,
     W: Write + Send + Drop,
+    O: Telling + Send + Sync,
     R: Threads + Wait + Clock + Sync,
 >(
     rt: &R,
     alloc: Global,
     store: Store<D>,
     callers: C,
-    output: W,
-) -> Result<ServerEnd<D, C, W>, (Store<D>, W)>
-    requires { has_stopped store ≡ false }
+    printer: SignalPrinter<W, O>,
+    written: (History, Writer),
+) -> Result<ServerEnd<D, C, W>, (Store<D>, Printer<W>)>
+    requires going { has_stopped store ≡ false }
+    requires here { written.0 ≡ O.history }
+    requires new { written.1 ≡ record { history = O.history; steps = [] } }
+    requires tell { (earlier : List Step) → MayTell O.history earlier (fold store.world earlier)
+        (MaySignal O.history O.gives) }
     ensures served { IfOk result
-        (HasServed D.model C.talked C.failed W.contents store callers output) }
-    ensures unserved { IfErr result (λ back. (back.0 ≡ store) × (back.1 ≡ output)) }
+        (HasServed D.model C.talked C.failed W.contents O.gives store callers printer) }
+    ensures unserved { IfErr result (λ back. (back.0 ≡ store) × (back.1 ≡ printer)) }
 {
-    serve_lives(rt, alloc, LIFE_STEPS, store, callers, output)
+    serve_lives(rt, alloc, LIFE_STEPS, store, callers, printer, written)
 }

@@ -1,5 +1,6 @@
 use Rattle.std.proofs.Common.{◌≡◌, Err, IfOk, Ok, ap, false, inl, rules, subst, sym, ◌∙◌}
 use Rattle.std.proofs.KnownBytes.{Keeps-refl}
+use Rattle.coord_engine.specs.Released.{GivesSignal}
 use Rattle.coord_store.specs.Kept.{has_stopped}
 use Rattle.coord_commands.proofs.Endings.{err_last}
 use Rattle.coord_commands.proofs.Opening.{ended, not_begun, not_bound, served_whole}
@@ -36,7 +37,7 @@ returns-in-Ok-Ok-clause-served g c =
     let new = g.W.Write.contents c.serve_open-served.new.output in
     let told = c.serve_open-served.ensures in
     let is = c.in-Ok-Ok.is ∙ ap (λ v. Ok v) c.in-Ok-Ok.field-0-is in
-    served_whole m (g.F.Folder.holds c.args.folder.now c.args.file.now) (g.F.Folder.holds c.close.new.self c.args.file.now) old new store c.in-Ok-Ok.closed c.left.result c.in_ok-store.ensures.opened (subst (λ r. IfOk r (ServedWithOutput m store old new)) is told.served)
+    served_whole m (g.F.Folder.holds c.args.folder.now c.args.file.now) (g.F.Folder.holds c.close.new.self c.args.file.now) old new store c.in-Ok-Ok.closed c.left.result c.in_ok-store.ensures.opened (subst (λ r. IfOk r (ServedWithOutput m (GivesSignal store.world) store old new)) is told.served)
     (c.left.ensures.bytes (subst (λ r. IfOk r (λ told. IfOk told (λ closed. has_stopped closed.store ≡ false))) is told.going)) c.left.ensures.disk c.close.ensures
 
 -- a server that has ended with a fault
@@ -52,4 +53,4 @@ returns-in-Ok-Err-clause-fault g c =
     let left = c.left-in-Ok-Err in
     let told : c.into.result ≡ fault_of_server fault = search rules in
     subst (EndsServing m before after old new) (sym told)
-    (ended m before after old new store (fault, c.in-Ok-Err.closed) left.result c.in_ok-store.ensures.opened (subst (λ r. IfOk r (ServedWithOutput m store old new)) (c.in-Ok-Err.is ∙ ap (λ v. Ok v) c.in-Ok-Err.field-0-is) c.serve_open-served.ensures.served) left.ensures.disk c.close-in-Ok-Err.ensures)
+    (ended m before after old new store (fault, c.in-Ok-Err.closed) left.result c.in_ok-store.ensures.opened (subst (λ r. IfOk r (ServedWithOutput m (GivesSignal store.world) store old new)) (c.in-Ok-Err.is ∙ ap (λ v. Ok v) c.in-Ok-Err.field-0-is) c.serve_open-served.ensures.served) left.ensures.disk c.close-in-Ok-Err.ensures)

@@ -1,8 +1,8 @@
 use Rattle.std.proofs.Common.{refl}
-use Rattle.coord_engine.specs.Facade.{AtMomentRead, CollectsAs}
+use Rattle.coord_engine.specs.Facade.{CollectsAs}
 use Rattle.coord_engine.specs.State.{based_on}
-use Rattle.coord_engine.specs.declared.collected.Collected.TheVariants.{Settled, Refused}
-use Rattle.coord_server.proofs.Reading.{read_at, told_at}
+use Rattle.coord_engine.specs.declared.collected.Collected.TheVariants.{Refused}
+use Rattle.coord_server.proofs.Reading.{told_at}
 use Rattle.coord_server.proofs.desk.collect.Goals as goal
 
 pub returns-in-Ok-clause-replied : goal.returns-in-Ok-clause-replied

@@ -1,5 +1,10 @@
-use Rattle.coord_server.proofs.Signals.{may_tell}
+use Rattle.std.proofs.Common.{subst}
+use Rattle.coord_store.specs.Kept.{Kept}
+use Rattle.coord_server.specs.Printed.{PrinterState}
+use Rattle.coord_server.specs.ServerRun.{ServerRun}
 use Rattle.coord_server.proofs.lives.serve_lives.Goals as goal
 
-pub serve_told-requires-clause-tell : goal.serve_told-requires-clause-tell
-serve_told-requires-clause-tell g c = λ _ _ earlier. may_tell _ c.args.store.world earlier
+pub returns-clause-served : goal.returns-clause-served
+returns-clause-served g c =
+    let tells : Kept g.row.D.Denot → PrinterState g.row.W.Denot → Type 0 = λ store printer. ServerRun g.D.Disk.model g.C.Callers.talked g.C.Callers.failed c.args.most g.W.Write.contents g.O.Telling.gives store c.args.callers printer c.serve_and_print.result in
+    subst (λ store. tells store c.args.printer) c.in-Ok.ensures.over (subst (tells c.in-Ok.start.over.value) c.new-port.ensures c.serve_and_print.ensures)

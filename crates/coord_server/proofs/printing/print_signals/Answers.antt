@@ -1,7 +1,6 @@
 use Rattle.std.proofs.Common.{◌≡◌, false, refl, subst, sym, ◌∙◌}
 use Rattle.coord_server.proofs.Starts.{on_more, printed, prints_next, still_works, told_last, told_more, told_next}
 use Rattle.coord_server.specs.Printed.{HasTold, Prints}
-use Rattle.coord_server.specs.Signals.{StepSignal}
 use Rattle.coord_server.proofs.printing.print_signals.Goals as goal
 
 pub loop-signal-preserved : goal.loop-signal-preserved
@@ -16,10 +15,8 @@ loop-signal-preserved g c =
     let join = c.join.ensures in
     let read = c.loop-signal.reader.steps in
     let may = g.O.Telling.gives c.join.new.self.steps in
-    let came : StepSignal = record { step = c.step.result; node = c.node.result; epoch = c.epoch.result } in
-    let same : came ≡ s = λ i. record { step = c.step.ensures i; node = c.node.ensures i; epoch = c.epoch.ensures i } in
     let works : q.is_broken ≡ false = sym c.is_broken.ensures ∙ c.if-is_broken.false in
-    let one : Prints contents m s q = subst (λ x. Prints contents m x q) same (printed contents m q came c.print_signal.result is.written is.next is.whole is.failed works) in
+    let one : Prints contents m s q = printed contents m q s c.print_signal.result is.written is.next is.whole is.failed works in
     let told : HasTold contents may p m = told_more contents (g.O.Telling.gives read) may (on_more g.O.Telling.gives g.O.Telling.lasts read c.join.new.self.steps join.begins) p m c.loop-signal.invariant.3 in
     let mine = on_more g.O.Telling.gives g.O.Telling.lasts _ c.join.new.self.steps join.others s.step s.node s.epoch c.into_reader.ensures.1 in (
       goes.keeps,
@@ -40,9 +37,6 @@ returns-then-is_broken-clause-told g c =
     let join = c.join.ensures in
     let read = c.loop-signal.reader.steps in
     let may = g.O.Telling.gives c.join.new.self.steps in
-    let came : StepSignal = record { step = c.step.result; node = c.node.result; epoch = c.epoch.result } in
-    let same : came ≡ s = λ i. record { step = c.step.ensures i; node = c.node.ensures i; epoch = c.epoch.ensures i } in
     let told : HasTold contents may p m = told_more contents (g.O.Telling.gives read) may (on_more g.O.Telling.gives g.O.Telling.lasts read c.join.new.self.steps join.begins) p m c.loop-signal.invariant.3 in
     let mine = on_more g.O.Telling.gives g.O.Telling.lasts _ c.join.new.self.steps join.others s.step s.node s.epoch c.into_reader.ensures.1 in
-    let one : may came.step came.node came.epoch = subst (λ (x : StepSignal). may x.step x.node x.epoch) (sym same) mine in
-    told_last contents may p m q came m.is_broken refl told one (sym c.is_broken.ensures ∙ c.if-is_broken.true) (λ was. (is.broken was).1) is.torn
+    subst (HasTold contents may p) (sym c.into_printer.ensures) (told_last contents may p m q s m.is_broken refl told mine (sym c.is_broken.ensures ∙ c.if-is_broken.true) (λ was. (is.broken was).1) is.torn)
