@@ -81,8 +81,8 @@ pub record IsMember (talked : List Talked) (serial i : ℕ) (m : Member) : Type 
   pub loads : (e : ℕ) → m.loading ≡ Some e → (m.kept.begun ≡ None) × (m.kept.party ≡ None)
   pub named : (p : List Entry) → m.tag ≡ Some p → run_of m.kept.party ≡ Some p
   pub own : (p : List Entry) (s : Start) → run_of m.kept.party ≡ Some p → m.work ≡ Some s → IsOneOf (record { start = s; party = p }) talked
-  pub cone : (p : List Entry) (s : Start) → run_of m.kept.party ≡ Some p → IsOneOf s m.cone → IsOneOf (record { start = s; party = p }) talked
-  pub alone : (s : Start) → run_of m.kept.party ≡ None → IsOneOf s m.cone → m.work ≡ Some s
+  pub causal_past : (p : List Entry) (s : Start) → run_of m.kept.party ≡ Some p → IsOneOf s m.causal_past → IsOneOf (record { start = s; party = p }) talked
+  pub alone : (s : Start) → run_of m.kept.party ≡ None → IsOneOf s m.causal_past → m.work ≡ Some s
   pub fresh : (s : Start) (t : Talked) → run_of m.kept.party ≡ None → m.work ≡ Some s → IsOneOf t talked → t.start ≡ s → ⊥
 
 -- what rules out, for a start that talked, that its node (which keeps this, and loads for this epoch) goes on as another one that is
@@ -100,7 +100,7 @@ pub record Holds (c : Claim) (past : Past) (w : MemberWorld) : Type 0 where
   pub members : (i : ℕ) → IsMember w.talked w.serial i (w.member i)
   pub ruled : (t : Talked) → IsOneOf t w.talked → past t.start.node (w.member t.start.node).kept (w.member t.start.node).loading t
   pub serials : (t : Talked) → IsOneOf t w.talked → t.start.serial < w.serial
-  pub messages : (m : Message) (s : Start) → IsOneOf m w.messages → IsOneOf s m.cone → IsOneOf (record { start = s; party = m.tag }) w.talked
+  pub messages : (m : Message) (s : Start) → IsOneOf m w.messages → IsOneOf s m.causal_past → IsOneOf (record { start = s; party = m.tag }) w.talked
   pub runs : (t u : Talked) → IsOneOf t w.talked → IsOneOf u w.talked → t.start ≡ u.start → t ≡ u
   pub starts : (t u : Talked) → IsOneOf t w.talked → IsOneOf u w.talked → c.same t u → c.alike t u
 
@@ -134,7 +134,7 @@ member_stays more talked serial next i m le others is =
       named = is.named;
       alone = is.alone;
       own = λ p s e f. one_more _ more talked (is.own p s e f);
-      cone = λ p s e f. one_more _ more talked (is.cone p s e f);
+      causal_past = λ p s e f. one_more _ more talked (is.causal_past p s e f);
       fresh = λ s t e f in_t same. elim (one_of_both t more talked in_t) [ inl k ↦ others s t e f k same | inr k ↦ is.fresh s t e f k same ];
     }
 
@@ -196,7 +196,7 @@ pub crashed : (c : Claim) (past : Past) (w : MemberWorld) (i : ℕ) → Lasts pa
 crashed c past w i lasts h =
     let is = h.members i in
     replaced c past past w i (record (w.member i) { tag = None; loading = None }) [] h
-    (record { works = is.works; begun = is.begun; loads = λ e f. absurd (cc); named = λ p e. absurd (cc); own = is.own; cone = is.cone; alone = is.alone; fresh = is.fresh })
+    (record { works = is.works; begun = is.begun; loads = λ e f. absurd (cc); named = λ p e. absurd (cc); own = is.own; causal_past = is.causal_past; alone = is.alone; fresh = is.fresh })
     (nobody_new c w i) (λ j k l t away is. is)
     (λ t in_t e. lasts.silent i (w.member i).kept (w.member i).loading t (past_at c past w i t h in_t e))
 
@@ -204,9 +204,9 @@ pub silent : (c : Claim) (past : Past) (w : MemberWorld) (i : ℕ) → Holds c p
 silent c past w i h =
     let is = h.members i in
     same_kept c past w i (record (w.member i) { tag = None }) h
-    (record { works = is.works; begun = is.begun; loads = is.loads; named = λ p e. absurd (cc); own = is.own; cone = is.cone; alone = is.alone; fresh = is.fresh }) refl refl
+    (record { works = is.works; begun = is.begun; loads = is.loads; named = λ p e. absurd (cc); own = is.own; causal_past = is.causal_past; alone = is.alone; fresh = is.fresh }) refl refl
 
-pub sent : (c : Claim) (past : Past) (w : MemberWorld) (i : ℕ) (tag : Option (List Entry)) → Holds c past w → (w.member i).tag ≡ tag → Holds c past (record w { messages = message_of tag (w.member i).cone ++ w.messages })
+pub sent : (c : Claim) (past : Past) (w : MemberWorld) (i : ℕ) (tag : Option (List Entry)) → Holds c past w → (w.member i).tag ≡ tag → Holds c past (record w { messages = message_of tag (w.member i).causal_past ++ w.messages })
 sent c past w i None h e = record { members = h.members; ruled = h.ruled; serials = h.serials; messages = h.messages; runs = h.runs; starts = h.starts }
 sent c past w i (Some p) h e =
     record {
@@ -218,10 +218,10 @@ sent c past w i (Some p) h e =
       messages = λ m s in_m in_s. sent_or_not m s in_m in_s;
     }
   where
-    sent_or_not : (m : Message) (s : Start) → IsOneOf m (message_of (Some p) (w.member i).cone ++ w.messages) → IsOneOf s m.cone → IsOneOf (record { start = s; party = m.tag }) w.talked
+    sent_or_not : (m : Message) (s : Start) → IsOneOf m (message_of (Some p) (w.member i).causal_past ++ w.messages) → IsOneOf s m.causal_past → IsOneOf (record { start = s; party = m.tag }) w.talked
     sent_or_not m s (inl same) in_s =
-        let in_cone : IsOneOf s (w.member i).cone = subst (λ (n : Message). IsOneOf s n.cone) same in_s in
-        let talked = (h.members i).cone p s ((h.members i).named p e) in_cone in
+        let in_causal_past : IsOneOf s (w.member i).causal_past = subst (λ (n : Message). IsOneOf s n.causal_past) same in_s in
+        let talked = (h.members i).causal_past p s ((h.members i).named p e) in_causal_past in
         subst (λ (n : Message). IsOneOf (record { start = s; party = n.tag }) w.talked) (sym same) talked
     sent_or_not m s (inr in_m) in_s = h.messages m s in_m in_s
 
@@ -231,8 +231,8 @@ of_run : (own : Option (List Entry)) (tag : List Entry) → is_of_run own tag �
 of_run None tag e = absurd (cc)
 of_run (Some own) tag e = ap Some (same_parties own tag e)
 
--- a cone grows by one of the same run
-hearing : (c : Claim) (past : Past) (w : MemberWorld) (i : ℕ) (message : Message) → Holds c past w → IsOneOf message w.messages → (w.member i).tag ≡ Some message.tag → IsMember w.talked w.serial i (record (w.member i) { cone = message.cone ++ (w.member i).cone })
+-- a causal past grows by one of the same run
+hearing : (c : Claim) (past : Past) (w : MemberWorld) (i : ℕ) (message : Message) → Holds c past w → IsOneOf message w.messages → (w.member i).tag ≡ Some message.tag → IsMember w.talked w.serial i (record (w.member i) { causal_past = message.causal_past ++ (w.member i).causal_past })
 hearing c past w i message h in_m e =
     let is = h.members i in
     let party : run_of (w.member i).kept.party ≡ Some message.tag = is.named message.tag e in
@@ -243,10 +243,10 @@ hearing c past w i message h in_m e =
       named = is.named;
       own = is.own;
       fresh = is.fresh;
-      cone = λ p s f in_s.
-          elim (one_of_both s message.cone (w.member i).cone in_s) [
+      causal_past = λ p s f in_s.
+          elim (one_of_both s message.causal_past (w.member i).causal_past in_s) [
             | inl k ↦ let same : message.tag ≡ p = cc in subst (λ q. IsOneOf (record { start = s; party = q }) w.talked) same (h.messages message s in_m k)
-            | inr k ↦ is.cone p s f k
+            | inr k ↦ is.causal_past p s f k
           ];
       alone = λ s f in_s. absurd (cc);
     }
@@ -255,8 +255,8 @@ pub hears : (c : Claim) (past : Past) (w : MemberWorld) (i : ℕ) (e : Option Me
 hears c past w i None h in_w = same_kept c past w i (w.member i) h (h.members i) refl refl
 hears c past w i (Some message) h in_w =
     elim (is_of_run (w.member i).tag message.tag) as
-    (λ b. (is_of_run (w.member i).tag message.tag ≡ b) → Holds c past (with_member w i (if b then record (w.member i) { cone = message.cone ++ (w.member i).cone } else (w.member i)))) [
-      | true ↦ λ e. same_kept c past w i (record (w.member i) { cone = message.cone ++ (w.member i).cone }) h (hearing c past w i message h (in_w message refl) (of_run (w.member i).tag message.tag e)) refl refl
+    (λ b. (is_of_run (w.member i).tag message.tag ≡ b) → Holds c past (with_member w i (if b then record (w.member i) { causal_past = message.causal_past ++ (w.member i).causal_past } else (w.member i)))) [
+      | true ↦ λ e. same_kept c past w i (record (w.member i) { causal_past = message.causal_past ++ (w.member i).causal_past }) h (hearing c past w i message h (in_w message refl) (of_run (w.member i).tag message.tag e)) refl refl
       | false ↦ λ e. same_kept c past w i (w.member i) h (h.members i) refl refl
     ] refl
 
@@ -280,7 +280,7 @@ loads c past w i (Some epoch) lasts h e =
     let kept = (w.member i).kept in
     let known = (h.members i).loads epoch e in
     let start : Start = record { node = i; epoch = epoch; serial = w.serial } in
-    let m : Member = record { kept = begun_with kept epoch; tag = None; loading = None; work = Some start; cone = start ∷ [] } in
+    let m : Member = record { kept = begun_with kept epoch; tag = None; loading = None; work = Some start; causal_past = start ∷ [] } in
     let is : IsMember w.talked (w.serial + 1) i m =
     record {
       works = λ s f. let same : start ≡ s = cc in subst (λ (s : Start). (s.node ≡ i) × (Some epoch ≡ Some s.epoch) × (s.serial < w.serial + 1)) same (refl, refl, omega arith);
@@ -288,7 +288,7 @@ loads c past w i (Some epoch) lasts h e =
       loads = λ n f. absurd (cc);
       named = λ p f. absurd (cc);
       own = λ p s f g. absurd (let none = ap run_of known.1 in cc);
-      cone = λ p s f g. absurd (let none = ap run_of known.1 in cc);
+      causal_past = λ p s f g. absurd (let none = ap run_of known.1 in cc);
       alone = λ s f in_s. elim in_s [ inl same ↦ ap Some (sym same) | inr none ↦ absurd none ];
       fresh = λ s t f g in_t same.
           let less = h.serials t in_t in
@@ -330,16 +330,16 @@ not_true false e f = absurd (cc)
 
 -- a member that has nothing in hand
 idle_is : (talked : List Talked) (serial i : ℕ) (kept : Kept) (loading : Option ℕ) → kept.begun ≡ None → ((e : ℕ) → loading ≡ Some e → kept.party ≡ None) →
-    IsMember talked serial i (record { kept = kept; tag = None; loading = loading; work = None; cone = [] })
+    IsMember talked serial i (record { kept = kept; tag = None; loading = loading; work = None; causal_past = [] })
 idle_is talked serial i kept loading none party =
-    record { works = λ s e. absurd (cc); begun = λ n e. absurd (cc); loads = λ e f. (none, party e f); named = λ p e. absurd (cc); own = λ p s e f. absurd (cc); cone = λ p s e f. absurd f; alone = λ s e f. absurd f; fresh = λ s t e f. absurd (cc) }
+    record { works = λ s e. absurd (cc); begun = λ n e. absurd (cc); loads = λ e f. (none, party e f); named = λ p e. absurd (cc); own = λ p s e f. absurd (cc); causal_past = λ p s e f. absurd f; alone = λ s e f. absurd f; fresh = λ s t e f. absurd (cc) }
 
 -- a member has nothing in hand any more, and keeps this
 pub drops : (c : Claim) (past later : Past) (w : MemberWorld) (i : ℕ) (kept : Kept) (loading : Option ℕ) → Holds c past w → kept.begun ≡ None → ((e : ℕ) → loading ≡ Some e → kept.party ≡ None) → StaysFor past later i →
     ((t : Talked) → IsOneOf t w.talked → t.start.node ≡ i → later i kept loading t) →
-    Holds c later (with_member w i (record { kept = kept; tag = None; loading = loading; work = None; cone = [] }))
+    Holds c later (with_member w i (record { kept = kept; tag = None; loading = loading; work = None; causal_past = [] }))
 drops c past later w i kept loading h none party stays over =
-    replaced c past later w i (record { kept = kept; tag = None; loading = loading; work = None; cone = [] }) [] h (idle_is w.talked w.serial i kept loading none party) (nobody_new c w i) stays over
+    replaced c past later w i (record { kept = kept; tag = None; loading = loading; work = None; causal_past = [] }) [] h (idle_is w.talked w.serial i kept loading none party) (nobody_new c w i) stays over
 
 -- a member loses its work, and nothing else
 pub forgets : (c : Claim) (past : Past) (w : MemberWorld) (i : ℕ) → Lasts past → Holds c past w → Holds c past (with_member w i (idle (without_work (w.member i).kept)))
@@ -418,7 +418,7 @@ settles c past later w i row now h rules party begun alone =
       loads = λ e f. let none = (is.loads e f).0 in absurd (cc);
       named = λ p e. absurd (cc);
       own = λ p s e f. absurd (cc);
-      cone = λ p s e in_s. absurd (cc);
+      causal_past = λ p s e in_s. absurd (cc);
       alone = λ s e in_s. is.alone s before in_s;
       fresh = λ s u e f in_u same. is.fresh s u before f in_u same;
     })
@@ -438,7 +438,7 @@ alone_still c past w i q h party alone =
       loads = λ e f. let none = (is.loads e f).1 in absurd (cc);
       named = λ p e. absurd (cc);
       own = λ p s e f. absurd (cc);
-      cone = λ p s e in_s. absurd (cc);
+      causal_past = λ p s e in_s. absurd (cc);
       alone = λ s e in_s. is.alone s before in_s;
       fresh = λ s u e f in_u same. is.fresh s u before f in_u same;
     })
@@ -464,7 +464,7 @@ first_talk c past later w i row s now h rules work party begun others unheard ep
       loads = λ e f. let none = (is.loads e f).0 in absurd (cc);
       named = λ p e. run ∙ e;
       own = λ p s' e f. inl (cc);
-      cone = λ p s' e in_s. let f = is.alone s' before in_s in inl (cc);
+      causal_past = λ p s' e in_s. let f = is.alone s' before in_s in inl (cc);
       alone = λ s' e in_s. absurd (cc);
       fresh = λ s' u e. absurd (cc);
     })
@@ -507,7 +507,7 @@ more_talk c past w i s p h work party others =
       loads = λ e f. let none = (is.loads e f).1 in absurd (cc);
       named = λ q e. run ∙ e;
       own = λ q s' e f. more.own q s' (ap run_of party ∙ e) f;
-      cone = λ q s' e in_s. more.cone q s' (ap run_of party ∙ e) in_s;
+      causal_past = λ q s' e in_s. more.causal_past q s' (ap run_of party ∙ e) in_s;
       alone = λ s' e in_s. absurd (cc);
       fresh = λ s' u e. absurd (cc);
     })

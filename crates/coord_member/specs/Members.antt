@@ -17,11 +17,11 @@ pub record Member : Type 0 where
   pub tag : Option (List Entry)  -- in memory: it talks, in the run of this name
   pub loading : Option ℕ  -- in memory: it loads the common start for this epoch
   pub work : Option Start
-  pub cone : List Start  -- the starts that its work has heard of, at first or at second hand, itself among them
+  pub causal_past : List Start  -- the starts that its work has heard of, at first or at second hand, itself among them
 
 pub record Message : Type 0 where
   pub tag : List Entry
-  pub cone : List Start
+  pub causal_past : List Start
 
 -- this start has talked in the run of this name
 pub record Talked : Type 0 where
@@ -36,7 +36,7 @@ pub record MemberWorld : Type 0 where
 
 -- no work in hand
 abbrev pub idle : Kept → Member
-idle kept = record { kept = kept; tag = None; loading = None; work = None; cone = [] }
+idle kept = record { kept = kept; tag = None; loading = None; work = None; causal_past = [] }
 
 abbrev pub new_world : MemberWorld
 new_world = record { member = λ i. idle new_kept; messages = []; talked = []; serial = 0 }
@@ -62,7 +62,7 @@ talked_by _ _ = []
 
 -- the member, when what is due is done and what is due to be kept is kept
 abbrev pub member_for : Member → Kept → Row → Due → Member
-member_for m kept row Begin = record { kept = kept; tag = None; loading = Some row.epoch; work = None; cone = [] }
+member_for m kept row Begin = record { kept = kept; tag = None; loading = Some row.epoch; work = None; causal_past = [] }
 member_for m kept row d = record m { kept = kept; tag = tag_for kept d }
 
 abbrev pub member_after : Member → Row → List Entry → Member
@@ -77,13 +77,13 @@ abbrev pub loaded : MemberWorld → ℕ → Option ℕ → MemberWorld
 loaded w i None = w
 loaded w i (Some epoch) =
     let start : Start = record { node = i; epoch = epoch; serial = w.serial } in
-    with_member (record w { serial = w.serial + 1 }) i (record { kept = begun_with (w.member i).kept epoch; tag = None; loading = None; work = Some start; cone = start ∷ [] })
+    with_member (record w { serial = w.serial + 1 }) i (record { kept = begun_with (w.member i).kept epoch; tag = None; loading = None; work = Some start; causal_past = start ∷ [] })
 
 -- ---- messages
 
 abbrev pub message_of : Option (List Entry) → List Start → List Message
-message_of None cone = []
-message_of (Some tag) cone = record { tag = tag; cone = cone } ∷ []
+message_of None causal_past = []
+message_of (Some tag) causal_past = record { tag = tag; causal_past = causal_past } ∷ []
 
 -- only a member that talks hears, and only what has its own tag
 abbrev pub is_of_run : Option (List Entry) → List Entry → Bool
@@ -92,7 +92,7 @@ is_of_run (Some own) tag = same_party own tag
 
 abbrev pub heard : Member → Option Message → Member
 heard m None = m
-heard m (Some message) = if is_of_run m.tag message.tag then record m { cone = message.cone ++ m.cone } else m
+heard m (Some message) = if is_of_run m.tag message.tag then record m { causal_past = message.causal_past ++ m.causal_past } else m
 
 -- ----
 
@@ -102,7 +102,7 @@ happens w (Load i) = loaded w i (w.member i).loading
 happens w (Crash i) = with_member w i (record (w.member i) { tag = None; loading = None })
 happens w (Forget i) = with_member w i (idle (without_work (w.member i).kept))
 happens w (Lose i) = with_member w i (idle new_kept)
-happens w (Send i) = record w { messages = message_of (w.member i).tag (w.member i).cone ++ w.messages }
+happens w (Send i) = record w { messages = message_of (w.member i).tag (w.member i).causal_past ++ w.messages }
 happens w (Hear i k) = with_member w i (heard (w.member i) (slice_get w.messages k))
 
 abbrev pub run : MemberWorld → List Event → MemberWorld

@@ -44,7 +44,7 @@ put_back = talked_once ++ (Look 1 (begins 1) behind ∷ Load 1 ∷ Look 1 (talks
 pub record WorkedRun : Type 0 where
   pub honest : IsHonest life_of nothing_shown worked
   pub heard :
-      ((run new_world worked).member 1).cone
+      ((run new_world worked).member 1).causal_past
       ≡ record { node = 2; epoch = 1; serial = 2 } ∷ record { node = 1; epoch = 2; serial = 3 } ∷ []
   pub tag : ((run new_world worked).member 1).tag ≡ Some behind
   -- the member talks by that party once, and by another one again
