@@ -10,7 +10,7 @@ from support.serving import Serving
 from support.stores import ring, topology
 
 
-CLOSING = 60  # processor seconds within which a life of so many steps is closed: some 1, and 500 where each is looked for one by one
+CLOSING = 60  # processor seconds within which an instance of so many steps is closed: some 1, and 500 where each is looked for one by one
 
 
 class Epochs(Served):
@@ -108,7 +108,7 @@ class ManySteps(Served):
     takes = 100
     most = 3_600
 
-    def test_a_hundred_thousand_steps_in_one_life(self) -> None:
+    def test_a_hundred_thousand_steps_in_one_instance(self) -> None:
         """Waves over as many links as there may be, asked for by all clients at once."""
         links = [(node, (node + far - 1) % 64 + 1) for far in (1, 9) for node in range(1, 65)]
         store = self.made(topology([(node, 1) for node in range(1, 65)], links, 1_048_576))

@@ -107,21 +107,21 @@ class Threads(Case):
             self.assertEqual(server.close().status, 0)
 
 
-    def test_one_that_is_refused_to_a_later_life(self) -> None:
-        """The flusher or a worker of the second life, or of the third: it says so, and ends with all that was answered."""
+    def test_one_that_is_refused_to_a_later_instance(self) -> None:
+        """The flusher or a worker of the second instance, or of the third: it says so, and ends with all that was answered."""
         self.needs("a C compiler", preloaded.has_compiler())
-        for life in (2, 3):
+        for instance in (2, 3):
             for number in range(1, THREADS):
-                fails = THREADS + (life - 2) * (THREADS - 1) + number
+                fails = THREADS + (instance - 2) * (THREADS - 1) + number
                 environment = preloaded.environment(self.folder, THREAD_FAILS=fails)
                 store = self.made(topology([(1, 1)]), f"store{fails}")
                 with Serving(store, program=SHORT, env=environment) as server:
-                    for first in range(1, (life - 1) * SHORT_STEPS, SHORT_STEPS):
+                    for first in range(1, (instance - 1) * SHORT_STEPS, SHORT_STEPS):
                         with server.connect() as connection:
                             numbers = range(first, first + SHORT_STEPS)
                             connection.send(*({"op": "reset", "client": 1, "number": each, "node": 1} for each in numbers))
                             self.assertEqual([connection.reply()["step"] for _ in numbers], [1 + each for each in numbers])
-                    count = (life - 1) * SHORT_STEPS
+                    count = (instance - 1) * SHORT_STEPS
                     signals = "".join(f"signal 1 {epoch}\n" for epoch in range(1, count + 1))
                     wanted = Ended(4, f"listening {server.address}\n{signals}", "resetd: OutOfMemory\n")
                     self.assertEqual((fails, server.ended()), (fails, wanted))

@@ -186,7 +186,7 @@ class Start(Case):
 
 
 class Later(Case):
-    """A life behind the first one."""
+    """An instance behind the first one."""
 
     takes = 30
     programs = ("RESETD_SHORT",)
@@ -214,7 +214,7 @@ class Later(Case):
         return Serving(store, program=SHORT, env=refusing.environment(threads=FIRST_THREAD))
 
     def live(self, server: Serving, refusing: Refusing, first: int) -> int:
-        """Makes a life old, behind which this allocation is refused. How many there were by then."""
+        """Makes an instance old, behind which this allocation is refused. How many there were by then."""
         with server.connect() as connection:
             numbers = range(1, SHORT_STEPS + 1)
             connection.send(*({"op": "reset", "client": 1, "number": each, "node": 1} for each in numbers))
@@ -359,7 +359,7 @@ class Kept(Case):
         self.expect_no_more(PROGRAM, self.made(PAIR), leave, times=18)
 
     def test_of_signals_that_nobody_reads(self) -> None:
-        """Once a line can't be printed, those behind it are not kept: counted in bytes, each time as a life begins."""
+        """Once a line can't be printed, those behind it are not kept: counted in bytes, each time as an instance begins."""
         self.needs("a C compiler", preloaded.has_compiler())
         refusing, store = Refusing(SHORT, self.folder), self.made(topology([(1, 1)]))
         kept = []
@@ -384,7 +384,7 @@ class Kept(Case):
         self.expect_no_more(PROGRAM, self.made(PAIR), reset)
 
     def test_of_connections_that_are_cut(self) -> None:
-        """Each has more lines than a life takes. Its descriptor is given back too."""
+        """Each has more lines than an instance takes. Its descriptor is given back too."""
         orders, descriptors = 1, []
 
         def fill(server: Serving, _: int) -> None:
@@ -399,7 +399,7 @@ class Kept(Case):
         self.expect_no_more(SHORT, self.made(topology([(1, 1)])), fill, times=6)
         self.assertLessEqual(descriptors[-1], descriptors[0] + 2, descriptors)
 
-    def test_of_lives(self) -> None:
+    def test_of_instances(self) -> None:
         """Each connection has one of its own."""
         def reset(server: Serving, number: int) -> None:
             with server.connect() as connection:

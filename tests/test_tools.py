@@ -135,7 +135,7 @@ class ShortLives(Run):
             address = f"127.0.0.1:{listener.getsockname()[1]}"
             of_tools, of_tests = Server("", self.path("store")), Serving.__new__(Serving)
             of_tools.address, of_tools.process = address, process
-            of_tests.address, of_tests.process, of_tests.has_short_lives = address, process, True
+            of_tests.address, of_tests.process, of_tests.has_short_instances = address, process, True
             for server_ask in (of_tools.ask, of_tests.ask):
                 self.assertEqual(server_ask({"op": "show"}), {"settled": 1})
 

@@ -6,7 +6,7 @@ from collections.abc import Mapping
 from typing import NamedTuple
 
 ROOT = os.path.dirname(os.path.dirname(os.path.dirname(os.path.abspath(__file__))))
-# The program, and one whose lives have few steps. `tests/run` makes both, where they are not given.
+# The program, and one whose instances have few steps. `tests/run` makes both, where they are not given.
 PROGRAM = os.environ.get("RESETD", "")
 SHORT = os.environ.get("RESETD_SHORT", "")
 SHORT_STEPS = 32

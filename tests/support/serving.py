@@ -71,7 +71,7 @@ def processor_seconds(process: int) -> float:
 
 class Serving:
     """`resetd serve` over a store, whose output goes to a file. It is killed at the end, unless it has ended. One whose
-    lives are short may end a connection before a line is answered, since workers make a life old too: what is asked over a
+    instances are short may end a connection before a line is answered, since workers make an instance old too: what is asked over a
     connection of its own is then asked again."""
 
     def __init__(self, store: str, program: str | None = None, address: str = "127.0.0.1:0",
@@ -79,7 +79,7 @@ class Serving:
                  stdout: int | None = None, cwd: str | None = None, preexec_fn: Callable[[], object] | None = None,
                  restore_signals: bool = True) -> None:
         self.store, self.output, self.errors = store, f"{output or store}.signals", f"{output or store}.errors"
-        self.has_short_lives = bool(SHORT) and program == SHORT
+        self.has_short_instances = bool(SHORT) and program == SHORT
         with open(self.output, "ab") as printed, open(self.errors, "wb") as errors:
             self.begin = printed.tell()
             self.process = subprocess.Popen(
@@ -123,15 +123,15 @@ class Serving:
 
     def ask(self, request: Request) -> Answer:
         """The answer to one request, over a connection of its own."""
-        return until("an answer", lambda: self.answer_in_life(request)) if self.has_short_lives else self.answer(request)
+        return until("an answer", lambda: self.answer_in_instance(request)) if self.has_short_instances else self.answer(request)
 
     def answer(self, request: Request) -> Answer:
         with self.connect() as connection:
             connection.send(request)
             return connection.reply()
 
-    def answer_in_life(self, request: Request) -> Answer | None:
-        """The same of one connection: None where a life that ended has ended it without an answer."""
+    def answer_in_instance(self, request: Request) -> Answer | None:
+        """The same of one connection: None where an instance that ended has ended it without an answer."""
         try:
             with self.connect() as connection:
                 connection.send(request)

@@ -5,7 +5,7 @@ use Rattle.coord_admin.specs.declared.answer.Answer.{Answer}
 use Rattle.coord_admin.specs.declared.fault.ServeFault.{ServeFault}
 use Rattle.coord_admin.specs.declared.session.Ended.{Ended}
 use Rattle.coord_admin.specs.declared.session.Ended.TheVariants.{Input, Closed, Cut}
-use Rattle.coord_admin.specs.LifeLimit.{HasKept, HasKeptFewer}
+use Rattle.coord_admin.specs.InstanceLimit.{HasKept, HasKeptFewer}
 use Rattle.coord_admin.specs.Stream.{Served}
 
 -- the bytes read from a connection and the bytes written to it
@@ -29,9 +29,9 @@ has_closed (Ok Input) = false
 has_closed (Ok Cut) = false
 has_closed (Err f) = false
 
--- `keeps d n`: the desk d may keep n steps. Its life has `most` steps
+-- `keeps d n`: the desk d may keep n steps. Its instance has `most` steps
 module _ {D : Type 0} (answers : D → Request → Answer → D → Type 0) (keeps : D → ℕ → Type 0) (most : ℕ) where
-  -- a connection began while the desk kept fewer steps than its life has, was served, and was cut only after it kept twice as many
+  -- a connection began while the desk kept fewer steps than its instance has, was served, and was cut only after it kept twice as many
   abbrev pub IsServed : D → Connection → D → Type 0
   IsServed d c e = HasKeptFewer keeps d most × Served answers d c.talk.bytes_read c.talk.bytes_written c.ended e × (c.ended ≡ Ok Cut → HasKept keeps e (2 * most))
 

@@ -4,7 +4,7 @@ pub mod Replies
 pub mod Together
 pub mod Stream
 pub mod Connections
-pub mod LifeLimit
+pub mod InstanceLimit
 pub mod CountDesk
 pub mod Counted
 pub mod WorkedLines

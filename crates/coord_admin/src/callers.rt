@@ -2,7 +2,7 @@
 
 ghost use Rattle.std.specs.Prelude.{◌≡◌, List, [], ◌∷◌, ◌++◌, ℕ, ⊤, Result, Err, Ok, IfOk, OnErr};
 ghost use Rattle.coord_admin.specs.Connections.{Talk};
-ghost use Rattle.coord_admin.specs.LifeLimit.{ends_here};
+ghost use Rattle.coord_admin.specs.InstanceLimit.{ends_here};
 ghost use Rattle.coord_admin.specs.declared.fault.ServeFault.{ServeFault};
 ghost use Rattle.coord_admin.specs.declared.fault.ServeFault.TheVariants.{Read, Write};
 ghost use Rattle.coord_admin.specs.declared.session.Ended.{Ended};

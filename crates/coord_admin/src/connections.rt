@@ -2,13 +2,13 @@
 
 ghost use Rattle.std.specs.Prelude.{◌≡◌, ◌∷◌, [], Ok, OnErr};
 ghost use Rattle.coord_admin.specs.Connections.{IsServed, ServedOpen, ServedToClose, Talk, has_closed};
-ghost use Rattle.coord_admin.specs.LifeLimit.{HasKept, HasKeptFewer};
+ghost use Rattle.coord_admin.specs.InstanceLimit.{HasKept, HasKeptFewer};
 ghost use Rattle.coord_admin.specs.declared.connections.Stop.TheVariants as StopAs;
 
 use crate::callers::Callers;
 use crate::desk::Desk;
 use crate::fault::ServeFault;
-use crate::life_limit::next_in_life;
+use crate::instance_limit::next_in_instance;
 use crate::session::{Ended, serve};
 use std::alloc::Global;
 use std::io;
@@ -19,11 +19,11 @@ use std::sync::Wait;
 pub enum Stop {
     /// A line has closed the desk.
     Closed,
-    /// The life of the desk is old.
+    /// The instance of the desk is old.
     Old,
 }
 
-/// Serves the callers one after the other, until a line closes the desk or its life is old: it
+/// Serves the callers one after the other, until a line closes the desk or its instance is old: it
 /// then keeps `most` steps. A connection that is still open at twice as many is cut, once its complete
 /// lines have their replies.
 ///
@@ -46,7 +46,7 @@ pub fn serve_connections<C: Callers, D: Desk, R: Wait>(
         (ServedOpen D.answers D.keeps most C.talked callers.old desk.old callers.new desk.new) }
 {
     for _ in rt.forever() {
-        let line = match next_in_life(most, callers, desk)? {
+        let line = match next_in_instance(most, callers, desk)? {
             Some(line) => line,
             None => return Ok(Stop::Old),
         };

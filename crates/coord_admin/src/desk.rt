@@ -34,7 +34,7 @@ pub trait Desk {
     /// The numbers of steps that it may keep.
     ghost keeps: { Self → ℕ → Type 0 };
 
-    /// Returns the number of steps that it keeps in memory, which limits its life (`serve_connections`).
+    /// Returns the number of steps that it keeps in memory, which limits its instance (`serve_connections`).
     fn kept(&self) -> usize
         ensures { keeps self.now result };
 

@@ -4,8 +4,8 @@
 //! main theorem: each line that was read gets its reply, in order, and nothing else is written.
 //! `specs/Requests.antt` defines the request of a line, `specs/Replies.antt` the replies, and
 //! `specs/Stream.antt` the output of `serve` for a whole text, given the answers that its desk may give.
-//! `serve_connections` serves one connection of its callers after the other, until the life of
-//! the desk is old (`specs/Connections.antt`, `specs/LifeLimit.antt`). `Halves` is a reader and a writer as one connection, `Accepted` the
+//! `serve_connections` serves one connection of its callers after the other, until the instance of
+//! the desk is old (`specs/Connections.antt`, `specs/InstanceLimit.antt`). `Halves` is a reader and a writer as one connection, `Accepted` the
 //! connections of a listener, with timeouts for each client. `CountDesk` is a desk
 //! that only counts.
 #![tactic(auto)]
@@ -20,8 +20,8 @@ mod desk;
 mod duplex;
 mod fault;
 mod halves;
+mod instance_limit;
 mod laws;
-mod life_limit;
 mod op;
 mod patience;
 mod queue;

@@ -8,7 +8,7 @@ ghost use Rattle.coord_admin.specs.declared.answer.Answer.TheVariants.{Closed, F
 ghost use Rattle.coord_admin.specs.declared.fault.LineFault.TheVariants.{Unfinished};
 ghost use Rattle.coord_admin.specs.declared.fault.ServeFault.TheVariants as ServeAs;
 ghost use Rattle.coord_admin.specs.declared.session.Ended.TheVariants.{Cut, Input};
-ghost use Rattle.coord_admin.specs.LifeLimit.{HasKept};
+ghost use Rattle.coord_admin.specs.InstanceLimit.{HasKept};
 ghost use Rattle.coord_admin.specs.Replies.{reply_line, reply_lines};
 ghost use Rattle.coord_admin.specs.Stream.{last_answers, Gets, GoesOn, AllGet, Closes, BreaksOff, Served, WritesPart, has_begun};
 ghost use Rattle.coord_admin.specs.Together.{AwaitReplies, is_order};
@@ -17,7 +17,7 @@ use crate::asking::answer_to;
 use crate::desk::Desk;
 use crate::duplex::{Duplex, NotWritten};
 use crate::fault::{LineFault, ServeFault};
-use crate::life_limit::{Unread, receive_in_life};
+use crate::instance_limit::{Unread, receive_in_instance};
 use crate::queue::Queue;
 use crate::reading::read_line;
 use crate::request::Request;
@@ -35,7 +35,7 @@ pub enum Ended {
     Input,
     /// A line has closed the desk. The lines after it are not answered.
     Closed,
-    /// The life of the desk is over. Nothing more was read.
+    /// The instance of the desk is over. Nothing more was read.
     Cut,
 }
 
@@ -113,7 +113,7 @@ fn serve_lines<C: Duplex, D: Desk>(
     let mut line = LineBuffer::new();
     for _ in 0..MOST_READS {
         queue.answer_unless_more(connection.has_more(), alloc, connection, desk)?;
-        match receive_in_life(most, connection, desk, buffer, has_begun(&line)) {
+        match receive_in_instance(most, connection, desk, buffer, has_begun(&line)) {
             Ok(0) => {
                 queue.answer_all(alloc, connection, desk)?;
                 finish(&line, connection)?;

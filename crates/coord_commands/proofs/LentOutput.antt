@@ -6,7 +6,7 @@ use Rattle.coord_admin.specs.declared.patience.Patience.{Patience}
 use Rattle.coord_engine.specs.Facade.{first_settled}
 use Rattle.coord_engine.specs.declared.closed.Closed.{Closed}
 use Rattle.coord_server.specs.Lines.{is_next}
-use Rattle.coord_server.specs.Lives.{all_steps}
+use Rattle.coord_server.specs.Instances.{all_steps}
 use Rattle.coord_server.specs.Printed.{IsPrinted, IsTornAddress, IsTornSignal, PrinterState, listening_line, new_printer, signal_lines}
 use Rattle.coord_server.specs.ServerRun.{HasServedUsual}
 use Rattle.coord_server.specs.Signals.{StepSignal}
@@ -79,13 +79,13 @@ pub run_back : {D V W : Type 0} (m : DiskModel D) (contents : V → Option (List
     → given ≡ new_printer lent store.world.count → printer ≡ ended.printer → home ≡ printer.output → contents lent ≡ known_as first old → contents home ≡ known_as later (of now) → (later ≡ first → new ≡ now) → RunsWithOutput m gives store old (of new) (known_end (of new) ended)
 run_back m contents of gives store lent home given ended printer first later old now new is made came out at_first at_last same =
     let run = is.2 in
-    let may = gives (first_settled store.world (all_steps run.lives) ended.closed.settled) in
+    let may = gives (first_settled store.world (all_steps run.instances) ended.closed.settled) in
     let printed : IsPrinted contents may (new_printer lent store.world.count) ended.printer = subst (λ p. IsPrinted contents may p ended.printer) made run.printed in (
       (
         is.0,
         is.1,
         record {
-          lives = run.lives;
+          instances = run.instances;
           served = run.served;
           trail = run.trail;
           counted = run.counted;

@@ -60,7 +60,7 @@ pub struct Engine<D: Disk, L: Origin> {
 
 impl<D: Disk, L: Origin> Engine<D, L> {
     /// Makes an engine over a ledger whose store is at home. `L` names the history with the steps of
-    /// earlier lives, which are written there, and that ledger: its base, the steps that it has accepted,
+    /// earlier instances, which are written there, and that ledger: its base, the steps that it has accepted,
     /// and its disk as it is. The blank has 65,536 parts. No clause can say what lies behind a lock; so
     /// the contract is that of `Guarded::new`, and `close` says what it gives back in terms of `L`.
     pub fn new(
@@ -295,7 +295,7 @@ impl<D: Disk, L: Origin> Engine<D, L> {
     /// has the base of the ledger that the engine was made over, and a trail that begins with that
     /// ledger's. A crash at any moment since then left only worlds after the first steps of that
     /// trail. What writes the history comes back too: it has written the settled steps of that trail
-    /// behind those of earlier lives. It takes no memory.
+    /// behind those of earlier instances. It takes no memory.
     pub fn close(
         self,
         shares: Vec<Share<L>>,

@@ -38,7 +38,7 @@ pub struct Guarded<D: Disk, L: Origin> {
     ledger: Ledger<D>,
     /// Counts the steps that were accepted for shares.
     book: Book<L>,
-    /// Has written the steps of earlier lives, and behind them the settled ones.
+    /// Has written the steps of earlier instances, and behind them the settled ones.
     writer: Writer,
     /// The parts of the count that were not given out.
     rest: Part<L>,
@@ -80,7 +80,7 @@ impl<D: Disk, L: Origin> Model for Guarded<D, L> {
 
 impl<D: Disk, L: Origin> Guarded<D, L> {
     /// Over a ledger whose store is at home, and which `L` names. The blank has 65,536 parts, and the
-    /// steps of earlier lives are written in the history.
+    /// steps of earlier instances are written in the history.
     pub fn new(
         alloc: Global,
         blank: Blank,

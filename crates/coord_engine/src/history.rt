@@ -1,4 +1,4 @@
-//! The steps that were settled, life behind life, as a history that grows. It stands in the proofs
+//! The steps that were settled, instance behind instance, as a history that grows. It stands in the proofs
 //! alone.
 //!
 //! Nothing is known of the value under a lock but what its type keeps. So a flight that leaves under
@@ -186,7 +186,7 @@ impl Writer {
     ghost use Rattle.std.specs.Prelude.{◌≡◌, ◌++◌};
     ghost use Rattle.coord_engine.specs.History.{StartsWith};
 
-    /// Writes on, so that the steps of the history are those of earlier lives, as `L` names them, and
+    /// Writes on, so that the steps of the history are those of earlier instances, as `L` names them, and
     /// behind them these.
     pub(crate) fn write_on<L: Origin>(&mut self, history: &History, steps: &[Step])
         requires here { history.now ≡ self.old.history }

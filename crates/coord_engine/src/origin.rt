@@ -20,7 +20,7 @@ pub trait Origin: Count {
     /// Which history it writes.
     ghost history: { TableId };
 
-    /// The steps of that history that were settled before, in earlier lives of the store.
+    /// The steps of that history that were settled before, in earlier instances of the store.
     ghost earlier: { List Step };
 
     /// The world before the ledger's first step.

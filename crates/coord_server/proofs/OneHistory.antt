@@ -1,4 +1,4 @@
--- All lives of a server are one history.
+-- All instances of a server are one history.
 use Rattle.std.proofs.Common.{◌≡◌, ℕ, ◌+◌, ◌-◌, ◌≤◌, List, [], ◌∷◌, ◌++◌, length, take, refl, sym, ap, ◌∙◌, append-nil, length-append, arith, map, subst, Option, None, Some}
 use Rattle.std.proofs.Math.Seq.{take-append-add, take-length}
 use Rattle.std.proofs.lemmas.Grind.{flat_map-append}
@@ -13,13 +13,13 @@ use Rattle.coord_engine.specs.State.{Basis, based_on}
 use Rattle.coord_engine.specs.declared.closed.Closed.{Closed}
 use Rattle.coord_server.specs.EngineDesk.{DeskState}
 use Rattle.coord_server.specs.Ending.{LeavesLedger, IsLeftAs, IsOneHistory}
-use Rattle.coord_server.specs.Lives.{AreLives, AreOneHistory, HaveRested, IsLast, LifeRun, LivesAreOne, all_given, all_steps}
+use Rattle.coord_server.specs.Instances.{AreInstances, AreOneHistory, HaveRested, IsLast, InstanceRun, InstancesAreOne, all_given, all_steps}
 use Rattle.coord_server.specs.declared.fault.ServerFault.{ServerFault}
 use Rattle.coord_server.specs.declared.fault.ServerFault.TheVariants as fault
 
--- ---- one life
+-- ---- one instance
 
--- what a life that began with a world and left this tells of its trail and its store
+-- what an instance that began with a world and left this tells of its trail and its store
 pub record Tells {D : Type 0} (world : World) (left : Closed D) : Type 0 where
   pub from : left.base ≡ world
   pub steps : IsTrail world left.trail.items
@@ -46,23 +46,23 @@ is_left b desk left (Some (fault.NotClosed why)) is = record { state = is.so.sta
 pub tells : {D : Type 0} (b : Basis D) (left : Closed D) → LeavesLedger b left → Tells b.base left
 tells b left h1 = grind arith
 
--- a life of which all is settled leaves the world after its trail
+-- an instance of which all is settled leaves the world after its trail
 pub leaves_all : {D : Type 0} (world : World) (left : Closed D) → Tells world left → left.settled ≡ left.base.count + length left.trail.items → left.store.world ≡ fold world left.trail.items
 leaves_all world left t all =
     let same : left.base.count ≡ world.count = ap (λ (w : World). w.count) t.from in
     let whole : t.done ≡ length left.trail.items = omega (arith, t.counted, all, same) in
     t.kept ∙ ap (λ n. fold world (take n left.trail.items)) whole ∙ ap (fold world) (take-length left.trail.items)
 
--- ---- lives one behind the other
+-- ---- instances one behind the other
 
 module _ {D V : Type 0} where
   -- each begins with the world after the steps of those before it, over which its own are a trail; behind them is this world
-  abbrev GoOn : World → List (LifeRun D V) → World → Type 0
+  abbrev GoOn : World → List (InstanceRun D V) → World → Type 0
   GoOn w [] next = next ≡ w
   GoOn w (l ∷ ls) next = (l.left.base ≡ w) × IsTrail w l.left.trail.items × GoOn (fold w l.left.trail.items) ls next
 
   -- one more
-  goes_on : (ls : List (LifeRun D V)) (w world next : World) (l : LifeRun D V) → GoOn w ls world → l.left.base ≡ world → IsTrail world l.left.trail.items → next ≡ fold world l.left.trail.items → GoOn w (ls ++ l ∷ []) next
+  goes_on : (ls : List (InstanceRun D V)) (w world next : World) (l : InstanceRun D V) → GoOn w ls world → l.left.base ≡ world → IsTrail world l.left.trail.items → next ≡ fold world l.left.trail.items → GoOn w (ls ++ l ∷ []) next
   goes_on [] w world next l here base steps is = (
     base ∙ here,
     rw (sym here) steps,
@@ -71,7 +71,7 @@ module _ {D V : Type 0} where
   goes_on (q ∷ qs) w world next l here base steps is = (here.0, here.1, goes_on qs (fold w q.left.trail.items) world next l here.2 base steps is)
 
   -- where they end
-  end_of : (ls : List (LifeRun D V)) (w next : World) → GoOn w ls next → next ≡ fold w (all_steps ls)
+  end_of : (ls : List (InstanceRun D V)) (w next : World) → GoOn w ls next → next ≡ fold w (all_steps ls)
   end_of [] w next here = here
   end_of (l ∷ ls) w next here = end_of ls (fold w l.left.trail.items) next here.2 ∙ sym (fold-append l.left.trail.items (all_steps ls) w)
 
@@ -85,28 +85,28 @@ outs-append (x ∷ xs) ys w = ap (λ l. record { reply = reply w x; outputs = ou
 
 module _ {D V : Type 0} where
   -- each step of theirs is fresh
-  all_fresh : (ls : List (LifeRun D V)) (w next : World) → GoOn w ls next → EachFresh w (all_steps ls)
+  all_fresh : (ls : List (InstanceRun D V)) (w next : World) → GoOn w ls next → EachFresh w (all_steps ls)
   all_fresh [] w next here = tt
   all_fresh (l ∷ ls) w next here = fresh-append l.left.trail.items (all_steps ls) w (trail_each_fresh w l.left.trail.items here.1) (all_fresh ls (fold w l.left.trail.items) next here.2)
 
   -- the first of them began with a sound world
-  sound_first : (ls : List (LifeRun D V)) (l : LifeRun D V) (w next : World) → GoOn w (ls ++ l ∷ []) next → IsSound w
+  sound_first : (ls : List (InstanceRun D V)) (l : InstanceRun D V) (w next : World) → GoOn w (ls ++ l ∷ []) next → IsSound w
   sound_first [] l w next here = here.1.sound
   sound_first (q ∷ qs) l w next here = here.1.sound
 
   -- each begins with the fold of the steps before it
-  each_follows : (before : List (LifeRun D V)) (w next : World) (ls rest : List (LifeRun D V)) (life : LifeRun D V) → GoOn w ls next → ls ≡ before ++ life ∷ rest → life.left.base ≡ fold w (all_steps before)
-  each_follows [] w next [] rest life here is = cc
-  each_follows [] w next (q ∷ qs) rest life here is = let same : q ≡ life = cc is in sym (ap (λ (x : LifeRun D V). x.left.base) same) ∙ here.0
-  each_follows (b ∷ bs) w next [] rest life here is = cc
-  each_follows (b ∷ bs) w next (q ∷ qs) rest life here is =
+  each_follows : (before : List (InstanceRun D V)) (w next : World) (ls rest : List (InstanceRun D V)) (instance : InstanceRun D V) → GoOn w ls next → ls ≡ before ++ instance ∷ rest → instance.left.base ≡ fold w (all_steps before)
+  each_follows [] w next [] rest instance here is = cc
+  each_follows [] w next (q ∷ qs) rest instance here is = let same : q ≡ instance = cc is in sym (ap (λ (x : InstanceRun D V). x.left.base) same) ∙ here.0
+  each_follows (b ∷ bs) w next [] rest instance here is = cc
+  each_follows (b ∷ bs) w next (q ∷ qs) rest instance here is =
       let same : q ≡ b = cc is in
-      let later : qs ≡ bs ++ life ∷ rest = cc is in
-      let steps : fold w q.left.trail.items ≡ fold w b.left.trail.items = ap (λ (x : LifeRun D V). fold w x.left.trail.items) same in
-      each_follows bs (fold w q.left.trail.items) next qs rest life here.2 later ∙ ap (λ (x : World). fold x (all_steps bs)) steps ∙ sym (fold-append b.left.trail.items (all_steps bs) w)
+      let later : qs ≡ bs ++ instance ∷ rest = cc is in
+      let steps : fold w q.left.trail.items ≡ fold w b.left.trail.items = ap (λ (x : InstanceRun D V). fold w x.left.trail.items) same in
+      each_follows bs (fold w q.left.trail.items) next qs rest instance here.2 later ∙ ap (λ (x : World). fold x (all_steps bs)) steps ∙ sym (fold-append b.left.trail.items (all_steps bs) w)
 
   -- what they give out
-  given_by : (ls : List (LifeRun D V)) (w next : World) → GoOn w ls next → all_given ls ≡ outs w (all_steps ls)
+  given_by : (ls : List (InstanceRun D V)) (w next : World) → GoOn w ls next → all_given ls ≡ outs w (all_steps ls)
   given_by [] w next here = refl
   given_by (l ∷ ls) w next here =
       ap (λ (x : World). outs x l.left.trail.items ++ all_given ls) here.0 ∙ ap (λ (o : List StepOutcome). outs w l.left.trail.items ++ o) (given_by ls (fold w l.left.trail.items) next here.2) ∙ sym (outs-append l.left.trail.items (all_steps ls) w)
@@ -116,56 +116,56 @@ numbers : (ss : List Step) (w : World) → map (λ (o : StepOutcome). o.reply.st
 numbers [] w = refl
 numbers (s ∷ ss) w = ap (λ l. (w.count + 1) ∷ l) (numbers ss (next w s))
 
--- ---- all lives
+-- ---- all instances
 
--- lives, and the last one, are one history
-one_history : {D V : Type 0} (began world : World) (ls : List (LifeRun D V)) (last : LifeRun D V) → GoOn began ls world → Tells world last.left → AreOneHistory began (ls ++ last ∷ []) last.left.store last.left.settled
+-- instances, and the last one, are one history
+one_history : {D V : Type 0} (began world : World) (ls : List (InstanceRun D V)) (last : InstanceRun D V) → GoOn began ls world → Tells world last.left → AreOneHistory began (ls ++ last ∷ []) last.left.store last.left.settled
 one_history {D} {V} began world ls last here t =
     let left = last.left in
     let trail = left.trail.items in
-    let lives : List (LifeRun D V) = ls ++ last ∷ [] in
-    let on : GoOn began lives (fold world trail) = goes_on ls began world (fold world trail) last here t.from t.steps refl in
-    let steps : all_steps lives ≡ all_steps ls ++ trail = flat_map-append (λ (l : LifeRun D V). l.left.trail.items) ls (last ∷ []) ∙ ap (λ (s : List Step). all_steps ls ++ s) (append-nil trail) in
+    let instances : List (InstanceRun D V) = ls ++ last ∷ [] in
+    let on : GoOn began instances (fold world trail) = goes_on ls began world (fold world trail) last here t.from t.steps refl in
+    let steps : all_steps instances ≡ all_steps ls ++ trail = flat_map-append (λ (l : InstanceRun D V). l.left.trail.items) ls (last ∷ []) ∙ ap (λ (s : List Step). all_steps ls ++ s) (append-nil trail) in
     let there : world ≡ fold began (all_steps ls) = end_of ls began world here in
     let count : world.count ≡ began.count + length (all_steps ls) = ap (λ (w : World). w.count) there ∙ fold_counts began (all_steps ls) in
-    let long : length (all_steps lives) ≡ length (all_steps ls) + length trail = ap length steps ∙ length-append (all_steps ls) trail in
+    let long : length (all_steps instances) ≡ length (all_steps ls) + length trail = ap length steps ∙ length-append (all_steps ls) trail in
     let by : left.settled - began.count ≡ length (all_steps ls) + t.done = omega (arith, t.counted, count) in
-    let first : take (left.settled - began.count) (all_steps lives) ≡ all_steps ls ++ take t.done trail = ap (λ n. take n (all_steps lives)) by ∙ ap (take (length (all_steps ls) + t.done)) steps ∙ take-append-add (all_steps ls) trail t.done in
+    let first : take (left.settled - began.count) (all_steps instances) ≡ all_steps ls ++ take t.done trail = ap (λ n. take n (all_steps instances)) by ∙ ap (take (length (all_steps ls) + t.done)) steps ∙ take-append-add (all_steps ls) trail t.done in
     let whole : fold world (take t.done trail) ≡ fold began (all_steps ls ++ take t.done trail) = ap (λ (w : World). fold w (take t.done trail)) there ∙ sym (fold-append (all_steps ls) (take t.done trail) began) in
     record {
-      trail = trail_of (all_steps lives) began (sound_first ls last began (fold world trail) on) (all_fresh lives began (fold world trail) on);
-      follow = λ before rest life is. each_follows before began (fold world trail) lives rest life on is;
-      given = given_by lives began (fold world trail) on;
-      numbered = ap (map (λ (o : StepOutcome). o.reply.step)) (given_by lives began (fold world trail) on) ∙ numbers (all_steps lives) began;
+      trail = trail_of (all_steps instances) began (sound_first ls last began (fold world trail) on) (all_fresh instances began (fold world trail) on);
+      follow = λ before rest instance is. each_follows before began (fold world trail) instances rest instance on is;
+      given = given_by instances began (fold world trail) on;
+      numbered = ap (map (λ (o : StepOutcome). o.reply.step)) (given_by instances began (fold world trail) on) ∙ numbers (all_steps instances) began;
       least = omega (arith, t.counted, count);
       most = omega (arith, t.counted, count, long, t.within);
       world = t.kept ∙ whole ∙ ap (fold began) (sym first);
     }
 
 module _ {D : Type 0} (m : DiskModel D) {V : Type 0} (talked : V → List Talk → V → Type 0) (most : ℕ) where
-  lives_go_on : (began next : World) (v w : V) (ls : List (LifeRun D V)) → HaveRested m talked most began v ls next w → GoOn began ls next
-  lives_go_on began next v w [] lives = lives.0
-  lives_go_on began next v w (l ∷ ls) lives =
-      let r = lives.0 in
+  instances_go_on : (began next : World) (v w : V) (ls : List (InstanceRun D V)) → HaveRested m talked most began v ls next w → GoOn began ls next
+  instances_go_on began next v w [] instances = instances.0
+  instances_go_on began next v w (l ∷ ls) instances =
+      let r = instances.0 in
       let t = tells (based_on m began []) l.left (left_of (based_on m began []) l.desk l.left r.history) in
-      (t.from, t.steps, subst (λ x. GoOn x ls next) (leaves_all began l.left t r.all_settled) (lives_go_on l.left.store.world next l.callers w ls lives.1))
+      (t.from, t.steps, subst (λ x. GoOn x ls next) (leaves_all began l.left t r.all_settled) (instances_go_on l.left.store.world next l.callers w ls instances.1))
 
 module _ {D : Type 0} (m : DiskModel D) {V : Type 0} (talked : V → List Talk → V → Type 0) (failed : V → V → Type 0) (most : ℕ) where
   -- those that rested, and the last one
-  pub behind_rested : (began world : World) (v u : V) (ls : List (LifeRun D V)) (l : LifeRun D V) (why : Option ServerFault) → HaveRested m talked most began v ls world u → IsLast m talked failed most world u l why → AreOneHistory began (ls ++ l ∷ []) l.left.store l.left.settled
-  behind_rested began world v u ls l why rested last = one_history began world ls l (lives_go_on m talked most began world v u ls rested) (tells (based_on m world []) l.left (is_left (based_on m world []) l.desk l.left why last.history))
+  pub behind_rested : (began world : World) (v u : V) (ls : List (InstanceRun D V)) (l : InstanceRun D V) (why : Option ServerFault) → HaveRested m talked most began v ls world u → IsLast m talked failed most world u l why → AreOneHistory began (ls ++ l ∷ []) l.left.store l.left.settled
+  behind_rested began world v u ls l why rested last = one_history began world ls l (instances_go_on m talked most began world v u ls rested) (tells (based_on m world []) l.left (is_left (based_on m world []) l.desk l.left why last.history))
 
-  -- lives are some that rested, and a last one
-  apart : (began : World) (v w : V) (lives : List (LifeRun D V)) (why : Option ServerFault) (left : Closed D) → AreLives m talked failed most began v lives why left w
-      → (ls : List (LifeRun D V)) × (l : LifeRun D V) × (world : World) × (u : V) × (lives ≡ ls ++ l ∷ []) × HaveRested m talked most began v ls world u × IsLast m talked failed most world u l why × (l.left ≡ left)
+  -- instances are some that rested, and a last one
+  apart : (began : World) (v w : V) (instances : List (InstanceRun D V)) (why : Option ServerFault) (left : Closed D) → AreInstances m talked failed most began v instances why left w
+      → (ls : List (InstanceRun D V)) × (l : InstanceRun D V) × (world : World) × (u : V) × (instances ≡ ls ++ l ∷ []) × HaveRested m talked most began v ls world u × IsLast m talked failed most world u l why × (l.left ≡ left)
   apart began v w [] why left is = absurd is
   apart began v w (l ∷ []) why left is = ([], l, began, v, refl, (refl, refl), is.0, is.1)
   apart began v w (l ∷ k ∷ later) why left is =
       let more = apart l.left.store.world l.callers w (k ∷ later) why left is.1 in
       (l ∷ more.0, more.1, more.2, more.3, ap (λ ls. l ∷ ls) more.4, (is.0, more.5), more.6, more.7)
 
-  pub lives_are_one : LivesAreOne m talked failed most
-  lives_are_one began v w lives why left is =
-      let at = apart began v w lives why left is in
+  pub instances_are_one : InstancesAreOne m talked failed most
+  instances_are_one began v w instances why left is =
+      let at = apart began v w instances why left is in
       subst (λ ls. AreOneHistory began ls left.store left.settled) (sym at.4)
       (subst (λ (c : Closed D). AreOneHistory began (at.0 ++ at.1 ∷ []) c.store c.settled) at.7 (behind_rested began at.2 v at.3 at.0 at.1 why at.5 at.6))

@@ -1,4 +1,4 @@
--- All that a server told over the connections of its lives is borne out by its one history, in order.
+-- All that a server told over the connections of its instances is borne out by its one history, in order.
 use Rattle.std.proofs.Common.{◌≡◌, ◌⊎◌, ℕ, zero, suc, ◌+◌, List, [], ◌∷◌, ◌++◌, Option, None, Some, Result, Ok, Err, map, length, slice_get, take, refl, sym, ap, ◌∙◌, subst, inl, inr, append-nil, append_assoc, arith}
 use Rattle.std.proofs.Math.Seq.{take-append-add}
 use Rattle.std.proofs.lemmas.List.{map-append}
@@ -28,14 +28,14 @@ use Rattle.coord_server.proofs.InOrder.{from_earlier, told_in_order}
 use Rattle.coord_server.proofs.Moments.{all_of_settled, settled_behind}
 use Rattle.coord_server.proofs.OneHistory.{is_left, leaves_all, left_of, tells}
 use Rattle.coord_server.specs.EngineDesk.{DeskState}
-use Rattle.coord_server.specs.Ending.{IsClosed, Local, ServedWhileOpen, Serves, ServesLife}
+use Rattle.coord_server.specs.Ending.{IsClosed, Local, ServedWhileOpen, Serves, ServesInstance}
 use Rattle.coord_server.specs.InOrder.{AllInOrder, BearOut, GoOn, IsBorneOut, IsOwnReply, Told, WritesInOrder}
-use Rattle.coord_server.specs.Lives.{AreLives, LifeRun, all_steps}
+use Rattle.coord_server.specs.Instances.{AreInstances, InstanceRun, all_steps}
 use Rattle.coord_server.specs.RunTold.{AreConnectionsOf, EachReads, HadConnections, RunTellsOneHistory}
 use Rattle.coord_server.specs.declared.fault.ServerFault.{ServerFault}
 use Rattle.coord_server.specs.declared.fault.ServerFault.TheVariants as fault
-use Rattle.coord_server.specs.declared.life_end.LifeEnd.{LifeEnd}
-use Rattle.coord_server.specs.declared.life_end.LifeEnd.TheVariants as end
+use Rattle.coord_server.specs.declared.instance_end.InstanceEnd.{InstanceEnd}
+use Rattle.coord_server.specs.declared.instance_end.InstanceEnd.TheVariants as end
 
 -- ---- connections, one behind the other
 
@@ -52,7 +52,7 @@ from_before : (base : World) (first now last : List Step) (cs : List Connection)
 from_before base first now last [] by is = first_of_first first now last by is
 from_before base first now last (c ∷ cs) by is = (is.0, from_earlier base first now c.talk is.0 by is.1, is.2)
 
--- those of one life, and those of the lives behind it
+-- those of one instance, and those of the instances behind it
 and_later : (base : World) (first now last : List Step) (cs ds : List Connection) → AllInOrder base first cs now → AllInOrder base now ds last → AllInOrder base first (cs ++ ds) last
 and_later base first now last [] ds is later = from_before base first now last ds is later
 and_later base first now last (c ∷ cs) ds is later = (is.0, is.1, and_later base is.0 now last cs ds is.2 later)
@@ -61,7 +61,7 @@ all_lead : (base : World) (first last : List Step) (cs : List Connection) → Al
 all_lead base first last [] is = is
 all_lead base first last (c ∷ cs) is = first_of_first first is.0 last (leads first (is.1.told ++ is.1.torn) is.0 is.1.go_on) (all_lead base is.0 last cs is.2)
 
--- ---- a life, behind the steps of those before it
+-- ---- an instance, behind the steps of those before it
 
 behind_these : (before now first : List Step) → StartsWith now first → StartsWith (before ++ now) (before ++ first)
 behind_these before now first is = (is.0, ap (λ l. before ++ l) is.1 ∙ sym (append_assoc before first is.0))
@@ -124,7 +124,7 @@ module _ (began : World) (before : List Step) where
   go_on first [] last on = behind_these before last first on
   go_on first (t ∷ told) last on = (behind_these before t.after first on.0, go_on t.after told last on.1)
 
-  -- the reply that the world of a life keeps was given by an earlier life, or the first world keeps it
+  -- the reply that the world of an instance keeps was given by an earlier instance, or the first world keeps it
   kept_reply : (steps : List Step) (s : Step) (r : Reply) → IsKeptBy base (record { step = r.step; what = s; kind = r.kind }) → IsOwnReply began (before ++ steps) s r
   kept_reply steps s r kept = elim (kept_reply_law began before kept.client) [
     | inl by ↦
@@ -198,7 +198,7 @@ module _ (began : World) (before : List Step) where
   all_in_order first [] last is = behind_these before last first is
   all_in_order first (c ∷ cs) last is = (before ++ is.0, writes first c.talk is.0 is.1, all_in_order is.0 cs last is.2)
 
--- ---- the connections of one life
+-- ---- the connections of one instance
 
 module _ {D : Type 0} (b : Basis D) {V : Type 0} (talked : V → List Talk → V → Type 0) (failed : V → V → Type 0) (most : ℕ) where
   -- those who call had some connections, and what was written over them
@@ -220,81 +220,81 @@ module _ {D : Type 0} (b : Basis D) {V : Type 0} (talked : V → List Talk → V
     nobody : talked v [] w → HasTold v w desk.read
     nobody is = record { connections = []; had = record { last = w; talks = is; ended = inl refl }; told = none_of desk.read }
 
-  serves_life : (port : Local) (v w : V) (desk : DeskState Local) (left : LifeEnd) → ServesLife b talked failed most port v w desk left → HasTold v w desk.read
-  serves_life port v w desk end.Resting is = while_open port v w desk is.0
-  serves_life port v w desk end.Unfollowed is = absurd is
-  serves_life port v w desk end.Unprinted is = nobody port v w desk is.0
-  serves_life port v w desk (end.Ended None) is = to_close port v w desk is
-  serves_life port v w desk (end.Ended (Some fault.OutOfMemory)) is = nobody port v w desk is.0
-  serves_life port v w desk (end.Ended (Some fault.Socket)) is = record { connections = is.1.0; had = record { last = is.0; talks = is.1.1; ended = inr is.2 }; told = (in_order port v is.0 desk).0 is.1 }
-  serves_life port v w desk (end.Ended (Some fault.NotBegun)) is = absurd is
-  serves_life port v w desk (end.Ended (Some fault.Device)) is = absurd is
-  serves_life port v w desk (end.Ended (Some fault.Write)) is = absurd is
-  serves_life port v w desk (end.Ended (Some (fault.NotClosed why))) is = absurd is
+  serves_instance : (port : Local) (v w : V) (desk : DeskState Local) (left : InstanceEnd) → ServesInstance b talked failed most port v w desk left → HasTold v w desk.read
+  serves_instance port v w desk end.Resting is = while_open port v w desk is.0
+  serves_instance port v w desk end.Unfollowed is = absurd is
+  serves_instance port v w desk end.Unprinted is = nobody port v w desk is.0
+  serves_instance port v w desk (end.Ended None) is = to_close port v w desk is
+  serves_instance port v w desk (end.Ended (Some fault.OutOfMemory)) is = nobody port v w desk is.0
+  serves_instance port v w desk (end.Ended (Some fault.Socket)) is = record { connections = is.1.0; had = record { last = is.0; talks = is.1.1; ended = inr is.2 }; told = (in_order port v is.0 desk).0 is.1 }
+  serves_instance port v w desk (end.Ended (Some fault.NotBegun)) is = absurd is
+  serves_instance port v w desk (end.Ended (Some fault.Device)) is = absurd is
+  serves_instance port v w desk (end.Ended (Some fault.Write)) is = absurd is
+  serves_instance port v w desk (end.Ended (Some (fault.NotClosed why))) is = absurd is
 
   serves : (port : Local) (v w : V) (desk : DeskState Local) (why : Option ServerFault) → Serves b talked failed most port v w desk why → HasTold v w desk.read
-  serves port v w desk None is = serves_life port v w desk (end.Ended None) is
-  serves port v w desk (Some fault.OutOfMemory) (inl is) = serves_life port v w desk (end.Ended (Some fault.OutOfMemory)) is
-  serves port v w desk (Some fault.OutOfMemory) (inr is) = serves_life port v w desk end.Resting is
+  serves port v w desk None is = serves_instance port v w desk (end.Ended None) is
+  serves port v w desk (Some fault.OutOfMemory) (inl is) = serves_instance port v w desk (end.Ended (Some fault.OutOfMemory)) is
+  serves port v w desk (Some fault.OutOfMemory) (inr is) = serves_instance port v w desk end.Resting is
   serves port v w desk (Some fault.NotBegun) is = nobody port v w desk is.0
-  serves port v w desk (Some fault.Socket) is = serves_life port v w desk (end.Ended (Some fault.Socket)) is
-  serves port v w desk (Some fault.Device) is = serves_life port v w desk end.Resting is
-  serves port v w desk (Some fault.Write) is = serves_life port v w desk end.Unprinted is
-  serves port v w desk (Some (fault.NotClosed why)) is = serves_life port v w desk is.0 is.1
+  serves port v w desk (Some fault.Socket) is = serves_instance port v w desk (end.Ended (Some fault.Socket)) is
+  serves port v w desk (Some fault.Device) is = serves_instance port v w desk end.Resting is
+  serves port v w desk (Some fault.Write) is = serves_instance port v w desk end.Unprinted is
+  serves port v w desk (Some (fault.NotClosed why)) is = serves_instance port v w desk is.0 is.1
 
--- ---- all lives
+-- ---- all instances
 
 module _ {D : Type 0} (m : DiskModel D) {V : Type 0} (talked : V → List Talk → V → Type 0) (failed : V → V → Type 0) (most : ℕ) (began : World) where
-  record Gone (settled before : List Step) (v : V) (lives : List (LifeRun D V)) : Type 0 where
+  record Gone (settled before : List Step) (v : V) (instances : List (InstanceRun D V)) : Type 0 where
     connections : List Connection
-    had : AreConnectionsOf talked failed v lives connections
+    had : AreConnectionsOf talked failed v instances connections
     told : AllInOrder began before connections settled
-    reads : EachReads began settled before lives
+    reads : EachReads began settled before instances
 
-  -- what was told over the connections of a life, behind the steps of the lives before
+  -- what was told over the connections of an instance, behind the steps of the instances before
   lifted : (before read : List Step) (world : World) (cs : List Connection) → world ≡ fold began before → AllInOrder world [] cs read → AllInOrder began before cs (before ++ read)
   lifted before read world cs is told =
       subst (λ first. AllInOrder began first cs (before ++ read)) (append-nil before)
       (all_in_order began before [] cs read (subst (λ w. AllInOrder w [] cs read) is told))
 
-  gone : (settled before : List Step) (world : World) (v w : V) (lives : List (LifeRun D V)) (why : Option ServerFault) (left : Closed D) → world ≡ fold began before → settled ≡ first_settled began (before ++ all_steps lives) left.settled → AreLives m talked failed most world v lives why left w → Gone settled before v lives
+  gone : (settled before : List Step) (world : World) (v w : V) (instances : List (InstanceRun D V)) (why : Option ServerFault) (left : Closed D) → world ≡ fold began before → settled ≡ first_settled began (before ++ all_steps instances) left.settled → AreInstances m talked failed most world v instances why left w → Gone settled before v instances
   gone settled before world v w [] why left from all is = absurd is
-  gone settled before world v w (life ∷ []) why left from all is =
+  gone settled before world v w (instance ∷ []) why left from all is =
       let last = is.0 in
       let b = based_on m world [] in
-      let own = serves b talked failed most life.port v life.callers life.desk why last.served in
-      let t = tells b life.left (is_left b life.desk life.left why last.history) in
-      let here : settled ≡ before ++ first_settled life.left.base life.left.trail.items life.left.settled =
-      all ∙ ap (λ l. first_settled began (before ++ l) left.settled) (append-nil life.left.trail.items)
-      ∙ ap (λ (c : Closed D). first_settled began (before ++ life.left.trail.items) c.settled) (sym is.1)
-      ∙ settled_behind m began before world life.left (sym from) t
+      let own = serves b talked failed most instance.port v instance.callers instance.desk why last.served in
+      let t = tells b instance.left (is_left b instance.desk instance.left why last.history) in
+      let here : settled ≡ before ++ first_settled instance.left.base instance.left.trail.items instance.left.settled =
+      all ∙ ap (λ l. first_settled began (before ++ l) left.settled) (append-nil instance.left.trail.items)
+      ∙ ap (λ (c : Closed D). first_settled began (before ++ instance.left.trail.items) c.settled) (sym is.1)
+      ∙ settled_behind m began before world instance.left (sym from) t
       in
-      let on : StartsWith settled (before ++ life.desk.read) = subst (λ l. StartsWith l (before ++ life.desk.read)) (sym here) (behind_these before _ life.desk.read last.told) in
+      let on : StartsWith settled (before ++ instance.desk.read) = subst (λ l. StartsWith l (before ++ instance.desk.read)) (sym here) (behind_these before _ instance.desk.read last.told) in
       record {
         connections = own.connections;
         had = (own.connections, [], sym (append-nil own.connections), own.had, refl);
-        told = to_later began before (before ++ life.desk.read) settled own.connections (lifted before life.desk.read world own.connections from own.told) on;
+        told = to_later began before (before ++ instance.desk.read) settled own.connections (lifted before instance.desk.read world own.connections from own.told) on;
         reads = (t.from ∙ from, on, tt);
       }
-  gone settled before world v w (life ∷ next ∷ later) why left from all is =
+  gone settled before world v w (instance ∷ next ∷ later) why left from all is =
       let rests = is.0 in
       let b = based_on m world [] in
-      let trail = life.left.trail.items in
-      let own = while_open b talked failed most life.port v life.callers life.desk rests.served in
-      let t = tells b life.left (left_of b life.desk life.left rests.history) in
-      let from_next : life.left.store.world ≡ fold began (before ++ trail) = leaves_all world life.left t rests.all_settled ∙ ap (λ (x : World). fold x trail) from ∙ sym (fold-append before trail began) in
-      let rest = gone settled (before ++ trail) life.left.store.world life.callers w (next ∷ later) why left from_next (all ∙ ap (λ l. first_settled began l left.settled) (sym (append_assoc before trail (all_steps (next ∷ later))))) is.1 in
-      let on : StartsWith (before ++ trail) (before ++ life.desk.read) = behind_these before trail life.desk.read (subst (λ l. StartsWith l life.desk.read) (all_of_settled m life.left rests.all_settled) rests.told) in
-      let mine : AllInOrder began before own.connections (before ++ trail) = to_later began before (before ++ life.desk.read) (before ++ trail) own.connections (lifted before life.desk.read world own.connections from own.told) on in
+      let trail = instance.left.trail.items in
+      let own = while_open b talked failed most instance.port v instance.callers instance.desk rests.served in
+      let t = tells b instance.left (left_of b instance.desk instance.left rests.history) in
+      let from_next : instance.left.store.world ≡ fold began (before ++ trail) = leaves_all world instance.left t rests.all_settled ∙ ap (λ (x : World). fold x trail) from ∙ sym (fold-append before trail began) in
+      let rest = gone settled (before ++ trail) instance.left.store.world instance.callers w (next ∷ later) why left from_next (all ∙ ap (λ l. first_settled began l left.settled) (sym (append_assoc before trail (all_steps (next ∷ later))))) is.1 in
+      let on : StartsWith (before ++ trail) (before ++ instance.desk.read) = behind_these before trail instance.desk.read (subst (λ l. StartsWith l instance.desk.read) (all_of_settled m instance.left rests.all_settled) rests.told) in
+      let mine : AllInOrder began before own.connections (before ++ trail) = to_later began before (before ++ instance.desk.read) (before ++ trail) own.connections (lifted before instance.desk.read world own.connections from own.told) on in
       let behind : StartsWith settled (before ++ trail) = all_lead began (before ++ trail) settled rest.connections rest.told in
       record {
         connections = own.connections ++ rest.connections;
         had = (own.connections, rest.connections, refl, own.had, rest.had);
         told = and_later began before (before ++ trail) settled own.connections rest.connections mine rest.told;
-        reads = (t.from ∙ from, first_of_first (before ++ life.desk.read) (before ++ trail) settled on behind, rest.reads);
+        reads = (t.from ∙ from, first_of_first (before ++ instance.desk.read) (before ++ trail) settled on behind, rest.reads);
       }
 
 pub run_tells_one_history : {D V W : Type 0} (m : DiskModel D) (talked : V → List Talk → V → Type 0) (failed : V → V → Type 0) (contents : W → Option (List ℕ)) (gives : List Step → ℕ → ℕ → ℕ → Type 0) → RunTellsOneHistory m talked failed contents gives
 run_tells_one_history m talked failed contents gives most store v printer ended run =
-    let is = gone m talked failed most store.world (first_settled store.world (all_steps run.lives) ended.closed.settled) [] store.world v ended.callers run.lives ended.served ended.closed refl refl run.served in
+    let is = gone m talked failed most store.world (first_settled store.world (all_steps run.instances) ended.closed.settled) [] store.world v ended.callers run.instances ended.served ended.closed refl refl run.served in
     record { connections = is.connections; had = is.had; told = is.told; reads = is.reads }

@@ -1,4 +1,4 @@
--- What a server may tell, in each of its lives.
+-- What a server may tell, in each of its instances.
 use Rattle.std.proofs.Common.{List, refl}
 use Rattle.atomic_table.specs.Seated.{TableId}
 use Rattle.coord_types.specs.declared.steps.Step.{Step}
@@ -7,6 +7,6 @@ use Rattle.coord_engine.proofs.Releasing.{gives_behind}
 use Rattle.coord_engine.specs.Facade.{GivesSignal, MayTell}
 use Rattle.coord_server.specs.Signals.{MaySignal}
 
--- a signal of a settled step of a life that goes on in its history
+-- a signal of a settled step of an instance that goes on in its history
 pub may_tell : (history : TableId) (began : World) (earlier : List Step) → MayTell history earlier (fold began earlier) (MaySignal history (GivesSignal began))
 may_tell history began earlier settled step node epoch gives = (refl, gives_behind began earlier settled step node epoch gives)

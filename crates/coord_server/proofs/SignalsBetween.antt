@@ -19,7 +19,7 @@ use Rattle.coord_ledger.proofs.machine.SignalsBetween.{all_within, count_within}
 use Rattle.coord_admin.specs.Connections.{Talk}
 use Rattle.coord_engine.specs.Facade.{GivesSignal, first_settled}
 use Rattle.coord_server.specs.Lines.{after_line, is_next}
-use Rattle.coord_server.specs.Lives.{all_steps}
+use Rattle.coord_server.specs.Instances.{all_steps}
 use Rattle.coord_server.specs.Printed.{Follow}
 use Rattle.coord_server.specs.Signals.{StepSignal}
 use Rattle.coord_server.specs.SignalsBetween.{PrintedBetween, is_printed_within}
@@ -123,10 +123,10 @@ pub printed_between : {D V W : Type 0} (model : DiskModel D) (talked : V → Lis
 printed_between model talked failed contents most store callers printer ended run new earlier between rest part is again =
     let base = store.world in
     let settled = ended.closed.settled in
-    let steps = first_settled base (all_steps run.lives) settled in
+    let steps = first_settled base (all_steps run.instances) settled in
     let a = base.count + length earlier in
     let b = a + length between in
-    let trail = subst (IsTrail base) is (trail_is_cut base (all_steps run.lives) (settled - base.count) run.trail).first in
+    let trail = subst (IsTrail base) is (trail_is_cut base (all_steps run.instances) (settled - base.count) run.trail).first in
     let bounds = bound_between base earlier between rest part trail again in
     record {
       most = λ v x inside linked.

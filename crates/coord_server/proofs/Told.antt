@@ -1,4 +1,4 @@
--- What a reply, and what is left of a disk, tell of the steps of a life.
+-- What a reply, and what is left of a disk, tell of the steps of an instance.
 use Rattle.std.proofs.lemmas.List.Elements.{Contains-append_left}
 use Rattle.std.proofs.lemmas.List.Sorted.{Contains-permutation}
 use Rattle.std.proofs.Common.{◌≡◌, ◌⊎◌, ℕ, zero, suc, ◌+◌, ◌-◌, ◌<◌, ◌≤◌, Contains, get_or, slice_get, true, List, [], ◌∷◌, ◌++◌, Option, Some, None, Result, Ok, length, take, is_some, refl, sym, ap, ◌∙◌, subst, inl, inr, arith, IfSome}
@@ -13,7 +13,7 @@ use Rattle.coord_ledger.specs.declared.ticket.Note.{Note}
 use Rattle.coord_ledger.specs.Facade.{Claim, IsCollectable, LedgerGives, Log, GivesSettled as LogGives, kinds_of, reply_of, settled_steps, settled_world}
 use Rattle.coord_engine.specs.declared.closed.Closed.{Closed}
 use Rattle.coord_engine.specs.Facade.{AnswersStep, AtSomeMoment, Basis, LedgerAndNotes, all_notes, engine_verdict, note_of, notes_of}
-use Rattle.coord_server.specs.Told.{LifeGives, LivesLeaveSteps, NamesItsStep, NotesAreReplies, NotesEndALife, RepliesNameSteps}
+use Rattle.coord_server.specs.Told.{InstanceGives, InstancesLeaveSteps, NamesItsStep, NotesAreReplies, NotesEndALife, RepliesNameSteps}
 
 -- the note's step stands at this place behind a world, with that reply
 record IsRepliedIn (w : World) (steps : List Step) (note : Note) (place : ℕ) : Type 0 where
@@ -83,7 +83,7 @@ of_disk o d P is so = subst (λ x. IfSome x P) is so
 
 gives : {D : Type 0} (left : Closed D) (log : Log) (doubt : Option ℕ) (image : List ℕ) → log.doubt ≡ doubt
     → left.base ≡ log.base → left.trail.items ≡ log.trail → left.settled ≡ log.base.count + log.settled → left.store.world ≡ settled_world log → has_stopped left.store ≡ is_some log.doubt
-    → IfSome doubt (λ size. log.settled + size ≤ length log.trail) → LogGives log doubt image → LifeGives left image
+    → IfSome doubt (λ size. log.settled + size ≤ length log.trail) → LogGives log doubt image → InstanceGives left image
 gives left log None image at same_base same_trail counted world stopped fits is = inl (subst (Recovered image) (sym world) is)
 gives left log (Some size) image at same_base same_trail counted world stopped fits (inl is) = inl (subst (Recovered image) (sym world) is)
 gives left log (Some size) image at same_base same_trail counted world stopped fits (inr is) =
@@ -98,15 +98,15 @@ fits_of : (log : Log) (doubt : Option ℕ) (P : ℕ → Type 0) → IfSome doubt
 fits_of log None P is = tt
 fits_of log (Some size) P is = is.1
 
-pub lives_leave_steps : (D P : Type 0) → LivesLeaveSteps D P
-lives_leave_steps D P b desk left history keeps image is =
+pub instances_leave_steps : (D P : Type 0) → InstancesLeaveSteps D P
+instances_leave_steps D P b desk left history keeps image is =
     let g = history.closed.state in
     let so = history.closed.so.1 in
     let held = history.closed.held in
     let images : LedgerGives b.present g.ledger left.store.disk = of_disk g.ledger.disk left.store.disk (λ disk. b.keeps_model disk ≡ true → LedgerGives b.present g.ledger disk) so.3 held.images keeps in
     gives left g.ledger.log g.ledger.log.doubt image refl so.0 so.1 so.2 so.4 so.5 (fits_of g.ledger.log g.ledger.log.doubt (λ _. g.ledger.out ≡ None) held.doubt) (images image is)
 
--- ---- how long a life is
+-- ---- how long an instance is
 
-pub notes_end_a_life : (D P : Type 0) → NotesEndALife D P
-notes_end_a_life D P b desk most long (kept, (trail, moment, is), fewer) = omega (arith, long, is, fewer)
+pub notes_end_an_instance : (D P : Type 0) → NotesEndALife D P
+notes_end_an_instance D P b desk most long (kept, (trail, moment, is), fewer) = omega (arith, long, is, fewer)

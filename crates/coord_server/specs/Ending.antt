@@ -9,13 +9,13 @@ use Rattle.coord_engine.specs.Facade.{AtSomeMoment, Basis, Beginning, Closes, Ha
 use Rattle.coord_engine.specs.declared.closed.CloseFault.{CloseFault}
 use Rattle.coord_engine.specs.declared.closed.Closed.{Closed}
 use Rattle.coord_admin.specs.Connections.{Talk, ServedOpen, ServedToClose}
-use Rattle.coord_admin.specs.LifeLimit.{HasKept}
+use Rattle.coord_admin.specs.InstanceLimit.{HasKept}
 use Rattle.coord_server.specs.EngineDesk.{DeskState, DeskAnswers, DeskKeeps}
 use Rattle.coord_server.specs.declared.fault.ServerFault.{ServerFault}
 use Rattle.coord_server.specs.declared.fault.ServerFault.TheVariants as fault
-use Rattle.coord_server.specs.declared.life.Life.{Life}
-use Rattle.coord_server.specs.declared.life_end.LifeEnd.{LifeEnd}
-use Rattle.coord_server.specs.declared.life_end.LifeEnd.TheVariants as end
+use Rattle.coord_server.specs.declared.instance.Instance.{Instance}
+use Rattle.coord_server.specs.declared.instance_end.InstanceEnd.{InstanceEnd}
+use Rattle.coord_server.specs.declared.instance_end.InstanceEnd.TheVariants as end
 
 -- a desk over this port that has noted nothing and seen nothing
 abbrev pub new_desk : {P : Type 0} → P → DeskState P
@@ -34,7 +34,7 @@ pub record IsOneHistory {D P : Type 0} (b : Basis D) (desk : DeskState P) (left 
   pub closed : AtSomeMoment b (Closes {D = D} left.store left.base left.trail.items left.settled (desk.notes ∷ workers))
   pub seen : desk.seen ≤ left.settled
 
--- What is left of a life's engine is what its ledger had, in a state that it can have: also where nothing is known of whose its steps are.
+-- What is left of an instance's engine is what its ledger had, in a state that it can have: also where nothing is known of whose its steps are.
 abbrev pub LeavesLedger : {D : Type 0} → Basis D → Closed D → Type 0
 LeavesLedger {D} b left = AtSomeMoment b (IsLeftOf {D = D} left.store left.base left.trail.items left.settled)
 
@@ -45,7 +45,7 @@ pub record RefusesShares {D P : Type 0} (b : Basis D) (desk : DeskState P) (left
   pub all : length (desk.notes ∷ workers) ≡ 10
   pub so : AtSomeMoment b (λ g. IsLeftOf {D = D} left.store left.base left.trail.items left.settled g × RefusesClosing {D = D} g (desk.notes ∷ workers) desk.seen why)
 
--- what is known of what a life leaves that ends so: it is one history, unless the life did not begin, or its engine refused to be taken apart
+-- what is known of what an instance leaves that ends so: it is one history, unless the instance did not begin, or its engine refused to be taken apart
 abbrev pub IsLeftAs : {D P : Type 0} → Basis D → DeskState P → Closed D → Option ServerFault → Type 0
 IsLeftAs b desk left (Some fault.NotBegun) = LeavesLedger b left
 IsLeftAs b desk left (Some (fault.NotClosed why)) = RefusesShares b desk left why
@@ -55,14 +55,14 @@ IsLeftAs b desk left other = IsOneHistory b desk left
 abbrev pub AddsWorkers : List (List Note) → List (List Note) → Type 0
 AddsWorkers first all = (workers : List (List Note)) × (all ≡ first ++ workers) × All (All IsOfPacket) workers
 
--- why a life ended that was left so, if something ended it
-abbrev pub end_fault : LifeEnd → Option ServerFault
+-- why an instance ended that was left so, if something ended it
+abbrev pub end_fault : InstanceEnd → Option ServerFault
 end_fault (end.Ended served) = served
 end_fault left = None
 
 -- `talked v talks w`: those who call were v, had these talks, and then are w
 module _ {D : Type 0} (b : Basis D) {V : Type 0} (talked : V → List Talk → V → Type 0) where
-  -- those who called were served by a desk that began with nothing over this port, in a life of so many steps, until one of them closed it
+  -- those who called were served by a desk that began with nothing over this port, in an instance of so many steps, until one of them closed it
   abbrev pub IsClosed : {P : Type 0} → ℕ → P → V → V → DeskState P → Type 0
   IsClosed most port v w desk = ServedToClose (DeskAnswers b) (DeskKeeps b) most talked v (new_desk port) w desk
 
@@ -72,58 +72,58 @@ module _ {D : Type 0} (b : Basis D) {V : Type 0} (talked : V → List Talk → V
 
   -- `failed v w`: those who call were v, and have failed
   module _ (failed : V → V → Type 0) (most : ℕ) where
-    -- How the desk went on in a life of so many steps, from this port. It rests only once it keeps them; and it ends by a close, by want of memory or of a first line before anyone was served, or because those who call have failed.
-    abbrev pub ServesLife : {P : Type 0} → P → V → V → DeskState P → LifeEnd → Type 0
-    ServesLife port v w desk end.Resting = ServedWhileOpen most port v w desk × HasKept (DeskKeeps b) desk most
-    ServesLife port v w desk end.Unfollowed = ⊥
-    ServesLife port v w desk end.Unprinted = talked v [] w × (desk ≡ new_desk port)
-    ServesLife port v w desk (end.Ended None) = IsClosed most port v w desk
-    ServesLife port v w desk (end.Ended (Some fault.OutOfMemory)) = talked v [] w × (desk ≡ new_desk port)
-    ServesLife port v w desk (end.Ended (Some fault.Socket)) = (last : V) × ServedWhileOpen most port v last desk × failed last w
-    ServesLife port v w desk (end.Ended (Some other)) = ⊥
+    -- How the desk went on in an instance of so many steps, from this port. It rests only once it keeps them; and it ends by a close, by want of memory or of a first line before anyone was served, or because those who call have failed.
+    abbrev pub ServesInstance : {P : Type 0} → P → V → V → DeskState P → InstanceEnd → Type 0
+    ServesInstance port v w desk end.Resting = ServedWhileOpen most port v w desk × HasKept (DeskKeeps b) desk most
+    ServesInstance port v w desk end.Unfollowed = ⊥
+    ServesInstance port v w desk end.Unprinted = talked v [] w × (desk ≡ new_desk port)
+    ServesInstance port v w desk (end.Ended None) = IsClosed most port v w desk
+    ServesInstance port v w desk (end.Ended (Some fault.OutOfMemory)) = talked v [] w × (desk ≡ new_desk port)
+    ServesInstance port v w desk (end.Ended (Some fault.Socket)) = (last : V) × ServedWhileOpen most port v last desk × failed last w
+    ServesInstance port v w desk (end.Ended (Some other)) = ⊥
 
-    -- How the desk went on in a life that was left so. Where there was no memory for the next one it rested; where it did not begin nobody was served; where its engine refused to be taken apart the desk had served until some end.
-    abbrev pub LeavesLife : {P : Type 0} → P → V → V → DeskState P → LifeEnd → Type 0
-    LeavesLife port v w desk end.Unfollowed = ServesLife port v w desk end.Resting
-    LeavesLife port v w desk (end.Ended (Some fault.NotBegun)) = talked v [] w × (desk ≡ new_desk port)
-    LeavesLife port v w desk (end.Ended (Some (fault.NotClosed why))) = (served : LifeEnd) × ServesLife port v w desk served
-    LeavesLife port v w desk left = ServesLife port v w desk left
+    -- How the desk went on in an instance that was left so. Where there was no memory for the next one it rested; where it did not begin nobody was served; where its engine refused to be taken apart the desk had served until some end.
+    abbrev pub LeavesInstance : {P : Type 0} → P → V → V → DeskState P → InstanceEnd → Type 0
+    LeavesInstance port v w desk end.Unfollowed = ServesInstance port v w desk end.Resting
+    LeavesInstance port v w desk (end.Ended (Some fault.NotBegun)) = talked v [] w × (desk ≡ new_desk port)
+    LeavesInstance port v w desk (end.Ended (Some (fault.NotClosed why))) = (served : InstanceEnd) × ServesInstance port v w desk served
+    LeavesInstance port v w desk left = ServesInstance port v w desk left
 
-    -- how the desk went on in the last life of a server that ends so: a store that has stopped, or want of memory for the next life, is met where a life rests, an output that fails before the first life serves
+    -- how the desk went on in the last instance of a server that ends so: a store that has stopped, or want of memory for the next instance, is met where an instance rests, an output that fails before the first instance serves
     abbrev pub Serves : {P : Type 0} → P → V → V → DeskState P → Option ServerFault → Type 0
-    Serves port v w desk (Some fault.Device) = ServesLife port v w desk end.Resting
-    Serves port v w desk (Some fault.Write) = ServesLife port v w desk end.Unprinted
-    Serves port v w desk (Some fault.OutOfMemory) = ServesLife port v w desk (end.Ended (Some fault.OutOfMemory)) ⊎ ServesLife port v w desk end.Resting
-    Serves port v w desk served = LeavesLife port v w desk (end.Ended served)
+    Serves port v w desk (Some fault.Device) = ServesInstance port v w desk end.Resting
+    Serves port v w desk (Some fault.Write) = ServesInstance port v w desk end.Unprinted
+    Serves port v w desk (Some fault.OutOfMemory) = ServesInstance port v w desk (end.Ended (Some fault.OutOfMemory)) ⊎ ServesInstance port v w desk end.Resting
+    Serves port v w desk served = LeavesInstance port v w desk (end.Ended served)
 
-    -- the threads of a life have run: the desk served until this end and saw that much, this one has read what the desk told of behind these earlier steps, and with its share all ten are back, the desk's, the flusher's and those of eight workers
-    pub record HasRun (history : TableId) (earlier : List Step) (v w : V) (left : LifeEnd) (shares : List (List Note)) (seen : ℕ) (reader : Beginning) : Type 0 where
+    -- the threads of an instance have run: the desk served until this end and saw that much, this one has read what the desk told of behind these earlier steps, and with its share all ten are back, the desk's, the flusher's and those of eight workers
+    pub record HasRun (history : TableId) (earlier : List Step) (v w : V) (left : InstanceEnd) (shares : List (List Note)) (seen : ℕ) (reader : Beginning) : Type 0 where
       pub port : Local
       pub desk : DeskState Local
-      pub served : ServesLife port v w desk left
+      pub served : ServesInstance port v w desk left
       pub saw : desk.seen ≡ seen
       pub read : HasReadSettled history earlier desk.read reader
       pub added : AddsWorkers (desk.notes ∷ []) shares
       pub all : length shares ≡ 10
 
-    -- one life: the desk served until it was left so, and what is left. The settled steps begin with those of which the desk told
-    pub record IsLife (v : V) (life : Life D V) : Type 0 where
+    -- one instance: the desk served until it was left so, and what is left. The settled steps begin with those of which the desk told
+    pub record IsInstance (v : V) (instance : Instance D V) : Type 0 where
       pub port : Local
       pub desk : DeskState Local
-      pub served : LeavesLife port v life.callers desk life.left
-      pub left : IsLeftAs b desk life.closed (end_fault life.left)
-      pub told : StartsWith (first_settled life.closed.base life.closed.trail.items life.closed.settled) desk.read
+      pub served : LeavesInstance port v instance.callers desk instance.left
+      pub left : IsLeftAs b desk instance.closed (end_fault instance.left)
+      pub told : StartsWith (first_settled instance.closed.base instance.closed.trail.items instance.closed.settled) desk.read
 
--- An engine was taken apart into what a life has left. Either with these shares, which noted all that was accepted: then the life is left as its serving ended. Or it refused them, and the life is left for that reason.
-abbrev pub LeavesShares : {D V : Type 0} → Basis D → List (List Note) → ℕ → LifeEnd → Life D V → Type 0
-LeavesShares {D} {V} b shares seen served life =
-    ((life.left ≡ served) × IsSince b.base b.before shares life.closed.base life.closed.trail.items
-    × AtSomeMoment b (Closes {D = D} life.closed.store life.closed.base life.closed.trail.items life.closed.settled shares) × (seen ≤ life.closed.settled))
-    ⊎ ((why : CloseFault) × (life.left ≡ end.Ended (Some (fault.NotClosed why)))
-    × AtSomeMoment b (λ g. IsLeftOf {D = D} life.closed.store life.closed.base life.closed.trail.items life.closed.settled g × RefusesClosing {D = D} g shares seen why))
+-- An engine was taken apart into what an instance has left. Either with these shares, which noted all that was accepted: then the instance is left as its serving ended. Or it refused them, and the instance is left for that reason.
+abbrev pub LeavesShares : {D V : Type 0} → Basis D → List (List Note) → ℕ → InstanceEnd → Instance D V → Type 0
+LeavesShares {D} {V} b shares seen served instance =
+    ((instance.left ≡ served) × IsSince b.base b.before shares instance.closed.base instance.closed.trail.items
+    × AtSomeMoment b (Closes {D = D} instance.closed.store instance.closed.base instance.closed.trail.items instance.closed.settled shares) × (seen ≤ instance.closed.settled))
+    ⊎ ((why : CloseFault) × (instance.left ≡ end.Ended (Some (fault.NotClosed why)))
+    × AtSomeMoment b (λ g. IsLeftOf {D = D} instance.closed.store instance.closed.base instance.closed.trail.items instance.closed.settled g × RefusesClosing {D = D} g shares seen why))
 
--- how a life ends whose output was not opened: those who call have failed, or the first line was not printed. `failed v w`: those who call were v, and have failed
-abbrev pub EndsUnopened : {V : Type 0} → (V → V → Type 0) → V → LifeEnd → Type 0
+-- how an instance ends whose output was not opened: those who call have failed, or the first line was not printed. `failed v w`: those who call were v, and have failed
+abbrev pub EndsUnopened : {V : Type 0} → (V → V → Type 0) → V → InstanceEnd → Type 0
 EndsUnopened failed v end.Unprinted = Unit {0}
 EndsUnopened failed v (end.Ended (Some fault.Socket)) = failed v v
 EndsUnopened failed v other = ⊥

@@ -1,4 +1,4 @@
--- What the answers of a life tell, by its one history: each is borne out by some first settled steps, and none goes back behind the one before.
+-- What the answers of an instance tell, by its one history: each is borne out by some first settled steps, and none goes back behind the one before.
 use Rattle.std.specs.List.{AllByRecursion}
 use Rattle.std.specs.Prelude.{◌≡◌, ◌⊎◌, ℕ, List, [], ◌∷◌, ◌++◌, Result, Ok, Some, map, slice_get, take}
 use Rattle.coord_types.specs.declared.steps.Reply.{Reply}
@@ -21,7 +21,7 @@ use Rattle.coord_admin.specs.declared.request.Request.TheVariants as request
 use Rattle.coord_server.specs.EngineDesk.{DeskState}
 use Rattle.coord_server.specs.Ending.{IsClosed, ServedWhileOpen}
 
--- an answer to a line, and the settled steps of its life by which it is given
+-- an answer to a line, and the settled steps of its instance by which it is given
 pub record Told : Type 0 where
   pub line : Line
   pub answer : Answer
@@ -77,7 +77,7 @@ abbrev pub AllInOrder : World → List Step → List Connection → List Step �
 AllInOrder base first [] last = StartsWith last first
 AllInOrder base first (c ∷ cs) last = (now : List Step) × WritesInOrder base first c.talk now × AllInOrder base now cs last
 
--- All that the desk of a life told or showed, over one connection after the other, whether or not a line closed it, is borne out so, by the settled steps that the desk has read.
+-- All that the desk of an instance told or showed, over one connection after the other, whether or not a line closed it, is borne out so, by the settled steps that the desk has read.
 abbrev pub ToldInOrder : Type 0 → Type 0 → {V : Type 0} → (V → List Talk → V → Type 0) → Type 0
 ToldInOrder D P {V} talked =
     (b : Basis D) (most : ℕ) (port : P) (v w : V) (desk : DeskState P)

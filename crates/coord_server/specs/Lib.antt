@@ -3,7 +3,7 @@ pub mod EngineDesk
 pub mod Halves
 pub mod InOrder
 pub mod Lines
-pub mod Lives
+pub mod Instances
 pub mod Moments
 pub mod Printed
 pub mod RunTold

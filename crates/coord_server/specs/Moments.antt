@@ -1,4 +1,4 @@
--- What a crash may have left at each moment of the life of a store that is served.
+-- What a crash may have left at each moment of the instance of a store that is served.
 use Rattle.std.specs.Prelude.{◌≡◌, ℕ, true, List, [], ◌++◌}
 use Rattle.atomic_table.specs.Seated.{TableId}
 use Rattle.coord_disk.specs.Model.DiskModel.{DiskModel}
@@ -10,25 +10,25 @@ use Rattle.coord_admin.specs.Connections.{Talk}
 use Rattle.coord_engine.specs.Facade.{Beginning, HasReadSettled, IsAfterSome, first_settled}
 use Rattle.coord_engine.specs.State.{based_on}
 use Rattle.coord_engine.specs.declared.closed.Closed.{Closed}
-use Rattle.coord_server.specs.Ending.{IsLife}
-use Rattle.coord_server.specs.Lives.{HaveRested, LifeRun, all_steps}
-use Rattle.coord_server.specs.declared.life.Life.{Life}
+use Rattle.coord_server.specs.Ending.{IsInstance}
+use Rattle.coord_server.specs.Instances.{HaveRested, InstanceRun, all_steps}
+use Rattle.coord_server.specs.declared.instance.Instance.{Instance}
 
 -- At every moment from the one store to the other, whatever the disk may hold is the world after the first of these steps, some number of them. The disk keeps the model as it did.
 pub record KeepsAlong {D : Type 0} (m : DiskModel D) (first : Kept D) (steps : List Step) (now : Kept D) : Type 0 where
   pub same_model : m.keeps_model now.disk ≡ m.keeps_model first.disk
   pub moments : m.keeps_model first.disk ≡ true → LeavesOnly m first.disk now.disk (IsAfterSome first.world steps)
 
--- behind the earlier steps of this history the settled ones of a life are written
+-- behind the earlier steps of this history the settled ones of an instance are written
 abbrev pub HasWritten : {D : Type 0} → TableId → List Step → Closed D → Beginning → Type 0
 HasWritten history earlier left written = HasReadSettled history earlier (first_settled left.base left.trail.items left.settled) written
 
--- Some lives rested, and then this one was had, over the store that they left. At every moment from the first store to what is left, whatever the disk may hold is the world after the first of all the steps that they accepted; and those that are settled are written. `talked v talks w`: those who call were v, had these talks, and then are w; `failed v w`: they were v, and have failed
-pub record HasLived {D : Type 0} (m : DiskModel D) {V : Type 0} (talked : V → List Talk → V → Type 0) (failed : V → V → Type 0) (most : ℕ) (first : Kept D) (v : V) (last : Life D V) : Type 0 where
-  pub rested : List (LifeRun D V)
+-- Some instances rested, and then this one was had, over the store that they left. At every moment from the first store to what is left, whatever the disk may hold is the world after the first of all the steps that they accepted; and those that are settled are written. `talked v talks w`: those who call were v, had these talks, and then are w; `failed v w`: they were v, and have failed
+pub record HasLived {D : Type 0} (m : DiskModel D) {V : Type 0} (talked : V → List Talk → V → Type 0) (failed : V → V → Type 0) (most : ℕ) (first : Kept D) (v : V) (last : Instance D V) : Type 0 where
+  pub rested : List (InstanceRun D V)
   pub world : World
   pub callers : V
   pub before : HaveRested m talked most first.world v rested world callers
-  pub life : IsLife (based_on m world []) talked failed most callers last
+  pub instance : IsInstance (based_on m world []) talked failed most callers last
   pub along : KeepsAlong m first (all_steps rested ++ last.closed.trail.items) last.closed.store
   pub written : last.writer.steps ≡ first_settled first.world (all_steps rested ++ last.closed.trail.items) last.closed.settled

@@ -1,7 +1,7 @@
--- What a server told over all the connections of its lives, in terms of its one history.
+-- What a server told over all the connections of its instances, in terms of its one history.
 --
--- Each answer follows from the first n settled steps of all lives, and n never falls: not along a connection, nor from
--- one connection or one life to the next. A view shows the world of the store after these n steps. A reply is the one
+-- Each answer follows from the first n settled steps of all instances, and n never falls: not along a connection, nor from
+-- one connection or one instance to the next. A view shows the world of the store after these n steps. A reply is the one
 -- that the order's own step got among them, or that the store kept for the order. Nothing is said here of two things:
 -- how many accepted steps a view counts, and why an order was refused.
 use Rattle.std.specs.Prelude.{◌≡◌, ◌⊎◌, ℕ, List, [], ◌∷◌, ◌++◌, Option}
@@ -12,7 +12,7 @@ use Rattle.coord_world.specs.Facade.{World, fold}
 use Rattle.coord_admin.specs.Connections.{Connection, Talk, talks}
 use Rattle.coord_engine.specs.Facade.{StartsWith, first_settled}
 use Rattle.coord_server.specs.InOrder.{AllInOrder}
-use Rattle.coord_server.specs.Lives.{LifeRun, all_steps}
+use Rattle.coord_server.specs.Instances.{InstanceRun, all_steps}
 use Rattle.coord_server.specs.Printed.{PrinterState}
 use Rattle.coord_server.specs.ServerRun.{ServerRun}
 use Rattle.coord_server.specs.declared.server_end.ServerEnd.{ServerEnd}
@@ -25,25 +25,25 @@ module _ {V : Type 0} (talked : V → List Talk → V → Type 0) (failed : V �
     pub talks : talked v (talks connections) last
     pub ended : (w ≡ last) ⊎ failed last w
 
-  -- the connections of some lives, in order
-  abbrev pub AreConnectionsOf : {D : Type 0} → V → List (LifeRun D V) → List Connection → Type 0
+  -- the connections of some instances, in order
+  abbrev pub AreConnectionsOf : {D : Type 0} → V → List (InstanceRun D V) → List Connection → Type 0
   AreConnectionsOf v [] connections = connections ≡ []
-  AreConnectionsOf v (life ∷ later) connections = (own : List Connection) × (rest : List Connection) × (connections ≡ own ++ rest) × HadConnections v own life.callers × AreConnectionsOf life.callers later rest
+  AreConnectionsOf v (instance ∷ later) connections = (own : List Connection) × (rest : List Connection) × (connections ≡ own ++ rest) × HadConnections v own instance.callers × AreConnectionsOf instance.callers later rest
 
--- Each life began with the world after the steps of the lives before it. What its desk read, behind those steps, is a first part of the settled ones.
-abbrev pub EachReads : {D V : Type 0} → World → List Step → List Step → List (LifeRun D V) → Type 0
+-- Each instance began with the world after the steps of the instances before it. What its desk read, behind those steps, is a first part of the settled ones.
+abbrev pub EachReads : {D V : Type 0} → World → List Step → List Step → List (InstanceRun D V) → Type 0
 EachReads world settled before [] = Unit {0}
-EachReads world settled before (life ∷ later) = (life.left.base ≡ fold world before) × StartsWith settled (before ++ life.desk.read) × EachReads world settled (before ++ life.left.trail.items) later
+EachReads world settled before (instance ∷ later) = (instance.left.base ≡ fold world before) × StartsWith settled (before ++ instance.desk.read) × EachReads world settled (before ++ instance.left.trail.items) later
 
--- all that lives from a world told over their connections follows from these settled steps
-pub record TellsOneHistory {D V : Type 0} (talked : V → List Talk → V → Type 0) (failed : V → V → Type 0) (world : World) (settled : List Step) (v : V) (lives : List (LifeRun D V)) : Type 0 where
+-- all that instances from a world told over their connections follows from these settled steps
+pub record TellsOneHistory {D V : Type 0} (talked : V → List Talk → V → Type 0) (failed : V → V → Type 0) (world : World) (settled : List Step) (v : V) (instances : List (InstanceRun D V)) : Type 0 where
   pub connections : List Connection
-  pub had : AreConnectionsOf talked failed v lives connections
+  pub had : AreConnectionsOf talked failed v instances connections
   pub told : AllInOrder world [] connections settled
-  pub reads : EachReads world settled [] lives
+  pub reads : EachReads world settled [] instances
 
--- and so it is for each run of a server, with the settled steps of all its lives
+-- and so it is for each run of a server, with the settled steps of all its instances
 abbrev pub RunTellsOneHistory : {D V W : Type 0} → DiskModel D → (V → List Talk → V → Type 0) → (V → V → Type 0) → (W → Option (List ℕ)) → (List Step → ℕ → ℕ → ℕ → Type 0) → Type 0
 RunTellsOneHistory {D} {V} {W} model talked failed contents gives =
     (most : ℕ) (store : Kept D) (v : V) (printer : PrinterState W) (ended : ServerEnd D V W) → (run : ServerRun model talked failed most contents gives store v printer ended)
-    → TellsOneHistory talked failed store.world (first_settled store.world (all_steps run.lives) ended.closed.settled) v run.lives
+    → TellsOneHistory talked failed store.world (first_settled store.world (all_steps run.instances) ended.closed.settled) v run.instances

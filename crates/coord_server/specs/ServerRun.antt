@@ -1,18 +1,18 @@
 -- The main theorem of the server: its run, from the store that it was given to the one that it returned.
 --
--- It had lives, one after another, each with its own engine. In each life a desk served the connections of those
--- who called, and answered as its engine can. The steps that all lives accepted are one trail from the world of the
+-- It had instances, one after another, each with its own engine. In each instance a desk served the connections of those
+-- who called, and answered as its engine can. The steps that all instances accepted are one trail from the world of the
 -- store. The settled ones are the first of them, and the store that is returned has the world after these. At every
 -- moment in between, a crash leaves the world after the first n accepted steps, for some n. The output got the line of
 -- an address, and then only lines of signals that settled steps give out, in order; if the output failed, also the
 -- first part of one more line.
 --
--- `AreLives` says how one life follows another, how each was served and left. Two laws say what follows:
--- `LivesAreOne`, that steps and signals are numbered as one history, and `RunTellsOneHistory`, that each reply and each
+-- `AreInstances` says how one instance follows another, how each was served and left. Two laws say what follows:
+-- `InstancesAreOne`, that steps and signals are numbered as one history, and `RunTellsOneHistory`, that each reply and each
 -- view is that of a first part of it.
 --
 -- `model` is the meaning of the disk. `talked` and `failed` say what those who call may do, and `most` how many steps a
--- life has. `contents` are the bytes of an output, where they are known. `gives` says which signals a list of steps gives
+-- instance has. `contents` are the bytes of an output, where they are known. `gives` says which signals a list of steps gives
 -- out, by step, node and epoch.
 use Rattle.std.specs.Prelude.{◌≡◌, ⊤, ℕ, ◌+◌, ◌≤◌, List, Option, length}
 use Rattle.coord_disk.specs.Model.DiskModel.{DiskModel}
@@ -24,29 +24,29 @@ use Rattle.coord_admin.specs.Connections.{Talk}
 use Rattle.coord_admin.specs.Times.{IsUsual}
 use Rattle.coord_admin.specs.declared.patience.Patience.{Patience}
 use Rattle.coord_engine.specs.Facade.{first_settled}
-use Rattle.coord_server.specs.Lives.{AreLives, IsToldForCause, LifeRun, all_steps, life_steps}
+use Rattle.coord_server.specs.Instances.{AreInstances, IsToldForCause, InstanceRun, all_steps, instance_steps}
 use Rattle.coord_server.specs.Moments.{KeepsAlong}
 use Rattle.coord_server.specs.Printed.{IsPrinted, PrinterState}
 use Rattle.coord_server.specs.declared.server_end.ServerEnd.{ServerEnd}
 
 pub record ServerRun {D V W : Type 0} (model : DiskModel D) (talked : V → List Talk → V → Type 0) (failed : V → V → Type 0) (most : ℕ) (contents : W → Option (List ℕ)) (gives : List Step → ℕ → ℕ → ℕ → Type 0) (store : Kept D) (v : V) (printer : PrinterState W) (ended : ServerEnd D V W) : Type 0 where
-  -- the lives, in order
-  pub lives : List (LifeRun D V)
-  pub served : AreLives model talked failed most store.world v lives ended.served ended.closed ended.callers
+  -- the instances, in order
+  pub instances : List (InstanceRun D V)
+  pub served : AreInstances model talked failed most store.world v instances ended.served ended.closed ended.callers
   -- the steps that they accepted are one trail, of which the first ones are settled
-  pub trail : IsTrail store.world (all_steps lives)
-  pub counted : (store.world.count ≤ ended.closed.settled) × (ended.closed.settled ≤ store.world.count + length (all_steps lives))
-  pub settled : ended.closed.store.world ≡ fold store.world (first_settled store.world (all_steps lives) ended.closed.settled)
+  pub trail : IsTrail store.world (all_steps instances)
+  pub counted : (store.world.count ≤ ended.closed.settled) × (ended.closed.settled ≤ store.world.count + length (all_steps instances))
+  pub settled : ended.closed.store.world ≡ fold store.world (first_settled store.world (all_steps instances) ended.closed.settled)
   -- at every moment the disk gives the world after the first n of these steps, for some n
-  pub along : KeepsAlong model store (all_steps lives) ended.closed.store
+  pub along : KeepsAlong model store (all_steps instances) ended.closed.store
   -- what was printed
-  pub printed : IsPrinted contents (gives (first_settled store.world (all_steps lives) ended.closed.settled)) printer ended.printer
+  pub printed : IsPrinted contents (gives (first_settled store.world (all_steps instances) ended.closed.settled)) printer ended.printer
   -- what is told of its end
   pub cause : IsToldForCause most ended
 
--- a run over a store, with lives of the usual length
+-- a run over a store, with instances of the usual length
 abbrev pub HasServed : {D V W : Type 0} → DiskModel D → (V → List Talk → V → Type 0) → (V → V → Type 0) → (W → Option (List ℕ)) → (List Step → ℕ → ℕ → ℕ → Type 0) → Kept D → V → PrinterState W → ServerEnd D V W → Type 0
-HasServed model talked failed contents gives store v printer ended = ServerRun model talked failed life_steps contents gives store v printer ended
+HasServed model talked failed contents gives store v printer ended = ServerRun model talked failed instance_steps contents gives store v printer ended
 
 -- the same over the connections of a listener, with the usual patience for its clients
 abbrev pub HasServedUsual : {D W : Type 0} → DiskModel D → (W → Option (List ℕ)) → (List Step → ℕ → ℕ → ℕ → Type 0) → Kept D → PrinterState W → ServerEnd D Patience W → Type 0

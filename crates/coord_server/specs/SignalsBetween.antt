@@ -8,7 +8,7 @@ use Rattle.coord_world.specs.laws.Between.{BoundSignals, IsReadyAgain}
 use Rattle.coord_admin.specs.Connections.{Talk}
 use Rattle.coord_engine.specs.Facade.{GivesSignal, first_settled}
 use Rattle.coord_server.specs.Lines.{nothing_since}
-use Rattle.coord_server.specs.Lives.{all_steps}
+use Rattle.coord_server.specs.Instances.{all_steps}
 use Rattle.coord_server.specs.Printed.{PrinterState}
 use Rattle.coord_server.specs.ServerRun.{ServerRun}
 use Rattle.coord_server.specs.Signals.{StepSignal}
@@ -18,11 +18,11 @@ use Rattle.coord_server.specs.declared.server_end.ServerEnd.{ServerEnd}
 abbrev pub is_printed_within : ℕ → ℕ → ℕ → StepSignal → Bool
 is_printed_within a b v s = (nat_lt a s.step && nat_le s.step b) && (s.node == v)
 
--- What a server has printed in all its lives keeps the bounds between two moments of its settled steps: it printed no more lines of a
+-- What a server has printed in all its instances keeps the bounds between two moments of its settled steps: it printed no more lines of a
 -- node's signals by the steps between than resets were started there.
 abbrev pub PrintedBetween : {D V W : Type 0} → DiskModel D → (V → List Talk → V → Type 0) → (V → V → Type 0) → (W → Option (List ℕ)) → Type 0
 PrintedBetween {D} {V} {W} model talked failed contents =
     (most : ℕ) (store : Kept D) (callers : V) (printer : PrinterState W) (ended : ServerEnd D V W) (run : ServerRun model talked failed most contents (GivesSignal store.world) store callers printer ended) →
     printer.last ≡ nothing_since store.world.count → (earlier between rest : List Step) (part : ℕ → Bool) →
-    first_settled store.world (all_steps run.lives) ended.closed.settled ≡ earlier ++ (between ++ rest) → IsReadyAgain store.world earlier between part →
+    first_settled store.world (all_steps run.instances) ended.closed.settled ≡ earlier ++ (between ++ rest) → IsReadyAgain store.world earlier between part →
     BoundSignals (fold store.world earlier) between part (λ v. count_by (is_printed_within (store.world.count + length earlier) (store.world.count + length earlier + length between) v) run.printed.signals)

@@ -1,4 +1,4 @@
--- What a reply, and what is left of a disk, tell of the steps of a life.
+-- What a reply, and what is left of a disk, tell of the steps of an instance.
 use Rattle.std.specs.List.{AllByRecursion}
 use Rattle.std.specs.Prelude.{◌≡◌, ◌⊎◌, ℕ, ◌+◌, ◌-◌, ◌≤◌, true, List, [], ◌∷◌, ◌++◌, Contains, Ok, Some, length, slice_get, take}
 use Rattle.coord_disk.specs.Model.Present.{IsImage}
@@ -13,7 +13,7 @@ use Rattle.coord_engine.specs.State.{Basis}
 use Rattle.coord_engine.specs.Threads.{AtSomeMoment}
 use Rattle.coord_engine.specs.declared.closed.Closed.{Closed}
 use Rattle.coord_admin.specs.Connections.{Connection, Talk}
-use Rattle.coord_admin.specs.LifeLimit.{HasKeptFewer}
+use Rattle.coord_admin.specs.InstanceLimit.{HasKeptFewer}
 use Rattle.coord_admin.specs.Replies.{reply_line, reply_lines}
 use Rattle.coord_admin.specs.declared.answer.Answer.{Answer}
 use Rattle.coord_admin.specs.declared.answer.Answer.TheVariants.{Faulted, Refused, Replied, Resent, Shown}
@@ -31,7 +31,7 @@ pub record NamesItsStep {D : Type 0} (b : Basis D) (s : Step) (reply : Reply) (b
 abbrev pub RepliesNameSteps : Type 0 → Type 0
 RepliesNameSteps D = (b : Basis D) (s : Step) (reply : Reply) (before after : List Note) (read now : List Step) → AnswersOrder b s (Ok reply) before after read now → NamesItsStep b s reply before after now
 
--- the step of a note stands in what is left of a life at the note's number, and what is left gives it the reply that the note has
+-- the step of a note stands in what is left of an instance at the note's number, and what is left gives it the reply that the note has
 pub record IsReplied {D : Type 0} (left : Closed D) (note : Note) : Type 0 where
   pub place : ℕ
   pub number : note.step ≡ left.base.count + place + 1
@@ -40,7 +40,7 @@ pub record IsReplied {D : Type 0} (left : Closed D) (note : Note) : Type 0 where
   pub given : slice_get (outs left.base left.trail.items) place ≡ Some outcome
   pub reply : outcome.reply ≡ record { step = note.step; kind = note.kind }
 
--- each reply that a desk noted in a life is the reply of its step in the history that is left
+-- each reply that a desk noted in an instance is the reply of its step in the history that is left
 abbrev pub NotesAreReplies : Type 0 → Type 0 → Type 0
 NotesAreReplies D P = (b : Basis D) (desk : DeskState P) (left : Closed D) → IsOneHistory b desk left → (note : Note) → Contains desk.notes note → IsReplied left note
 
@@ -65,26 +65,26 @@ pub record WritesUpTo (step : ℕ) (text : List ℕ) : Type 0 where
 abbrev pub AllWriteUpTo : ℕ → List Connection → Type 0
 AllWriteUpTo step cs = AllByRecursion (λ c. WritesUpTo step c.talk.bytes_written) cs
 
--- all that the desk of a life told or showed is settled in what is left of it, whether or not a line closed it
+-- all that the desk of an instance told or showed is settled in what is left of it, whether or not a line closed it
 abbrev pub ToldIsSettled : Type 0 → Type 0 → {V : Type 0} → (V → List Talk → V → Type 0) → Type 0
 ToldIsSettled D P {V} talked =
     (b : Basis D) (most : ℕ) (port : P) (v w : V) (desk : DeskState P) (left : Closed D) → IsOneHistory b desk left
     → ((served : ServedWhileOpen b talked most port v w desk) → AllWriteUpTo left.settled served.0)
     × ((served : IsClosed b talked most port v w desk) → AllWriteUpTo left.settled (served.0 ++ served.1 ∷ []))
 
--- these bytes give the world after the settled steps of a life; or after a stop that of those and the next ones, which were in doubt
-abbrev pub LifeGives : {D : Type 0} → Closed D → List ℕ → Type 0
-LifeGives left bytes =
+-- these bytes give the world after the settled steps of an instance; or after a stop that of those and the next ones, which were in doubt
+abbrev pub InstanceGives : {D : Type 0} → Closed D → List ℕ → Type 0
+InstanceGives left bytes =
     Recovered bytes left.store.world
     ⊎ ((size : ℕ) × (has_stopped left.store ≡ true) × (left.settled + size ≤ left.base.count + length left.trail.items)
     × Recovered bytes (fold left.base (take (left.settled - left.base.count + size) left.trail.items)))
 
--- whatever a crash may leave of the disk of a life gives so
-abbrev pub LivesLeaveSteps : Type 0 → Type 0 → Type 0
-LivesLeaveSteps D P =
+-- whatever a crash may leave of the disk of an instance gives so
+abbrev pub InstancesLeaveSteps : Type 0 → Type 0 → Type 0
+InstancesLeaveSteps D P =
     (b : Basis D) (desk : DeskState P) (left : Closed D) → IsOneHistory b desk left
-    → b.keeps_model left.store.disk ≡ true → (image : List ℕ) → IsImage (b.present left.store.disk) image → LifeGives left image
+    → b.keeps_model left.store.disk ≡ true → (image : List ℕ) → IsImage (b.present left.store.disk) image → InstanceGives left image
 
--- a desk that has noted as many steps as its life has does not keep fewer, whatever its engine keeps
+-- a desk that has noted as many steps as its instance has does not keep fewer, whatever its engine keeps
 abbrev pub NotesEndALife : Type 0 → Type 0 → Type 0
 NotesEndALife D P = (b : Basis D) (desk : DeskState P) (most : ℕ) → most ≤ length desk.notes → ¬ HasKeptFewer (DeskKeeps b) desk most

@@ -45,7 +45,7 @@ impl<'a, D: Disk, L: Origin, P: Port, R: Wait> Model for EngineDesk<'a, D, L, P,
 }
 
 impl<'a, D: Disk, L: Origin, P: Port + Drop, R: Wait> EngineDesk<'a, D, L, P, R> {
-    /// A desk that has seen nothing yet, with a reader that has read the steps of earlier lives.
+    /// A desk that has seen nothing yet, with a reader that has read the steps of earlier instances.
     pub fn new(
         rt: &'a R,
         engine: &'a Engine<D, L>,

@@ -7,9 +7,9 @@ use std::fmt;
 /// What ended a server, or was met while it ended.
 #[derive(Clone, Copy, Debug, PartialEq, Eq, Drop)]
 pub enum ServerFault {
-    /// There was not enough memory to serve, or to begin the next life.
+    /// There was not enough memory to serve, or to begin the next instance.
     OutOfMemory,
-    /// There was not enough memory, or no thread could be had, to begin a life: nobody was served in it.
+    /// There was not enough memory, or no thread could be had, to begin an instance: nobody was served in it.
     NotBegun,
     /// The listener failed.
     Socket,

@@ -1,12 +1,12 @@
-//! Laws of the lives of a server, over the definitions alone: functions that do nothing, whose
+//! Laws of the instances of a server, over the definitions alone: functions that do nothing, whose
 //! contracts are the laws.
 
 ghost use Rattle.std.specs.Prelude.{ℕ};
 ghost use Rattle.coord_server.specs.InOrder.{ToldInOrder};
-ghost use Rattle.coord_server.specs.Lives.{LivesAreOne};
+ghost use Rattle.coord_server.specs.Instances.{InstancesAreOne};
 ghost use Rattle.coord_server.specs.RunTold.{RunTellsOneHistory};
 ghost use Rattle.coord_server.specs.SignalsBetween.{PrintedBetween};
-ghost use Rattle.coord_server.specs.Told.{LivesLeaveSteps, NotesAreReplies, NotesEndALife, RepliesNameSteps, ToldIsSettled};
+ghost use Rattle.coord_server.specs.Told.{InstancesLeaveSteps, NotesAreReplies, NotesEndALife, RepliesNameSteps, ToldIsSettled};
 ghost use Rattle.coord_server.specs.WorkedTold.{TellUpToThird};
 
 use crate::Telling;
@@ -15,41 +15,41 @@ use coord_disk::Disk;
 use coord_engine::Port;
 use std::io::Write;
 
-/// All lives of a server are one history: one trail from the world of its first store, over which each
-/// life began where the one before ended, and of which each step has a number of its own.
-pub fn lives_are_one<D: Disk, C: Callers>()
-    ensures { (most : ℕ) → LivesAreOne D.model C.talked C.failed most }
+/// All instances of a server are one history: one trail from the world of its first store, over which each
+/// instance began where the one before ended, and of which each step has a number of its own.
+pub fn instances_are_one<D: Disk, C: Callers>()
+    ensures { (most : ℕ) → InstancesAreOne D.model C.talked C.failed most }
 {}
 
 /// An order that is told a reply was noted just then, with the number and the kind that it is told, or
-/// it repeats one. The log of that life had the step at that number, settled, and answered it with the kind that
+/// it repeats one. The log of that instance had the step at that number, settled, and answered it with the kind that
 /// it is told, or the base kept that reply for it. What a desk has noted stands in the trail of its
-/// life, each note at its number.
+/// instance, each note at its number.
 pub fn replies_name_steps<D: Disk>()
     ensures { RepliesNameSteps D }
 {}
 
-/// Each reply that a desk noted in a life is the reply of its step in the history that is left: the
+/// Each reply that a desk noted in an instance is the reply of its step in the history that is left: the
 /// trail has the step at the number of the reply, and gives out a reply of that kind there.
 pub fn notes_are_replies<D: Disk, P: Port>()
     ensures { NotesAreReplies D P }
 {}
 
-/// All that the desk of a life told or showed, over each connection that ended, is settled in what is
+/// All that the desk of an instance told or showed, over each connection that ended, is settled in what is
 /// left: no reply has a greater number, and no world that was shown counts more steps as settled.
 pub fn told_is_settled<D: Disk, C: Callers, P: Port>()
     ensures { ToldIsSettled D P C.talked }
 {}
 
-/// What the desk of a life told or showed, over one connection after the other, is borne out by the
+/// What the desk of an instance told or showed, over one connection after the other, is borne out by the
 /// settled steps that it had read then: a reply is that of the order's own step, and a view that of the
 /// world after them. None goes back behind those of an answer before.
 pub fn told_in_order<D: Disk, C: Callers, P: Port>()
     ensures { ToldInOrder D P C.talked }
 {}
 
-/// All that a server told over the connections of its lives follows from the first n settled steps of its
-/// one history, and n never falls, from one connection or one life to the next either. A view shows the
+/// All that a server told over the connections of its instances follows from the first n settled steps of its
+/// one history, and n never falls, from one connection or one instance to the next either. A view shows the
 /// world of the store after these n steps.
 pub fn run_tells_one_history<D: Disk, C: Callers, W: Write, O: Telling>()
     ensures { RunTellsOneHistory D.model C.talked C.failed W.contents O.gives }
@@ -69,14 +69,14 @@ pub fn tell_up_to_third()
     ensures { TellUpToThird }
 {}
 
-/// Whatever a crash may leave of a life's disk gives the world after the settled steps; after a
+/// Whatever a crash may leave of an instance's disk gives the world after the settled steps; after a
 /// stop perhaps the world after the next ones too, which were in doubt.
-pub fn lives_leave_steps<D: Disk, P: Port>()
-    ensures { LivesLeaveSteps D P }
+pub fn instances_leave_steps<D: Disk, P: Port>()
+    ensures { InstancesLeaveSteps D P }
 {}
 
-/// No connection begins at a desk that has noted as many steps as its life has, whatever its engine
+/// No connection begins at a desk that has noted as many steps as its instance has, whatever its engine
 /// keeps.
-pub fn notes_end_a_life<D: Disk, P: Port>()
+pub fn notes_end_an_instance<D: Disk, P: Port>()
     ensures { NotesEndALife D P }
 {}

@@ -2,11 +2,11 @@
 //!
 //! [`serve_store`] runs an engine with a flusher and eight workers over a store, and serves the
 //! connections of a listener to an [`EngineDesk`], one after the other, until a line closes it. So that
-//! it needs no more memory the longer it serves, it does so in lives, each over an engine of its own
-//! that is taken apart once it keeps many steps ([`serve_lives`]).
+//! it needs no more memory the longer it serves, it does so in instances, each over an engine of its own
+//! that is taken apart once it keeps many steps ([`serve_instances`]).
 //! `specs/EngineDesk.antt` says what that desk may answer, by what the engine's calls say,
 //! `specs/Printed.antt` the lines that are printed, `specs/Ending.antt` what is left at the end of a
-//! life: one history, and a store that has not stopped; and `specs/Lives.antt` how lives follow one
+//! instance: one history, and a store that has not stopped; and `specs/Instances.antt` how instances follow one
 //! another. The main theorem is `specs/ServerRun.antt`, which `serve_store` ensures, with what an `EngineDesk` is proved to
 //! answer as a `Desk`. Nothing of this says that a thread runs, that a packet comes or that anyone is
 //! served.
@@ -14,11 +14,11 @@
 
 mod desk;
 mod fault;
+mod instance;
+mod instance_end;
+mod instances;
 mod last_line;
 pub mod laws;
-mod life;
-mod life_end;
-mod lives;
 mod local;
 mod printer;
 mod printing;
@@ -30,10 +30,10 @@ mod threads;
 
 pub use desk::EngineDesk;
 pub use fault::ServerFault;
+pub use instances::serve_instances;
 pub use last_line::LastLine;
-pub use lives::serve_lives;
 pub use local::{LocalPort, WORKERS};
 pub use printer::{Printer, SignalPrinter, TakableOutput};
 pub use server_end::ServerEnd;
-pub use serving::{LIFE_STEPS, serve_callers, serve_store};
+pub use serving::{INSTANCE_STEPS, serve_callers, serve_store};
 pub use signal::{Signal, Telling};

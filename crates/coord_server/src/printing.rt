@@ -6,7 +6,7 @@ ghost use Rattle.coord_server.specs.Ending.{EndsUnopened};
 ghost use Rattle.coord_server.specs.Printed.{BreaksIn, HasTold, IsOfPrinting, IsPrinted, IsUnprintedFor, PrintsEach, TellsAddress, listening_line};
 ghost use Rattle.coord_server.specs.Signals.{StepSignal};
 
-use crate::life_end::LifeEnd;
+use crate::instance_end::InstanceEnd;
 use crate::{LocalPort, Printer, ServerFault, Signal, SignalPrinter, Telling};
 use coord_admin::Callers;
 use coord_engine::{History, Reader};
@@ -82,25 +82,25 @@ impl Opening {
         self.to = None;
     }
 
-    /// Has the address printed at which the server listens, and signals behind it; or says how the life
+    /// Has the address printed at which the server listens, and signals behind it; or says how the instance
     /// ends where that line was not printed, as where nobody is asked for it.
-    pub fn open<C: Callers, R: Wait>(self, rt: &R, callers: &C) -> Result<(), LifeEnd>
+    pub fn open<C: Callers, R: Wait>(self, rt: &R, callers: &C) -> Result<(), InstanceEnd>
         ensures unopened { IfErr result (EndsUnopened C.failed callers.now) }
         ensures given_up { self.to ≡ None → IsErr result }
     {
         let Ok(address) = callers.address() else {
-            return Err(LifeEnd::Ended(Some(ServerFault::Socket)));
+            return Err(InstanceEnd::Ended(Some(ServerFault::Socket)));
         };
         let Opening { to, printed } = self;
         let Some(to) = to else {
-            return Err(LifeEnd::Unprinted);
+            return Err(InstanceEnd::Unprinted);
         };
         let Ok(()) = to.send(rt, address) else {
-            return Err(LifeEnd::Unprinted);
+            return Err(InstanceEnd::Unprinted);
         };
         match printed.recv(rt) {
             Ok(()) => Ok(()),
-            Err(_) => Err(LifeEnd::Unprinted),
+            Err(_) => Err(InstanceEnd::Unprinted),
         }
     }
 }

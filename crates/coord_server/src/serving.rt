@@ -9,7 +9,7 @@ ghost use Rattle.coord_server.specs.Signals.{MaySignal};
 ghost use Rattle.coord_types.specs.declared.steps.Step.{Step};
 ghost use Rattle.coord_world.specs.Facade.{fold};
 
-use crate::lives::serve_lives;
+use crate::instances::serve_instances;
 use crate::{Printer, ServerEnd, SignalPrinter, Telling};
 use coord_admin::{Accepted, Callers, Patience};
 use coord_disk::Disk;
@@ -22,13 +22,13 @@ use std::sync::Wait;
 use std::thread::Threads;
 use std::time::Clock;
 
-/// After how many steps a life of the server ends. With 100 to 150 bytes for each step, an engine then
-/// keeps some 40 MB, or twice that behind a connection that stays; a life with fewer would spend more
+/// After how many steps an instance of the server ends. With 100 to 150 bytes for each step, an engine then
+/// keeps some 40 MB, or twice that behind a connection that stays; an instance with fewer would spend more
 /// of its time with its end, which takes some tenths of a second.
-pub const LIFE_STEPS: usize = 262_144;
+pub const INSTANCE_STEPS: usize = 262_144;
 
 /// Serves a store to the connections of a listener, one after the other, until a line closes it, and
-/// gives back what is left of the engine of its last life. It is `serve_callers` over these
+/// gives back what is left of the engine of its last instance. It is `serve_callers` over these
 /// connections, with the usual patience. The history is new, and `O` names it. If there is no memory to
 /// begin, the store and what prints are returned as they were.
 ///
@@ -99,7 +99,7 @@ fn serve_accepted<
 }
 
 /// Serves a store to those who call, one after the other, until a line closes it, and gives back
-/// what is left of the engine of its last life. It is `serve_lives` with `LIFE_STEPS`. Where there is no
+/// what is left of the engine of its last instance. It is `serve_instances` with `INSTANCE_STEPS`. Where there is no
 /// memory to begin with, the store and what prints come back as they were.
 pub fn serve_callers<
     D: Disk + Send,
@@ -124,5 +124,5 @@ pub fn serve_callers<
         (HasServed D.model C.talked C.failed W.contents O.gives store callers printer) }
     ensures unserved { IfErr result (λ back. (back.0 ≡ store) × (back.1 ≡ printer)) }
 {
-    serve_lives(rt, alloc, LIFE_STEPS, store, callers, printer, written)
+    serve_instances(rt, alloc, INSTANCE_STEPS, store, callers, printer, written)
 }

@@ -1,4 +1,4 @@
-//! What all lives of a server share.
+//! What all instances of a server share.
 
 ghost use Rattle.std.specs.Prelude.{◌≡◌};
 
@@ -7,7 +7,7 @@ use coord_engine::History;
 use std::alloc::Global;
 use std::sync::Wait;
 
-/// The runtime, the memory, the port and the history of a server, and after how many steps a life of it
+/// The runtime, the memory, the port and the history of a server, and after how many steps an instance of it
 /// ends.
 #[derive(Drop)]
 pub struct Setting<'r, R: Wait, O: Telling> {
@@ -15,6 +15,6 @@ pub struct Setting<'r, R: Wait, O: Telling> {
     pub alloc: Global,
     pub port: &'r LocalPort<&'r R, O>,
     pub history: &'r History,
-    pub life_steps: usize,
+    pub instance_steps: usize,
     pub ghost here: { history.now ≡ O.history },
 }

@@ -17,7 +17,7 @@ pub trait Telling {
     ghost use Rattle.atomic_table.specs.Seated.{TableId};
     ghost use Rattle.coord_types.specs.declared.steps.Step.{Step};
 
-    /// The history that its lives write.
+    /// The history that its instances write.
     ghost history: { TableId };
 
     /// Which signals some steps give out: by the number of the step that gives one out, the node and the

@@ -1,15 +1,15 @@
-//! The threads of one life of a server, while connections are served.
+//! The threads of one instance of a server, while connections are served.
 
 ghost use Rattle.std.specs.Prelude.{◌≡◌, ◌⊎◌, ◌+◌, ◌≤◌, [], ◌∷◌, List, ℕ, IfErr, IfOk, IfSome, IsErr, None, Some, length, vec_capacity, vec_len};
 ghost use Rattle.std.specs.Thread.{IsSend, IsSync};
 ghost use Rattle.coord_engine.specs.Released.{HasReadSettled, MayTell};
 ghost use Rattle.coord_engine.specs.State.{based_on};
 ghost use Rattle.coord_server.specs.EngineDesk.{HandsAgain};
-ghost use Rattle.coord_server.specs.Ending.{AddsWorkers, EndsUnopened, HasRun, Local, ServesLife, new_desk};
+ghost use Rattle.coord_server.specs.Ending.{AddsWorkers, EndsUnopened, HasRun, Local, ServesInstance, new_desk};
 ghost use Rattle.coord_server.specs.Signals.{MaySignal};
 ghost use Rattle.coord_types.specs.declared.steps.Step.{Step};
 
-use crate::life_end::LifeEnd;
+use crate::instance_end::InstanceEnd;
 use crate::printing::Opening;
 use crate::setting::Setting;
 use crate::{EngineDesk, ServerFault, Telling};
@@ -27,12 +27,12 @@ use std::thread;
 use std::thread::{JoinHandle, Scope, Threads};
 use std::time::Clock;
 
-/// What the threads of a life begin with.
+/// What the threads of an instance begin with.
 #[derive(Drop)]
 pub struct Begun<L: Origin> {
     /// The desk's share.
     pub own: Share<L>,
-    /// The desk's reader, which has read the steps of earlier lives.
+    /// The desk's reader, which has read the steps of earlier instances.
     pub reader: Reader,
     /// The flusher's.
     pub flusher_share: PacketShare<L>,
@@ -54,10 +54,10 @@ pub struct JoinedThreads<L: Count, C> {
     pub seen: Seen,
     pub reader: Reader,
     pub callers: C,
-    pub left: LifeEnd,
+    pub left: InstanceEnd,
 }
 
-/// The threads of a life: its flusher, and a worker for each of the eight channels. Who serves is
+/// The threads of an instance: its flusher, and a worker for each of the eight channels. Who serves is
 /// given one, so nobody is served before all of them were started.
 #[derive(Drop)]
 struct Crew<L: Count> {
@@ -67,7 +67,7 @@ struct Crew<L: Count> {
 }
 
 /// Starts a flusher, and a worker on each channel. Once all of them run, it opens the output, sends
-/// again what may have been lost, and serves those who call until the life is old. An error says
+/// again what may have been lost, and serves those who call until the instance is old. An error says
 /// that a thread could not be started: then nothing was printed and nobody was served, so callers and
 /// opening come back as they were.
 pub fn run<
@@ -85,7 +85,7 @@ pub fn run<
 ) -> Result<JoinedThreads<L, C>, (C, Option<Opening>)>
     requires { MayTell L.history L.earlier L.base (MaySignal O.history O.gives) }
     ensures completed { IfOk result (λ completed.
-        HasRun (based_on D.model L.base L.before) C.talked C.failed setting.now.life_steps
+        HasRun (based_on D.model L.base L.before) C.talked C.failed setting.now.instance_steps
         L.history L.earlier callers completed.callers completed.left completed.shares.items
         completed.seen completed.reader) }
     ensures unserved { IfErr result (λ back. (back.0 ≡ callers) × (back.1 ≡ opening)) }
@@ -98,7 +98,7 @@ pub fn run<
                 MayTell L.history L.earlier L.base (MaySignal O.history O.gives) }
             ensures completed { IfOk result (λ completed.
                 HasRun (based_on D.model L.base L.before) C.talked C.failed
-                setting.entry.now.life_steps L.history L.earlier callers completed.callers
+                setting.entry.now.instance_steps L.history L.earlier callers completed.callers
                 completed.left completed.shares.items completed.seen completed.reader) }
             ensures unserved { IfErr result (λ back. (back.0 ≡ callers) × (back.1 ≡ opening)) }
         { run_in(scope, setting, engine, begun, callers, opening) },
@@ -127,7 +127,7 @@ fn run_in<
 ) -> Result<JoinedThreads<L, C>, (C, Option<Opening>)>
     requires { MayTell L.history L.earlier L.base (MaySignal O.history O.gives) }
     ensures completed { IfOk result (λ completed.
-        HasRun (based_on D.model L.base L.before) C.talked C.failed setting.now.life_steps
+        HasRun (based_on D.model L.base L.before) C.talked C.failed setting.now.instance_steps
         L.history L.earlier callers completed.callers completed.left completed.shares.items
         completed.seen completed.reader) }
     ensures unserved { IfErr result (λ back. (back.0 ≡ callers) × (back.1 ≡ opening)) }
@@ -288,11 +288,11 @@ fn serve_over<D: Disk, L: Origin, C: Callers, O: Telling, R: Wait>(
     reader: Reader,
     callers: &mut C,
     opening: Option<Opening>,
-) -> (Share<L>, Seen, Reader, LifeEnd)
+) -> (Share<L>, Seen, Reader, InstanceEnd)
     requires unused { own ≡ [] }
     requires unread { reader ≡ record { history = L.history; steps = L.earlier } }
-    ensures { (port : Local) × (later : Local) × (read : List Step) × ServesLife
-        (based_on D.model L.base L.before) C.talked C.failed setting.now.life_steps port
+    ensures { (port : Local) × (later : Local) × (read : List Step) × ServesInstance
+        (based_on D.model L.base L.before) C.talked C.failed setting.now.instance_steps port
         callers.old callers.new
         (record { notes = result.0; seen = result.1; read = read; port = later }) result.3 ×
         HasReadSettled L.history L.earlier read result.2 }
@@ -304,8 +304,12 @@ fn serve_over<D: Disk, L: Origin, C: Callers, O: Telling, R: Wait>(
     (own, seen, reader, left)
 }
 
-/// Opens the output, where that was not done before; or says how the life ends where it can't be opened.
-fn open<C: Callers, R: Wait>(rt: &R, callers: &C, opening: Option<Opening>) -> Result<(), LifeEnd>
+/// Opens the output, where that was not done before; or says how the instance ends where it can't be opened.
+fn open<C: Callers, R: Wait>(
+    rt: &R,
+    callers: &C,
+    opening: Option<Opening>,
+) -> Result<(), InstanceEnd>
     ensures unopened { IfErr result (EndsUnopened C.failed callers.now) }
     ensures given_up { IfSome opening (λ first. first.to ≡ None → IsErr result) }
 {
@@ -316,49 +320,55 @@ fn open<C: Callers, R: Wait>(rt: &R, callers: &C, opening: Option<Opening>) -> R
 }
 
 /// Once the output is open, sends again what may have been lost, and serves those who call until
-/// the life is old. What ended it: where the output could not be opened, that.
+/// the instance is old. What ended it: where the output could not be opened, that.
 fn serve_clients<D: Disk, L: Origin, C: Callers, P: Port, O: Telling, R: Wait>(
     setting: &Setting<'_, R, O>,
-    opened: Result<(), LifeEnd>,
+    opened: Result<(), InstanceEnd>,
     callers: &mut C,
     desk: &mut EngineDesk<'_, D, L, P, R>,
-) -> LifeEnd
+) -> InstanceEnd
     requires start { IfErr opened (EndsUnopened C.failed callers.old) }
     requires new { desk.old ≡ new_desk desk.old.port }
     ensures told { IfErr opened (λ end. result ≡ end) }
     ensures resent { IfOk opened (λ _.
-        (result ≡ LifeEnd.Ended (Some ServerFault.OutOfMemory)) ⊎ ((count : ℕ) × (later : P) ×
+        (result ≡ InstanceEnd.Ended (Some ServerFault.OutOfMemory)) ⊎ ((count : ℕ) × (later : P) ×
         HandsAgain (based_on D.model L.base L.before) P.carried P.signalled
-        P.handed_on count desk.old.port later × ServesLife (based_on D.model L.base L.before)
-        C.talked C.failed setting.now.life_steps later callers.old callers.new desk.new result)) }
-    ensures served { (port : P) × ServesLife
-        (based_on D.model L.base L.before) C.talked C.failed setting.now.life_steps port
+        P.handed_on count desk.old.port later × ServesInstance (based_on D.model L.base L.before)
+        C.talked C.failed setting.now.instance_steps later callers.old callers.new desk.new result)) }
+    ensures served { (port : P) × ServesInstance
+        (based_on D.model L.base L.before) C.talked C.failed setting.now.instance_steps port
         callers.old callers.new desk.new result }
 {
     if let Err(end) = opened {
         return end;
     }
     let Ok(_) = desk.resend() else {
-        return LifeEnd::Ended(Some(ServerFault::OutOfMemory));
+        return InstanceEnd::Ended(Some(ServerFault::OutOfMemory));
     };
     serve_until_old(setting, callers, desk)
 }
 
-/// Serves those who call by a desk that has noted nothing, until a line closes it or the life is old.
+/// Serves those who call by a desk that has noted nothing, until a line closes it or the instance is old.
 /// What ended it.
 fn serve_until_old<D: Disk, L: Origin, C: Callers, P: Port, O: Telling, R: Wait>(
     setting: &Setting<'_, R, O>,
     callers: &mut C,
     desk: &mut EngineDesk<'_, D, L, P, R>,
-) -> LifeEnd
+) -> InstanceEnd
     requires { desk.old ≡ new_desk desk.old.port }
-    ensures { ServesLife (based_on D.model L.base L.before) C.talked C.failed
-        setting.now.life_steps desk.old.port callers.old callers.new desk.new result }
+    ensures { ServesInstance (based_on D.model L.base L.before) C.talked C.failed
+        setting.now.instance_steps desk.old.port callers.old callers.new desk.new result }
 {
-    match serve_connections(setting.rt, setting.alloc, setting.life_steps, callers, desk) {
-        Ok(Stop::Closed) => LifeEnd::Ended(None),
-        Ok(Stop::Old) => LifeEnd::Resting,
-        Err(_) => LifeEnd::Ended(Some(ServerFault::Socket)),
+    match serve_connections(
+        setting.rt,
+        setting.alloc,
+        setting.instance_steps,
+        callers,
+        desk,
+    ) {
+        Ok(Stop::Closed) => InstanceEnd::Ended(None),
+        Ok(Stop::Old) => InstanceEnd::Resting,
+        Err(_) => InstanceEnd::Ended(Some(ServerFault::Socket)),
     }
 }
 

@@ -52,7 +52,7 @@ returns-in-Ok-eq0-clause-served g c =
 pub returns-in_err-take-in-Ok-clause-served : goal.returns-in_err-take-in-Ok-clause-served
 returns-in_err-take-in-Ok-clause-served g c =
     let inv = c.loop.invariant in
-    let bytes_read = take c.in-Ok.count c.receive_in_life.new.buffer in
+    let bytes_read = take c.in-Ok.count c.receive_in_instance.new.buffer in
     let ready = so-far-some g.D.Desk.answers g.D.Desk.posts g.C.Duplex.exchanged g.met.C.Duplex.in_turn c.args.desk.now _ _ c.args.connection.now _ _ inv.1.0 c.loop.line _ _ inv.1.2 c.in_ok-answer_unless_more.ensures.whole in
     let cut = so-far-cut g.D.Desk.answers g.D.Desk.posts g.C.Duplex.exchanged g.met.C.Duplex.in_turn c.args.desk.now _ _ c.args.connection.now _ _ _ inv.1.0 bytes_read c.loop.line _ ready c.in-Ok.ensures.bytes c.in_err-take-in-Ok.ensures.failed in
     served-in-part g.D.Desk.answers g.D.Desk.posts g.C.Duplex.exchanged c.args.desk.now _ c.args.connection.now _ (inv.1.0 ++ bytes_read) _ c.from_residual-in_err-take-in-Ok.ensures.1 cut
@@ -60,7 +60,7 @@ returns-in_err-take-in-Ok-clause-served g c =
 pub returns-then-branch-clause-served : goal.returns-then-branch-clause-served
 returns-then-branch-clause-served g c =
     let inv = c.loop.invariant in
-    let bytes_read = take c.in-Ok.count c.receive_in_life.new.buffer in
+    let bytes_read = take c.in-Ok.count c.receive_in_instance.new.buffer in
     let ready = so-far-some g.D.Desk.answers g.D.Desk.posts g.C.Duplex.exchanged g.met.C.Duplex.in_turn c.args.desk.now _ _ c.args.connection.now _ _ inv.1.0 c.loop.line _ _ inv.1.2 c.in_ok-answer_unless_more.ensures.whole in
     let closed = so-far-closed g.D.Desk.answers g.D.Desk.posts g.C.Duplex.exchanged g.met.C.Duplex.in_turn c.args.desk.now _ _ c.args.connection.now _ _ _ inv.1.0 bytes_read c.loop.line _ ready c.in-Ok.ensures.bytes (c.in_ok-take-in-Ok.ensures.closed (search rules)) in
     (inv.1.0 ++ bytes_read, closed.0, closed.1, closed.2)
@@ -100,13 +100,13 @@ returns-in-Err-Over-clause-served g c =
 pub loop-preserved : goal.loop-preserved
 loop-preserved g c =
     let inv = c.loop.invariant in
-    let bytes_read = take c.in-Ok.count c.receive_in_life.new.buffer in
+    let bytes_read = take c.in-Ok.count c.receive_in_instance.new.buffer in
     let some : 1 ≤ c.in-Ok.count = search rules in
     let ready = so-far-some g.D.Desk.answers g.D.Desk.posts g.C.Duplex.exchanged g.met.C.Duplex.in_turn c.args.desk.now _ _ c.args.connection.now _ _ inv.1.0 c.loop.line _ _ inv.1.2 c.in_ok-answer_unless_more.ensures.whole in (
       search rules,
       (
         inv.1.0 ++ bytes_read,
-        omega (arith, inv.1.1, some, length-append inv.1.0 bytes_read, length-take-le c.in-Ok.count c.receive_in_life.new.buffer (search rules)),
+        omega (arith, inv.1.1, some, length-append inv.1.0 bytes_read, length-take-le c.in-Ok.count c.receive_in_instance.new.buffer (search rules)),
         so-far-more g.D.Desk.answers g.D.Desk.posts g.C.Duplex.exchanged g.met.C.Duplex.in_turn c.args.desk.now _ _ c.args.connection.now _ _ _ inv.1.0 bytes_read c.loop.line _ _ _ ready c.in-Ok.ensures.bytes (c.in_ok-take-in-Ok.ensures.open (search rules)),
       ),
     )
@@ -123,8 +123,8 @@ returns-clause-served g c =
     let all = so-far-all g.D.Desk.answers g.D.Desk.posts g.C.Duplex.exchanged g.met.C.Duplex.in_turn c.args.desk.now _ _ c.args.connection.now _ _ inv.1.0 c.loop.line _ inv.1.2 c.in_ok-answer_all.ensures.whole in
     (inv.1.0, reply_lines all.1, all.3, (stops-at g.D.Desk.answers c.args.desk.now _ inv.1.0 c.loop.line all.0 all.1 all.2 all.4, omega (arith, inv.1.1, c.loop-test.false)))
 
--- the life was over before the last replies, and is so behind them
+-- the instance was over before the last replies, and is so behind them
 pub returns-in-Err-Over-clause-cut : goal.returns-in-Err-Over-clause-cut
 returns-in-Err-Over-clause-cut g c = λ _.
-    let over = c.receive_in_life.ensures.over (search rules) in
+    let over = c.receive_in_instance.ensures.over (search rules) in
     (over.0, c.in_ok-answer_all-in-Err-Over.ensures.kept over.0 over.1, over.2)

@@ -15,7 +15,7 @@ returns-in-Err-clause-served g c =
     let b = based_on g.D.Disk.model g.L.Origin.base g.L.Origin.before in
     let v = c.args.callers.now in
     let unopened : EndsUnopened g.C.Callers.failed v c.in-Err.end = subst (λ r. IfErr r (EndsUnopened g.C.Callers.failed v)) c.in-Err.is c.requires.start in
-    (c.args.desk.now.port, ends_unopened b g.C.Callers.talked g.C.Callers.failed c.args.setting.now.life_steps v c.args.desk.now c.in-Err.end unopened (g.met.C.Callers.at_rest v) c.requires.new)
+    (c.args.desk.now.port, ends_unopened b g.C.Callers.talked g.C.Callers.failed c.args.setting.now.instance_steps v c.args.desk.now c.in-Err.end unopened (g.met.C.Callers.at_rest v) c.requires.new)
 
 -- what may have been lost was not sent again
 pub returns-in_default-resend-clause-served : goal.returns-in_default-resend-clause-served

@@ -1,5 +1,0 @@
-use Rattle.coord_server.proofs.OneHistory.{lives_are_one}
-use Rattle.coord_server.proofs.laws.lives_are_one.Goals as goal
-
-pub returns : goal.returns
-returns g c = λ most. lives_are_one g.D.Disk.model g.C.Callers.talked g.C.Callers.failed most

@@ -1,0 +1,102 @@
+-- The instances of a server, one after the other: each is one history of its own over the store that the one before left.
+use Rattle.std.specs.List.{range_with_len}
+use Rattle.std.specs.Prelude.{◌≡◌, ◌⊎◌, ℕ, ◌+◌, ◌-◌, ◌≤◌, List, [], ◌∷◌, ◌++◌, false, true, Option, Some, flat_map, length, map, take}
+use Rattle.coord_disk.specs.Model.DiskModel.{DiskModel}
+use Rattle.coord_types.specs.declared.steps.Step.{Step}
+use Rattle.coord_store.specs.Kept.{Kept, has_stopped}
+use Rattle.coord_world.specs.laws.Trails.{IsTrail}
+use Rattle.coord_world.specs.Facade.{StepOutcome, World, fold, outs}
+use Rattle.coord_admin.specs.Connections.{Talk}
+use Rattle.coord_engine.specs.Facade.{StartsWith, first_settled}
+use Rattle.coord_engine.specs.State.{Basis, based_on}
+use Rattle.coord_engine.specs.declared.closed.Closed.{Closed}
+use Rattle.coord_server.specs.EngineDesk.{DeskState}
+use Rattle.coord_server.specs.Ending.{IsLeftAs, IsOneHistory, Local, ServedWhileOpen, Serves}
+use Rattle.coord_server.specs.declared.fault.ServerFault.{ServerFault}
+use Rattle.coord_server.specs.declared.fault.ServerFault.TheVariants as fault
+use Rattle.coord_server.specs.declared.instance_end.InstanceEnd.{InstanceEnd}
+use Rattle.coord_server.specs.declared.instance_end.InstanceEnd.TheVariants as end
+use Rattle.coord_server.specs.declared.server_end.ServerEnd.{ServerEnd}
+
+-- how a server ends whose last instance was left so: one that rests and can't go on ends it too, and so does one without memory for the next, or without a first line
+abbrev pub IsLastInstance : InstanceEnd → Option ServerFault → Type 0
+IsLastInstance end.Resting served = served ≡ Some fault.Device
+IsLastInstance end.Unfollowed served = served ≡ Some fault.OutOfMemory
+IsLastInstance end.Unprinted served = (served ≡ Some fault.OutOfMemory) ⊎ (served ≡ Some fault.Write)
+IsLastInstance (end.Ended why) served = served ≡ why
+
+-- The next instance may begin over what one that rests has left: its store has not stopped, all that was accepted is settled, and it has the steps of an instance.
+abbrev pub MayGoOn : {D : Type 0} → ℕ → Closed D → Type 0
+MayGoOn most left = (has_stopped left.store ≡ false) × (left.settled ≡ left.base.count + length left.trail.items) × (most ≤ length left.trail.items)
+
+-- Why a fault is told of a server that has ended so, whose instances have so many steps: that its output could not be written only where that has failed, and one of the device only where no next instance could begin.
+abbrev pub IsToldForCause : {D V W : Type 0} → ℕ → ServerEnd D V W → Type 0
+IsToldForCause most ended = (ended.served ≡ Some fault.Write → ended.printer.is_broken ≡ true) × (ended.served ≡ Some fault.Device → ¬ MayGoOn most ended.closed)
+
+-- after how many steps an instance of a server ends (docs/OPERATING.md names it)
+abbrev pub instance_steps : ℕ
+instance_steps = 262144
+
+-- One instance: over which port its desk served and what it was in the end, what is left of its engine, and who those were then who call.
+pub record InstanceRun (D V : Type 0) : Type 0 where
+  pub port : Local
+  pub desk : DeskState Local
+  pub left : Closed D
+  pub callers : V
+
+-- the steps that these instances accepted, those of each behind those of the instance before
+abbrev pub all_steps : {D V : Type 0} → List (InstanceRun D V) → List Step
+all_steps instances = flat_map (λ l. l.left.trail.items) instances
+
+-- what their steps give out, each instance's over the world that it began with
+abbrev pub all_given : {D V : Type 0} → List (InstanceRun D V) → List StepOutcome
+all_given instances = flat_map (λ l. outs l.left.base l.left.trail.items) instances
+
+-- `talked v talks w`: those who call were v, had these talks, and then are w. An instance ends after `most` steps
+module _ {D : Type 0} (m : DiskModel D) {V : Type 0} (talked : V → List Talk → V → Type 0) (most : ℕ) where
+  -- what an instance is based on that began over a store with this world
+  abbrev pub begun_over : World → Basis D
+  begun_over world = based_on m world []
+
+  -- An instance from this world that rests: no line has closed it, it has kept the steps of an instance, it is one history, all that was accepted is settled, of the first of which its desk told, and its store has not stopped. The next one begins over the world of that store.
+  pub record Rests (began : World) (v : V) (instance : InstanceRun D V) : Type 0 where
+    pub served : ServedWhileOpen (begun_over began) talked most instance.port v instance.callers instance.desk
+    pub old : most ≤ length instance.left.trail.items
+    pub history : IsOneHistory (begun_over began) instance.desk instance.left
+    pub all_settled : instance.left.settled ≡ instance.left.base.count + length instance.left.trail.items
+    pub going : has_stopped instance.left.store ≡ false
+    pub told : StartsWith (first_settled instance.left.base instance.left.trail.items instance.left.settled) instance.desk.read
+
+  -- instances that rest, each of which begins where the one before ended, and then this world is there, and those are who call
+  abbrev pub HaveRested : World → V → List (InstanceRun D V) → World → V → Type 0
+  HaveRested began v [] next w = (next ≡ began) × (w ≡ v)
+  HaveRested began v (instance ∷ later) next w = Rests began v instance × HaveRested instance.left.store.world instance.callers later next w
+
+-- `failed v w`: those who call were v, and have failed
+module _ {D : Type 0} (m : DiskModel D) {V : Type 0} (talked : V → List Talk → V → Type 0) (failed : V → V → Type 0) (most : ℕ) where
+  -- The last instance of a server, from this world, where this ended it: its desk served until then, and told of settled steps; and so its engine was left.
+  pub record IsLast (began : World) (v : V) (instance : InstanceRun D V) (why : Option ServerFault) : Type 0 where
+    pub served : Serves (based_on m began []) talked failed most instance.port v instance.callers instance.desk why
+    pub history : IsLeftAs (based_on m began []) instance.desk instance.left why
+    pub told : StartsWith (first_settled instance.left.base instance.left.trail.items instance.left.settled) instance.desk.read
+
+  -- these are the instances of a server that ended for this, and left these: each but the last rests, and the next one begins where it ended
+  abbrev pub AreInstances : World → V → List (InstanceRun D V) → Option ServerFault → Closed D → V → Type 0
+  AreInstances began v [] why left callers = ⊥
+  AreInstances began v (instance ∷ []) why left callers = IsLast began v instance why × (instance.left ≡ left) × (instance.callers ≡ callers)
+  AreInstances began v (instance ∷ next ∷ later) why left callers = Rests m talked most began v instance × AreInstances instance.left.store.world instance.callers (next ∷ later) why left callers
+
+-- Instances from the world of a first store, of which the last one left this store and told this count of settled steps, are one history. Their steps are one trail from that world, and each instance began with the world after the steps of those before it. What they gave out is what that one trail gives out, and each step has a number of its own: so none, and no signal of one, stands in two instances. The store has the world after all steps that are settled, which are the first ones.
+pub record AreOneHistory {D V : Type 0} (began : World) (instances : List (InstanceRun D V)) (store : Kept D) (settled : ℕ) : Type 0 where
+  pub trail : IsTrail began (all_steps instances)
+  pub follow : (before rest : List (InstanceRun D V)) (instance : InstanceRun D V) → instances ≡ before ++ instance ∷ rest → instance.left.base ≡ fold began (all_steps before)
+  pub given : all_given instances ≡ outs began (all_steps instances)
+  pub numbered : map (λ o. o.reply.step) (all_given instances) ≡ range_with_len (began.count + 1) (length (all_steps instances))
+  pub least : began.count ≤ settled
+  pub most : settled ≤ began.count + length (all_steps instances)
+  pub world : store.world ≡ fold began (take (settled - began.count) (all_steps instances))
+
+-- the instances of a server are one history
+abbrev pub InstancesAreOne : {D : Type 0} → DiskModel D → {V : Type 0} → (V → List Talk → V → Type 0) → (V → V → Type 0) → ℕ → Type 0
+InstancesAreOne {D} m {V} talked failed most =
+    (began : World) (v w : V) (instances : List (InstanceRun D V)) (why : Option ServerFault) (left : Closed D) → AreInstances m talked failed most began v instances why left w → AreOneHistory began instances left.store left.settled

@@ -1,0 +1,365 @@
+//! The instances of a server, one after the other.
+
+ghost use Rattle.std.specs.Prelude.{◌≡◌, ◌⊎◌, List, [], false, true, IfErr, IfOk, None, Some};
+ghost use Rattle.std.specs.Thread.{IsSend, IsSync};
+ghost use Rattle.coord_store.specs.Kept.{has_stopped};
+ghost use Rattle.coord_server.specs.declared.instance_end.InstanceEnd.TheVariants as InstanceEndAs;
+ghost use Rattle.coord_server.specs.Instances.{IsLastInstance, MayGoOn};
+ghost use Rattle.coord_server.specs.Moments.{HasLived};
+ghost use Rattle.coord_server.specs.Printed.{IsPrinted, IsUnprintedFor};
+ghost use Rattle.coord_server.specs.ServerRun.{ServerRun};
+ghost use Rattle.coord_server.specs.Signals.{MaySignal};
+ghost use Rattle.coord_engine.specs.History.{StartsWith};
+ghost use Rattle.coord_engine.specs.Released.{MayTell};
+ghost use Rattle.coord_types.specs.declared.steps.Step.{Step};
+ghost use Rattle.coord_world.specs.Facade.{fold};
+
+use crate::instance::{Instance, InstanceStart, serve_instance};
+use crate::instance_end::InstanceEnd;
+use crate::printing::{Channels, Opening, Outlet, Printed, Printing, PrintsFrom};
+use crate::setting::Setting;
+use crate::{Printer, ServerEnd, ServerFault, SignalPrinter, Telling};
+use coord_admin::Callers;
+use coord_disk::Disk;
+use coord_engine::{Closed, History, Writer};
+use coord_store::Store;
+use std::alloc::Global;
+use std::io::Write;
+use std::sync::Wait;
+use std::thread;
+use std::thread::{PromisedHandle, Scope, Threads};
+use std::time::Clock;
+
+/// Serves a store to those who call, one after the other, until a line closes it, and gives back
+/// what is left of the engine of its last instance.
+///
+/// In each instance a flusher and the workers run. In the first one, once all threads run, `listening`
+/// and the address is printed. Then what a crash or the end of the instance before may have lost is sent
+/// again, and those who call are served. A thread prints each signal that is released as a line, in
+/// order, from a channel without bound: an output that is slow holds up nothing else. Where a line
+/// can't be printed, no more are, and the server goes on: a signal that was not printed is told by
+/// the epochs that are shown. An instance ends between two connections once its engine keeps `most`
+/// steps; a connection is ended behind a reply once it keeps twice as many. Then, by a close or
+/// after a fault, all that was accepted is settled, the flusher ends, then the workers, and at the
+/// last end what is left is printed, however long the output takes it.
+///
+/// It prints the address and signals of the history that `O` names, which is new and which it writes. Its
+/// printer can't print anything else, also if the server never returns.
+///
+/// The server's end tells what ended it, want of memory or of a thread for an instance too, or of the thread
+/// that prints. Only where there was no memory to begin with there is no end: then the store and what
+/// prints come back as they were, and nobody was served.
+pub fn serve_instances<
+    D: Disk + Send,
+    C: Callers + Drop,
+    W: Write + Send + Drop,
+    O: Telling + Send + Sync,
+    R: Threads + Wait + Clock + Sync,
+>(
+    rt: &R,
+    alloc: Global,
+    most: usize,
+    store: Store<D>,
+    callers: C,
+    printer: SignalPrinter<W, O>,
+    written: (History, Writer),
+) -> Result<ServerEnd<D, C, W>, (Store<D>, Printer<W>)>
+    requires going { has_stopped store ≡ false }
+    requires here { written.0 ≡ O.history }
+    requires new { written.1 ≡ record { history = O.history; steps = [] } }
+    requires tell { (earlier : List Step) → MayTell O.history earlier (fold store.world earlier)
+        (MaySignal O.history O.gives) }
+    ensures served { IfOk result (ServerRun D.model C.talked C.failed most W.contents O.gives
+        store callers printer) }
+    ensures unserved { IfErr result (λ back. (back.0 ≡ store) × (back.1 ≡ printer)) }
+{
+    let (history, mut writer) = written;
+    let reader = writer.reader(&history);
+    let (Ok(own), Ok(channels)) = (history.another(), Channels::new(alloc)) else {
+        return Err((store, printer.into_printer()));
+    };
+    let start = match InstanceStart::new(alloc, &history, store) {
+        Ok(start) => start,
+        Err(store) => return Err((store, printer.into_printer())),
+    };
+    let Outlet {
+        port,
+        opening,
+        printing,
+    } = Outlet::<&R, W, O>::new(rt, alloc, channels, printer, own, reader);
+    let setting = Setting {
+        rt,
+        alloc,
+        port: &port,
+        history: &history,
+        instance_steps: most,
+    };
+    Ok(serve_and_print(&setting, start, writer, callers, opening, printing))
+}
+
+/// Instances in a scope with what prints the port's signals.
+fn serve_and_print<
+    D: Disk + Send,
+    C: Callers + Drop,
+    W: Write + Send + Drop,
+    O: Telling + Send + Sync,
+    R: Threads + Wait + Clock + Sync,
+>(
+    setting: &Setting<'_, R, O>,
+    start: InstanceStart<D>,
+    writer: Writer,
+    callers: C,
+    opening: Opening,
+    printing: Printing<W, O>,
+) -> ServerEnd<D, C, W>
+    requires history { start.history ≡ O.history }
+    requires new { writer ≡ record { history = O.history; steps = [] } }
+    requires tell { (earlier : List Step) → MayTell O.history earlier
+        (fold start.over.value.world earlier) (MaySignal O.history O.gives) }
+    ensures { ServerRun D.model C.talked C.failed setting.now.instance_steps W.contents O.gives
+        start.over.value callers printing.printer result }
+{
+    thread::scope(
+        thread::scope_env(),
+        setting.rt,
+        |scope| -> ServerEnd<D, C, W>
+            requires { IsSend D.row × IsSend W.row × IsSend O.row × IsSync O.row × IsSync R.row ×
+                (start.history ≡ O.history) × (writer ≡ record { history = O.history; steps = [] }) ×
+                ((earlier : List Step) → MayTell O.history earlier
+                (fold start.over.value.world earlier) (MaySignal O.history O.gives)) }
+            ensures { ServerRun D.model C.talked C.failed setting.entry.now.instance_steps W.contents
+                O.gives start.over.value callers printing.printer result }
+        {
+            let mut opening = opening;
+            match start_printing(scope, setting.rt, &mut opening, printing) {
+                Ok(printing) => print_and_live(setting, start, writer, callers, opening, printing),
+                Err(printed) => {
+                    let instance = live(setting, start, writer, callers, opening);
+                    end_of(setting.history, instance, printed)
+                }
+            }
+        },
+    )
+}
+
+/// Starts the thread that prints signals. Where the system has none to give, nobody asks for the first
+/// line any more, and what would have printed it comes back.
+fn start_printing<
+    's,
+    'r: 's,
+    E,
+    W: Write + Send + Drop + 's,
+    O: Telling + Send + Sync + 's,
+    R: Wait + Sync,
+>(
+    scope: &Scope<'s, E>,
+    rt: &'r R,
+    opening: &mut Opening,
+    printing: Printing<W, O>,
+) -> Result<PromisedHandle<Printed<W>, PrintsFrom<W, O>>, Printed<W>>
+    ensures started { IfOk result (λ handle. handle.promise.first.value ≡ printing.printer) }
+    ensures given_up { IfErr result (λ _. opening.new.to ≡ None) }
+    ensures refused { IfErr result (λ printed. (printed.reader.history ≡ O.history) ×
+        IsPrinted W.contents (O.gives printed.reader.steps) printing.printer printed.printer ×
+        IsUnprintedFor printed.printer printed.unprinted) }
+{
+    let promise = PrintsFrom::new(&printing.printer);
+    match scope.spawn_with(promise, move || printing.print(rt)) {
+        Ok(handle) => Ok(handle),
+        Err(refused) => {
+            opening.give_up();
+            Err((refused.value)())
+        }
+    }
+}
+
+/// Instances while a thread prints, which ends behind the last signal.
+fn print_and_live<
+    D: Disk + Send,
+    C: Callers + Drop,
+    W: Write + Drop,
+    O: Telling + Send + Sync,
+    R: Threads + Wait + Clock + Sync,
+>(
+    setting: &Setting<'_, R, O>,
+    start: InstanceStart<D>,
+    writer: Writer,
+    callers: C,
+    opening: Opening,
+    printing: PromisedHandle<Printed<W>, PrintsFrom<W, O>>,
+) -> ServerEnd<D, C, W>
+    requires history { start.history ≡ O.history }
+    requires new { writer ≡ record { history = O.history; steps = [] } }
+    requires tell { (earlier : List Step) → MayTell O.history earlier
+        (fold start.over.value.world earlier) (MaySignal O.history O.gives) }
+    ensures { ServerRun D.model C.talked C.failed setting.now.instance_steps W.contents O.gives
+        start.over.value callers printing.promise.first.value result }
+{
+    let instance = live(setting, start, writer, callers, opening);
+    setting.port.fall_silent();
+    let printed = printing.join(setting.rt);
+    end_of(setting.history, instance, printed)
+}
+
+/// Runs one instance after the other, each with the store and the callers that the one before left, and
+/// gives back the last. The first one opens the output: where no thread prints, it ends by that.
+fn live<
+    D: Disk + Send,
+    C: Callers + Drop,
+    O: Telling + Send + Sync,
+    R: Threads + Wait + Clock + Sync,
+>(
+    setting: &Setting<'_, R, O>,
+    start: InstanceStart<D>,
+    writer: Writer,
+    callers: C,
+    opening: Opening,
+) -> Instance<D, C>
+    requires history { start.history ≡ O.history }
+    requires new { writer ≡ record { history = O.history; steps = [] } }
+    requires tell { (earlier : List Step) → MayTell O.history earlier
+        (fold start.over.value.world earlier) (MaySignal O.history O.gives) }
+    ensures lived { HasLived D.model C.talked C.failed setting.now.instance_steps
+        start.over.value callers result }
+    ensures same { result.writer.history ≡ O.history }
+    ensures last { result.left ≡ InstanceEndAs.Resting →
+        ¬ MayGoOn setting.now.instance_steps result.closed }
+{
+    let mut start = start;
+    let mut writer = writer;
+    let mut callers = callers;
+    let mut opening = Some(opening);
+    for _ in setting.rt.forever() {
+        let instance = serve_instance(setting, start, writer, callers, opening.take());
+        match next_of(setting, instance) {
+            Ok((next, written, others)) => {
+                start = next;
+                writer = written;
+                callers = others;
+            }
+            Err(last) => return last,
+        }
+    }
+    unreachable!()
+}
+
+/// Whether the next instance may begin: the store has not stopped, all that was accepted is settled, and the
+/// instance has kept `most` steps.
+fn goes_on<D: Disk>(most: usize, closed: &Closed<D>) -> bool
+    ensures on { result ≡ true → MayGoOn most closed.now }
+    ensures ends { result ≡ false → ¬ MayGoOn most closed.now }
+{
+    let base = closed.base.count();
+    if closed.settled < base || closed.store.stopped() || closed.trail.len() < most {
+        return false;
+    }
+    closed.settled - base == closed.trail.len() as u64
+}
+
+/// What the next instance begins with over what is left of one, which comes back where there is no memory.
+fn start_over<D: Disk, O: Telling, R: Wait>(
+    setting: &Setting<'_, R, O>,
+    closed: Closed<D>,
+) -> Result<InstanceStart<D>, Closed<D>>
+    requires { has_stopped closed.store ≡ false }
+    ensures history { IfOk result (λ start. start.history ≡ O.history) }
+    ensures over { IfOk result (λ start. start.over.value ≡ closed.store) }
+    ensures back { IfErr result (λ back. back ≡ closed) }
+{
+    let Closed {
+        store,
+        base,
+        trail,
+        settled,
+    } = closed;
+    match InstanceStart::new(setting.alloc, setting.history, store) {
+        Ok(start) => Ok(start),
+        Err(store) => Err(Closed {
+            store,
+            base,
+            trail,
+            settled,
+        }),
+    }
+}
+
+/// What the next instance begins with, what writes the history, and the callers; or the last instance: one that
+/// was ended, or rests and can't go on, as over a store that has stopped, or rests and there is no memory
+/// for the next one.
+fn next_of<D: Disk, C, O: Telling, R: Wait>(
+    setting: &Setting<'_, R, O>,
+    instance: Instance<D, C>,
+) -> Result<(InstanceStart<D>, Writer, C), Instance<D, C>>
+    ensures goes_on { IfOk result (λ next. MayGoOn setting.now.instance_steps instance.closed) }
+    ensures next { IfOk result (λ next. (instance.left ≡ InstanceEndAs.Resting) ×
+        (next.0.history ≡ O.history) × (next.0.over.value ≡ instance.closed.store) ×
+        (next.2 ≡ instance.callers)) }
+    ensures writer { IfOk result (λ next. next.1 ≡ instance.writer) }
+    ensures last { IfErr result (λ last. (last.closed ≡ instance.closed) × (last.writer ≡ instance.writer) ×
+        (last.callers ≡ instance.callers) ×
+        (((last.left ≡ instance.left) × (instance.left ≡ InstanceEndAs.Resting →
+        ¬ MayGoOn setting.now.instance_steps instance.closed)) ⊎
+        ((last.left ≡ InstanceEndAs.Unfollowed) × (instance.left ≡ InstanceEndAs.Resting)))) }
+{
+    if instance.left != InstanceEnd::Resting || !goes_on(setting.instance_steps, &instance.closed) {
+        return Err(instance);
+    }
+    let Instance {
+        closed,
+        writer,
+        callers,
+        left: _,
+    } = instance;
+    match start_over(setting, closed) {
+        Ok(start) => Ok((start, writer, callers)),
+        Err(closed) => Err(Instance {
+            closed,
+            writer,
+            callers,
+            left: InstanceEnd::Unfollowed,
+        }),
+    }
+}
+
+/// How a server ended, by its last instance. One that rests is the last only where it can't go on, as over a
+/// store that has stopped. Where the first line was not printed, what printed tells why. The steps of all
+/// signals that were printed are among those that all instances have written.
+fn end_of<D: Disk, C, W: Write>(
+    history: &History,
+    instance: Instance<D, C>,
+    printed: Printed<W>,
+) -> ServerEnd<D, C, W>
+    requires here { history.now ≡ instance.writer.history }
+    requires same { printed.reader.history ≡ instance.writer.history }
+    requires unprinted { IsUnprintedFor printed.printer printed.unprinted }
+    ensures last { IsLastInstance instance.left result.served × (result.closed ≡ instance.closed) ×
+        (result.callers ≡ instance.callers) × (result.printer ≡ printed.printer) }
+    ensures write { instance.left ≡ InstanceEndAs.Unprinted → result.served ≡ Some ServerFault.Write →
+        result.printer.is_broken ≡ true }
+    ensures read { StartsWith instance.writer.steps printed.reader.steps }
+{
+    let Instance {
+        closed,
+        mut writer,
+        callers,
+        left,
+    } = instance;
+    let Printed {
+        printer,
+        reader,
+        unprinted,
+    } = printed;
+    writer.take_back(history, reader);
+    let served = match left {
+        InstanceEnd::Resting => Some(ServerFault::Device),
+        InstanceEnd::Unfollowed => Some(ServerFault::OutOfMemory),
+        InstanceEnd::Unprinted => Some(unprinted.unwrap_or(ServerFault::OutOfMemory)),
+        InstanceEnd::Ended(served) => served,
+    };
+    ServerEnd {
+        closed,
+        callers,
+        served,
+        printer,
+    }
+}
