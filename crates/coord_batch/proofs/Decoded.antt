@@ -35,5 +35,5 @@ module _ {A : Type 0} (f : ℕ → Format A) (grammar : (v : ℕ) → IsGrammar 
     answers_only result x known fits spelled answers = subst (AnswersDecoded view result) (ap (decoded f version) spelled ∙ decoded_again x known fits) answers
 
     -- the version is told where it is none, and nowhere else
-    pub version_told : (result : Result X CodecFault) → (is_version version ≡ false → result ≡ Err bad_version) → AnswersDecoded view result (decoded f version bytes) → (result ≡ Err bad_version) ↔ (is_version version ≡ false)
-    version_told result other answers = grind (arith, no_version)
+    pub version_distinguished : (result : Result X CodecFault) → (is_version version ≡ false → result ≡ Err bad_version) → AnswersDecoded view result (decoded f version bytes) → (result ≡ Err bad_version) ↔ (is_version version ≡ false)
+    version_distinguished result other answers = grind (arith, no_version)

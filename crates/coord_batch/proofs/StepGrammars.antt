@@ -46,15 +46,15 @@ message_case_grammar version most zero = made_grammar msg.Abort carried (distanc
 message_case_grammar version most (suc zero) = made_grammar (λ n. msg.Ack) carried nothing nothing_grammar (λ n fits. sym fits)
 message_case_grammar version most (suc (suc n)) = made_grammar (λ n. msg.Ready) carried nothing nothing_grammar (λ n fits. sym fits)
 
-message_case_told : (version most t : ℕ) (m : Msg) → t < 3 → (message_case version most t).Fits m → message_tag m ≡ t
+message_case_distinguished : (version most t : ℕ) (m : Msg) → t < 3 → (message_case version most t).Fits m → message_tag m ≡ t
 unfolding message_case
-message_case_told version most zero m below fits = ap message_tag fits.2
-message_case_told version most (suc zero) m below fits = ap message_tag fits.2
-message_case_told version most (suc (suc n)) m below fits = let is = ap message_tag fits.2 in omega (arith, is)
+message_case_distinguished version most zero m below fits = ap message_tag fits.2
+message_case_distinguished version most (suc zero) m below fits = ap message_tag fits.2
+message_case_distinguished version most (suc (suc n)) m below fits = let is = ap message_tag fits.2 in omega (arith, is)
 
 pub message_grammar : (version most : ℕ) → IsGrammar (message version most)
 unfolding message
-message_grammar version most = cases_grammar 3 message_tag (message_case version most) (message_case_grammar version most) (message_case_told version most)
+message_grammar version most = cases_grammar 3 message_tag (message_case version most) (message_case_grammar version most) (message_case_distinguished version most)
 
 pub from_one_to_grammar : (most : ℕ) → IsGrammar (from_one_to most)
 unfolding from_one_to
@@ -76,18 +76,18 @@ case_grammar (suc (suc (suc zero))) = made_grammar (λ p. Drop p.0 p.1) both_of 
 case_grammar (suc (suc (suc (suc zero)))) = made_grammar Reset first_of node node_grammar (λ p fits. refl)
 case_grammar (suc (suc (suc (suc (suc n))))) = made_grammar (λ p. Confirm p.0 p.1) both_of (node & u64) (and_grammar node u64 node_grammar u64_grammar) (λ p fits. refl)
 
-case_told : (t : ℕ) (x : Command) → t < 6 → (command_case t).Fits x → command_tag x ≡ t
+case_distinguished : (t : ℕ) (x : Command) → t < 6 → (command_case t).Fits x → command_tag x ≡ t
 unfolding command_case
-case_told zero x below fits = ap command_tag fits.2
-case_told (suc zero) x below fits = ap command_tag fits.2
-case_told (suc (suc zero)) x below fits = ap command_tag fits.2
-case_told (suc (suc (suc zero))) x below fits = ap command_tag fits.2
-case_told (suc (suc (suc (suc zero)))) x below fits = ap command_tag fits.2
-case_told (suc (suc (suc (suc (suc n))))) x below fits = let is = ap command_tag fits.2 in omega (arith, is)
+case_distinguished zero x below fits = ap command_tag fits.2
+case_distinguished (suc zero) x below fits = ap command_tag fits.2
+case_distinguished (suc (suc zero)) x below fits = ap command_tag fits.2
+case_distinguished (suc (suc (suc zero))) x below fits = ap command_tag fits.2
+case_distinguished (suc (suc (suc (suc zero)))) x below fits = ap command_tag fits.2
+case_distinguished (suc (suc (suc (suc (suc n))))) x below fits = let is = ap command_tag fits.2 in omega (arith, is)
 
 pub command_grammar : IsGrammar command
 unfolding command
-command_grammar = cases_grammar 6 command_tag command_case case_grammar case_told
+command_grammar = cases_grammar 6 command_tag command_case case_grammar case_distinguished
 
 data_grammar : (version : ℕ) → IsGrammar (data_packet version)
 unfolding data_packet
@@ -107,15 +107,15 @@ form_grammar version zero = made_grammar (λ p. Order p.0 p.1.0 p.1.1) order_of 
 form_grammar version (suc zero) = made_grammar Take taken_of (data_packet version) (data_grammar version) (λ p fits. refl)
 form_grammar version (suc (suc n)) = made_grammar Clear cleared_of receipt_packet receipt_grammar (λ p fits. refl)
 
-form_told : (version t : ℕ) (s : Step) → t < 3 → (step_case version t).Fits s → step_tag s ≡ t
+form_distinguished : (version t : ℕ) (s : Step) → t < 3 → (step_case version t).Fits s → step_tag s ≡ t
 unfolding step_case
-form_told version zero s below fits = ap step_tag fits.2
-form_told version (suc zero) s below fits = ap step_tag fits.2
-form_told version (suc (suc n)) s below fits = let is = ap step_tag fits.2 in omega (arith, is)
+form_distinguished version zero s below fits = ap step_tag fits.2
+form_distinguished version (suc zero) s below fits = ap step_tag fits.2
+form_distinguished version (suc (suc n)) s below fits = let is = ap step_tag fits.2 in omega (arith, is)
 
 pub step_grammar : (version : ℕ) → IsGrammar (step version)
 unfolding step
-step_grammar version = cases_grammar 3 step_tag (step_case version) (form_grammar version) (form_told version)
+step_grammar version = cases_grammar 3 step_tag (step_case version) (form_grammar version) (form_distinguished version)
 
 pub steps_grammar : (version : ℕ) → IsGrammar (steps version)
 unfolding steps how_many_steps

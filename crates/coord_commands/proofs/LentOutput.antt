@@ -15,7 +15,7 @@ use Rattle.coord_server.specs.declared.server_end.ServerEnd.{ServerEnd}
 use Rattle.coord_disk.specs.Model.DiskModel.{DiskModel}
 use Rattle.coord_store.specs.Kept.{Kept}
 use Rattle.coord_types.specs.declared.steps.Step.{Step}
-use Rattle.coord_commands.specs.Serving.{RunsWithOutput, ServedWithOutput, ToldAtEnd, fault_of_end}
+use Rattle.coord_commands.specs.Serving.{RunsWithOutput, ServedWithOutput, ReportedAtEnd, fault_of_end}
 use Rattle.coord_commands.specs.Streams.{known_as}
 
 -- what printed to an output of which this is known
@@ -49,7 +49,7 @@ address_back p q torn broken (inr is) = inr (record { broken = broken ∙ is.bro
 
 signal_back : {V W : Type 0} (may : ℕ → ℕ → ℕ → Type 0) (p : PrinterState V) (q : PrinterState W) (torn : List ℕ) → q.is_broken ≡ p.is_broken → q.last ≡ p.last → (torn ≡ []) ⊎ IsTornSignal may p torn → (torn ≡ []) ⊎ IsTornSignal may q torn
 signal_back may p q torn broken last (inl whole) = inl whole
-signal_back may p q torn broken last (inr is) = inr (record { broken = broken ∙ is.broken; signal = is.signal; may_be_told = is.may_be_told; next = subst (λ l. is_next l is.signal.step is.signal.node ≡ true) (sym last) is.next; part = is.part })
+signal_back may p q torn broken last (inr is) = inr (record { broken = broken ∙ is.broken; signal = is.signal; may_be_printed = is.may_be_printed; next = subst (λ l. is_next l is.signal.step is.signal.node ≡ true) (sym last) is.next; part = is.part })
 
 opened_back : {V W : Type 0} (may : ℕ → ℕ → ℕ → Type 0) (p : PrinterState V) (q : PrinterState W) (first torn : List ℕ) (signals : List StepSignal) → q.is_broken ≡ p.is_broken → q.last ≡ p.last
     → ((first ≡ []) × (signals ≡ []) × ((torn ≡ []) ⊎ IsTornAddress p torn)) ⊎ ((address : SocketAddr) × (first ≡ listening_line address) × ((torn ≡ []) ⊎ IsTornSignal may p torn))
@@ -70,7 +70,7 @@ printed_back {V} contents of may since lent home ended printer first later old n
       torn = is.torn;
       bytes = through first later old (of now) (of new) text (λ named. ap of (same named)) (subst (λ o. Appends (known_as first old) o text) held (subst (λ o. Appends o (contents ended.output) text) at_first is.bytes));
       opened = opened_back may ended (known_printer (of new) ended) is.first is.torn is.signals refl refl is.opened;
-      may_be_told = is.may_be_told;
+      may_be_printed = is.may_be_printed;
       follow = is.follow;
     }
 
@@ -99,7 +99,7 @@ run_back m contents of gives store lent home given ended printer first later old
     )
 
 -- what is told of a server that has ended
-told_of : {D V W : Type 0} (known : Option (List ℕ)) (ended : ServerEnd D V W) (told : Result (Closed D) (ServerFault × Closed D)) → IfOk told (λ closed. (closed ≡ ended.closed) × (fault_of_end ended ≡ None)) → IfErr told (λ t. (t.1 ≡ ended.closed) × (fault_of_end ended ≡ Some t.0)) → ToldAtEnd (known_end known ended) told
+told_of : {D V W : Type 0} (known : Option (List ℕ)) (ended : ServerEnd D V W) (told : Result (Closed D) (ServerFault × Closed D)) → IfOk told (λ closed. (closed ≡ ended.closed) × (fault_of_end ended ≡ None)) → IfErr told (λ t. (t.1 ≡ ended.closed) × (fault_of_end ended ≡ Some t.0)) → ReportedAtEnd (known_end known ended) told
 told_of known ended (Ok closed) is fault = is
 told_of known ended (Err told) is fault = fault
 

@@ -55,15 +55,15 @@ abbrev pub RunsWithOutput : {D : Type 0} → DiskModel D → (List Step → ℕ 
 RunsWithOutput model gives store old new ended = HasServedUsual model (λ known. known) gives store (new_printer old store.world.count) ended × (ended.printer.output ≡ new)
 
 -- what is told of a server that ended so: what it left, beside the fault if there is one
-abbrev pub ToldAtEnd : {D V W : Type 0} → ServerEnd D V W → Result (Closed D) (ServerFault × Closed D) → Type 0
-ToldAtEnd ended (Ok closed) = (closed ≡ ended.closed) × (fault_of_end ended ≡ None)
-ToldAtEnd ended (Err told) = (told.1 ≡ ended.closed) × (fault_of_end ended ≡ Some told.0)
+abbrev pub ReportedAtEnd : {D V W : Type 0} → ServerEnd D V W → Result (Closed D) (ServerFault × Closed D) → Type 0
+ReportedAtEnd ended (Ok closed) = (closed ≡ ended.closed) × (fault_of_end ended ≡ None)
+ReportedAtEnd ended (Err told) = (told.1 ≡ ended.closed) × (fault_of_end ended ≡ Some told.0)
 
 -- a server ran so, and this is told
 pub record ServedWithOutput {D : Type 0} (model : DiskModel D) (gives : List Step → ℕ → ℕ → ℕ → Type 0) (store : Kept D) (old new : Option (List ℕ)) (told : Result (Closed D) (ServerFault × Closed D)) : Type 0 where
   pub ended : ServerEnd D Patience (Option (List ℕ))
   pub run : RunsWithOutput model gives store old new ended
-  pub tells : ToldAtEnd ended told
+  pub tells : ReportedAtEnd ended told
 
 -- `model`: what the disks of a folder mean
 module _ {D : Type 0} (model : DiskModel D) where

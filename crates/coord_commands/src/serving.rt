@@ -6,7 +6,7 @@ ghost use Rattle.std.specs.Net.Grammar.{IsSocketV4Text};
 ghost use Rattle.std.specs.declared.net.socket_addr.SocketAddrV4.{SocketAddrV4};
 ghost use Rattle.coord_commands.specs.Folders.{bytes_of, reads};
 ghost use Rattle.coord_commands.specs.Serving.{EndsServing, IsNotOpened, IsOfServing, IsOpenedStore, ServedWhole, ServedWithOutput, ServesAt};
-ghost use Rattle.coord_engine.specs.Released.{GivesSignal, MayTell};
+ghost use Rattle.coord_engine.specs.Released.{GivesSignal, MayPrint};
 ghost use Rattle.coord_server.specs.Signals.{MaySignal};
 ghost use Rattle.coord_store.specs.Kept.{has_stopped};
 ghost use Rattle.coord_store.specs.Recovered.{Recovered};
@@ -20,7 +20,7 @@ use crate::status::report;
 use crate::streams::Streams;
 use coord_disk::{Disk, Takable};
 use coord_engine::{Closed, History, Writer};
-use coord_server::{ServerFault, SignalPrinter, Telling, serve_store};
+use coord_server::{ServerFault, SignalPrinter, SignalSource, serve_store};
 use coord_store::Store;
 use std::alloc::Global;
 use std::fs::File;
@@ -159,7 +159,7 @@ fn serve_told<
     S: Read + Write + OpenStream + Drop,
     A: OpenListener<Stream = S>,
     W: Write + Send,
-    O: Telling + Send + Sync,
+    O: SignalSource + Send + Sync,
     R: Threads + Wait + Clock + Sync,
 >(
     rt: &'a R,
@@ -172,7 +172,7 @@ fn serve_told<
     requires going { has_stopped store ≡ false }
     requires here { written.0 ≡ O.history }
     requires new { written.1 ≡ record { history = O.history; steps = [] } }
-    requires tell { (earlier : List Step) → MayTell O.history earlier (fold store.world earlier)
+    requires tell { (earlier : List Step) → MayPrint O.history earlier (fold store.world earlier)
         (MaySignal O.history O.gives) }
     ensures served { IfOk result (ServedWithOutput D.model O.gives store
         (W.contents output.old) (W.contents output.new)) }

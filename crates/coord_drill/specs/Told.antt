@@ -13,24 +13,24 @@ use Rattle.coord_drill.specs.declared.asked.Asked.{Asked}
 use Rattle.coord_drill.specs.declared.asked.Asked.TheVariants.{Submit, Flush, Resend}
 
 -- for a committed flight: its steps
-abbrev pub flight_told : Log → List Answer → List ℕ
-flight_told log (Begun b ∷ Committed ∷ given) = map (λ o. o.reply.step) (outs (settled_world log) (take (next_size log) (pending log)))
-flight_told log given = []
+abbrev pub flight_answered : Log → List Answer → List ℕ
+flight_answered log (Begun b ∷ Committed ∷ given) = map (λ o. o.reply.step) (outs (settled_world log) (take (next_size log) (pending log)))
+flight_answered log given = []
 
 -- for a repeat: the step of its reply, once that is settled
-abbrev pub repeat_told : ℕ → Result Verdict Refusal → List ℕ
-repeat_told count (Ok (Repeat reply)) = if nat_le reply.step count then reply.step ∷ [] else []
-repeat_told count (Ok (Fresh kind)) = []
-repeat_told count (Err refusal) = []
+abbrev pub repeat_answered : ℕ → Result Verdict Refusal → List ℕ
+repeat_answered count (Ok (Repeat reply)) = if nat_le reply.step count then reply.step ∷ [] else []
+repeat_answered count (Ok (Fresh kind)) = []
+repeat_answered count (Err refusal) = []
 
-abbrev pub step_told : DrillState → Step → List Answer → List ℕ
-step_told s x (Accepted n ∷ given) = if s.holds then [] else flight_told (with_step s.log x) given
-step_told s x (Repeated n ∷ given) = repeat_told (settled_count s.log) (verdict s.log x)
-step_told s x given = []
+abbrev pub step_answered : DrillState → Step → List Answer → List ℕ
+step_answered s x (Accepted n ∷ given) = if s.holds then [] else flight_answered (with_step s.log x) given
+step_answered s x (Repeated n ∷ given) = repeat_answered (settled_count s.log) (verdict s.log x)
+step_answered s x given = []
 
 -- The steps that the answer to a request shows. Resent packets come from settled steps, and count for the last of them.
 unfoldable pub told_by : DrillState → Asked → List Answer → List ℕ
-told_by s (Submit x) given = step_told s x given
-told_by s Flush given = flight_told s.log given
+told_by s (Submit x) given = step_answered s x given
+told_by s Flush given = flight_answered s.log given
 told_by s Resend given = settled_count s.log ∷ []
 told_by s asked given = []

@@ -19,7 +19,7 @@ use Rattle.coord_ledger.specs.declared.mark.Mark.TheVariants.{New, Good, Torn}
 use Rattle.coord_ledger.specs.declared.release.Release.{Release}
 use Rattle.coord_ledger.specs.machine.After.{release_of, releases_of, resent}
 use Rattle.coord_ledger.specs.Facade.{FlightState, IsOut, LedgerState, Log, log_back, pending, releases_in, settled_count, settled_steps, taken_back}
-use Rattle.coord_engine.specs.Facade.{AreOfSettled, Beginning, GivesSignal, HasReadSettled, MayAskAll, MayHand, MayTell, StartsWith, first_settled}
+use Rattle.coord_engine.specs.Facade.{AreOfSettled, Beginning, GivesSignal, HasReadSettled, MayAskAll, MayHand, MayPrint, StartsWith, first_settled}
 
 -- ---- beginnings behind earlier steps
 
@@ -152,7 +152,7 @@ no_signal (o ∷ os) [] after step node epoch all is = subst IsPacket (ap (outpu
 no_signal (o ∷ os) (b ∷ bs) after step node epoch all is = no_signal os bs after step node epoch all.1 (ap releases_behind is)
 
 -- a port may be asked for what flights release
-pub may_hand : (history : TableId) (earlier : List Step) (base : World) (may : Beginning → ℕ → ℕ → ℕ → Type 0) (released : List Release) → MayTell history earlier base may → MayHand history earlier base may released
+pub may_hand : (history : TableId) (earlier : List Step) (base : World) (may : Beginning → ℕ → ℕ → ℕ → Type 0) (released : List Release) → MayPrint history earlier base may → MayHand history earlier base may released
 may_hand history earlier base may released tell read is = λ before after step node epoch at. subst (λ r. may r step node epoch) (sym is.read_them) (tell is.settled step node epoch (is.given before after step node epoch at))
 
 -- no signal is sent again

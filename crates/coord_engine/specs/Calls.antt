@@ -47,6 +47,6 @@ CollectsAs l claim (Refused refusal back) = (back ≡ claim) × RefusesTicket l 
 CollectsAs l claim (Waiting back) = (back ≡ claim) × (settled_count l.log < claim.step) × (is_some l.log.doubt ≡ false)
 
 -- what is told to a ticket that has not to wait: its reply, or that there will be none
-abbrev pub IsToldTicket : {D : Type 0} → LedgerState D → Claim → Result Reply (Refusal × Claim) → Type 0
-IsToldTicket l claim (Ok reply) = CollectsAs l claim (Settled reply)
-IsToldTicket l claim (Err refused) = CollectsAs l claim (Refused refused.0 refused.1)
+abbrev pub IsReturnedToTicket : {D : Type 0} → LedgerState D → Claim → Result Reply (Refusal × Claim) → Type 0
+IsReturnedToTicket l claim (Ok reply) = CollectsAs l claim (Settled reply)
+IsReturnedToTicket l claim (Err refused) = CollectsAs l claim (Refused refused.0 refused.1)

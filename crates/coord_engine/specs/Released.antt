@@ -34,6 +34,6 @@ abbrev pub MayHand : TableId → List Step → World → (Beginning → ℕ → 
 MayHand history earlier base may released = (read : Beginning) → AreOfSettled history earlier base read released → MayAskAll (may read) released
 
 -- A port may be asked for each signal of a settled step by one who has read that step. `may`: for which it may be asked, by what was read, step, node and epoch
-abbrev pub MayTell : TableId → List Step → World → (Beginning → ℕ → ℕ → ℕ → Type 0) → Type 0
-MayTell history earlier base may =
+abbrev pub MayPrint : TableId → List Step → World → (Beginning → ℕ → ℕ → ℕ → Type 0) → Type 0
+MayPrint history earlier base may =
     (settled : List Step) (step node epoch : ℕ) → GivesSignal base settled step node epoch → may (record { history = history; steps = earlier ++ settled }) step node epoch

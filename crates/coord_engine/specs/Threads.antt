@@ -12,7 +12,7 @@ use Rattle.coord_ledger.specs.declared.release.Release.{Release}
 use Rattle.coord_ledger.specs.declared.ticket.Note.{Note}
 use Rattle.coord_ledger.specs.Facade.{Claim, FlightState, LedgerState, accepted_count, keeps_store, next_flight, pending, releases_of, resent, settled_count, settled_steps, settled_world}
 use Rattle.coord_view.specs.Shown.{Shown, shown}
-use Rattle.coord_engine.specs.Calls.{AnswersStep, IsToldTicket, engine_verdict}
+use Rattle.coord_engine.specs.Calls.{AnswersStep, IsReturnedToTicket, engine_verdict}
 use Rattle.coord_engine.specs.Closing.{MayClose, RefusesClosing}
 use Rattle.coord_engine.specs.History.{Beginning}
 use Rattle.coord_engine.specs.Released.{HasReadSettled}
@@ -51,7 +51,7 @@ AnswersShow {D} b history earlier read (Err refusal) seen later = AtMomentRead b
 
 -- what is answered to a ticket that was waited for, once this was read
 abbrev pub AnswersTicket : {D : Type 0} → Basis D → TableId → List Step → Beginning → Claim → Result Reply (Refusal × Claim) → Type 0
-AnswersTicket {D} b history earlier read claim answer = AtMomentRead {D = D} b history earlier read (λ g. IsToldTicket g.ledger claim answer)
+AnswersTicket {D} b history earlier read claim answer = AtMomentRead {D = D} b history earlier read (λ g. IsReturnedToTicket g.ledger claim answer)
 
 -- this flight went out
 abbrev pub Leaves : {D : Type 0} → FlightState D → GuardedState D → Type 0

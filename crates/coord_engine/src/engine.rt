@@ -3,7 +3,7 @@
 ghost use Rattle.std.specs.Prelude.{◌≡◌, ◌<◌, ◌≤◌, [], length, Err, None, Ok, Some, IfErr, IfNone, IfOk, IfSome, MatchResult};
 ghost use Rattle.std.specs.Sync.Mutex.{mutex_guard_value};
 ghost use Rattle.coord_ledger.specs.ledger.Calls.{releases_in};
-ghost use Rattle.coord_engine.specs.Calls.{IsToldTicket};
+ghost use Rattle.coord_engine.specs.Calls.{IsReturnedToTicket};
 ghost use Rattle.coord_engine.specs.Closing.{IsSince, RefusesClosing};
 ghost use Rattle.coord_engine.specs.Flights.{AnswersBegin, AnswersFlush, ComesBack};
 ghost use Rattle.coord_engine.specs.History.{StartsWith};
@@ -156,7 +156,7 @@ impl<D: Disk, L: Origin> Engine<D, L> {
             L.history L.earlier reader.new ticket result }
         ensures begins { StartsWith reader.new.steps reader.old.steps }
     {
-        let (mut guarded, answer) = self.lock_to_tell(rt, ticket);
+        let (mut guarded, answer) = self.lock_to_answer(rt, ticket);
         guarded.keeps();
         guarded.read_on(&self.history, reader);
         answer
@@ -164,7 +164,7 @@ impl<D: Disk, L: Origin> Engine<D, L> {
 
     /// Waits until there is something to tell to a ticket, and takes the lock then. What is told is
     /// so of the very ledger that is locked: a reply is given while its step is settled there.
-    fn lock_to_tell<'g, R: Wait>(
+    fn lock_to_answer<'g, R: Wait>(
         &'g self,
         rt: &R,
         ticket: Ticket,
@@ -172,7 +172,7 @@ impl<D: Disk, L: Origin> Engine<D, L> {
         MutexGuard<'g, Guarded<D, L>>,
         Result<Reply, (Refusal, Ticket)>,
     )
-        ensures { IsToldTicket (mutex_guard_value result.0).ledger ticket result.1 }
+        ensures { IsReturnedToTicket (mutex_guard_value result.0).ledger ticket result.1 }
     {
         let mut waiting = ticket;
         let mut guarded = self.guarded.lock(rt);

@@ -6,7 +6,7 @@ ghost use Rattle.coord_engine.specs.Flights.{AnswersFlush};
 ghost use Rattle.coord_engine.specs.Flushing.{HasFlushed, finds_no_memory};
 ghost use Rattle.coord_engine.specs.Pacing.{is_idle, is_over};
 ghost use Rattle.coord_engine.specs.Port.{AreAsked, AreHanded, IsAsked, MayAsk, MayAskAll, deliveries_of};
-ghost use Rattle.coord_engine.specs.Released.{MayHand, MayTell};
+ghost use Rattle.coord_engine.specs.Released.{MayHand, MayPrint};
 ghost use Rattle.coord_engine.specs.State.{based_on};
 ghost use Rattle.coord_engine.specs.Threads.{AtSomeMoment};
 
@@ -236,7 +236,7 @@ pub fn flusher<D: Disk, L: Origin, P: Port, R: Wait + Clock>(
     engine: &Engine<D, L>,
     port: &mut P,
 )
-    requires { MayTell L.history L.earlier L.base P.may_signal }
+    requires { MayPrint L.history L.earlier L.base P.may_signal }
     ensures { HasFlushed (based_on D.model L.base L.before)
         P.carried P.signalled P.handed_on port.old port.new }
 {

@@ -4,7 +4,7 @@ use Rattle.std.specs.List.{AllByRecursion}
 use Rattle.std.proofs.lemmas.Fmt.{decimal_by_steps, decimal_injective}
 use Rattle.coord_member.specs.declared.view.Entry.{Entry}
 use Rattle.coord_member.specs.declared.view.Entry.TheVariants.{Node, Link}
-use Rattle.coord_member.specs.Text.{entry_line, party_text, IsWritten, TextTellsParty}
+use Rattle.coord_member.specs.Text.{entry_line, party_text, IsWritten, PartyTextInjective}
 
 -- ---- digits, and what stands behind them
 
@@ -95,12 +95,12 @@ same_line (Link c d j) (Link g h k) p q a b same =
     let j_k = three.number in
     record { entry = cc; behind = three.behind }
 
-pub text_tells_party : TextTellsParty
-text_tells_party [] [] a b e = refl
-text_tells_party [] (y ∷ q) a b e = absurd (has_a_line y (party_text q) (sym (line_is y (party_text q)) ∙ sym e))
-text_tells_party (x ∷ p) [] a b e = absurd (has_a_line x (party_text p) (sym (line_is x (party_text p)) ∙ e))
-text_tells_party (x ∷ p) (y ∷ q) a b e =
+pub party_text_injective : PartyTextInjective
+party_text_injective [] [] a b e = refl
+party_text_injective [] (y ∷ q) a b e = absurd (has_a_line y (party_text q) (sym (line_is y (party_text q)) ∙ sym e))
+party_text_injective (x ∷ p) [] a b e = absurd (has_a_line x (party_text p) (sym (line_is x (party_text p)) ∙ e))
+party_text_injective (x ∷ p) (y ∷ q) a b e =
     let line = same_line x y (party_text p) (party_text q) a.0 b.0 (sym (line_is x (party_text p)) ∙ (e ∙ line_is y (party_text q))) in
     let first = line.entry in
-    let rest = text_tells_party p q a.1 b.1 line.behind in
+    let rest = party_text_injective p q a.1 b.1 line.behind in
     cc

@@ -17,5 +17,5 @@ IsWritten (Node n e) = (n < 2 ^ 64) × (e < 2 ^ 64)
 IsWritten (Link a b incarnation) = (a < 2 ^ 64) × (b < 2 ^ 64) × (incarnation < 2 ^ 64)
 
 -- equal texts are of equal parties
-abbrev pub TextTellsParty : Type 0
-TextTellsParty = (p q : List Entry) → AllByRecursion IsWritten p → AllByRecursion IsWritten q → party_text p ≡ party_text q → p ≡ q
+abbrev pub PartyTextInjective : Type 0
+PartyTextInjective = (p q : List Entry) → AllByRecursion IsWritten p → AllByRecursion IsWritten q → party_text p ≡ party_text q → p ≡ q

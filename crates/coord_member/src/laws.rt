@@ -7,7 +7,7 @@ ghost use Rattle.coord_member.specs.Honest.{NoMixHonest};
 ghost use Rattle.coord_member.specs.NoMix.{NoMix};
 ghost use Rattle.coord_member.specs.OnDisk.{LeftIsEnough};
 ghost use Rattle.coord_member.specs.Refusals.{RefusersAsk};
-ghost use Rattle.coord_member.specs.Text.{TextTellsParty};
+ghost use Rattle.coord_member.specs.Text.{PartyTextInjective};
 ghost use Rattle.coord_member.specs.WorkedRun.{WorkedRun};
 
 /// Whatever is shown to any number of members that lose no files, in any order, and however often
@@ -74,9 +74,9 @@ pub fn refusers_ask()
 {}
 
 /// Equal texts are of equal parties.
-#[tactic(auto, using(crate::proofs::Texts::text_tells_party))]
-pub fn text_tells_party()
-    ensures { TextTellsParty }
+#[tactic(auto, using(crate::proofs::Texts::party_text_injective))]
+pub fn party_text_injective()
+    ensures { PartyTextInjective }
 {}
 
 /// Runs whose outcomes are known: a member begins an epoch a second time, with its files lost and its

@@ -16,7 +16,7 @@ use Rattle.coord_admin.specs.Connections.{Talk}
 use Rattle.coord_server.proofs.Reading.{begins_so}
 use Rattle.coord_server.specs.EngineDesk.{DeskState}
 use Rattle.coord_server.specs.Ending.{AddsWorkers, HasRun, IsLeftAs, IsInstance, IsOneHistory, RefusesShares, LeavesInstance, LeavesShares, Local, Serves, ServesInstance, end_fault, fault_at_end, new_desk}
-use Rattle.coord_server.specs.Instances.{AreInstances, HaveRested, IsLast, IsLastInstance, IsToldForCause, InstanceRun, MayGoOn, Rests}
+use Rattle.coord_server.specs.Instances.{AreInstances, HaveRested, IsLast, IsLastInstance, HasFaultForCause, InstanceRun, MayGoOn, Rests}
 use Rattle.coord_server.specs.Moments.{HasLived}
 use Rattle.coord_server.specs.declared.fault.ServerFault.{ServerFault}
 use Rattle.coord_server.specs.declared.fault.ServerFault.TheVariants as fault
@@ -171,7 +171,7 @@ module _ {D : Type 0} (m : DiskModel D) {V : Type 0} (talked : V → List Talk �
 
   -- why a fault is told of a server whose last instance was left so
   pub has_cause : {W : Type 0} (first : Kept D) (v : V) (instance : Instance D V) (ended : ServerEnd D V W) → HasLived m talked failed most first v instance → IsLastInstance instance.left ended.served → ended.closed ≡ instance.closed
-      → (instance.left ≡ Unprinted → ended.served ≡ Some fault.Write → ended.printer.is_broken ≡ true) → (instance.left ≡ Resting → ¬ MayGoOn most instance.closed) → IsToldForCause most ended
+      → (instance.left ≡ Unprinted → ended.served ≡ Some fault.Write → ended.printer.is_broken ≡ true) → (instance.left ≡ Resting → ¬ MayGoOn most instance.closed) → HasFaultForCause most ended
   has_cause first v instance ended lived over same write rests =
       let so = lived.instance in
       let told = told_for (b lived.world) talked failed most (MayGoOn most instance.closed) so.port lived.callers instance.callers so.desk instance.left ended.served ended.printer.is_broken so.served over write rests in

@@ -34,7 +34,7 @@ use Rattle.coord_admin.specs.declared.session.Ended.TheVariants as ended
 use Rattle.coord_server.proofs.Told.{claim_of, noted}
 use Rattle.coord_server.specs.EngineDesk.{AnswersOrder, DeskAnswers, DeskKeeps, DeskState, ShowsTo}
 use Rattle.coord_server.specs.Ending.{new_desk}
-use Rattle.coord_server.specs.InOrder.{AllInOrder, BearOut, GoOn, IsBorneOut, IsOwnReply, Told, ToldInOrder, WritesInOrder}
+use Rattle.coord_server.specs.InOrder.{AllInOrder, BearOut, GoOn, IsBorneOut, IsOwnReply, Told, AnsweredInOrder, WritesInOrder}
 
 -- ---- one answer behind the other
 
@@ -258,8 +258,8 @@ desk_bears b d e request.Show a is = subst (bearing b d.read e.read (Ok request.
 desk_bears b d e request.Resend a is = (subst (λ l. StartsWith l d.read) (sym is.5) (all_of d.read), subst (BearOut b.base e.read (Ok request.Resend)) (sym is.1) (resend_bears b.base e.read is.0))
 desk_bears {D} {P} b d e request.Close a is = (subst (λ (x : DeskState P). StartsWith x.read d.read) (sym is.1) (all_of d.read), subst (BearOut b.base e.read (Ok request.Close)) (sym is.0) tt)
 
-pub told_in_order : (D P : Type 0) {V : Type 0} (talked : V → List Talk → V → Type 0) → ToldInOrder D P talked
-told_in_order D P talked b most port v w desk =
+pub answered_in_order : (D P : Type 0) {V : Type 0} (talked : V → List Talk → V → Type 0) → AnsweredInOrder D P talked
+answered_in_order D P talked b most port v w desk =
     let bears = desk_bears {D = D} {P = P} b in
     let reads = λ (x : DeskState P). x.read in (
       λ is. all_served (DeskAnswers b) b.base reads bears (DeskKeeps b) most (new_desk port) desk is.0 is.2,

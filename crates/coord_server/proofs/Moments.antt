@@ -15,7 +15,7 @@ use Rattle.coord_world.proofs.Facade.{fold-append, fold_counts}
 use Rattle.coord_admin.specs.Connections.{Talk}
 use Rattle.coord_engine.proofs.OnTheWay.{joined}
 use Rattle.coord_engine.proofs.Past.{left_only, of_more}
-use Rattle.coord_engine.specs.Facade.{Beginning, IsAfterSome, IsPastOf, MayTell, Past, StartsWith, StaysAlong, first_settled}
+use Rattle.coord_engine.specs.Facade.{Beginning, IsAfterSome, IsPastOf, MayPrint, Past, StartsWith, StaysAlong, first_settled}
 use Rattle.coord_engine.specs.State.{based_on}
 use Rattle.coord_engine.specs.declared.closed.Closed.{Closed}
 use Rattle.coord_server.proofs.Ends.{and_last, is_last, one_more, rested_history, rests, run_of}
@@ -23,7 +23,7 @@ use Rattle.coord_server.proofs.OneHistory.{Tells, behind_rested, is_left, leaves
 use Rattle.coord_server.proofs.Starts.{on_more, printed_more}
 use Rattle.coord_server.specs.EngineDesk.{DeskState}
 use Rattle.coord_server.specs.Ending.{IsInstance, IsOneHistory, end_fault}
-use Rattle.coord_server.specs.Instances.{AreOneHistory, HaveRested, IsLastInstance, IsToldForCause, InstanceRun, all_steps}
+use Rattle.coord_server.specs.Instances.{AreOneHistory, HaveRested, IsLastInstance, HasFaultForCause, InstanceRun, all_steps}
 use Rattle.coord_server.specs.Moments.{HasLived, KeepsAlong}
 use Rattle.coord_server.specs.Printed.{IsPrinted, PrinterState}
 use Rattle.coord_server.specs.ServerRun.{ServerRun}
@@ -120,10 +120,10 @@ module _ {D : Type 0} (m : DiskModel D) where
       ap (λ k. take k left.trail.items) n ∙ take-length left.trail.items
 
 -- an instance may tell of signals by the history of the instances before it
-pub tells_on : {D : Type 0} (m : DiskModel D) (may : Beginning → ℕ → ℕ → ℕ → Type 0) (history own : TableId) (first now : Kept D) (steps written : List Step) → ((earlier : List Step) → MayTell history earlier (fold first.world earlier) may) → own ≡ history → ComesFrom m first steps now → written ≡ steps
-    → MayTell own written now.world may
+pub tells_on : {D : Type 0} (m : DiskModel D) (may : Beginning → ℕ → ℕ → ℕ → Type 0) (history own : TableId) (first now : Kept D) (steps written : List Step) → ((earlier : List Step) → MayPrint history earlier (fold first.world earlier) may) → own ≡ history → ComesFrom m first steps now → written ≡ steps
+    → MayPrint own written now.world may
 tells_on m may history own first now steps written tell same come is =
-    subst (λ h. MayTell h written now.world may) (sym same) (subst (λ w. MayTell history written w may) (ap (fold first.world) is ∙ leads_of m first now steps come) (tell written))
+    subst (λ h. MayPrint h written now.world may) (sym same) (subst (λ w. MayPrint history written w may) (ap (fold first.world) is ∙ leads_of m first now steps come) (tell written))
 
 module _ {D : Type 0} (m : DiskModel D) {V : Type 0} (talked : V → List Talk → V → Type 0) (failed : V → V → Type 0) (most : ℕ) where
   -- one more instance has rested, and the next one begins with this
@@ -156,7 +156,7 @@ module _ {D : Type 0} (m : DiskModel D) {V : Type 0} (talked : V → List Talk �
       }
 
   -- and so has the server, which printed signals of these steps
-  pub server_run : {W : Type 0} (contents : W → Option (List ℕ)) (first : Kept D) (v : V) (instance : Instance D V) (ended : ServerEnd D V W) (gives : List Step → ℕ → ℕ → ℕ → Type 0) (lasts : (first more : List Step) (step node epoch : ℕ) → gives first step node epoch → gives (first ++ more) step node epoch) (p q : PrinterState W) (read : List Step) → HasLived m talked failed most first v instance → IsLastInstance instance.left ended.served → ended.closed ≡ instance.closed → ended.callers ≡ instance.callers → IsToldForCause most ended
+  pub server_run : {W : Type 0} (contents : W → Option (List ℕ)) (first : Kept D) (v : V) (instance : Instance D V) (ended : ServerEnd D V W) (gives : List Step → ℕ → ℕ → ℕ → Type 0) (lasts : (first more : List Step) (step node epoch : ℕ) → gives first step node epoch → gives (first ++ more) step node epoch) (p q : PrinterState W) (read : List Step) → HasLived m talked failed most first v instance → IsLastInstance instance.left ended.served → ended.closed ≡ instance.closed → ended.callers ≡ instance.callers → HasFaultForCause most ended
       → ended.printer ≡ q → StartsWith instance.writer.steps read → IsPrinted contents (gives read) p q → ServerRun m talked failed most contents gives first v p ended
   server_run contents first v instance ended gives lasts p q read lived over same same_w cause same_q reads printed =
       let rested = lived.rested in

@@ -7,7 +7,7 @@ use Rattle.coord_view.specs.Shown.{Shown}
 use Rattle.coord_ledger.specs.Facade.{settled_steps}
 use Rattle.coord_engine.specs.Facade.{AnswersShow, AtMomentRead, Basis, Beginning, HasReadSettled, RefusesShow, Shows, StartsWith}
 use Rattle.coord_engine.specs.State.{GuardedState}
-use Rattle.coord_server.specs.EngineDesk.{AtMomentTold, IsReadIn, ShowsTo, read_in}
+use Rattle.coord_server.specs.EngineDesk.{AtMomentAnswered, IsReadIn, ShowsTo, read_in}
 
 drop_all : (xs ys : List Step) → drop (length xs) (xs ++ ys) ≡ ys
 drop_all [] ys = refl
@@ -40,7 +40,7 @@ begins_so history earlier first later before now was is begins =
 
 module _ {D : Type 0} (b : Basis D) (history : TableId) (earlier : List Step) (before now : Beginning) (P : GuardedState D → Type 0) where
   -- what is so at a moment of which the settled steps were read
-  pub told_at : IsReadIn history earlier before → StartsWith now.steps before.steps → AtMomentRead b history earlier now P → AtMomentTold b (read_in earlier before) (read_in earlier now) P
+  pub told_at : IsReadIn history earlier before → StartsWith now.steps before.steps → AtMomentRead b history earlier now P → AtMomentAnswered b (read_in earlier before) (read_in earlier now) P
   told_at was begins is = record {
     at = record { state = is.state; held = is.held; so = (is.so.0, sym (read_back history earlier (settled_steps is.state.ledger.log) now is.so.1)) };
     begins = begins_so history earlier (read_in earlier before) (read_in earlier now) before now was (is_read history earlier (settled_steps is.state.ledger.log) now is.so.1) begins;

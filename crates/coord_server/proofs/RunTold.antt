@@ -24,7 +24,7 @@ use Rattle.coord_admin.specs.declared.request.Request.TheVariants as request
 use Rattle.coord_engine.proofs.Histories.{first_of_first, none_of}
 use Rattle.coord_engine.specs.Facade.{Basis, StartsWith, based_on, first_settled}
 use Rattle.coord_engine.specs.declared.closed.Closed.{Closed}
-use Rattle.coord_server.proofs.InOrder.{from_earlier, told_in_order}
+use Rattle.coord_server.proofs.InOrder.{from_earlier, answered_in_order}
 use Rattle.coord_server.proofs.Moments.{all_of_settled, settled_behind}
 use Rattle.coord_server.proofs.OneHistory.{is_left, leaves_all, left_of, tells}
 use Rattle.coord_server.specs.EngineDesk.{DeskState}
@@ -202,25 +202,25 @@ module _ (began : World) (before : List Step) where
 
 module _ {D : Type 0} (b : Basis D) {V : Type 0} (talked : V → List Talk → V → Type 0) (failed : V → V → Type 0) (most : ℕ) where
   -- those who call had some connections, and what was written over them
-  record HasTold (v w : V) (read : List Step) : Type 0 where
+  record HasPrinted (v w : V) (read : List Step) : Type 0 where
     connections : List Connection
     had : HadConnections talked failed v connections w
     told : AllInOrder b.base [] connections read
 
   module _ (port : Local) (v w : V) (desk : DeskState Local) where
     in_order : ((served : ServedWhileOpen b talked most port v w desk) → AllInOrder b.base [] served.0 desk.read) × ((served : IsClosed b talked most port v w desk) → AllInOrder b.base [] (served.0 ++ served.1 ∷ []) desk.read)
-    in_order = told_in_order D Local talked b most port v w desk
+    in_order = answered_in_order D Local talked b most port v w desk
 
-    while_open : ServedWhileOpen b talked most port v w desk → HasTold v w desk.read
+    while_open : ServedWhileOpen b talked most port v w desk → HasPrinted v w desk.read
     while_open is = record { connections = is.0; had = record { last = w; talks = is.1; ended = inl refl }; told = in_order.0 is }
 
-    to_close : IsClosed b talked most port v w desk → HasTold v w desk.read
+    to_close : IsClosed b talked most port v w desk → HasPrinted v w desk.read
     to_close is = record { connections = is.0 ++ is.1 ∷ []; had = record { last = w; talks = is.3; ended = inl refl }; told = in_order.1 is }
 
-    nobody : talked v [] w → HasTold v w desk.read
+    nobody : talked v [] w → HasPrinted v w desk.read
     nobody is = record { connections = []; had = record { last = w; talks = is; ended = inl refl }; told = none_of desk.read }
 
-  serves_instance : (port : Local) (v w : V) (desk : DeskState Local) (left : InstanceEnd) → ServesInstance b talked failed most port v w desk left → HasTold v w desk.read
+  serves_instance : (port : Local) (v w : V) (desk : DeskState Local) (left : InstanceEnd) → ServesInstance b talked failed most port v w desk left → HasPrinted v w desk.read
   serves_instance port v w desk end.Resting is = while_open port v w desk is.0
   serves_instance port v w desk end.Unfollowed is = absurd is
   serves_instance port v w desk end.Unprinted is = nobody port v w desk is.0
@@ -232,7 +232,7 @@ module _ {D : Type 0} (b : Basis D) {V : Type 0} (talked : V → List Talk → V
   serves_instance port v w desk (end.Ended (Some fault.Write)) is = absurd is
   serves_instance port v w desk (end.Ended (Some (fault.NotClosed why))) is = absurd is
 
-  serves : (port : Local) (v w : V) (desk : DeskState Local) (why : Option ServerFault) → Serves b talked failed most port v w desk why → HasTold v w desk.read
+  serves : (port : Local) (v w : V) (desk : DeskState Local) (why : Option ServerFault) → Serves b talked failed most port v w desk why → HasPrinted v w desk.read
   serves port v w desk None is = serves_instance port v w desk (end.Ended None) is
   serves port v w desk (Some fault.OutOfMemory) (inl is) = serves_instance port v w desk (end.Ended (Some fault.OutOfMemory)) is
   serves port v w desk (Some fault.OutOfMemory) (inr is) = serves_instance port v w desk end.Resting is

@@ -28,11 +28,11 @@ use Rattle.coord_admin.specs.declared.session.Ended.{Ended}
 use Rattle.coord_admin.specs.declared.session.Ended.TheVariants as ended
 use Rattle.coord_server.specs.EngineDesk.{DeskAnswers, DeskKeeps, DeskState, ShowsTo, seen_after}
 use Rattle.coord_server.specs.Ending.{new_desk}
-use Rattle.coord_server.specs.Told.{AllWriteUpTo, TellsUpTo, ToldIsSettled, WritesUpTo}
+use Rattle.coord_server.specs.Told.{AllWriteUpTo, AnswersUpTo, ToldIsSettled, WritesUpTo}
 
 -- ---- what an answer tells
 
-further : (n m : ℕ) (a : Answer) → n ≤ m → TellsUpTo n a → TellsUpTo m a
+further : (n m : ℕ) (a : Answer) → n ≤ m → AnswersUpTo n a → AnswersUpTo m a
 further n m (answer.Replied r) le is = omega (arith, le, is)
 further n m (answer.Shown v) le is = omega (arith, le, is)
 further n m (answer.Refused r) le is = tt
@@ -40,11 +40,11 @@ further n m (answer.Resent k) le is = tt
 further n m answer.Closed le is = tt
 further n m (answer.Faulted f) le is = tt
 
-all_further : (n m : ℕ) (told : List Answer) → n ≤ m → AllByRecursion (TellsUpTo n) told → AllByRecursion (TellsUpTo m) told
+all_further : (n m : ℕ) (told : List Answer) → n ≤ m → AllByRecursion (AnswersUpTo n) told → AllByRecursion (AnswersUpTo m) told
 all_further n m [] le is = tt
 all_further n m (a ∷ told) le is = (further n m a le is.0, all_further n m told le is.1)
 
-all_both : (n : ℕ) (told more : List Answer) → AllByRecursion (TellsUpTo n) told → AllByRecursion (TellsUpTo n) more → AllByRecursion (TellsUpTo n) (told ++ more)
+all_both : (n : ℕ) (told more : List Answer) → AllByRecursion (AnswersUpTo n) told → AllByRecursion (AnswersUpTo n) more → AllByRecursion (AnswersUpTo n) (told ++ more)
 all_both n [] more is also = also
 all_both n (a ∷ told) more is also = (is.0, all_both n told more is.1 also)
 
@@ -53,26 +53,26 @@ all_both n (a ∷ told) more is also = (is.0, all_both n told more is.1 also)
 text_further : (n m : ℕ) (text : List ℕ) → n ≤ m → WritesUpTo n text → WritesUpTo m text
 text_further n m text le is = record { told = is.told; up_to = all_further n m is.told le is.up_to; part = is.part; broken = broken is.part is.broken; text_is = is.text_is }
   where
-    broken : (part : List ℕ) → (part ≡ []) ⊎ ((last : Answer) × TellsUpTo n last × IsFirstPart part (reply_line last)) → (part ≡ []) ⊎ ((last : Answer) × TellsUpTo m last × IsFirstPart part (reply_line last))
+    broken : (part : List ℕ) → (part ≡ []) ⊎ ((last : Answer) × AnswersUpTo n last × IsFirstPart part (reply_line last)) → (part ≡ []) ⊎ ((last : Answer) × AnswersUpTo m last × IsFirstPart part (reply_line last))
     broken part (inl none) = inl none
     broken part (inr at) = inr (at.0, further n m at.0 le at.1, at.2)
 
 -- whole lines
-lines_tell : (n : ℕ) (told : List Answer) (text : List ℕ) → AllByRecursion (TellsUpTo n) told → text ≡ reply_lines told → WritesUpTo n text
-lines_tell n told text all is = record { told = told; up_to = all; part = []; broken = inl refl; text_is = is ∙ sym (append-nil (reply_lines told)) }
+lines_distinguish : (n : ℕ) (told : List Answer) (text : List ℕ) → AllByRecursion (AnswersUpTo n) told → text ≡ reply_lines told → WritesUpTo n text
+lines_distinguish n told text all is = record { told = told; up_to = all; part = []; broken = inl refl; text_is = is ∙ sym (append-nil (reply_lines told)) }
 
 -- and those behind them
-more_tell : (n : ℕ) (told more : List Answer) (text : List ℕ) → AllByRecursion (TellsUpTo n) told → AllByRecursion (TellsUpTo n) more → text ≡ reply_lines told ++ reply_lines more → WritesUpTo n text
-more_tell n told more text all also is = lines_tell n (told ++ more) text (all_both n told more all also) (is ∙ sym (flat_map-append reply_line told more))
+more_tell : (n : ℕ) (told more : List Answer) (text : List ℕ) → AllByRecursion (AnswersUpTo n) told → AllByRecursion (AnswersUpTo n) more → text ≡ reply_lines told ++ reply_lines more → WritesUpTo n text
+more_tell n told more text all also is = lines_distinguish n (told ++ more) text (all_both n told more all also) (is ∙ sym (flat_map-append reply_line told more))
 
-last_tells : (n : ℕ) (line : Line) → AllByRecursion (TellsUpTo n) (last_answers line)
+last_tells : (n : ℕ) (line : Line) → AllByRecursion (AnswersUpTo n) (last_answers line)
 last_tells n None = (tt, tt)
 last_tells n (Some []) = tt
 last_tells n (Some (x ∷ xs)) = (tt, tt)
 
 -- a desk that had seen n answers so, and then has seen m
 abbrev Goes : ℕ → Answer → ℕ → Type 0
-Goes n a m = (n ≤ m) × TellsUpTo m a
+Goes n a m = (n ≤ m) × AnswersUpTo m a
 
 -- ---- a desk that sees all that it tells
 
@@ -96,7 +96,7 @@ module _ {D : Type 0} (answers : D → Request → Answer → D → Type 0) (see
   gets_at_last d e line a (inl is) = gets d e line a is
   gets_at_last d e line a (inr is) = subst (λ (x : Answer). Goes (seen d) x (seen e)) (sym is.0) (same d e is.1, tt)
 
-  all_get : (d e : D) (lines : List Line) (told : List Answer) → AllGet answers d lines told e → (seen d ≤ seen e) × AllByRecursion (TellsUpTo (seen e)) told
+  all_get : (d e : D) (lines : List Line) (told : List Answer) → AllGet answers d lines told e → (seen d ≤ seen e) × AllByRecursion (AnswersUpTo (seen e)) told
   all_get d e [] [] is = (same d e is, tt)
   all_get d e [] (a ∷ told) is = absurd is
   all_get d e (line ∷ lines) [] is = absurd is
@@ -117,13 +117,13 @@ module _ {D : Type 0} (answers : D → Request → Answer → D → Type 0) (see
       )
   served d e read text (Ok ended.Cut) (told, last, reaches, is) =
       let all = all_get d e reaches.0 told reaches.2 in
-      (all.0, lines_tell (seen e) told text all.1 is)
+      (all.0, lines_distinguish (seen e) told text all.1 is)
   served d e read text (Err serve.Read) (told, last, reaches, is) =
       let all = all_get d e reaches.0 told reaches.2 in
-      (all.0, lines_tell (seen e) told text all.1 is)
+      (all.0, lines_distinguish (seen e) told text all.1 is)
   served d e read text (Err serve.Turns) ((told, last, reaches, is), many) =
       let all = all_get d e reaches.0 told reaches.2 in
-      (all.0, lines_tell (seen e) told text all.1 is)
+      (all.0, lines_distinguish (seen e) told text all.1 is)
   served d e read text (Err serve.Write) (told, line, behind, left, f, g, a, untold, part, reaches, last, rest, posted, first, is) =
       let all = all_get d f reaches.0 told reaches.2 in
       let here = gets_at_last f g line a last in
@@ -132,7 +132,7 @@ module _ {D : Type 0} (answers : D → Request → Answer → D → Type 0) (see
         omega (arith, all.0, le),
         record { told = told; up_to = all_further (seen f) (seen e) told le all.1; part = part; broken = inr (a, further (seen g) (seen e) a on here.1, first); text_is = is },
       )
-  served d e read text (Err serve.OutOfMemory) (nothing, none, is) = (same d e is, lines_tell (seen e) [] text tt none)
+  served d e read text (Err serve.OutOfMemory) (nothing, none, is) = (same d e is, lines_distinguish (seen e) [] text tt none)
 
   module _ (keeps : D → ℕ → Type 0) (most : ℕ) where
     all_served : (d e : D) (cs : List Connection) → AllServed answers keeps most d cs e → (seen d ≤ seen e) × AllWriteUpTo (seen e) cs
@@ -152,33 +152,33 @@ and_last n (c ∷ cs) last is also = (is.0, and_last n cs last is.1 also)
 
 -- ---- the desk over an engine
 
-refused_tells : (n : ℕ) (r : Refusal) → TellsUpTo n (refused r)
-refused_tells n refusal.Stopped = tt
-refused_tells n refusal.OutOfMemory = tt
-refused_tells n refusal.Exhausted = tt
-refused_tells n refusal.OutOfTurn = tt
-refused_tells n refusal.NumberReused = tt
-refused_tells n refusal.UnknownNode = tt
-refused_tells n refusal.NodeExists = tt
-refused_tells n refusal.HasLinks = tt
-refused_tells n refusal.SameNode = tt
-refused_tells n refusal.OtherGroup = tt
-refused_tells n refusal.LinkExists = tt
-refused_tells n refusal.NoLink = tt
-refused_tells n refusal.DegreeFull = tt
-refused_tells n refusal.LinksFull = tt
-refused_tells n refusal.BadEpoch = tt
-refused_tells n refusal.Old = tt
-refused_tells n refusal.Early = tt
-refused_tells n refusal.Differs = tt
-refused_tells n refusal.NotReleased = tt
-refused_tells n refusal.PendingFull = tt
-refused_tells n (refusal.Behind settled) = tt
-refused_tells n refusal.Stranger = tt
+refused_answers_up_to : (n : ℕ) (r : Refusal) → AnswersUpTo n (refused r)
+refused_answers_up_to n refusal.Stopped = tt
+refused_answers_up_to n refusal.OutOfMemory = tt
+refused_answers_up_to n refusal.Exhausted = tt
+refused_answers_up_to n refusal.OutOfTurn = tt
+refused_answers_up_to n refusal.NumberReused = tt
+refused_answers_up_to n refusal.UnknownNode = tt
+refused_answers_up_to n refusal.NodeExists = tt
+refused_answers_up_to n refusal.HasLinks = tt
+refused_answers_up_to n refusal.SameNode = tt
+refused_answers_up_to n refusal.OtherGroup = tt
+refused_answers_up_to n refusal.LinkExists = tt
+refused_answers_up_to n refusal.NoLink = tt
+refused_answers_up_to n refusal.DegreeFull = tt
+refused_answers_up_to n refusal.LinksFull = tt
+refused_answers_up_to n refusal.BadEpoch = tt
+refused_answers_up_to n refusal.Old = tt
+refused_answers_up_to n refusal.Early = tt
+refused_answers_up_to n refusal.Differs = tt
+refused_answers_up_to n refusal.NotReleased = tt
+refused_answers_up_to n refusal.PendingFull = tt
+refused_answers_up_to n (refusal.Behind settled) = tt
+refused_answers_up_to n refusal.Stranger = tt
 
 order_goes : (result : Result Reply Refusal) (n m : ℕ) → m ≡ seen_after result n → Goes n (order_answer result) m
 order_goes (Ok r) n m is = (omega (arith, is), omega (arith, is))
-order_goes (Err r) n m is = (omega (arith, is), refused_tells m r)
+order_goes (Err r) n m is = (omega (arith, is), refused_answers_up_to m r)
 
 -- the settled world has as many steps as are settled
 world_counts : (log : Log) → log.settled ≤ length log.trail → (settled_world log).count ≡ settled_count log
@@ -190,16 +190,16 @@ show_goes b (Ok view) n m read now told =
     let log = is.state.ledger.log in
     let counted : view.settled ≡ (settled_world log).count = ap (λ (v : Shown). v.settled) is.so.0.2 in
     (omega (arith, is.so.0.1, is.so.0.3), omega (arith, is.so.0.3, counted, world_counts log is.held.log.within))
-show_goes b (Err r) n m read now is = (omega (arith, is.1), refused_tells m r)
+show_goes b (Err r) n m read now is = (omega (arith, is.1), refused_answers_up_to m r)
 
-resend_tells : (n : ℕ) (result : Result ℕ Refusal) → TellsUpTo n (resend_answer result)
-resend_tells n (Ok k) = tt
-resend_tells n (Err r) = refused_tells n r
+resend_answers : (n : ℕ) (result : Result ℕ Refusal) → AnswersUpTo n (resend_answer result)
+resend_answers n (Ok k) = tt
+resend_answers n (Err r) = refused_answers_up_to n r
 
 desk_goes : {D P : Type 0} (b : Basis D) (d e : DeskState P) (r : Request) (a : Answer) → DeskAnswers b d r a e → Goes d.seen a e.seen
 desk_goes b d e (request.Order client number command) a is = subst (λ (x : Answer). Goes d.seen x e.seen) (sym is.1) (order_goes is.0 d.seen e.seen is.3)
 desk_goes b d e request.Show a is = subst (λ (x : Answer). Goes d.seen x e.seen) (sym is.1) (show_goes b is.0 d.seen e.seen d.read e.read is.2)
-desk_goes b d e request.Resend a is = subst (λ (x : Answer). Goes d.seen x e.seen) (sym is.1) (omega (arith, is.4), resend_tells e.seen is.0)
+desk_goes b d e request.Resend a is = subst (λ (x : Answer). Goes d.seen x e.seen) (sym is.1) (omega (arith, is.4), resend_answers e.seen is.0)
 desk_goes {D} {P} b d e request.Close a is = subst (λ (x : Answer). Goes d.seen x e.seen) (sym is.0) (omega (arith, ap (λ (x : DeskState P). x.seen) is.1), tt)
 
 pub told_is_settled : (D P : Type 0) {V : Type 0} (talked : V → List Talk → V → Type 0) → ToldIsSettled D P talked

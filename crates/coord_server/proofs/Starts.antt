@@ -8,7 +8,7 @@ use Rattle.std.specs.declared.net.socket_addr.SocketAddr.{SocketAddr}
 use Rattle.coord_types.specs.declared.steps.Step.{Step}
 use Rattle.coord_engine.specs.Facade.{StartsWith}
 use Rattle.coord_server.specs.Lines.{after_line, is_next}
-use Rattle.coord_server.specs.Printed.{BreaksIn, Follow, HasTold, IsPrinted, IsTornAddress, IsTornSignal, PrinterState, Prints, PrintsEach, TellsAddress, signal_lines, listening_line, signal_line, with_lost}
+use Rattle.coord_server.specs.Printed.{BreaksIn, Follow, HasPrinted, IsPrinted, IsTornAddress, IsTornSignal, PrinterState, Prints, PrintsEach, PrintsAddress, signal_lines, listening_line, signal_line, with_lost}
 use Rattle.coord_server.specs.Signals.{StepSignal}
 use Rattle.coord_server.specs.declared.last_line.LastLine.{LastLine}
 
@@ -64,18 +64,18 @@ module _ {W : Type 0} (contents : W → Option (List ℕ)) where
       each_more (x ∷ signals) all = (on x.step x.node x.epoch all.0, each_more signals all.1)
 
       torn_more : (q : PrinterState W) (torn : List ℕ) → IsTornSignal may q torn → IsTornSignal more q torn
-      torn_more q torn is = record { broken = is.broken; signal = is.signal; may_be_told = on is.signal.step is.signal.node is.signal.epoch is.may_be_told; next = is.next; part = is.part }
+      torn_more q torn is = record { broken = is.broken; signal = is.signal; may_be_printed = on is.signal.step is.signal.node is.signal.epoch is.may_be_printed; next = is.next; part = is.part }
 
       whole_more : (q : PrinterState W) (torn : List ℕ) → (torn ≡ []) ⊎ IsTornSignal may q torn → (torn ≡ []) ⊎ IsTornSignal more q torn
       whole_more q torn (inl none) = inl none
       whole_more q torn (inr is) = inr (torn_more q torn is)
 
-      pub told_more : (p q : PrinterState W) → HasTold contents may p q → HasTold contents more p q
+      pub told_more : (p q : PrinterState W) → HasPrinted contents may p q → HasPrinted contents more p q
       told_more p q told = record {
         signals = told.signals;
         torn = told.torn;
         bytes = told.bytes;
-        may_be_told = each_more told.signals told.may_be_told;
+        may_be_printed = each_more told.signals told.may_be_printed;
         follow = told.follow;
         whole = whole_more q told.torn told.whole;
       }
@@ -92,16 +92,16 @@ module _ {W : Type 0} (contents : W → Option (List ℕ)) where
         torn = is.torn;
         bytes = is.bytes;
         opened = opened_more q is.first is.torn is.signals is.opened;
-        may_be_told = each_more is.signals is.may_be_told;
+        may_be_printed = each_more is.signals is.may_be_printed;
         follow = is.follow;
       }
 
     -- nothing was told yet
-    pub told_none : (p : PrinterState W) → HasTold contents may p p
-    told_none p = record { signals = []; torn = []; bytes = appends_none (contents p.output); may_be_told = tt; follow = refl; whole = inl refl }
+    pub told_none : (p : PrinterState W) → HasPrinted contents may p p
+    told_none p = record { signals = []; torn = []; bytes = appends_none (contents p.output); may_be_printed = tt; follow = refl; whole = inl refl }
 
     -- while the output works, each line was written whole
-    whole_lines : (p m : PrinterState W) (told : HasTold contents may p m) → m.is_broken ≡ false → Appends (contents p.output) (contents m.output) (signal_lines told.signals)
+    whole_lines : (p m : PrinterState W) (told : HasPrinted contents may p m) → m.is_broken ≡ false → Appends (contents p.output) (contents m.output) (signal_lines told.signals)
     whole_lines p m told works =
         let left : told.torn ≡ [] = none_torn told.torn works told.whole in
         subst (Appends (contents p.output) (contents m.output)) (ap (λ l. signal_lines told.signals ++ l) left ∙ append-nil (signal_lines told.signals)) told.bytes
@@ -111,14 +111,14 @@ module _ {W : Type 0} (contents : W → Option (List ℕ)) where
         none_torn torn works (inr broken) = absurd (false≢true (sym works ∙ broken.broken))
 
     -- one more signal that may be told
-    pub told_next : (p m q : PrinterState W) (s : StepSignal) → HasTold contents may p m → m.is_broken ≡ false → may s.step s.node s.epoch → Prints contents m s q → HasTold contents may p q
+    pub told_next : (p m q : PrinterState W) (s : StepSignal) → HasPrinted contents may p m → m.is_broken ≡ false → may s.step s.node s.epoch → Prints contents m s q → HasPrinted contents may p q
     told_next p m q s told works one (inl is) = record {
       signals = told.signals ++ s ∷ [];
       torn = [];
       bytes =
           let lines : signal_lines (told.signals ++ s ∷ []) ≡ signal_lines told.signals ++ signal_line s.node s.epoch = flat_map-append (λ (x : StepSignal). signal_line x.node x.epoch) told.signals (s ∷ []) ∙ ap (λ l. signal_lines told.signals ++ l) (append-nil (signal_line s.node s.epoch)) in
           subst (Appends (contents p.output) (contents q.output)) (sym (append-nil (signal_lines (told.signals ++ s ∷ [])) ∙ lines)) (appends_both (contents p.output) (contents m.output) (contents q.output) (signal_lines told.signals) (signal_line s.node s.epoch) (whole_lines p m told works) is.1);
-      may_be_told = each_may told.signals s told.may_be_told one;
+      may_be_printed = each_may told.signals s told.may_be_printed one;
       follow = subst (Follow p.last (told.signals ++ s ∷ [])) (sym is.4) (follow_last p.last m.last told.signals s told.follow is.0);
       whole = inl refl;
     }
@@ -126,25 +126,25 @@ module _ {W : Type 0} (contents : W → Option (List ℕ)) where
       signals = told.signals;
       torn = [];
       bytes = subst (λ (x : PrinterState W). Appends (contents p.output) (contents x.output) (signal_lines told.signals ++ [])) (sym is) (subst (Appends (contents p.output) (contents m.output)) (sym (append-nil (signal_lines told.signals))) (whole_lines p m told works));
-      may_be_told = told.may_be_told;
+      may_be_printed = told.may_be_printed;
       follow = subst (λ (x : PrinterState W). Follow p.last told.signals x.last) (sym is) told.follow;
       whole = inl refl;
     }
 
     -- the output failed in the line of a signal that may be told
-    told_torn : (p m q : PrinterState W) (s : StepSignal) → HasTold contents may p m → m.is_broken ≡ false → may s.step s.node s.epoch → is_next m.last s.step s.node ≡ true → BreaksIn contents m (signal_line s.node s.epoch) q → HasTold contents may p q
+    told_torn : (p m q : PrinterState W) (s : StepSignal) → HasPrinted contents may p m → m.is_broken ≡ false → may s.step s.node s.epoch → is_next m.last s.step s.node ≡ true → BreaksIn contents m (signal_line s.node s.epoch) q → HasPrinted contents may p q
     told_torn p m q s told works one next breaks = record {
       signals = told.signals;
       torn = breaks.0.0;
       bytes = appends_both (contents p.output) (contents m.output) (contents q.output) (signal_lines told.signals) breaks.0.0 (whole_lines p m told works) breaks.0.1;
-      may_be_told = told.may_be_told;
+      may_be_printed = told.may_be_printed;
       follow = subst (Follow p.last told.signals) (sym breaks.3) told.follow;
-      whole = inr (record { broken = breaks.1; signal = s; may_be_told = one; next = subst (λ l. is_next l s.step s.node ≡ true) (sym breaks.3) next; part = breaks.0.2 });
+      whole = inr (record { broken = breaks.1; signal = s; may_be_printed = one; next = subst (λ l. is_next l s.step s.node ≡ true) (sym breaks.3) next; part = breaks.0.2 });
     }
 
     -- the output had failed before, or failed in this line
-    pub told_last : (p m q : PrinterState W) (s : StepSignal) (is_broken : Bool) → m.is_broken ≡ is_broken → HasTold contents may p m → may s.step s.node s.epoch → q.is_broken ≡ true → (m.is_broken ≡ true → q ≡ m) → (m.is_broken ≡ false → q.is_broken ≡ true → (is_next m.last s.step s.node ≡ true) × BreaksIn contents m (signal_line s.node s.epoch) q) → HasTold contents may p q
-    told_last p m q s true was told one fails same torn = subst (HasTold contents may p) (sym (same was)) told
+    pub told_last : (p m q : PrinterState W) (s : StepSignal) (is_broken : Bool) → m.is_broken ≡ is_broken → HasPrinted contents may p m → may s.step s.node s.epoch → q.is_broken ≡ true → (m.is_broken ≡ true → q ≡ m) → (m.is_broken ≡ false → q.is_broken ≡ true → (is_next m.last s.step s.node ≡ true) × BreaksIn contents m (signal_line s.node s.epoch) q) → HasPrinted contents may p q
+    told_last p m q s true was told one fails same torn = subst (HasPrinted contents may p) (sym (same was)) told
     told_last p m q s false was told one fails same torn = told_torn p m q s told was one (torn was fails).0 (torn was fails).1
 
     -- nothing was printed
@@ -155,7 +155,7 @@ module _ {W : Type 0} (contents : W → Option (List ℕ)) where
       torn = [];
       bytes = subst (λ (x : PrinterState W). Appends (contents p.output) (contents x.output) []) (sym same) (appends_none (contents p.output));
       opened = inl (refl, refl, inl refl);
-      may_be_told = tt;
+      may_be_printed = tt;
       follow = ap (λ (x : PrinterState W). x.last) same;
     }
 
@@ -168,18 +168,18 @@ module _ {W : Type 0} (contents : W → Option (List ℕ)) where
       torn = breaks.0.0;
       bytes = breaks.0.1;
       opened = inl (refl, refl, inr (record { broken = breaks.1; address = address; part = breaks.0.2 }));
-      may_be_told = tt;
+      may_be_printed = tt;
       follow = breaks.3;
     }
 
     -- the first line, and then signals
-    pub printed_all : (p m q : PrinterState W) → TellsAddress contents p m → HasTold contents may m q → IsPrinted contents may p q
+    pub printed_all : (p m q : PrinterState W) → PrintsAddress contents p m → HasPrinted contents may m q → IsPrinted contents may p q
     printed_all p m q opened told = record {
       first = listening_line opened.0;
       signals = told.signals;
       torn = told.torn;
       bytes = appends_both (contents p.output) (contents m.output) (contents q.output) (listening_line opened.0) (signal_lines told.signals ++ told.torn) opened.1 told.bytes;
       opened = inr (opened.0, refl, told.whole);
-      may_be_told = told.may_be_told;
+      may_be_printed = told.may_be_printed;
       follow = subst (λ l. Follow l told.signals q.last) opened.3 told.follow;
     }

@@ -9,7 +9,7 @@ use Rattle.coord_lines.specs.Written.{IsFirstPart}
 use Rattle.coord_admin.specs.Replies.{reply_line, reply_lines}
 use Rattle.coord_admin.specs.declared.answer.Answer.{Answer}
 use Rattle.coord_admin.specs.declared.answer.Answer.TheVariants as answer
-use Rattle.coord_server.specs.Told.{TellsUpTo}
+use Rattle.coord_server.specs.Told.{AnswersUpTo}
 use Rattle.coord_server.specs.WorkedTold.{TellUpToThird, third_line, third_reply}
 
 line_is : third_line ≡ reply_lines (third_reply ∷ []) ++ []
@@ -29,7 +29,7 @@ replied (suc zero) Started le more rest same = let at : 49 ≡ 51 = ap (λ l. ge
 replied (suc (suc zero)) Started le more rest same = let at : 50 ≡ 51 = ap (λ l. get_or l 25 0) same in omega (arith, at)
 replied (suc (suc (suc n))) Started le more rest same = omega (arith, le)
 
-other_line : (a : Answer) → TellsUpTo 2 a → (more rest : List ℕ) → reply_line a ++ more ≡ third_line ++ rest → ⊥
+other_line : (a : Answer) → AnswersUpTo 2 a → (more rest : List ℕ) → reply_line a ++ more ≡ third_line ++ rest → ⊥
 unfolding serde_json_on_literals digits
 other_line (answer.Replied r) up more rest same = replied r.step r.kind up more rest same
 other_line (answer.Refused r) up more rest same = let at : 110 ≡ 107 = ap (λ l. get_or l 2 0) same in omega (arith, at)
@@ -38,7 +38,7 @@ other_line (answer.Resent n) up more rest same = let at : 99 ≡ 107 = ap (λ l.
 other_line answer.Closed up more rest same = let at : 99 ≡ 115 = ap (λ l. get_or l 9 0) same in omega (arith, at)
 other_line (answer.Faulted f) up more rest same = let at : 102 ≡ 107 = ap (λ l. get_or l 2 0) same in omega (arith, at)
 
-other_text : (told : List Answer) (part : List ℕ) → AllByRecursion (TellsUpTo 2) told → (part ≡ []) ⊎ ((last : Answer) × TellsUpTo 2 last × IsFirstPart part (reply_line last)) → third_line ≡ reply_lines told ++ part → ⊥
+other_text : (told : List Answer) (part : List ℕ) → AllByRecursion (AnswersUpTo 2) told → (part ≡ []) ⊎ ((last : Answer) × AnswersUpTo 2 last × IsFirstPart part (reply_line last)) → third_line ≡ reply_lines told ++ part → ⊥
 other_text [] part up (inl none) is = cc
 other_text [] part up (inr at) is = other_line at.0 at.1 [] at.2.0 (append-nil (reply_line at.0) ∙ at.2.1 ∙ ap (λ p. p ++ at.2.0) (sym is))
 other_text (a ∷ told) part up broken is = other_line a up.0 (reply_lines told ++ part) [] (sym (append_assoc (reply_line a) (reply_lines told) part) ∙ sym is ∙ sym (append-nil third_line))

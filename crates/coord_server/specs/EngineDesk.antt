@@ -37,7 +37,7 @@ abbrev pub IsReadIn : TableId → List Step → Beginning → Type 0
 IsReadIn history earlier read = HasReadSettled history earlier (read_in earlier read) read
 
 -- This holds in some state that the engine can have, whose settled steps are those that have been read now. They begin with those that were read before.
-pub record AtMomentTold {D : Type 0} (b : Basis D) (before now : List Step) (P : GuardedState D → Type 0) : Type 0 where
+pub record AtMomentAnswered {D : Type 0} (b : Basis D) (before now : List Step) (P : GuardedState D → Type 0) : Type 0 where
   pub at : AtSomeMoment b (λ g. P g × (settled_steps g.ledger.log ≡ now))
   pub begins : StartsWith now before
 
@@ -47,22 +47,22 @@ AcceptsOrder {D} b s claim before after = AtSomeMoment b (Submits {D = D} s (Ok 
 
 -- what is said to a step that was posted, where these steps were read before and these now: its reply once it is settled, or why there will be none
 abbrev pub Replies : {D : Type 0} → Basis D → Result Claim Refusal → Result Reply Refusal → List Step → List Step → Type 0
-Replies {D} b (Ok claim) (Ok reply) before now = AtMomentTold b before now (λ g. CollectsAs {D = D} g.ledger claim (Settled reply))
-Replies {D} b (Ok claim) (Err refusal) before now = AtMomentTold b before now (λ g. CollectsAs {D = D} g.ledger claim (Refused refusal claim))
+Replies {D} b (Ok claim) (Ok reply) before now = AtMomentAnswered b before now (λ g. CollectsAs {D = D} g.ledger claim (Settled reply))
+Replies {D} b (Ok claim) (Err refusal) before now = AtMomentAnswered b before now (λ g. CollectsAs {D = D} g.ledger claim (Refused refusal claim))
 Replies {D} b (Err why) (Ok reply) before now = ⊥
 Replies {D} b (Err why) (Err refusal) before now = (refusal ≡ why) × (now ≡ before)
 
 -- A reply is given once its step is settled. A refusal is one of the submitting, or it comes while the reply is waited for: then the step was accepted, and a repeat of its number tells. The lists of steps: what was read before and now.
 abbrev pub AnswersOrder : {D : Type 0} → Basis D → Step → Result Reply Refusal → List Note → List Note → List Step → List Step → Type 0
-AnswersOrder {D} b s (Ok reply) before after read now = (claim : Claim) × AcceptsOrder b s claim before after × AtMomentTold b read now (λ g. CollectsAs {D = D} g.ledger claim (Settled reply))
+AnswersOrder {D} b s (Ok reply) before after read now = (claim : Claim) × AcceptsOrder b s claim before after × AtMomentAnswered b read now (λ g. CollectsAs {D = D} g.ledger claim (Settled reply))
 AnswersOrder {D} b s (Err refusal) before after read now =
     (AtSomeMoment b (Submits {D = D} s (Err refusal) before after) × (now ≡ read))
-    ⊎ ((claim : Claim) × AcceptsOrder b s claim before after × AtMomentTold b read now (λ g. CollectsAs {D = D} g.ledger claim (Refused refusal claim)))
+    ⊎ ((claim : Claim) × AcceptsOrder b s claim before after × AtMomentAnswered b read now (λ g. CollectsAs {D = D} g.ledger claim (Refused refusal claim)))
 
 -- the settled world is shown as it is after the steps that have been read now; or not, for a reason that holds then
 abbrev pub ShowsTo : {D : Type 0} → Basis D → Result shown.Shown Refusal → ℕ → ℕ → List Step → List Step → Type 0
-ShowsTo {D} b (Ok view) seen later before now = AtMomentTold b before now (Shows {D = D} view seen later)
-ShowsTo {D} b (Err refusal) seen later before now = AtMomentTold b before now (RefusesShow {D = D} refusal seen) × (later ≡ seen)
+ShowsTo {D} b (Ok view) seen later before now = AtMomentAnswered b before now (Shows {D = D} view seen later)
+ShowsTo {D} b (Err refusal) seen later before now = AtMomentAnswered b before now (RefusesShow {D = D} refusal seen) × (later ≡ seen)
 
 abbrev pub seen_after : Result Reply Refusal → ℕ → ℕ
 seen_after (Ok reply) seen = max seen reply.step

@@ -78,8 +78,8 @@ AllInOrder base first [] last = StartsWith last first
 AllInOrder base first (c ∷ cs) last = (now : List Step) × WritesInOrder base first c.talk now × AllInOrder base now cs last
 
 -- All that the desk of an instance told or showed, over one connection after the other, whether or not a line closed it, is borne out so, by the settled steps that the desk has read.
-abbrev pub ToldInOrder : Type 0 → Type 0 → {V : Type 0} → (V → List Talk → V → Type 0) → Type 0
-ToldInOrder D P {V} talked =
+abbrev pub AnsweredInOrder : Type 0 → Type 0 → {V : Type 0} → (V → List Talk → V → Type 0) → Type 0
+AnsweredInOrder D P {V} talked =
     (b : Basis D) (most : ℕ) (port : P) (v w : V) (desk : DeskState P)
     → ((served : ServedWhileOpen b talked most port v w desk) → AllInOrder b.base [] served.0 desk.read)
     × ((served : IsClosed b talked most port v w desk) → AllInOrder b.base [] (served.0 ++ served.1 ∷ []) desk.read)

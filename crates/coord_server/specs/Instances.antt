@@ -30,8 +30,8 @@ abbrev pub MayGoOn : {D : Type 0} → ℕ → Closed D → Type 0
 MayGoOn most left = (has_stopped left.store ≡ false) × (left.settled ≡ left.base.count + length left.trail.items) × (most ≤ length left.trail.items)
 
 -- Why a fault is told of a server that has ended so, whose instances have so many steps: that its output could not be written only where that has failed, and one of the device only where no next instance could begin.
-abbrev pub IsToldForCause : {D V W : Type 0} → ℕ → ServerEnd D V W → Type 0
-IsToldForCause most ended = (ended.served ≡ Some fault.Write → ended.printer.is_broken ≡ true) × (ended.served ≡ Some fault.Device → ¬ MayGoOn most ended.closed)
+abbrev pub HasFaultForCause : {D V W : Type 0} → ℕ → ServerEnd D V W → Type 0
+HasFaultForCause most ended = (ended.served ≡ Some fault.Write → ended.printer.is_broken ≡ true) × (ended.served ≡ Some fault.Device → ¬ MayGoOn most ended.closed)
 
 -- after how many steps an instance of a server ends (docs/OPERATING.md names it)
 abbrev pub instance_steps : ℕ

@@ -62,7 +62,7 @@ pub record IsTornAddress {W : Type 0} (q : PrinterState W) (torn : List ℕ) : T
 pub record IsTornSignal {W : Type 0} (may : ℕ → ℕ → ℕ → Type 0) (q : PrinterState W) (torn : List ℕ) : Type 0 where
   pub broken : q.is_broken ≡ true
   pub signal : StepSignal
-  pub may_be_told : may signal.step signal.node signal.epoch
+  pub may_be_printed : may signal.step signal.node signal.epoch
   pub next : is_next q.last signal.step signal.node ≡ true
   pub part : IsFirstPart torn (signal_line signal.node signal.epoch)
 
@@ -76,8 +76,8 @@ IsUnprintedFor p (Some other) = ⊥
 -- `contents` are the bytes of an output, where they are known
 module _ {W : Type 0} (contents : W → Option (List ℕ)) where
   -- the line of an address was printed
-  abbrev pub TellsAddress : PrinterState W → PrinterState W → Type 0
-  TellsAddress p q = (address : SocketAddr) × Appends (contents p.output) (contents q.output) (listening_line address) × (q.is_broken ≡ false) × (q.last ≡ p.last)
+  abbrev pub PrintsAddress : PrinterState W → PrinterState W → Type 0
+  PrintsAddress p q = (address : SocketAddr) × Appends (contents p.output) (contents q.output) (listening_line address) × (q.is_broken ≡ false) × (q.last ≡ p.last)
 
   -- a first part of this line was written, perhaps all of it, and then the output failed: no line is printed any more
   abbrev pub BreaksIn : PrinterState W → List ℕ → PrinterState W → Type 0
@@ -97,11 +97,11 @@ module _ {W : Type 0} (contents : W → Option (List ℕ)) where
   -- `may`: of which signals may be told, by step, node and epoch
   module _ (may : ℕ → ℕ → ℕ → Type 0) where
     -- The lines of such signals were printed, each behind the one before it; where the output failed in a line, a first part of that one behind them.
-    pub record HasTold (p q : PrinterState W) : Type 0 where
+    pub record HasPrinted (p q : PrinterState W) : Type 0 where
       pub signals : List StepSignal
       pub torn : List ℕ
       pub bytes : Appends (contents p.output) (contents q.output) (signal_lines signals ++ torn)
-      pub may_be_told : AllByRecursion (λ s. may s.step s.node s.epoch) signals
+      pub may_be_printed : AllByRecursion (λ s. may s.step s.node s.epoch) signals
       pub follow : Follow p.last signals q.last
       pub whole : (torn ≡ []) ⊎ IsTornSignal may q torn
 
@@ -114,5 +114,5 @@ module _ {W : Type 0} (contents : W → Option (List ℕ)) where
       pub opened :
           ((first ≡ []) × (signals ≡ []) × ((torn ≡ []) ⊎ IsTornAddress q torn))
           ⊎ ((address : SocketAddr) × (first ≡ listening_line address) × ((torn ≡ []) ⊎ IsTornSignal may q torn))
-      pub may_be_told : AllByRecursion (λ s. may s.step s.node s.epoch) signals
+      pub may_be_printed : AllByRecursion (λ s. may s.step s.node s.epoch) signals
       pub follow : Follow p.last signals q.last

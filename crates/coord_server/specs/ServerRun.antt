@@ -24,7 +24,7 @@ use Rattle.coord_admin.specs.Connections.{Talk}
 use Rattle.coord_admin.specs.Times.{IsUsual}
 use Rattle.coord_admin.specs.declared.patience.Patience.{Patience}
 use Rattle.coord_engine.specs.Facade.{first_settled}
-use Rattle.coord_server.specs.Instances.{AreInstances, IsToldForCause, InstanceRun, all_steps, instance_steps}
+use Rattle.coord_server.specs.Instances.{AreInstances, HasFaultForCause, InstanceRun, all_steps, instance_steps}
 use Rattle.coord_server.specs.Moments.{KeepsAlong}
 use Rattle.coord_server.specs.Printed.{IsPrinted, PrinterState}
 use Rattle.coord_server.specs.declared.server_end.ServerEnd.{ServerEnd}
@@ -42,7 +42,7 @@ pub record ServerRun {D V W : Type 0} (model : DiskModel D) (talked : V → List
   -- what was printed
   pub printed : IsPrinted contents (gives (first_settled store.world (all_steps instances) ended.closed.settled)) printer ended.printer
   -- what is told of its end
-  pub cause : IsToldForCause most ended
+  pub cause : HasFaultForCause most ended
 
 -- a run over a store, with instances of the usual length
 abbrev pub HasServed : {D V W : Type 0} → DiskModel D → (V → List Talk → V → Type 0) → (V → V → Type 0) → (W → Option (List ℕ)) → (List Step → ℕ → ℕ → ℕ → Type 0) → Kept D → V → PrinterState W → ServerEnd D V W → Type 0

@@ -45,20 +45,20 @@ abbrev pub NotesAreReplies : Type 0 → Type 0 → Type 0
 NotesAreReplies D P = (b : Basis D) (desk : DeskState P) (left : Closed D) → IsOneHistory b desk left → (note : Note) → Contains desk.notes note → IsReplied left note
 
 -- an answer tells of no step behind this one: neither its reply nor what it shows
-abbrev pub TellsUpTo : ℕ → Answer → Type 0
-TellsUpTo step (Replied r) = r.step ≤ step
-TellsUpTo step (Shown v) = v.settled ≤ step
-TellsUpTo step (Refused r) = Unit {0}
-TellsUpTo step (Resent n) = Unit {0}
-TellsUpTo step answer.Closed = Unit {0}
-TellsUpTo step (Faulted f) = Unit {0}
+abbrev pub AnswersUpTo : ℕ → Answer → Type 0
+AnswersUpTo step (Replied r) = r.step ≤ step
+AnswersUpTo step (Shown v) = v.settled ≤ step
+AnswersUpTo step (Refused r) = Unit {0}
+AnswersUpTo step (Resent n) = Unit {0}
+AnswersUpTo step answer.Closed = Unit {0}
+AnswersUpTo step (Faulted f) = Unit {0}
 
 -- what was written is lines, each of which tells of no step behind this one; in the last of them it may break off
 pub record WritesUpTo (step : ℕ) (text : List ℕ) : Type 0 where
   pub told : List Answer
-  pub up_to : AllByRecursion (TellsUpTo step) told
+  pub up_to : AllByRecursion (AnswersUpTo step) told
   pub part : List ℕ
-  pub broken : (part ≡ []) ⊎ ((last : Answer) × TellsUpTo step last × IsFirstPart part (reply_line last))
+  pub broken : (part ≡ []) ⊎ ((last : Answer) × AnswersUpTo step last × IsFirstPart part (reply_line last))
   pub text_is : text ≡ reply_lines told ++ part
 
 -- over each of these connections

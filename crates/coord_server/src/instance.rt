@@ -3,7 +3,7 @@
 ghost use Rattle.std.specs.Prelude.{◌≡◌, ◌≤◌, [], false, length, IfErr, IfOk, IfSome, None, Some};
 ghost use Rattle.coord_engine.specs.History.{StartsWith};
 ghost use Rattle.coord_engine.specs.Past.{IsPastOf, StaysAlong};
-ghost use Rattle.coord_engine.specs.Released.{MayTell};
+ghost use Rattle.coord_engine.specs.Released.{MayPrint};
 ghost use Rattle.coord_engine.specs.State.{based_on};
 ghost use Rattle.coord_ledger.specs.ledger.State.{ledger_over};
 ghost use Rattle.coord_store.specs.Kept.{has_stopped};
@@ -16,7 +16,7 @@ use crate::instance_end::InstanceEnd;
 use crate::printing::Opening;
 use crate::setting::Setting;
 use crate::threads::{Begun, JoinedThreads, run};
-use crate::{ServerFault, Telling, WORKERS};
+use crate::{ServerFault, SignalSource, WORKERS};
 use coord_admin::Callers;
 use coord_disk::Disk;
 use coord_engine::{
@@ -93,7 +93,7 @@ pub struct Instance<D: Disk, C> {
 pub fn serve_instance<
     D: Disk + Send,
     C: Callers + Drop,
-    O: Telling + Send + Sync,
+    O: SignalSource + Send + Sync,
     R: Threads + Wait + Clock + Sync,
 >(
     setting: &Setting<'_, R, O>,
@@ -104,7 +104,7 @@ pub fn serve_instance<
 ) -> Instance<D, C>
     requires here { writer.history ≡ O.history }
     requires history { start.history ≡ O.history }
-    requires tell { MayTell writer.history writer.steps start.over.value.world
+    requires tell { MayPrint writer.history writer.steps start.over.value.world
         (MaySignal O.history O.gives) }
     ensures instance { IsInstance (based_on D.model start.over.value.world []) C.talked C.failed
         setting.now.instance_steps callers result }
@@ -127,7 +127,7 @@ fn serve_ledger<
     D: Disk + Send,
     L: Origin + Send + Sync,
     C: Callers + Drop,
-    O: Telling + Send + Sync,
+    O: SignalSource + Send + Sync,
     R: Threads + Wait + Clock + Sync,
 >(
     setting: &Setting<'_, R, O>,
@@ -147,7 +147,7 @@ fn serve_ledger<
     requires before { (ledger.log.trail ≡ L.before) × (L.before ≡ []) }
     requires disk { IfSome ledger.disk (IsPastOf D.model L.disk) }
     requires here { O.history ≡ L.history }
-    requires tell { MayTell L.history L.earlier L.base (MaySignal O.history O.gives) }
+    requires tell { MayPrint L.history L.earlier L.base (MaySignal O.history O.gives) }
     ensures instance { IsInstance (based_on D.model L.base L.before) C.talked C.failed
         setting.now.instance_steps callers result }
     ensures along { StaysAlong D.model L.disk L.base
@@ -171,7 +171,7 @@ fn serve_ledger<
 
 /// Gives out the desk's share and the flusher's, makes room for all that an instance may not lose, and
 /// connects the port to a channel for each worker. None where there is no memory.
-fn begin<D: Disk, L: Origin, O: Telling, R: Wait>(
+fn begin<D: Disk, L: Origin, O: SignalSource, R: Wait>(
     setting: &Setting<'_, R, O>,
     engine: &Engine<D, L>,
     reader: Reader,
@@ -202,7 +202,7 @@ fn share_with_room<D: Disk, L: Origin, R: Wait>(rt: &R, engine: &Engine<D, L>) -
 }
 
 /// What is left of an instance that did not begin, of those who call, whom nobody served, and of its engine.
-fn unbegun<D: Disk, L: Origin, C, O: Telling, R: Wait + Clock>(
+fn unbegun<D: Disk, L: Origin, C, O: SignalSource, R: Wait + Clock>(
     setting: &Setting<'_, R, O>,
     engine: Engine<D, L>,
     callers: C,

@@ -10,7 +10,7 @@ ghost use Rattle.coord_server.specs.Printed.{IsPrinted, IsUnprintedFor};
 ghost use Rattle.coord_server.specs.ServerRun.{ServerRun};
 ghost use Rattle.coord_server.specs.Signals.{MaySignal};
 ghost use Rattle.coord_engine.specs.History.{StartsWith};
-ghost use Rattle.coord_engine.specs.Released.{MayTell};
+ghost use Rattle.coord_engine.specs.Released.{MayPrint};
 ghost use Rattle.coord_types.specs.declared.steps.Step.{Step};
 ghost use Rattle.coord_world.specs.Facade.{fold};
 
@@ -18,7 +18,7 @@ use crate::instance::{Instance, InstanceStart, serve_instance};
 use crate::instance_end::InstanceEnd;
 use crate::printing::{Channels, Opening, Outlet, Printed, Printing, PrintsFrom};
 use crate::setting::Setting;
-use crate::{Printer, ServerEnd, ServerFault, SignalPrinter, Telling};
+use crate::{Printer, ServerEnd, ServerFault, SignalPrinter, SignalSource};
 use coord_admin::Callers;
 use coord_disk::Disk;
 use coord_engine::{Closed, History, Writer};
@@ -53,7 +53,7 @@ pub fn serve_instances<
     D: Disk + Send,
     C: Callers + Drop,
     W: Write + Send + Drop,
-    O: Telling + Send + Sync,
+    O: SignalSource + Send + Sync,
     R: Threads + Wait + Clock + Sync,
 >(
     rt: &R,
@@ -67,7 +67,7 @@ pub fn serve_instances<
     requires going { has_stopped store ≡ false }
     requires here { written.0 ≡ O.history }
     requires new { written.1 ≡ record { history = O.history; steps = [] } }
-    requires tell { (earlier : List Step) → MayTell O.history earlier (fold store.world earlier)
+    requires tell { (earlier : List Step) → MayPrint O.history earlier (fold store.world earlier)
         (MaySignal O.history O.gives) }
     ensures served { IfOk result (ServerRun D.model C.talked C.failed most W.contents O.gives
         store callers printer) }
@@ -102,7 +102,7 @@ fn serve_and_print<
     D: Disk + Send,
     C: Callers + Drop,
     W: Write + Send + Drop,
-    O: Telling + Send + Sync,
+    O: SignalSource + Send + Sync,
     R: Threads + Wait + Clock + Sync,
 >(
     setting: &Setting<'_, R, O>,
@@ -114,7 +114,7 @@ fn serve_and_print<
 ) -> ServerEnd<D, C, W>
     requires history { start.history ≡ O.history }
     requires new { writer ≡ record { history = O.history; steps = [] } }
-    requires tell { (earlier : List Step) → MayTell O.history earlier
+    requires tell { (earlier : List Step) → MayPrint O.history earlier
         (fold start.over.value.world earlier) (MaySignal O.history O.gives) }
     ensures { ServerRun D.model C.talked C.failed setting.now.instance_steps W.contents O.gives
         start.over.value callers printing.printer result }
@@ -125,7 +125,7 @@ fn serve_and_print<
         |scope| -> ServerEnd<D, C, W>
             requires { IsSend D.row × IsSend W.row × IsSend O.row × IsSync O.row × IsSync R.row ×
                 (start.history ≡ O.history) × (writer ≡ record { history = O.history; steps = [] }) ×
-                ((earlier : List Step) → MayTell O.history earlier
+                ((earlier : List Step) → MayPrint O.history earlier
                 (fold start.over.value.world earlier) (MaySignal O.history O.gives)) }
             ensures { ServerRun D.model C.talked C.failed setting.entry.now.instance_steps W.contents
                 O.gives start.over.value callers printing.printer result }
@@ -149,7 +149,7 @@ fn start_printing<
     'r: 's,
     E,
     W: Write + Send + Drop + 's,
-    O: Telling + Send + Sync + 's,
+    O: SignalSource + Send + Sync + 's,
     R: Wait + Sync,
 >(
     scope: &Scope<'s, E>,
@@ -178,7 +178,7 @@ fn print_and_live<
     D: Disk + Send,
     C: Callers + Drop,
     W: Write + Drop,
-    O: Telling + Send + Sync,
+    O: SignalSource + Send + Sync,
     R: Threads + Wait + Clock + Sync,
 >(
     setting: &Setting<'_, R, O>,
@@ -190,7 +190,7 @@ fn print_and_live<
 ) -> ServerEnd<D, C, W>
     requires history { start.history ≡ O.history }
     requires new { writer ≡ record { history = O.history; steps = [] } }
-    requires tell { (earlier : List Step) → MayTell O.history earlier
+    requires tell { (earlier : List Step) → MayPrint O.history earlier
         (fold start.over.value.world earlier) (MaySignal O.history O.gives) }
     ensures { ServerRun D.model C.talked C.failed setting.now.instance_steps W.contents O.gives
         start.over.value callers printing.promise.first.value result }
@@ -206,7 +206,7 @@ fn print_and_live<
 fn live<
     D: Disk + Send,
     C: Callers + Drop,
-    O: Telling + Send + Sync,
+    O: SignalSource + Send + Sync,
     R: Threads + Wait + Clock + Sync,
 >(
     setting: &Setting<'_, R, O>,
@@ -217,7 +217,7 @@ fn live<
 ) -> Instance<D, C>
     requires history { start.history ≡ O.history }
     requires new { writer ≡ record { history = O.history; steps = [] } }
-    requires tell { (earlier : List Step) → MayTell O.history earlier
+    requires tell { (earlier : List Step) → MayPrint O.history earlier
         (fold start.over.value.world earlier) (MaySignal O.history O.gives) }
     ensures lived { HasLived D.model C.talked C.failed setting.now.instance_steps
         start.over.value callers result }
@@ -257,7 +257,7 @@ fn goes_on<D: Disk>(most: usize, closed: &Closed<D>) -> bool
 }
 
 /// What the next instance begins with over what is left of one, which comes back where there is no memory.
-fn start_over<D: Disk, O: Telling, R: Wait>(
+fn start_over<D: Disk, O: SignalSource, R: Wait>(
     setting: &Setting<'_, R, O>,
     closed: Closed<D>,
 ) -> Result<InstanceStart<D>, Closed<D>>
@@ -286,7 +286,7 @@ fn start_over<D: Disk, O: Telling, R: Wait>(
 /// What the next instance begins with, what writes the history, and the callers; or the last instance: one that
 /// was ended, or rests and can't go on, as over a store that has stopped, or rests and there is no memory
 /// for the next one.
-fn next_of<D: Disk, C, O: Telling, R: Wait>(
+fn next_of<D: Disk, C, O: SignalSource, R: Wait>(
     setting: &Setting<'_, R, O>,
     instance: Instance<D, C>,
 ) -> Result<(InstanceStart<D>, Writer, C), Instance<D, C>>

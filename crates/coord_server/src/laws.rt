@@ -2,14 +2,14 @@
 //! contracts are the laws.
 
 ghost use Rattle.std.specs.Prelude.{ℕ};
-ghost use Rattle.coord_server.specs.InOrder.{ToldInOrder};
+ghost use Rattle.coord_server.specs.InOrder.{AnsweredInOrder};
 ghost use Rattle.coord_server.specs.Instances.{InstancesAreOne};
 ghost use Rattle.coord_server.specs.RunTold.{RunTellsOneHistory};
 ghost use Rattle.coord_server.specs.SignalsBetween.{PrintedBetween};
 ghost use Rattle.coord_server.specs.Told.{InstancesLeaveSteps, NotesAreReplies, NotesEndALife, RepliesNameSteps, ToldIsSettled};
 ghost use Rattle.coord_server.specs.WorkedTold.{TellUpToThird};
 
-use crate::Telling;
+use crate::SignalSource;
 use coord_admin::Callers;
 use coord_disk::Disk;
 use coord_engine::Port;
@@ -44,14 +44,14 @@ pub fn told_is_settled<D: Disk, C: Callers, P: Port>()
 /// What the desk of an instance told or showed, over one connection after the other, is borne out by the
 /// settled steps that it had read then: a reply is that of the order's own step, and a view that of the
 /// world after them. None goes back behind those of an answer before.
-pub fn told_in_order<D: Disk, C: Callers, P: Port>()
-    ensures { ToldInOrder D P C.talked }
+pub fn answered_in_order<D: Disk, C: Callers, P: Port>()
+    ensures { AnsweredInOrder D P C.talked }
 {}
 
 /// All that a server told over the connections of its instances follows from the first n settled steps of its
 /// one history, and n never falls, from one connection or one instance to the next either. A view shows the
 /// world of the store after these n steps.
-pub fn run_tells_one_history<D: Disk, C: Callers, W: Write, O: Telling>()
+pub fn run_tells_one_history<D: Disk, C: Callers, W: Write, O: SignalSource>()
     ensures { RunTellsOneHistory D.model C.talked C.failed W.contents O.gives }
 {}
 

@@ -36,4 +36,4 @@ pub use local::{LocalPort, WORKERS};
 pub use printer::{Printer, SignalPrinter, TakableOutput};
 pub use server_end::ServerEnd;
 pub use serving::{INSTANCE_STEPS, serve_callers, serve_store};
-pub use signal::{Signal, Telling};
+pub use signal::{Signal, SignalSource};

@@ -3,7 +3,7 @@
 ghost use Rattle.std.specs.Prelude.{◌≡◌};
 ghost use Rattle.coord_server.specs.Workers.{worker_of};
 
-use crate::signal::{Signal, Telling};
+use crate::signal::{Signal, SignalSource};
 use coord_engine::{Port, Reader};
 use coord_types::{NodeId, Packet};
 use crossbeam_channel::Sender;
@@ -29,20 +29,20 @@ struct Ways {
 /// (`SubmittingPort`). It waits for nobody: what there is no memory for is lost. No clause can say what
 /// lies behind its locks, so contracts see nothing of it.
 #[derive(Drop)]
-pub struct LocalPort<R: Wait, O: Telling> {
+pub struct LocalPort<R: Wait, O: SignalSource> {
     rt: R,
     alloc: Global,
     ways: Mutex<Ways>,
     signals: Mutex<Option<Sender<Signal<O>>>>,
 }
 
-impl<R: Wait, O: Telling> Model for LocalPort<R, O> {
+impl<R: Wait, O: SignalSource> Model for LocalPort<R, O> {
     ghost Value = { Unit {0} };
 
     ghost view = { λ _. tt };
 }
 
-impl<R: Wait, O: Telling> LocalPort<R, O> {
+impl<R: Wait, O: SignalSource> LocalPort<R, O> {
     /// The channel of the worker i is the i-th.
     pub fn new(
         rt: R,
@@ -126,7 +126,7 @@ impl Ways {
     }
 }
 
-impl<R: Wait, O: Telling> Port for &LocalPort<R, O> {
+impl<R: Wait, O: SignalSource> Port for &LocalPort<R, O> {
     ghost use Rattle.coord_server.specs.Signals.{MaySignal};
 
     ghost may_signal = { MaySignal O.history O.gives };

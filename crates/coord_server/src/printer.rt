@@ -8,7 +8,7 @@ ghost use Rattle.coord_lines.specs.Written.{WritesFirstPart};
 ghost use Rattle.coord_server.specs.Printed.{BreaksIn, IsOfPrinting, listening_line, new_printer, signal_line, with_lost};
 
 use crate::last_line::LastLine;
-use crate::{ServerFault, Signal, Telling};
+use crate::{ServerFault, Signal, SignalSource};
 use coord_lines::write_whole;
 use coord_types::NodeId;
 use std::alloc::Global;
@@ -138,12 +138,12 @@ impl<W: Write + TakableOutput> Printer<W> {
 /// have been, and no more lines are printed. Signals are printed in the order of their steps, each once.
 /// Contracts see `PrinterState`, as of a `Printer`.
 #[derive(Drop)]
-pub struct SignalPrinter<W: Write, O: Telling> {
+pub struct SignalPrinter<W: Write, O: SignalSource> {
     printer: Printer<W>,
     of: PhantomData<O>,
 }
 
-impl<W: Write, O: Telling> Model for SignalPrinter<W, O> {
+impl<W: Write, O: SignalSource> Model for SignalPrinter<W, O> {
     ghost use Rattle.coord_server.specs.Printed.{PrinterState};
 
     ghost Value = { PrinterState W };
@@ -151,7 +151,7 @@ impl<W: Write, O: Telling> Model for SignalPrinter<W, O> {
     ghost view = { λ p. p.printer };
 }
 
-impl<W: Write, O: Telling> SignalPrinter<W, O> {
+impl<W: Write, O: SignalSource> SignalPrinter<W, O> {
     /// Creates a printer for an output to which nothing was printed yet, for signals of steps after this
     /// one.
     pub fn new(alloc: Global, output: W, since: u64) -> Self

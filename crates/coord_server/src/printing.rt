@@ -3,11 +3,11 @@
 ghost use Rattle.std.specs.Prelude.{◌≡◌, ◌⊎◌, List, Err, IfErr, IsErr, None, OnOk, true};
 ghost use Rattle.std.specs.Iterator.{Drains, IsFinite};
 ghost use Rattle.coord_server.specs.Ending.{EndsUnopened};
-ghost use Rattle.coord_server.specs.Printed.{BreaksIn, HasTold, IsOfPrinting, IsPrinted, IsUnprintedFor, PrintsEach, TellsAddress, listening_line};
+ghost use Rattle.coord_server.specs.Printed.{BreaksIn, HasPrinted, IsOfPrinting, IsPrinted, IsUnprintedFor, PrintsEach, PrintsAddress, listening_line};
 ghost use Rattle.coord_server.specs.Signals.{StepSignal};
 
 use crate::instance_end::InstanceEnd;
-use crate::{LocalPort, Printer, ServerFault, Signal, SignalPrinter, Telling};
+use crate::{LocalPort, Printer, ServerFault, Signal, SignalPrinter, SignalSource};
 use coord_admin::Callers;
 use coord_engine::{History, Reader};
 use crossbeam_channel::{Receiver, Sender};
@@ -31,7 +31,7 @@ pub struct Printed<W: Write> {
 /// written. A signal for whose line there is no memory is lost, and so is one that does not come behind
 /// the last one.
 #[tactic(auto, using(crate::proofs::Starts::told_none))]
-pub fn print_signals<W: Write, O: Telling, I: Iterator<Item = Signal<O>>>(
+pub fn print_signals<W: Write, O: SignalSource, I: Iterator<Item = Signal<O>>>(
     history: &History,
     signals: I,
     printer: SignalPrinter<W, O>,
@@ -43,7 +43,7 @@ pub fn print_signals<W: Write, O: Telling, I: Iterator<Item = Signal<O>>>(
     ensures each { (result.printer.is_broken ≡ true) ⊎
         ((came : List StepSignal) × Drains I.next_gives signals came ×
         PrintsEach W.contents printer came result.printer) }
-    ensures told { HasTold W.contents (O.gives result.reader.steps) printer result.printer }
+    ensures told { HasPrinted W.contents (O.gives result.reader.steps) printer result.printer }
     ensures own { result.reader.history ≡ O.history }
     ensures opened { result.unprinted ≡ None }
 {
@@ -106,11 +106,11 @@ impl Opening {
 }
 
 /// Prints the address at which the server listens; or says why it was not printed.
-fn print_listening<W: Write, O: Telling>(
+fn print_listening<W: Write, O: SignalSource>(
     address: SocketAddr,
     printer: &mut SignalPrinter<W, O>,
 ) -> Result<(), ServerFault>
-    ensures printed { OnOk result (TellsAddress W.contents printer.old printer.new) }
+    ensures printed { OnOk result (PrintsAddress W.contents printer.old printer.new) }
     ensures failed { IfErr result (λ _. (printer.new ≡ printer.old) ⊎
         BreaksIn W.contents printer.old (listening_line address) printer.new) }
     ensures fault { IfErr result IsOfPrinting }
@@ -121,7 +121,7 @@ fn print_listening<W: Write, O: Telling>(
 
 /// What prints, and what its thread receives: the address for the first line, and signals.
 #[derive(Drop)]
-pub struct Printing<W: Write + Drop, O: Telling> {
+pub struct Printing<W: Write + Drop, O: SignalSource> {
     pub printer: SignalPrinter<W, O>,
     history: History,
     reader: Reader,
@@ -133,7 +133,7 @@ pub struct Printing<W: Write + Drop, O: Telling> {
 }
 
 #[tactic(auto, using(crate::proofs::Starts::printed_none))]
-impl<W: Write + Drop, O: Telling> Printing<W, O> {
+impl<W: Write + Drop, O: SignalSource> Printing<W, O> {
     /// Prints the address that comes, and then the signals that come, and gives back what printed. No
     /// clause can say what comes over a channel but what the type of a signal says.
     pub fn print<R: Wait>(self, rt: &R) -> Printed<W>
@@ -175,11 +175,11 @@ impl<W: Write + Drop, O: Telling> Printing<W, O> {
 /// That what printed has printed from what it was: the address, and signals of steps that its reader has
 /// read.
 #[derive(Drop)]
-pub struct PrintsFrom<W: Write + Drop, O: Telling> {
+pub struct PrintsFrom<W: Write + Drop, O: SignalSource> {
     pub first: Snapshot<SignalPrinter<W, O>>,
 }
 
-impl<W: Write + Drop, O: Telling> PrintsFrom<W, O> {
+impl<W: Write + Drop, O: SignalSource> PrintsFrom<W, O> {
     /// From this.
     pub fn new(printer: &SignalPrinter<W, O>) -> Self
         ensures { result.first.value ≡ printer.now }
@@ -190,7 +190,7 @@ impl<W: Write + Drop, O: Telling> PrintsFrom<W, O> {
     }
 }
 
-impl<W: Write + Drop, O: Telling> Promise<Printed<W>> for PrintsFrom<W, O> {
+impl<W: Write + Drop, O: SignalSource> Promise<Printed<W>> for PrintsFrom<W, O> {
     ghost use Rattle.std.specs.Prelude.{◌≡◌};
     ghost use Rattle.coord_server.specs.Printed.{IsPrinted, IsUnprintedFor};
 
@@ -202,13 +202,13 @@ impl<W: Write + Drop, O: Telling> Promise<Printed<W>> for PrintsFrom<W, O> {
 /// The channels between the two sides of an output: for the address of the first line, for that this line
 /// was printed, and for signals.
 #[derive(Drop)]
-pub struct Channels<O: Telling> {
+pub struct Channels<O: SignalSource> {
     addresses: (Sender<SocketAddr>, Receiver<SocketAddr>),
     printed: (Sender<()>, Receiver<()>),
     signals: (Sender<Signal<O>>, Receiver<Signal<O>>),
 }
 
-impl<O: Telling> Channels<O> {
+impl<O: SignalSource> Channels<O> {
     /// New ones, if there is memory for them. That of signals has no bound.
     pub fn new(alloc: Global) -> Result<Self, AllocError> {
         Ok(Channels {
@@ -221,13 +221,13 @@ impl<O: Telling> Channels<O> {
 
 /// The two sides of an output: the port that signals come to and what opens it, and its thread's.
 #[derive(Drop)]
-pub struct Outlet<R: Wait, W: Write + Drop, O: Telling> {
+pub struct Outlet<R: Wait, W: Write + Drop, O: SignalSource> {
     pub port: LocalPort<R, O>,
     pub opening: Opening,
     pub printing: Printing<W, O>,
 }
 
-impl<R: Wait + Drop, W: Write + Drop, O: Telling> Outlet<R, W, O> {
+impl<R: Wait + Drop, W: Write + Drop, O: SignalSource> Outlet<R, W, O> {
     /// Of a printer, with the history of its signals. No clause can say that the two sides of a channel
     /// belong together.
     pub fn new(

@@ -2,7 +2,7 @@
 
 ghost use Rattle.std.specs.Prelude.{◌≡◌, List, [], false, IfErr, IfOk};
 ghost use Rattle.coord_admin.specs.Times.{IsUsual};
-ghost use Rattle.coord_engine.specs.Released.{MayTell};
+ghost use Rattle.coord_engine.specs.Released.{MayPrint};
 ghost use Rattle.coord_store.specs.Kept.{has_stopped};
 ghost use Rattle.coord_server.specs.ServerRun.{HasServed, HasServedUsual};
 ghost use Rattle.coord_server.specs.Signals.{MaySignal};
@@ -10,7 +10,7 @@ ghost use Rattle.coord_types.specs.declared.steps.Step.{Step};
 ghost use Rattle.coord_world.specs.Facade.{fold};
 
 use crate::instances::serve_instances;
-use crate::{Printer, ServerEnd, SignalPrinter, Telling};
+use crate::{Printer, ServerEnd, SignalPrinter, SignalSource};
 use coord_admin::{Accepted, Callers, Patience};
 use coord_disk::Disk;
 use coord_engine::{History, Writer};
@@ -41,7 +41,7 @@ pub fn serve_store<
     S: Read + Write + OpenStream + Drop,
     A: OpenListener<Stream = S>,
     W: Write + Send + Drop,
-    O: Telling + Send + Sync,
+    O: SignalSource + Send + Sync,
     R: Threads + Wait + Clock + Sync,
 >(
     rt: &'a R,
@@ -54,7 +54,7 @@ pub fn serve_store<
     requires going { has_stopped store ≡ false }
     requires here { written.0 ≡ O.history }
     requires new { written.1 ≡ record { history = O.history; steps = [] } }
-    requires tell { (earlier : List Step) → MayTell O.history earlier (fold store.world earlier)
+    requires tell { (earlier : List Step) → MayPrint O.history earlier (fold store.world earlier)
         (MaySignal O.history O.gives) }
     ensures served { IfOk result (HasServedUsual D.model W.contents O.gives store printer) }
     ensures unserved { IfErr result (λ back. (back.0 ≡ store) × (back.1 ≡ printer)) }
@@ -76,7 +76,7 @@ fn serve_accepted<
     S: Read + Write + OpenStream + Drop,
     A: OpenListener<Stream = S>,
     W: Write + Send + Drop,
-    O: Telling + Send + Sync,
+    O: SignalSource + Send + Sync,
     R: Threads + Wait + Clock + Sync,
 >(
     rt: &'a R,
@@ -90,7 +90,7 @@ fn serve_accepted<
     requires patience { IsUsual callers }
     requires here { written.0 ≡ O.history }
     requires new { written.1 ≡ record { history = O.history; steps = [] } }
-    requires tell { (earlier : List Step) → MayTell O.history earlier (fold store.world earlier)
+    requires tell { (earlier : List Step) → MayPrint O.history earlier (fold store.world earlier)
         (MaySignal O.history O.gives) }
     ensures served { IfOk result (HasServedUsual D.model W.contents O.gives store printer) }
     ensures unserved { IfErr result (λ back. (back.0 ≡ store) × (back.1 ≡ printer)) }
@@ -105,7 +105,7 @@ pub fn serve_callers<
     D: Disk + Send,
     C: Callers + Drop,
     W: Write + Send + Drop,
-    O: Telling + Send + Sync,
+    O: SignalSource + Send + Sync,
     R: Threads + Wait + Clock + Sync,
 >(
     rt: &R,
@@ -118,7 +118,7 @@ pub fn serve_callers<
     requires going { has_stopped store ≡ false }
     requires here { written.0 ≡ O.history }
     requires new { written.1 ≡ record { history = O.history; steps = [] } }
-    requires tell { (earlier : List Step) → MayTell O.history earlier (fold store.world earlier)
+    requires tell { (earlier : List Step) → MayPrint O.history earlier (fold store.world earlier)
         (MaySignal O.history O.gives) }
     ensures served { IfOk result
         (HasServed D.model C.talked C.failed W.contents O.gives store callers printer) }

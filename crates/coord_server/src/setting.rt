@@ -2,7 +2,7 @@
 
 ghost use Rattle.std.specs.Prelude.{◌≡◌};
 
-use crate::{LocalPort, Telling};
+use crate::{LocalPort, SignalSource};
 use coord_engine::History;
 use std::alloc::Global;
 use std::sync::Wait;
@@ -10,7 +10,7 @@ use std::sync::Wait;
 /// The runtime, the memory, the port and the history of a server, and after how many steps an instance of it
 /// ends.
 #[derive(Drop)]
-pub struct Setting<'r, R: Wait, O: Telling> {
+pub struct Setting<'r, R: Wait, O: SignalSource> {
     pub rt: &'r R,
     pub alloc: Global,
     pub port: &'r LocalPort<&'r R, O>,

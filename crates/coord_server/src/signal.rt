@@ -12,7 +12,7 @@ use std::marker::{Brand, Model, PhantomData};
 ///
 /// A port and an output are made in code that is generic over this name and called with `Brand`, which
 /// picks the history of the server at hand, and what its steps give out.
-pub trait Telling {
+pub trait SignalSource {
     ghost use Rattle.std.specs.Prelude.{ℕ, List, ◌++◌};
     ghost use Rattle.atomic_table.specs.Seated.{TableId};
     ghost use Rattle.coord_types.specs.declared.steps.Step.{Step};
@@ -29,7 +29,7 @@ pub trait Telling {
         gives (first ++ more) step node epoch };
 }
 
-impl Telling for Brand {
+impl SignalSource for Brand {
     ghost use Rattle.std.specs.Prelude.{⊤};
     ghost use Rattle.coord_engine.specs.History.{no_history};
 
@@ -44,7 +44,7 @@ impl Telling for Brand {
 /// that the server which `O` names may tell so, since the step is among the settled ones that the reader has
 /// read: it is known of each that comes over a channel.
 #[derive(Drop)]
-pub struct Signal<O: Telling> {
+pub struct Signal<O: SignalSource> {
     reader: Reader,
     step: u64,
     node: NodeId,
@@ -52,7 +52,7 @@ pub struct Signal<O: Telling> {
     of: PhantomData<O>,
 }
 
-impl<O: Telling> Model for Signal<O> {
+impl<O: SignalSource> Model for Signal<O> {
     ghost use Rattle.coord_server.specs.Signals.{MaySignal, StepSignal};
 
     ghost Value = { StepSignal };
@@ -62,7 +62,7 @@ impl<O: Telling> Model for Signal<O> {
     ghost invariant = { λ s. MaySignal O.history O.gives s.reader s.step s.node s.epoch };
 }
 
-impl<O: Telling> Signal<O> {
+impl<O: SignalSource> Signal<O> {
     /// One that may be told.
     pub fn new(reader: Reader, step: u64, node: NodeId, epoch: u64) -> Self
         requires { MaySignal O.history O.gives reader step node epoch }

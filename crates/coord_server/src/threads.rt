@@ -2,7 +2,7 @@
 
 ghost use Rattle.std.specs.Prelude.{◌≡◌, ◌⊎◌, ◌+◌, ◌≤◌, [], ◌∷◌, List, ℕ, IfErr, IfOk, IfSome, IsErr, None, Some, length, vec_capacity, vec_len};
 ghost use Rattle.std.specs.Thread.{IsSend, IsSync};
-ghost use Rattle.coord_engine.specs.Released.{HasReadSettled, MayTell};
+ghost use Rattle.coord_engine.specs.Released.{HasReadSettled, MayPrint};
 ghost use Rattle.coord_engine.specs.State.{based_on};
 ghost use Rattle.coord_server.specs.EngineDesk.{HandsAgain};
 ghost use Rattle.coord_server.specs.Ending.{AddsWorkers, EndsUnopened, HasRun, Local, ServesInstance, new_desk};
@@ -12,7 +12,7 @@ ghost use Rattle.coord_types.specs.declared.steps.Step.{Step};
 use crate::instance_end::InstanceEnd;
 use crate::printing::Opening;
 use crate::setting::Setting;
-use crate::{EngineDesk, ServerFault, Telling};
+use crate::{EngineDesk, ServerFault, SignalSource};
 use coord_admin::{Callers, Desk, Stop, serve_connections};
 use coord_disk::Disk;
 use coord_engine::{
@@ -74,7 +74,7 @@ pub fn run<
     D: Disk + Send,
     L: Origin + Send + Sync,
     C: Callers + Drop,
-    O: Telling + Send + Sync,
+    O: SignalSource + Send + Sync,
     R: Threads + Wait + Clock + Sync,
 >(
     setting: &Setting<'_, R, O>,
@@ -83,7 +83,7 @@ pub fn run<
     callers: C,
     opening: Option<Opening>,
 ) -> Result<JoinedThreads<L, C>, (C, Option<Opening>)>
-    requires { MayTell L.history L.earlier L.base (MaySignal O.history O.gives) }
+    requires { MayPrint L.history L.earlier L.base (MaySignal O.history O.gives) }
     ensures completed { IfOk result (λ completed.
         HasRun (based_on D.model L.base L.before) C.talked C.failed setting.now.instance_steps
         L.history L.earlier callers completed.callers completed.left completed.shares.items
@@ -95,7 +95,7 @@ pub fn run<
         setting.rt,
         |scope| -> Result<JoinedThreads<L, C>, (C, Option<Opening>)>
             requires { IsSend D.row × IsSend L.row × IsSync L.row × IsSync R.row × IsSend O.row × IsSync O.row ×
-                MayTell L.history L.earlier L.base (MaySignal O.history O.gives) }
+                MayPrint L.history L.earlier L.base (MaySignal O.history O.gives) }
             ensures completed { IfOk result (λ completed.
                 HasRun (based_on D.model L.base L.before) C.talked C.failed
                 setting.entry.now.instance_steps L.history L.earlier callers completed.callers
@@ -115,7 +115,7 @@ fn run_in<
     D: Disk + Send,
     L: Origin + Send + Sync,
     C: Callers + Drop,
-    O: Telling + Send + Sync,
+    O: SignalSource + Send + Sync,
     R: Threads + Wait + Clock + Sync,
 >(
     scope: &Scope<'s, E>,
@@ -125,7 +125,7 @@ fn run_in<
     callers: C,
     opening: Option<Opening>,
 ) -> Result<JoinedThreads<L, C>, (C, Option<Opening>)>
-    requires { MayTell L.history L.earlier L.base (MaySignal O.history O.gives) }
+    requires { MayPrint L.history L.earlier L.base (MaySignal O.history O.gives) }
     ensures completed { IfOk result (λ completed.
         HasRun (based_on D.model L.base L.before) C.talked C.failed setting.now.instance_steps
         L.history L.earlier callers completed.callers completed.left completed.shares.items
@@ -176,7 +176,7 @@ fn start<
     E,
     D: Disk + Send,
     L: Origin + Send + Sync,
-    O: Telling + Send + Sync,
+    O: SignalSource + Send + Sync,
     R: Wait + Clock + Sync,
 >(
     scope: &Scope<'s, E>,
@@ -186,7 +186,7 @@ fn start<
     packets: Vec<Receiver<Vec<Packet>>>,
 ) -> Option<Crew<L>>
     requires eight { vec_len packets ≡ 8 }
-    requires tell { MayTell L.history L.earlier L.base (MaySignal O.history O.gives) }
+    requires tell { MayPrint L.history L.earlier L.base (MaySignal O.history O.gives) }
 {
     let flushing = start_flusher(scope, setting, engine, flusher_share)?;
     let workers = start_workers(scope, setting, engine, packets)?;
@@ -202,7 +202,7 @@ fn start_flusher<
     E,
     D: Disk + Send,
     L: Origin + Send + Sync,
-    O: Telling + Send + Sync,
+    O: SignalSource + Send + Sync,
     R: Wait + Clock + Sync,
 >(
     scope: &Scope<'s, E>,
@@ -210,13 +210,13 @@ fn start_flusher<
     engine: &'e Engine<D, L>,
     share: PacketShare<L>,
 ) -> Option<JoinHandle<PacketShare<L>>>
-    requires { MayTell L.history L.earlier L.base (MaySignal O.history O.gives) }
+    requires { MayPrint L.history L.earlier L.base (MaySignal O.history O.gives) }
 {
     let (rt, alloc, signals) = (setting.rt, setting.alloc, setting.port);
     scope
         .spawn(
             move || -> PacketShare<L>
-                requires { MayTell L.history L.earlier L.base (MaySignal O.history O.gives) }
+                requires { MayPrint L.history L.earlier L.base (MaySignal O.history O.gives) }
             {
                 let mut port = SubmittingPort::new(rt, alloc, engine, signals, share);
                 flusher(rt, engine, &mut port);
@@ -235,7 +235,7 @@ fn start_workers<
     E,
     D: Disk + Send,
     L: Origin + Send + Sync,
-    O: Telling,
+    O: SignalSource,
     R: Wait + Sync,
 >(
     scope: &Scope<'s, E>,
@@ -263,7 +263,7 @@ fn start_worker<
     E,
     D: Disk + Send,
     L: Origin + Send + Sync,
-    O: Telling,
+    O: SignalSource,
     R: Wait + Sync,
 >(
     scope: &Scope<'s, E>,
@@ -280,7 +280,7 @@ fn start_worker<
 
 /// Opens the output, and serves those who call by a desk with this share, while a crew is at work.
 /// The share, what the desk has seen, its reader, and what ended that.
-fn serve_over<D: Disk, L: Origin, C: Callers, O: Telling, R: Wait>(
+fn serve_over<D: Disk, L: Origin, C: Callers, O: SignalSource, R: Wait>(
     setting: &Setting<'_, R, O>,
     engine: &Engine<D, L>,
     _crew: &Crew<L>,
@@ -321,7 +321,7 @@ fn open<C: Callers, R: Wait>(
 
 /// Once the output is open, sends again what may have been lost, and serves those who call until
 /// the instance is old. What ended it: where the output could not be opened, that.
-fn serve_clients<D: Disk, L: Origin, C: Callers, P: Port, O: Telling, R: Wait>(
+fn serve_clients<D: Disk, L: Origin, C: Callers, P: Port, O: SignalSource, R: Wait>(
     setting: &Setting<'_, R, O>,
     opened: Result<(), InstanceEnd>,
     callers: &mut C,
@@ -350,7 +350,7 @@ fn serve_clients<D: Disk, L: Origin, C: Callers, P: Port, O: Telling, R: Wait>(
 
 /// Serves those who call by a desk that has noted nothing, until a line closes it or the instance is old.
 /// What ended it.
-fn serve_until_old<D: Disk, L: Origin, C: Callers, P: Port, O: Telling, R: Wait>(
+fn serve_until_old<D: Disk, L: Origin, C: Callers, P: Port, O: SignalSource, R: Wait>(
     setting: &Setting<'_, R, O>,
     callers: &mut C,
     desk: &mut EngineDesk<'_, D, L, P, R>,

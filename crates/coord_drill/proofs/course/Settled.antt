@@ -15,7 +15,7 @@ use Rattle.coord_ledger.proofs.machine.SettledStays.{settled_stays}
 use Rattle.coord_drill.specs.Answered.{IsAnswered}
 use Rattle.coord_drill.specs.Drill.{DrillState, after_asked, flight_events, machine_of, step_events}
 use Rattle.coord_drill.specs.Laws.{PrintedSurvives}
-use Rattle.coord_drill.specs.Told.{flight_told, repeat_told, step_told, told_by}
+use Rattle.coord_drill.specs.Told.{flight_answered, repeat_answered, step_answered, told_by}
 use Rattle.coord_drill.specs.declared.asked.Asked.TheVariants as ask
 use Rattle.coord_drill.specs.Facade.{Accepted, Answer, Asked, Begun, Committed, Refusal, Refused, Repeated, Step, Verdict}
 use Rattle.coord_drill.proofs.does.FlownTo.{begun_size}
@@ -36,7 +36,7 @@ numbers w (s ∷ ss) n le = (omega (arith, le), numbers (next w s) ss n (omega (
 committed_log : (m : Machine) (b : ℕ) (rest : List Answer) → Answered m (flight_events (Begun b ∷ Committed ∷ rest)) (Begun b ∷ Committed ∷ rest) → HaveMemory rest → (run m (flight_events (Begun b ∷ Committed ∷ rest)) (Begun b ∷ Committed ∷ rest)).log ≡ with_settled m.log b
 committed_log m b rest h1 h2 = grind arith
 
-flight_settled : (m : Machine) (given : List Answer) → Answered m (flight_events given) given → HaveMemory given → AllByRecursion (λ k. k ≤ settled_count (run m (flight_events given) given).log) (flight_told m.log given)
+flight_settled : (m : Machine) (given : List Answer) → Answered m (flight_events given) given → HaveMemory given → AllByRecursion (λ k. k ≤ settled_count (run m (flight_events given) given).log) (flight_answered m.log given)
 flight_settled m (Begun b ∷ Committed ∷ rest) answered memory =
     let log = m.log in
     let size = begun_size m b answered.0 in
@@ -59,10 +59,10 @@ module _ (s : DrillState) (x : Step) where
   repeated_log : (v : Result Verdict Refusal) (n : ℕ) → (after_submit (machine_of s) x v (Repeated n)).log ≡ s.log
   repeated_log v n = grind arith
 
-  repeat_settled : (v : Result Verdict Refusal) (count : ℕ) → AllByRecursion (λ k. k ≤ count) (repeat_told count v)
+  repeat_settled : (v : Result Verdict Refusal) (count : ℕ) → AllByRecursion (λ k. k ≤ count) (repeat_answered count v)
   repeat_settled v count = grind (arith, by_test)
 
-  step_settled : (holds : Bool) (given : List Answer) → s.holds ≡ holds → Answered (machine_of s) (step_events holds x given) given → HaveMemory given → AllByRecursion (λ k. k ≤ settled_count (run (machine_of s) (step_events holds x given) given).log) (step_told s x given)
+  step_settled : (holds : Bool) (given : List Answer) → s.holds ≡ holds → Answered (machine_of s) (step_events holds x given) given → HaveMemory given → AllByRecursion (λ k. k ≤ settled_count (run (machine_of s) (step_events holds x given) given).log) (step_answered s x given)
   step_settled true (Accepted n ∷ given) is answered memory =
       rw is tt
   step_settled false (Accepted n ∷ given) is answered memory =

@@ -15,7 +15,7 @@ use Rattle.coord_types.proofs.Tables.{get-change, get-entries, option_map, same_
 use Rattle.coord_world.specs.laws.Laws.{RowsGiveWorld, HasFewAborts, RowsHaveFewAborts, RowsOfWorldFit}
 use Rattle.coord_world.specs.Facade.{InRange, World, by_id, client_row, lane_at, node_row, rows_of, state, state_or_none, LanesCarryWithin, LinkRowFits, NodeRowFits, RowIsDistant, SessionInRange, by_ends, degree, farthest, group_in, group_of, is_linked, pair_cmp, pair_cmp_total}
 use Rattle.coord_tables.proofs.Found.{same_number, same_pair}
-use Rattle.coord_tables.proofs.LinkLanes.{rows_tell_links, lanes_at_key}
+use Rattle.coord_tables.proofs.LinkLanes.{rows_distinguish_links, lanes_at_key}
 use Rattle.coord_types.specs.Facade.{IsMaskable, contains, has}
 use Rattle.coord_tables.specs.Links.{Lanes, link_row, link_rows}
 use Rattle.coord_world.proofs.lanes.LaneNumbers.{lane_short}
@@ -56,7 +56,7 @@ row_listed w u =
 
 module _ (v w : World) (in_v : InRange v) (in_w : InRange w) (same : rows_of v ≡ rows_of w) where
   same_links : v.links ≡ w.links
-  same_links = rows_tell_links v.links w.links (ap (λ rows. rows.links) same)
+  same_links = rows_distinguish_links v.links w.links (ap (λ rows. rows.links) same)
 
   same_neighbours : (u : ℕ) → (state v u).neighbours ≡ (state w u).neighbours
   same_neighbours u = same_nodes _ _ (λ x. sym (in_v.linked u x) ∙ ap (λ t. is_some (lane_at t u x)) same_links ∙ in_w.linked u x)

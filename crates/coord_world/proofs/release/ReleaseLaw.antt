@@ -12,7 +12,7 @@ use Rattle.coord_types.specs.declared.steps.Step.{Step}
 use Rattle.coord_link.specs.LaneMachine.{Lane}
 use Rattle.coord_tables.specs.Links.{Turned}
 use Rattle.coord_world.specs.Facade.{World, again, fold, has_receipted, has_sent, lane, next, outputs}
-use Rattle.coord_world.specs.laws.Release.{IsReleased, ReleaseLaw, ResendLaw, TellsReleased, outputs_of}
+use Rattle.coord_world.specs.laws.Release.{IsReleased, ReleaseLaw, ResendLaw, HoldsReleased, outputs_of}
 use Rattle.coord_world.specs.laws.Trails.{IsSound}
 use Rattle.coord_tables.proofs.Cases.{by_test}
 use Rattle.coord_world.proofs.lanes.Transit.{counts_cases}
@@ -142,7 +142,7 @@ module _ (settled : World) (ss : List Step) (sound : IsSound settled) (each : Ea
     receipt_has_receipted receipt = ap (λ o. has_receipted o p.number) (lane_numbered settled p.from p.to p.inc p.number receipt.at) ∙ grind (arith, nat_tests, receipt.at.number, receipt.got)
 
 -- where the front world is the settled one after more steps, the settled one tells what is released
-settled_tells : (base : World) (first others : List Step) → IsSound base → EachFresh base first → EachFresh (fold base first) others → TellsReleased (fold (fold base first) others) (fold base first) (IsReleased base first)
+settled_tells : (base : World) (first others : List Step) → IsSound base → EachFresh base first → EachFresh (fold base first) others → HoldsReleased (fold (fold base first) others) (fold base first) (IsReleased base first)
 settled_tells base first others sound each on = record {
   packets = λ p is.
       let next = takeable_is_next (fold settled others) p is in (

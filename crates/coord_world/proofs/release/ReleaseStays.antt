@@ -12,7 +12,7 @@ use Rattle.coord_types.specs.declared.steps.Step.TheVariants.{Clear, Order, Take
 use Rattle.coord_link.specs.LaneMachine.{Lane, Tests, against_clear, against_take, refused_or}
 use Rattle.coord_world.specs.declared.verdicts.Verdict.TheVariants.{Fresh}
 use Rattle.coord_world.specs.Facade.{IsFresh, World, accepts, against_data, against_receipt, fold, has_receipted, has_sent, is_exhausted, lane, next, outputs}
-use Rattle.coord_world.specs.laws.Release.{FreshWhereReleased, IsReleased, IsClearable, NamesReleased, IsTakeable, ReleaseStays, TellsReleased, ReleasedFromBase, ReleasedGrows, outputs_of}
+use Rattle.coord_world.specs.laws.Release.{FreshWhereReleased, IsReleased, IsClearable, NamesReleased, IsTakeable, ReleaseStays, HoldsReleased, ReleasedFromBase, ReleasedGrows, outputs_of}
 use Rattle.coord_world.specs.laws.Trails.{IsSound}
 use Rattle.coord_world.proofs.release.ReleaseLaw.{front_has_sent, has_receipted_receipt, receipt_has_receipted, release_law, has_sent_front, again_released}
 use Rattle.coord_world.proofs.release.TakeablePackets.{clearable_is_due, refused_or_none_holds, none_holds_passes, takeable_is_next}
@@ -107,7 +107,7 @@ release_stays base trail d e s is le h = verdict_stays (fold base trail) (fold b
     all = rw (sym (fold-take_drop e trail base)) (rw (sym (take-take d e trail le)) (rw (sym upto) over))
 
 -- a fresh step is let through where the packet that it names is told as released
-fresh_where_told : (front settled : World) (HasGone : Output → Type 0) (s : Step) → TellsReleased front settled HasGone → IsFresh front front s → IsFresh front settled s ↔ NamesReleased HasGone s
+fresh_where_told : (front settled : World) (HasGone : Output → Type 0) (s : Step) → HoldsReleased front settled HasGone → IsFresh front front s → IsFresh front settled s ↔ NamesReleased HasGone s
 fresh_where_told front settled HasGone (Order c n x) tells fresh = (λ _. tt, λ _. fresh)
 fresh_where_told front settled HasGone (Take p) tells fresh = of_lane (lane front p.from p.to p.inc) refl fresh
   where

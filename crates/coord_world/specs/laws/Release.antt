@@ -32,13 +32,13 @@ abbrev pub IsClearable : World → ReceiptPacket → Type 0
 IsClearable front p = (l : Lane) × ((lane front p.from p.to p.inc ≡ Some l) × (judged_clear l p.number ≡ Ok tt))
 
 -- the settled world shows of each packet that nothing else refuses whether it is out
-pub record TellsReleased (front settled : World) (IsOut : Output → Type 0) : Type 0 where
+pub record HoldsReleased (front settled : World) (IsOut : Output → Type 0) : Type 0 where
   pub packets : (p : DataPacket) → IsTakeable front p → (has_sent (lane settled p.from p.to p.inc) p.number ≡ true) ↔ IsOut (Sent p)
   pub receipts : (p : ReceiptPacket) → IsClearable front p → (has_receipted (lane settled p.from p.to p.inc) p.number ≡ true) ↔ IsOut (Receipted p)
 
 -- the release law: a packet that no other rule refuses is accepted exactly if it was released
 abbrev pub ReleaseLaw : Type 0
-ReleaseLaw = (base : World) (trail : List Step) (d : ℕ) → IsTrail base trail → TellsReleased (fold base trail) (fold base (take d trail)) (IsReleased base (take d trail))
+ReleaseLaw = (base : World) (trail : List Step) (d : ℕ) → IsTrail base trail → HoldsReleased (fold base trail) (fold base (take d trail)) (IsReleased base (take d trail))
 
 -- the packet that a step names is out
 abbrev pub NamesReleased : (Output → Type 0) → Step → Type 0

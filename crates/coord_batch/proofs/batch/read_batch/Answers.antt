@@ -3,7 +3,7 @@ use Rattle.std.proofs.Common.{◌≡◌, true, Result, Ok, Err, arith, IfOk}
 use Rattle.coord_batch.specs.declared.batch.Batch.{Batch}
 use Rattle.coord_batch.specs.declared.fault.CodecFault.{CodecFault}
 use Rattle.coord_batch.proofs.Batched.{batch_fits, batch_in_range}
-use Rattle.coord_batch.proofs.Decoded.{answers_found, answers_only, version_told}
+use Rattle.coord_batch.proofs.Decoded.{answers_found, answers_only, version_distinguished}
 use Rattle.coord_batch.proofs.StepGrammars.{batch_grammar}
 use Rattle.coord_batch.proofs.batch.read_batch.Goals as goal
 
@@ -19,4 +19,4 @@ returns-clause-only c = λ first taken known range spelled.
     answers_only batch batch_grammar c.args.version content c.args.bytes.now c.decode.result (pair first taken) known (batch_fits c.args.version first taken range) spelled c.decode.ensures.exact
 
 pub returns-clause-version : goal.returns-clause-version
-returns-clause-version c = version_told batch batch_grammar c.args.version content c.args.bytes.now c.decode.result c.decode.ensures.version c.decode.ensures.exact
+returns-clause-version c = version_distinguished batch batch_grammar c.args.version content c.args.bytes.now c.decode.result c.decode.ensures.version c.decode.ensures.exact

@@ -8,5 +8,5 @@ returns-in-Ok-clause-served g c =
     let ended = c.in-Ok.ended in
     let told = c.into_closed-served.ensures in
     let since : c.count-since.result ≡ c.args.store.world.count = search rules in
-    served_with g.D.Disk.model g.O.Telling.gives c.args.store _ _ ended c.into_closed-served.result.0
-    (run_back g.D.Disk.model _ g.W.Write.contents g.O.Telling.gives c.args.store _ c.into_output-back.result _ ended _ _ _ _ _ _ c.in-Ok.ensures.served (c.new-printer.ensures ∙ ap (new_printer _) since) told.printer c.into_output-back.ensures refl refl (λ same. search rules)) told.closed told.fault
+    served_with g.D.Disk.model g.O.SignalSource.gives c.args.store _ _ ended c.into_closed-served.result.0
+    (run_back g.D.Disk.model _ g.W.Write.contents g.O.SignalSource.gives c.args.store _ c.into_output-back.result _ ended _ _ _ _ _ _ c.in-Ok.ensures.served (c.new-printer.ensures ∙ ap (new_printer _) since) told.printer c.into_output-back.ensures refl refl (λ same. search rules)) told.closed told.fault

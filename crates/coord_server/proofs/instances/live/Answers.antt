@@ -38,9 +38,9 @@ returns-in-Err-clause-same g c = ap (λ (b : Beginning). b.history) (c.in-Err.en
 
 pub serve_instance-instance-requires-clause-tell : goal.serve_instance-instance-requires-clause-tell
 serve_instance-instance-requires-clause-tell g c =
-    let history = g.O.Telling.history in
+    let history = g.O.SignalSource.history in
     let rested = c.loop.invariant.4 in
-    let tell = tells_on g.D.Disk.model (MaySignal history g.O.Telling.gives) history c.loop.writer.history c.args.start.over.value c.loop.start.over.value _ c.loop.writer.steps c.requires.tell c.loop.invariant.3 rested.2 rested.3 in
+    let tell = tells_on g.D.Disk.model (MaySignal history g.O.SignalSource.gives) history c.loop.writer.history c.args.start.over.value c.loop.start.over.value _ c.loop.writer.steps c.requires.tell c.loop.invariant.3 rested.2 rested.3 in
     λ _ _. tell
 
 pub returns-in-Err-clause-last : goal.returns-in-Err-clause-last

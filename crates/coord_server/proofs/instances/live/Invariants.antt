@@ -6,5 +6,5 @@ use Rattle.coord_server.proofs.instances.live.Given as goal
 abbrev pub invariant-loop : goal.invariant-loop
 invariant-loop g l =
     (goal.iterator-loop g).can_next l.iterator' × (goal.iterator-loop g).is_finite l.iterator'
-    × (l.start.history ≡ g.O.Telling.history) × (l.writer.history ≡ g.O.Telling.history)
+    × (l.start.history ≡ g.O.SignalSource.history) × (l.writer.history ≡ g.O.SignalSource.history)
     × RestedTo g.D.Disk.model g.C.Callers.talked l.fn.setting.instance_steps l.fn.start.over.value l.fn.callers l.start.over.value l.callers l.writer.steps

@@ -14,4 +14,4 @@ returns g c =
     let last = c.end_of.ensures.last in
     let printed = c.join-printed in
     let cause = has_cause m talked failed most over c.args.callers instance.result ended instance.ensures.lived last.0 last.1 c.end_of.ensures.write instance.ensures.last in
-    server_run m talked failed most g.W.Write.contents over c.args.callers instance.result ended g.O.Telling.gives g.O.Telling.lasts c.args.printing.promise.first.value printed.result.printer printed.result.reader.steps instance.ensures.lived last.0 last.1 last.2 cause last.3 c.end_of.ensures.read printed.ensures.1
+    server_run m talked failed most g.W.Write.contents over c.args.callers instance.result ended g.O.SignalSource.gives g.O.SignalSource.lasts c.args.printing.promise.first.value printed.result.printer printed.result.reader.steps instance.ensures.lived last.0 last.1 last.2 cause last.3 c.end_of.ensures.read printed.ensures.1

@@ -1,6 +1,6 @@
 use Rattle.std.proofs.Common.{◌≡◌, false, refl, subst, sym, ◌∙◌}
 use Rattle.coord_server.proofs.Starts.{on_more, printed, prints_next, still_works, told_last, told_more, told_next}
-use Rattle.coord_server.specs.Printed.{HasTold, Prints}
+use Rattle.coord_server.specs.Printed.{HasPrinted, Prints}
 use Rattle.coord_server.proofs.printing.print_signals.Goals as goal
 
 pub loop-signal-preserved : goal.loop-signal-preserved
@@ -14,11 +14,11 @@ loop-signal-preserved g c =
     let is = c.print_signal.ensures in
     let join = c.join.ensures in
     let read = c.loop-signal.reader.steps in
-    let may = g.O.Telling.gives c.join.new.self.steps in
+    let may = g.O.SignalSource.gives c.join.new.self.steps in
     let works : q.is_broken ≡ false = sym c.is_broken.ensures ∙ c.if-is_broken.false in
     let one : Prints contents m s q = printed contents m q s c.print_signal.result is.written is.next is.whole is.failed works in
-    let told : HasTold contents may p m = told_more contents (g.O.Telling.gives read) may (on_more g.O.Telling.gives g.O.Telling.lasts read c.join.new.self.steps join.begins) p m c.loop-signal.invariant.3 in
-    let mine = on_more g.O.Telling.gives g.O.Telling.lasts _ c.join.new.self.steps join.others s.step s.node s.epoch c.into_reader.ensures.1 in (
+    let told : HasPrinted contents may p m = told_more contents (g.O.SignalSource.gives read) may (on_more g.O.SignalSource.gives g.O.SignalSource.lasts read c.join.new.self.steps join.begins) p m c.loop-signal.invariant.3 in
+    let mine = on_more g.O.SignalSource.gives g.O.SignalSource.lasts _ c.join.new.self.steps join.others s.step s.node s.epoch c.into_reader.ensures.1 in (
       goes.keeps,
       (goes.on c.loop-signal.invariant.1).1,
       prints_next contents p m q c.loop-signal.yielded s c.loop-signal.invariant.2 one,
@@ -36,7 +36,7 @@ returns-then-is_broken-clause-told g c =
     let is = c.print_signal.ensures in
     let join = c.join.ensures in
     let read = c.loop-signal.reader.steps in
-    let may = g.O.Telling.gives c.join.new.self.steps in
-    let told : HasTold contents may p m = told_more contents (g.O.Telling.gives read) may (on_more g.O.Telling.gives g.O.Telling.lasts read c.join.new.self.steps join.begins) p m c.loop-signal.invariant.3 in
-    let mine = on_more g.O.Telling.gives g.O.Telling.lasts _ c.join.new.self.steps join.others s.step s.node s.epoch c.into_reader.ensures.1 in
-    subst (HasTold contents may p) (sym c.into_printer.ensures) (told_last contents may p m q s m.is_broken refl told mine (sym c.is_broken.ensures ∙ c.if-is_broken.true) (λ was. (is.broken was).1) is.torn)
+    let may = g.O.SignalSource.gives c.join.new.self.steps in
+    let told : HasPrinted contents may p m = told_more contents (g.O.SignalSource.gives read) may (on_more g.O.SignalSource.gives g.O.SignalSource.lasts read c.join.new.self.steps join.begins) p m c.loop-signal.invariant.3 in
+    let mine = on_more g.O.SignalSource.gives g.O.SignalSource.lasts _ c.join.new.self.steps join.others s.step s.node s.epoch c.into_reader.ensures.1 in
+    subst (HasPrinted contents may p) (sym c.into_printer.ensures) (told_last contents may p m q s m.is_broken refl told mine (sym c.is_broken.ensures ∙ c.if-is_broken.true) (λ was. (is.broken was).1) is.torn)

@@ -9,7 +9,7 @@ pub returns-in-Ok : goal.returns-in-Ok
 returns-in-Ok g c =
     let m = g.D.Disk.model in
     let most = c.captures.setting.now.instance_steps in
-    subst (λ printer. ServerRun m g.C.Callers.talked g.C.Callers.failed most g.W.Write.contents g.O.Telling.gives c.captures.start.over.value c.captures.callers printer c.print_and_live.result)
+    subst (λ printer. ServerRun m g.C.Callers.talked g.C.Callers.failed most g.W.Write.contents g.O.SignalSource.gives c.captures.start.over.value c.captures.callers printer c.print_and_live.result)
     c.in-Ok.ensures.started c.print_and_live.ensures
 
 -- none does
@@ -25,4 +25,4 @@ returns-in-Err g c =
     let last = c.end_of.ensures.last in
     let printed = c.in-Err.printed in
     let cause = has_cause m talked failed most over c.captures.callers instance.result ended instance.ensures.lived last.0 last.1 c.end_of.ensures.write instance.ensures.last in
-    server_run m talked failed most g.W.Write.contents over c.captures.callers instance.result ended g.O.Telling.gives g.O.Telling.lasts c.captures.printing.printer printed.printer printed.reader.steps instance.ensures.lived last.0 last.1 last.2 cause last.3 c.end_of.ensures.read c.in-Err.ensures.refused.1
+    server_run m talked failed most g.W.Write.contents over c.captures.callers instance.result ended g.O.SignalSource.gives g.O.SignalSource.lasts c.captures.printing.printer printed.printer printed.reader.steps instance.ensures.lived last.0 last.1 last.2 cause last.3 c.end_of.ensures.read c.in-Err.ensures.refused.1
