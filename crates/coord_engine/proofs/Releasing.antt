@@ -35,7 +35,7 @@ pub of_both : (earlier xs first : List Step) → StartsWith (earlier ++ xs) (ear
 of_both [] xs first is = is
 of_both (e ∷ es) xs first is = of_both es xs first (is.0, ap rest_of is.1)
 
--- what a pass read that was taken back are the first of the settled steps
+-- what a token read that was taken back are the first of the settled steps
 pub begins_behind : (history : TableId) (earlier xs first : List Step) (written back read : Beginning) → HasReadSettled history earlier xs written → back ≡ written → HasReadSettled history earlier first read → StartsWith back.steps read.steps → StartsWith xs first
 begins_behind history earlier xs first written back read is same of starts =
     of_both earlier xs first (subst (λ (b : Beginning). StartsWith b.steps (earlier ++ first)) (same ∙ is) (subst (λ (b : Beginning). StartsWith back.steps b.steps) of starts))

@@ -15,14 +15,14 @@ use std::collections::LinkedList;
 use std::marker::{Brand, Model, PhantomData};
 use std::sync::Arc;
 
-/// What a pass knows: a beginning of the history that it has read, and one that it was told of. No
+/// What a token knows: a beginning of the history that it has read, and one that it was told of. No
 /// value of it is made.
 pub struct Known {
     pub read: LinkedList<Step>,
     pub told: LinkedList<Step>,
 }
 
-/// The rule of all passes: one history begins with what each of them knows, and the first one has
+/// The rule of all tokens: one history begins with what each of them knows, and the first one has
 /// read all of it.
 pub struct OneHistory;
 
@@ -35,10 +35,10 @@ impl TableRule<(), Known, ()> for OneHistory {
     ghost first = { λ _. knows [] [] };
 }
 
-/// A pass that stands for a part of what is known.
+/// A token that stands for a part of what is known.
 type Pass = Seat<(), Known>;
 
-/// Names steps that a history is to have, or that a pass has read.
+/// Names steps that a history is to have, or that a token has read.
 trait NamedSteps {
     ghost use Rattle.std.specs.Prelude.{List};
     ghost use Rattle.coord_types.specs.declared.steps.Step.{Step};
@@ -52,7 +52,7 @@ impl NamedSteps for Brand {
     ghost steps = { [] };
 }
 
-/// The first pass reads on, in a history that it writes on.
+/// The first token reads on, in a history that it writes on.
 struct WritesOn<G: NamedSteps> {
     of: PhantomData<G>,
 }
@@ -63,7 +63,7 @@ impl<G: NamedSteps> Play<(), Known> for WritesOn<G> {
     ghost then = { IsWrittenOn G.steps };
 }
 
-/// The first pass compares what it was told of with what it has read.
+/// The first token compares what it was told of with what it has read.
 struct Compares;
 
 impl Play<(), Known> for Compares {
@@ -72,7 +72,7 @@ impl Play<(), Known> for Compares {
     ghost then = { IsCompared };
 }
 
-/// A pass reads all that is written.
+/// A token reads all that is written.
 struct ReadsOn;
 
 impl Play<(), Known> for ReadsOn {
@@ -81,7 +81,7 @@ impl Play<(), Known> for ReadsOn {
     ghost then = { HasReadOn };
 }
 
-/// A pass is cut in two, which have both read as much.
+/// A token is cut in two, which have both read as much.
 struct ReadsAlong;
 
 impl Split<Known> for ReadsAlong {
@@ -93,7 +93,7 @@ impl Split<Known> for ReadsAlong {
     ghost right = { λ v. knows v.read [] };
 }
 
-/// A pass is told what another one has read, which these steps name.
+/// A token is told what another one has read, which these steps name.
 struct Tells<G: NamedSteps> {
     of: PhantomData<G>,
 }
@@ -107,7 +107,7 @@ impl<G: NamedSteps> Join<Known> for Tells<G> {
     ghost spent = { knows G.steps [] };
 }
 
-/// A history that passes read and one writes. All that is shared of it is which one it is, so contracts
+/// A history that tokens read and one writes. All that is shared of it is which one it is, so contracts
 /// see that.
 #[derive(Drop)]
 pub struct History {
@@ -129,7 +129,7 @@ impl Model for History {
 /// Writes a history. There is one of it. Contracts see which history it is, and all of its steps.
 #[derive(Drop)]
 pub struct Writer {
-    pass: Pass,
+    token: Pass,
 }
 
 impl Model for Writer {
@@ -138,15 +138,15 @@ impl Model for Writer {
 
     ghost Value = { Beginning };
 
-    ghost view = { λ w. record { history = w.pass.table_id; steps = w.pass.me.0.read } };
+    ghost view = { λ w. record { history = w.token.table_id; steps = w.token.me.0.read } };
 
-    ghost invariant = { λ w. (w.pass.id ≡ 0) × (w.pass.me.1 ≡ []) };
+    ghost invariant = { λ w. (w.token.id ≡ 0) × (w.token.me.1 ≡ []) };
 }
 
 /// Has read a beginning of a history. Contracts see which history it is, and these steps.
 #[derive(Drop)]
 pub struct Reader {
-    pass: Pass,
+    token: Pass,
 }
 
 impl Model for Reader {
@@ -155,21 +155,21 @@ impl Model for Reader {
 
     ghost Value = { Beginning };
 
-    ghost view = { λ r. record { history = r.pass.table_id; steps = r.pass.me.0.read } };
+    ghost view = { λ r. record { history = r.token.table_id; steps = r.token.me.0.read } };
 
-    ghost invariant = { λ r. r.pass.me.1 ≡ [] };
+    ghost invariant = { λ r. r.token.me.1 ≡ [] };
 }
 
 impl History {
     ghost use Rattle.std.specs.Prelude.{◌≡◌, [], IfOk};
 
-    /// A history without steps, and the pass that writes it. Takes memory for one word.
+    /// A history without steps, and the token that writes it. Takes memory for one word.
     pub fn new(alloc: Global) -> Result<(History, Writer), AllocError>
         ensures { IfOk result (λ made. made.1 ≡ record { history = made.0; steps = [] }) }
     {
-        let (table, pass) = Table::of_words(alloc, &[0], &())?;
+        let (table, token) = Table::of_words(alloc, &[0], &())?;
         let table = Arc::new(alloc, table)?;
-        Ok((History { table }, Writer { pass }))
+        Ok((History { table }, Writer { token }))
     }
 
     /// The same history once more. It takes no memory; there is an error only where the count of all that
@@ -202,7 +202,7 @@ impl Writer {
         requires on { StartsWith G.steps self.old.steps }
         ensures { self.new ≡ record { history = self.old.history; steps = G.steps } }
     {
-        history.table.shared.load::<WritesOn<G>>(&mut self.pass, 0);
+        history.table.shared.load::<WritesOn<G>>(&mut self.token, 0);
     }
 
     /// A reader that has read all that is written.
@@ -211,11 +211,11 @@ impl Writer {
         ensures read { result ≡ self.old }
         ensures same { self.new ≡ self.old }
     {
-        let pass = history
+        let token = history
             .table
             .shared
-            .split_seat::<ReadsAlong>(&mut self.pass);
-        Reader { pass }
+            .split_seat::<ReadsAlong>(&mut self.token);
+        Reader { token }
     }
 
     /// Takes a reader back: what is written begins with what it has read.
@@ -236,12 +236,12 @@ impl Writer {
         ensures begins { StartsWith self.new.steps reader.steps }
         ensures same { self.new ≡ self.old }
     {
-        let Reader { pass } = reader;
+        let Reader { token } = reader;
         history
             .table
             .shared
-            .join_seat::<Tells<G>>(&mut self.pass, pass);
-        history.table.shared.load::<Compares>(&mut self.pass, 0);
+            .join_seat::<Tells<G>>(&mut self.token, token);
+        history.table.shared.load::<Compares>(&mut self.token, 0);
     }
 }
 
@@ -255,11 +255,11 @@ impl Reader {
         ensures read { result ≡ self.old }
         ensures same { self.new ≡ self.old }
     {
-        let pass = history
+        let token = history
             .table
             .shared
-            .split_seat::<ReadsAlong>(&mut self.pass);
-        Reader { pass }
+            .split_seat::<ReadsAlong>(&mut self.token);
+        Reader { token }
     }
 
     /// Takes another reader of the history in, and reads on: what it has read then begins with what it had
@@ -283,11 +283,11 @@ impl Reader {
         ensures others { StartsWith self.new.steps other.steps }
         ensures same { self.new.history ≡ self.old.history }
     {
-        let Reader { pass } = other;
+        let Reader { token } = other;
         history
             .table
             .shared
-            .join_seat::<Tells<G>>(&mut self.pass, pass);
-        history.table.shared.load::<ReadsOn>(&mut self.pass, 0);
+            .join_seat::<Tells<G>>(&mut self.token, token);
+        history.table.shared.load::<ReadsOn>(&mut self.token, 0);
     }
 }

@@ -5,8 +5,8 @@ use Rattle.coord_engine.proofs.history.Reader.join_as.Goals as goal
 
 pub join_seat-requires : goal.join_seat-requires
 join_seat-requires g c =
-    let pass = c.self.inside.pass in
-    let other = c.other.inside.pass in
+    let pass = c.self.inside.token in
+    let other = c.other.inside.token in
     let here = sym c.requires.here ∙ sym c.history.view_is in
     let theirs = ap (λ (b : Beginning). b.history) c.other.view_is ∙ c.requires.theirs in
     let named = ap (λ (b : Beginning). b.steps) c.other.view_is ∙ c.requires.named in
