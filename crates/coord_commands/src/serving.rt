@@ -19,7 +19,7 @@ use crate::lent::Lent;
 use crate::status::report;
 use crate::streams::Streams;
 use coord_disk::{Disk, Takable};
-use coord_engine::{Closed, History, Writer};
+use coord_engine::{Closed, LogAuthority, MonotoneLog};
 use coord_server::{ServerFault, SignalPrinter, SignalSource, serve_store};
 use coord_store::Store;
 use std::alloc::Global;
@@ -146,7 +146,7 @@ fn serve_open<
     ensures unserved { IfErr result (λ back. (back ≡ store) ×
         Keeps (W.contents output.old) (W.contents output.new)) }
 {
-    let Ok(written) = History::new(alloc) else {
+    let Ok(written) = MonotoneLog::new(alloc) else {
         return Err(store);
     };
     serve_told::<D, S, A, W, Brand, R>(rt, alloc, store, listener, output, written)
@@ -167,7 +167,7 @@ fn serve_told<
     store: Store<D>,
     listener: &'a A,
     output: &mut W,
-    written: (History, Writer),
+    written: (MonotoneLog, LogAuthority),
 ) -> Result<Result<Closed<D>, (ServerFault, Closed<D>)>, Store<D>>
     requires going { has_stopped store ≡ false }
     requires here { written.0 ≡ O.history }

@@ -6,7 +6,7 @@ use Rattle.atomic_table.proofs.Lists.{at_set, set_again}
 use Rattle.atomic_table.specs.Table.{Allows, Joins, Me, Splits}
 use Rattle.atomic_table.specs.Table.Act.{keeps}
 use Rattle.coord_types.specs.declared.steps.Step.{Step}
-use Rattle.coord_engine.specs.History.{Fits, KnowOneHistory, StartsWith, knows}
+use Rattle.coord_engine.specs.MonotoneLog.{Fits, KnowOneHistory, StartsWith, knows}
 use Rattle.coord_engine.specs.declared.history.Known.{Known}
 
 -- ---- beginnings of lists

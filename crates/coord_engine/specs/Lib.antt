@@ -2,7 +2,7 @@ pub mod Calls
 pub mod Closing
 pub mod Flights
 pub mod Flushing
-pub mod History
+pub mod MonotoneLog
 pub mod Named
 pub mod WorkedNames
 pub mod Pacing

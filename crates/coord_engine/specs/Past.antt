@@ -12,7 +12,7 @@ use Rattle.coord_world.specs.Facade.{World, fold}
 use Rattle.coord_ledger.specs.declared.mark.Mark.{Mark}
 use Rattle.coord_ledger.specs.declared.mark.Mark.TheVariants.{New, Good, Torn}
 use Rattle.coord_ledger.specs.Facade.{FlightState, Log, settled_steps}
-use Rattle.coord_engine.specs.History.{Beginning}
+use Rattle.coord_engine.specs.MonotoneLog.{Beginning}
 use Rattle.coord_engine.specs.Released.{HasReadSettled}
 
 -- A disk at a moment, as later ones are compared with it: whether it kept the model, the moment, and what a crash might have left since each earlier one. It names no type of disks, so it can be a ghost of an engine's name.

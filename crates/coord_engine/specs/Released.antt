@@ -6,7 +6,7 @@ use Rattle.coord_types.specs.declared.steps.Step.{Step}
 use Rattle.coord_world.specs.Facade.{World, outs}
 use Rattle.coord_ledger.specs.declared.release.Release.{Release}
 use Rattle.coord_ledger.specs.machine.After.{release_of, releases_of}
-use Rattle.coord_engine.specs.History.{Beginning}
+use Rattle.coord_engine.specs.MonotoneLog.{Beginning}
 use Rattle.coord_engine.specs.Port.{MayAskAll}
 
 -- one of these steps, taken from this world on, has this number and gives out this signal

@@ -14,7 +14,7 @@ use Rattle.coord_ledger.specs.Facade.{Claim, FlightState, LedgerState, accepted_
 use Rattle.coord_view.specs.Shown.{Shown, shown}
 use Rattle.coord_engine.specs.Calls.{AnswersStep, IsReturnedToTicket, engine_verdict}
 use Rattle.coord_engine.specs.Closing.{MayClose, RefusesClosing}
-use Rattle.coord_engine.specs.History.{Beginning}
+use Rattle.coord_engine.specs.MonotoneLog.{Beginning}
 use Rattle.coord_engine.specs.Released.{HasReadSettled}
 use Rattle.coord_engine.specs.State.{Basis, CanHold, GuardedState}
 use Rattle.coord_engine.specs.declared.closed.CloseFault.{CloseFault}

@@ -4,7 +4,7 @@ ghost use Rattle.std.specs.Prelude.{◌≡◌, ◌↔◌, IsTrue, Some};
 ghost use Rattle.coord_engine.specs.Closing.{fault_name, fault_number};
 ghost use Rattle.coord_engine.specs.Named.{IsAmong};
 
-use crate::Writer;
+use crate::LogAuthority;
 use coord_disk::Disk;
 use coord_ledger::{Note, is_same_step};
 use coord_store::Store;
@@ -65,7 +65,7 @@ pub struct Closed<D: Disk> {
 #[derive(Drop)]
 pub struct Retired<D: Disk> {
     pub closed: Closed<D>,
-    pub writer: Writer,
+    pub writer: LogAuthority,
     pub refused: Option<CloseFault>,
 }
 

@@ -6,7 +6,7 @@ ghost use Rattle.coord_ledger.specs.ledger.Calls.{releases_in};
 ghost use Rattle.coord_engine.specs.Calls.{IsReturnedToTicket};
 ghost use Rattle.coord_engine.specs.Closing.{IsSince, RefusesClosing};
 ghost use Rattle.coord_engine.specs.Flights.{AnswersBegin, AnswersFlush, ComesBack};
-ghost use Rattle.coord_engine.specs.History.{StartsWith};
+ghost use Rattle.coord_engine.specs.MonotoneLog.{StartsWith};
 ghost use Rattle.coord_engine.specs.Past.{IsPastOf, StaysAlong};
 ghost use Rattle.coord_engine.specs.Released.{HasReadSettled, first_settled};
 ghost use Rattle.coord_engine.specs.State.{based_on, most_shares};
@@ -14,8 +14,8 @@ ghost use Rattle.coord_engine.specs.Threads.{AnswersShow, AnswersTicket, AtSomeM
 
 use crate::flushing::rest;
 use crate::{
-    CloseFault, Closed, Collected, Guarded, History, Origin, OwnFlight, Reader, Released, Retired,
-    Share, Writer,
+    CloseFault, Closed, Collected, Guarded, LogAuthority, LogPrefix, MonotoneLog, Origin,
+    OwnFlight, Released, Retired, Share,
 };
 use coord_disk::Disk;
 use coord_ledger::{Ledger, Seen, Ticket};
@@ -50,7 +50,7 @@ fn answer_of<L: Origin>(
 pub struct Engine<D: Disk, L: Origin> {
     pub(crate) guarded: Mutex<Guarded<D, L>>,
     /// What flights read, and the value under the lock writes.
-    pub(crate) history: History,
+    pub(crate) history: MonotoneLog,
     /// On which callers wait for their replies.
     pub(crate) changed: Condvar,
     /// On which flushers wait for steps.
@@ -66,8 +66,8 @@ impl<D: Disk, L: Origin> Engine<D, L> {
     pub fn new(
         alloc: Global,
         blank: Blank,
-        history: History,
-        writer: Writer,
+        history: MonotoneLog,
+        writer: LogAuthority,
         ledger: Ledger<D>,
     ) -> Self
         requires name { blank.name ≡ L.name }
@@ -149,7 +149,7 @@ impl<D: Disk, L: Origin> Engine<D, L> {
         &self,
         rt: &R,
         ticket: Ticket,
-        reader: &mut Reader,
+        reader: &mut LogPrefix,
     ) -> Result<Reply, (Refusal, Ticket)>
         requires { reader.old.history ≡ L.history }
         ensures answered { AnswersTicket (based_on D.model L.base L.before)
@@ -193,7 +193,7 @@ impl<D: Disk, L: Origin> Engine<D, L> {
         &self,
         rt: &R,
         seen: &mut Seen,
-        reader: &mut Reader,
+        reader: &mut LogPrefix,
     ) -> Result<View, Refusal>
         requires { reader.old.history ≡ L.history }
         ensures answered { AnswersShow (based_on D.model L.base L.before)
@@ -300,7 +300,7 @@ impl<D: Disk, L: Origin> Engine<D, L> {
         self,
         shares: Vec<Share<L>>,
         seen: &Seen,
-    ) -> Result<(Closed<D>, Writer), (CloseFault, Self, Vec<Share<L>>)>
+    ) -> Result<(Closed<D>, LogAuthority), (CloseFault, Self, Vec<Share<L>>)>
         requires { L.parts ≡ 65536 }
         ensures since { IfOk result (λ left.
             IsSince L.base L.before shares.items left.0.base left.0.trail.items) }

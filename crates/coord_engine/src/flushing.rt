@@ -11,7 +11,7 @@ ghost use Rattle.coord_engine.specs.State.{based_on};
 ghost use Rattle.coord_engine.specs.Threads.{AtSomeMoment};
 
 use crate::port::{Delivery, Port};
-use crate::{Engine, Guarded, History, Origin, Reader, Released};
+use crate::{Engine, Guarded, LogPrefix, MonotoneLog, Origin, Released};
 use coord_disk::Disk;
 use coord_ledger::Releases;
 use coord_store::CommitFault;
@@ -117,7 +117,12 @@ impl<D: Disk, L: Origin> Engine<D, L> {
 
 /// Asks a port for a delivery. Whether a packet is in its hand by that: a signal is no packet, and
 /// one may be lost.
-fn ask<P: Port>(port: &mut P, history: &History, reader: &mut Reader, delivery: Delivery) -> bool
+fn ask<P: Port>(
+    port: &mut P,
+    history: &MonotoneLog,
+    reader: &mut LogPrefix,
+    delivery: Delivery,
+) -> bool
     requires here { history.now ≡ reader.old.history }
     requires may { MayAsk (P.may_signal reader.old) delivery }
     ensures asked { IsAsked P.carried P.signalled port.old delivery port.new }
@@ -133,7 +138,12 @@ fn ask<P: Port>(port: &mut P, history: &History, reader: &mut Reader, delivery: 
 }
 
 /// Asks a port for a delivery for each release, in order. How many packets are in its hand by that.
-fn ask_for_all<P: Port>(port: &mut P, history: &History, reader: Reader, releases: Releases) -> u64
+fn ask_for_all<P: Port>(
+    port: &mut P,
+    history: &MonotoneLog,
+    reader: LogPrefix,
+    releases: Releases,
+) -> u64
     requires here { history.now ≡ reader.history }
     requires may { MayAskAll (P.may_signal reader) releases }
     ensures { AreAsked P.carried P.signalled port.old (deliveries_of releases) port.new }

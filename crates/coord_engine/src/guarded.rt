@@ -4,7 +4,7 @@
 //! calls it.
 
 ghost use Rattle.std.specs.Prelude.{◌≡◌, ◌<◌, [], IfNone, IfSome, None};
-ghost use Rattle.coord_engine.specs.History.{Beginning};
+ghost use Rattle.coord_engine.specs.MonotoneLog.{Beginning};
 ghost use Rattle.coord_engine.specs.Past.{IsPastOf};
 ghost use Rattle.coord_engine.specs.State.{CanHold, based_on, guarded_over, most_shares, with_finish, with_share};
 
@@ -15,7 +15,7 @@ mod flushing;
 mod pacing;
 mod submitting;
 
-use crate::{History, Origin, Share, Writer};
+use crate::{LogAuthority, MonotoneLog, Origin, Share};
 use coord_disk::Disk;
 use coord_ledger::Ledger;
 pub use pacing::PutDown;
@@ -39,7 +39,7 @@ pub struct Guarded<D: Disk, L: Origin> {
     /// Counts the steps that were accepted for shares.
     book: Book<L>,
     /// Has written the steps of earlier instances, and behind them the settled ones.
-    writer: Writer,
+    writer: LogAuthority,
     /// The parts of the count that were not given out.
     rest: Part<L>,
     given: u32,
@@ -84,8 +84,8 @@ impl<D: Disk, L: Origin> Guarded<D, L> {
     pub fn new(
         alloc: Global,
         blank: Blank,
-        history: &History,
-        writer: Writer,
+        history: &MonotoneLog,
+        writer: LogAuthority,
         ledger: Ledger<D>,
     ) -> Self
         requires name { blank.name ≡ L.name }

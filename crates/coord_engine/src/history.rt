@@ -2,10 +2,10 @@
 //! alone.
 //!
 //! Nothing is known of the value under a lock but what its type keeps. So a flight that leaves under
-//! the lock takes a [`Reader`] along, and the [`Writer`] stays there. When the flight is back, the
+//! the lock takes a [`LogPrefix`] along, and the [`LogAuthority`] stays there. When the flight is back, the
 //! writer says that its history begins with what the reader has read. What a flight released has a
 //! reader too, which has read the steps that gave it out. Neither takes a byte; each call loads a word
-//! of the [`History`], which is 0.
+//! of the [`MonotoneLog`], which is 0.
 
 use crate::Origin;
 use atomic_table::{Join, Play, Seat, Split, Table, TableRule};
@@ -28,7 +28,7 @@ pub struct OneHistory;
 
 impl TableRule<(), Known, ()> for OneHistory {
     ghost use Rattle.std.specs.Prelude.{[]};
-    ghost use Rattle.coord_engine.specs.History.{KnowOneHistory, knows};
+    ghost use Rattle.coord_engine.specs.MonotoneLog.{KnowOneHistory, knows};
 
     ghost holds = { λ _ table. KnowOneHistory table.views };
 
@@ -58,7 +58,7 @@ struct WritesOn<G: NamedSteps> {
 }
 
 impl<G: NamedSteps> Play<(), Known> for WritesOn<G> {
-    ghost use Rattle.coord_engine.specs.History.{IsWrittenOn};
+    ghost use Rattle.coord_engine.specs.MonotoneLog.{IsWrittenOn};
 
     ghost then = { IsWrittenOn G.steps };
 }
@@ -67,7 +67,7 @@ impl<G: NamedSteps> Play<(), Known> for WritesOn<G> {
 struct Compares;
 
 impl Play<(), Known> for Compares {
-    ghost use Rattle.coord_engine.specs.History.{IsCompared};
+    ghost use Rattle.coord_engine.specs.MonotoneLog.{IsCompared};
 
     ghost then = { IsCompared };
 }
@@ -76,7 +76,7 @@ impl Play<(), Known> for Compares {
 struct ReadsOn;
 
 impl Play<(), Known> for ReadsOn {
-    ghost use Rattle.coord_engine.specs.History.{HasReadOn};
+    ghost use Rattle.coord_engine.specs.MonotoneLog.{HasReadOn};
 
     ghost then = { HasReadOn };
 }
@@ -86,7 +86,7 @@ struct ReadsAlong;
 
 impl Split<Known> for ReadsAlong {
     ghost use Rattle.std.specs.Prelude.{[]};
-    ghost use Rattle.coord_engine.specs.History.{knows};
+    ghost use Rattle.coord_engine.specs.MonotoneLog.{knows};
 
     ghost left = { λ v. v };
 
@@ -100,7 +100,7 @@ struct Tells<G: NamedSteps> {
 
 impl<G: NamedSteps> Join<Known> for Tells<G> {
     ghost use Rattle.std.specs.Prelude.{[]};
-    ghost use Rattle.coord_engine.specs.History.{knows};
+    ghost use Rattle.coord_engine.specs.MonotoneLog.{knows};
 
     ghost both = { λ v w. knows v.read w.read };
 
@@ -110,11 +110,11 @@ impl<G: NamedSteps> Join<Known> for Tells<G> {
 /// A history that tokens read and one writes. All that is shared of it is which one it is, so contracts
 /// see that.
 #[derive(Drop)]
-pub struct History {
+pub struct MonotoneLog {
     table: Arc<Table<(), Known, (), OneHistory, Global>>,
 }
 
-impl Model for History {
+impl Model for MonotoneLog {
     ghost use Rattle.std.specs.Prelude.{◌≡◌};
     ghost use Rattle.std.specs.Arc.{arc_value};
     ghost use Rattle.atomic_table.specs.Seated.{TableId};
@@ -128,13 +128,13 @@ impl Model for History {
 
 /// Writes a history. There is one of it. Contracts see which history it is, and all of its steps.
 #[derive(Drop)]
-pub struct Writer {
+pub struct LogAuthority {
     token: Pass,
 }
 
-impl Model for Writer {
+impl Model for LogAuthority {
     ghost use Rattle.std.specs.Prelude.{◌≡◌, []};
-    ghost use Rattle.coord_engine.specs.History.{Beginning};
+    ghost use Rattle.coord_engine.specs.MonotoneLog.{Beginning};
 
     ghost Value = { Beginning };
 
@@ -145,13 +145,13 @@ impl Model for Writer {
 
 /// Has read a beginning of a history. Contracts see which history it is, and these steps.
 #[derive(Drop)]
-pub struct Reader {
+pub struct LogPrefix {
     token: Pass,
 }
 
-impl Model for Reader {
+impl Model for LogPrefix {
     ghost use Rattle.std.specs.Prelude.{◌≡◌, []};
-    ghost use Rattle.coord_engine.specs.History.{Beginning};
+    ghost use Rattle.coord_engine.specs.MonotoneLog.{Beginning};
 
     ghost Value = { Beginning };
 
@@ -160,35 +160,35 @@ impl Model for Reader {
     ghost invariant = { λ r. r.token.me.1 ≡ [] };
 }
 
-impl History {
+impl MonotoneLog {
     ghost use Rattle.std.specs.Prelude.{◌≡◌, [], IfOk};
 
     /// A history without steps, and the token that writes it. Takes memory for one word.
-    pub fn new(alloc: Global) -> Result<(History, Writer), AllocError>
+    pub fn new(alloc: Global) -> Result<(MonotoneLog, LogAuthority), AllocError>
         ensures { IfOk result (λ made. made.1 ≡ record { history = made.0; steps = [] }) }
     {
         let (table, token) = Table::of_words(alloc, &[0], &())?;
         let table = Arc::new(alloc, table)?;
-        Ok((History { table }, Writer { token }))
+        Ok((MonotoneLog { table }, LogAuthority { token }))
     }
 
     /// The same history once more. It takes no memory; there is an error only where the count of all that
     /// share it is full.
-    pub fn another(&self) -> Result<History, AllocError>
+    pub fn another(&self) -> Result<MonotoneLog, AllocError>
         ensures { IfOk result (λ other. other ≡ self.now) }
     {
         let table = Arc::try_clone(&self.table)?;
-        Ok(History { table })
+        Ok(MonotoneLog { table })
     }
 }
 
-impl Writer {
+impl LogAuthority {
     ghost use Rattle.std.specs.Prelude.{◌≡◌, ◌++◌};
-    ghost use Rattle.coord_engine.specs.History.{StartsWith};
+    ghost use Rattle.coord_engine.specs.MonotoneLog.{StartsWith};
 
     /// Writes on, so that the steps of the history are those of earlier instances, as `L` names them, and
     /// behind them these.
-    pub(crate) fn write_on<L: Origin>(&mut self, history: &History, steps: &[Step])
+    pub(crate) fn write_on<L: Origin>(&mut self, history: &MonotoneLog, steps: &[Step])
         requires here { history.now ≡ self.old.history }
         requires on { StartsWith (L.earlier ++ steps.now) self.old.steps }
         ensures { self.new ≡ record { history = self.old.history; steps = L.earlier ++ steps.now } }
@@ -197,7 +197,7 @@ impl Writer {
     }
 
     /// Writes on, so that these are all steps of the history, which have a name. They end with some.
-    fn write_as<G: NamedSteps>(&mut self, history: &History, _last: &[Step])
+    fn write_as<G: NamedSteps>(&mut self, history: &MonotoneLog, _last: &[Step])
         requires here { history.now ≡ self.old.history }
         requires on { StartsWith G.steps self.old.steps }
         ensures { self.new ≡ record { history = self.old.history; steps = G.steps } }
@@ -206,7 +206,7 @@ impl Writer {
     }
 
     /// A reader that has read all that is written.
-    pub fn reader(&mut self, history: &History) -> Reader
+    pub fn reader(&mut self, history: &MonotoneLog) -> LogPrefix
         requires { history.now ≡ self.old.history }
         ensures read { result ≡ self.old }
         ensures same { self.new ≡ self.old }
@@ -215,11 +215,11 @@ impl Writer {
             .table
             .shared
             .split_seat::<ReadsAlong>(&mut self.token);
-        Reader { token }
+        LogPrefix { token }
     }
 
     /// Takes a reader back: what is written begins with what it has read.
-    pub fn take_back(&mut self, history: &History, reader: Reader)
+    pub fn take_back(&mut self, history: &MonotoneLog, reader: LogPrefix)
         requires here { history.now ≡ self.old.history }
         requires theirs { reader.history ≡ self.old.history }
         ensures begins { StartsWith self.new.steps reader.steps }
@@ -229,14 +229,14 @@ impl Writer {
     }
 
     /// The same, where what the reader has read has a name.
-    fn take_back_as<G: NamedSteps>(&mut self, history: &History, reader: Reader)
+    fn take_back_as<G: NamedSteps>(&mut self, history: &MonotoneLog, reader: LogPrefix)
         requires here { history.now ≡ self.old.history }
         requires theirs { reader.history ≡ self.old.history }
         requires named { reader.steps ≡ G.steps }
         ensures begins { StartsWith self.new.steps reader.steps }
         ensures same { self.new ≡ self.old }
     {
-        let Reader { token } = reader;
+        let LogPrefix { token } = reader;
         history
             .table
             .shared
@@ -245,12 +245,12 @@ impl Writer {
     }
 }
 
-impl Reader {
+impl LogPrefix {
     ghost use Rattle.std.specs.Prelude.{◌≡◌};
-    ghost use Rattle.coord_engine.specs.History.{StartsWith};
+    ghost use Rattle.coord_engine.specs.MonotoneLog.{StartsWith};
 
     /// One more reader that has read as much.
-    pub fn another(&mut self, history: &History) -> Reader
+    pub fn another(&mut self, history: &MonotoneLog) -> LogPrefix
         requires { history.now ≡ self.old.history }
         ensures read { result ≡ self.old }
         ensures same { self.new ≡ self.old }
@@ -259,12 +259,12 @@ impl Reader {
             .table
             .shared
             .split_seat::<ReadsAlong>(&mut self.token);
-        Reader { token }
+        LogPrefix { token }
     }
 
     /// Takes another reader of the history in, and reads on: what it has read then begins with what it had
     /// read, and with what the other one has read.
-    pub fn join(&mut self, history: &History, other: Reader)
+    pub fn join(&mut self, history: &MonotoneLog, other: LogPrefix)
         requires here { history.now ≡ self.old.history }
         requires theirs { other.history ≡ self.old.history }
         ensures begins { StartsWith self.new.steps self.old.steps }
@@ -275,7 +275,7 @@ impl Reader {
     }
 
     /// The same, where what the other has read has a name.
-    fn join_as<G: NamedSteps>(&mut self, history: &History, other: Reader)
+    fn join_as<G: NamedSteps>(&mut self, history: &MonotoneLog, other: LogPrefix)
         requires here { history.now ≡ self.old.history }
         requires theirs { other.history ≡ self.old.history }
         requires named { other.steps ≡ G.steps }
@@ -283,7 +283,7 @@ impl Reader {
         ensures others { StartsWith self.new.steps other.steps }
         ensures same { self.new.history ≡ self.old.history }
     {
-        let Reader { token } = other;
+        let LogPrefix { token } = other;
         history
             .table
             .shared

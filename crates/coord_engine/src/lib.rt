@@ -47,7 +47,7 @@ pub use engine::Engine;
 pub use flushing::{flusher, hand_over};
 pub use guarded::{Guarded, PutDown};
 pub use hand::Hand;
-pub use history::{History, Reader, Writer};
+pub use history::{LogAuthority, LogPrefix, MonotoneLog};
 pub use origin::Origin;
 pub use own_flight::OwnFlight;
 pub use packet_share::PacketShare;

@@ -4,7 +4,7 @@ ghost use Rattle.std.specs.Prelude.{List, []};
 ghost use Rattle.coord_types.specs.declared.steps.Step.{Step};
 ghost use Rattle.coord_world.specs.protocol.NumberedWorld.{World, no_world};
 ghost use Rattle.atomic_table.specs.Seated.{TableId};
-ghost use Rattle.coord_engine.specs.History.{no_history};
+ghost use Rattle.coord_engine.specs.MonotoneLog.{no_history};
 ghost use Rattle.coord_engine.specs.Past.{Past, no_past};
 
 use std::marker::Brand;

@@ -5,7 +5,7 @@ ghost use Rattle.coord_ledger.specs.declared.mark.Mark.TheVariants.{Good, New, T
 ghost use Rattle.coord_engine.specs.Flights.{CommitsFlight};
 ghost use Rattle.coord_engine.specs.Past.{LeavesFlown};
 
-use crate::{Origin, Reader};
+use crate::{LogPrefix, Origin};
 use coord_disk::Disk;
 use coord_ledger::Flight;
 use coord_store::CommitFault;
@@ -17,7 +17,7 @@ use std::marker::{Model, PhantomData};
 /// worlds after the first of them and of its own.
 pub struct OwnFlight<D: Disk, L: Origin> {
     pub(crate) flight: Flight<D>,
-    pub(crate) reader: Reader,
+    pub(crate) reader: LogPrefix,
     pub(crate) of: PhantomData<L>,
 }
 

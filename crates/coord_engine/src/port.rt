@@ -3,7 +3,7 @@
 ghost use Rattle.std.specs.Prelude.{◌≡◌};
 ghost use Rattle.coord_engine.specs.Port.{delivery_of, step_of};
 
-use crate::Reader;
+use crate::LogPrefix;
 use coord_types::{NodeId, Output, Packet, Step};
 
 /// What carries released packets to the workers of nodes, and signals to their services. No promise
@@ -15,7 +15,7 @@ use coord_types::{NodeId, Output, Packet, Step};
 pub trait Port {
     ghost use Rattle.std.specs.Prelude.{ℕ, Bool, ⊤};
     ghost use Rattle.coord_types.specs.declared.packets.Packet.{Packet as Asked};
-    ghost use Rattle.coord_engine.specs.History.{Beginning};
+    ghost use Rattle.coord_engine.specs.MonotoneLog.{Beginning};
 
     /// What it may be once it was asked to carry a packet to a node, and answered so.
     ghost carried: { Self → ℕ → Asked → Bool → Self → Type 0 } = { λ _ _ _ _ _. ⊤ };
@@ -36,7 +36,7 @@ pub trait Port {
 
     /// Says to the service at this node that a reset has ended there, with the epoch that began. The
     /// step with this number gives the signal out, and the reader has read it among the settled steps.
-    fn signal(&mut self, reader: Reader, step: u64, node: NodeId, epoch: u64) -> bool
+    fn signal(&mut self, reader: LogPrefix, step: u64, node: NodeId, epoch: u64) -> bool
         requires { may_signal reader step node epoch }
         ensures { signalled self.old step node epoch result self.new };
 

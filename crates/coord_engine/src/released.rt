@@ -4,7 +4,7 @@ ghost use Rattle.std.specs.Prelude.{◌≡◌, length};
 ghost use Rattle.coord_engine.specs.Port.{MayAskAll};
 ghost use Rattle.coord_engine.specs.Released.{AreOfSettled};
 
-use crate::{Origin, Reader};
+use crate::{LogPrefix, Origin};
 use coord_ledger::Releases;
 use std::marker::{Model, PhantomData};
 
@@ -13,7 +13,7 @@ use std::marker::{Model, PhantomData};
 /// reader has read give out each signal among it.
 pub struct Released<L: Origin> {
     pub(crate) releases: Releases,
-    pub(crate) reader: Reader,
+    pub(crate) reader: LogPrefix,
     pub(crate) of: PhantomData<L>,
 }
 
@@ -31,7 +31,7 @@ impl<L: Origin> Model for Released<L> {
 
 impl<L: Origin> Released<L> {
     /// Of these releases, whose signals are of steps that the reader has read.
-    pub(crate) fn new(releases: Releases, reader: Reader) -> Self
+    pub(crate) fn new(releases: Releases, reader: LogPrefix) -> Self
         requires { AreOfSettled L.history L.earlier L.base reader releases }
         ensures { result ≡ releases }
     {

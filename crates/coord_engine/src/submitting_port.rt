@@ -5,7 +5,7 @@ ghost use Rattle.coord_engine.specs.Working.{IsOfPacket};
 
 use crate::port::Port;
 use crate::working::take_and_try;
-use crate::{Engine, Hand, Origin, PacketShare, Reader, Share};
+use crate::{Engine, Hand, LogPrefix, Origin, PacketShare, Share};
 use coord_disk::Disk;
 use coord_types::{NodeId, Packet};
 use std::alloc::Global;
@@ -95,7 +95,7 @@ impl<'e, D: Disk, L: Origin, P: Port, R: Wait> Port for SubmittingPort<'e, D, L,
         self.gathered.push(packet).is_ok()
     }
 
-    fn signal(&mut self, reader: Reader, step: u64, node: NodeId, epoch: u64) -> bool {
+    fn signal(&mut self, reader: LogPrefix, step: u64, node: NodeId, epoch: u64) -> bool {
         self.signals.signal(reader, step, node, epoch)
     }
 

@@ -8,7 +8,7 @@ ghost use Rattle.coord_server.specs.EngineDesk.{HandsAgain, IsReadIn, Replies, R
 
 use coord_admin::Desk;
 use coord_disk::Disk;
-use coord_engine::{Engine, Origin, Port, Reader, Share, hand_over};
+use coord_engine::{Engine, LogPrefix, Origin, Port, Share, hand_over};
 use coord_ledger::{Seen, Ticket};
 use coord_types::{Client, Command, Refusal, Reply, Step};
 use coord_view::View;
@@ -26,7 +26,7 @@ pub struct EngineDesk<'a, D: Disk, L: Origin, P: Port, R: Wait> {
     share: Share<L>,
     seen: Seen,
     /// Has read the settled steps of which the desk told.
-    reader: Reader,
+    reader: LogPrefix,
 }
 
 impl<'a, D: Disk, L: Origin, P: Port, R: Wait> Model for EngineDesk<'a, D, L, P, R> {
@@ -51,7 +51,7 @@ impl<'a, D: Disk, L: Origin, P: Port + Drop, R: Wait> EngineDesk<'a, D, L, P, R>
         engine: &'a Engine<D, L>,
         port: P,
         share: Share<L>,
-        reader: Reader,
+        reader: LogPrefix,
     ) -> Self
         requires { reader ≡ record { history = L.history; steps = L.earlier } }
         ensures { result ≡ record { notes = share; seen = 0; read = []; port = port } }
@@ -68,7 +68,7 @@ impl<'a, D: Disk, L: Origin, P: Port + Drop, R: Wait> EngineDesk<'a, D, L, P, R>
 
     /// The desk's share, with the notes of what was accepted for it, what the desk has seen, and its
     /// reader.
-    pub fn into_parts(self) -> (Share<L>, Seen, Reader)
+    pub fn into_parts(self) -> (Share<L>, Seen, LogPrefix)
         ensures notes { result.0 ≡ self.entry.notes }
         ensures seen { result.1 ≡ self.entry.seen }
         ensures read { HasReadSettled L.history L.earlier self.entry.read result.2 }
@@ -90,7 +90,7 @@ fn collect<D: Disk, L: Origin, R: Wait>(
     rt: &R,
     engine: &Engine<D, L>,
     posted: Result<Ticket, Refusal>,
-    reader: &mut Reader,
+    reader: &mut LogPrefix,
 ) -> Result<Reply, Refusal>
     requires { IsReadIn L.history L.earlier reader.old }
     ensures replied { Replies (based_on D.model L.base L.before) posted result

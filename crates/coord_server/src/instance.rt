@@ -1,7 +1,7 @@
 //! One instance of a server: an engine with its threads, from a store to what is left of it.
 
 ghost use Rattle.std.specs.Prelude.{◌≡◌, ◌≤◌, [], false, length, IfErr, IfOk, IfSome, None, Some};
-ghost use Rattle.coord_engine.specs.History.{StartsWith};
+ghost use Rattle.coord_engine.specs.MonotoneLog.{StartsWith};
 ghost use Rattle.coord_engine.specs.Past.{IsPastOf, StaysAlong};
 ghost use Rattle.coord_engine.specs.Released.{MayPrint};
 ghost use Rattle.coord_engine.specs.State.{based_on};
@@ -20,7 +20,8 @@ use crate::{ServerFault, SignalSource, WORKERS};
 use coord_admin::Callers;
 use coord_disk::Disk;
 use coord_engine::{
-    CloseFault, Closed, Engine, History, Origin, PacketShare, Reader, Retired, Share, Writer,
+    CloseFault, Closed, Engine, LogAuthority, LogPrefix, MonotoneLog, Origin, PacketShare, Retired,
+    Share,
 };
 use coord_ledger::{Ledger, Seen};
 use coord_store::Store;
@@ -44,7 +45,7 @@ const NOTES_ROOM: usize = 600_000;
 /// server's history.
 #[derive(Drop)]
 pub struct InstanceStart<D: Disk> {
-    pub history: History,
+    pub history: MonotoneLog,
     pub ledger: Ledger<D>,
     /// The store as it was.
     pub over: Snapshot<Store<D>>,
@@ -53,7 +54,7 @@ pub struct InstanceStart<D: Disk> {
 
 impl<D: Disk> InstanceStart<D> {
     /// Over a store, which comes back where there is no memory.
-    pub fn new(alloc: Global, history: &History, store: Store<D>) -> Result<Self, Store<D>>
+    pub fn new(alloc: Global, history: &MonotoneLog, store: Store<D>) -> Result<Self, Store<D>>
         requires { has_stopped store ≡ false }
         ensures history { IfOk result (λ start. start.history ≡ history.now) }
         ensures over { IfOk result (λ start. start.over.value ≡ store) }
@@ -79,7 +80,7 @@ impl<D: Disk> InstanceStart<D> {
 #[derive(Drop)]
 pub struct Instance<D: Disk, C> {
     pub closed: Closed<D>,
-    pub writer: Writer,
+    pub writer: LogAuthority,
     pub callers: C,
     pub left: InstanceEnd,
 }
@@ -98,7 +99,7 @@ pub fn serve_instance<
 >(
     setting: &Setting<'_, R, O>,
     start: InstanceStart<D>,
-    writer: Writer,
+    writer: LogAuthority,
     callers: C,
     opening: Option<Opening>,
 ) -> Instance<D, C>
@@ -132,8 +133,8 @@ fn serve_ledger<
 >(
     setting: &Setting<'_, R, O>,
     blank: Blank,
-    history: History,
-    writer: Writer,
+    history: MonotoneLog,
+    writer: LogAuthority,
     ledger: Ledger<D>,
     callers: C,
     opening: Option<Opening>,
@@ -174,7 +175,7 @@ fn serve_ledger<
 fn begin<D: Disk, L: Origin, O: SignalSource, R: Wait>(
     setting: &Setting<'_, R, O>,
     engine: &Engine<D, L>,
-    reader: Reader,
+    reader: LogPrefix,
 ) -> Option<Begun<L>>
     requires { reader ≡ record { history = L.history; steps = L.earlier } }
 {
@@ -233,7 +234,7 @@ fn unbegun<D: Disk, L: Origin, C, O: SignalSource, R: Wait + Clock>(
 /// where the engine refuses them, whatever they noted. What is written begins with what the desk has read.
 fn retired<D: Disk, L: Origin, C: Callers, R: Wait + Clock>(
     rt: &R,
-    history: &History,
+    history: &MonotoneLog,
     engine: Engine<D, L>,
     completed: JoinedThreads<L, C>,
 ) -> Instance<D, C>

@@ -9,7 +9,7 @@ ghost use Rattle.coord_server.specs.Moments.{HasLived};
 ghost use Rattle.coord_server.specs.Printed.{IsPrinted, IsUnprintedFor};
 ghost use Rattle.coord_server.specs.ServerRun.{ServerRun};
 ghost use Rattle.coord_server.specs.Signals.{MaySignal};
-ghost use Rattle.coord_engine.specs.History.{StartsWith};
+ghost use Rattle.coord_engine.specs.MonotoneLog.{StartsWith};
 ghost use Rattle.coord_engine.specs.Released.{MayPrint};
 ghost use Rattle.coord_types.specs.declared.steps.Step.{Step};
 ghost use Rattle.coord_world.specs.Facade.{fold};
@@ -21,7 +21,7 @@ use crate::setting::Setting;
 use crate::{Printer, ServerEnd, ServerFault, SignalPrinter, SignalSource};
 use coord_admin::Callers;
 use coord_disk::Disk;
-use coord_engine::{Closed, History, Writer};
+use coord_engine::{Closed, LogAuthority, MonotoneLog};
 use coord_store::Store;
 use std::alloc::Global;
 use std::io::Write;
@@ -62,7 +62,7 @@ pub fn serve_instances<
     store: Store<D>,
     callers: C,
     printer: SignalPrinter<W, O>,
-    written: (History, Writer),
+    written: (MonotoneLog, LogAuthority),
 ) -> Result<ServerEnd<D, C, W>, (Store<D>, Printer<W>)>
     requires going { has_stopped store ≡ false }
     requires here { written.0 ≡ O.history }
@@ -107,7 +107,7 @@ fn serve_and_print<
 >(
     setting: &Setting<'_, R, O>,
     start: InstanceStart<D>,
-    writer: Writer,
+    writer: LogAuthority,
     callers: C,
     opening: Opening,
     printing: Printing<W, O>,
@@ -183,7 +183,7 @@ fn print_and_live<
 >(
     setting: &Setting<'_, R, O>,
     start: InstanceStart<D>,
-    writer: Writer,
+    writer: LogAuthority,
     callers: C,
     opening: Opening,
     printing: PromisedHandle<Printed<W>, PrintsFrom<W, O>>,
@@ -211,7 +211,7 @@ fn live<
 >(
     setting: &Setting<'_, R, O>,
     start: InstanceStart<D>,
-    writer: Writer,
+    writer: LogAuthority,
     callers: C,
     opening: Opening,
 ) -> Instance<D, C>
@@ -289,7 +289,7 @@ fn start_over<D: Disk, O: SignalSource, R: Wait>(
 fn next_of<D: Disk, C, O: SignalSource, R: Wait>(
     setting: &Setting<'_, R, O>,
     instance: Instance<D, C>,
-) -> Result<(InstanceStart<D>, Writer, C), Instance<D, C>>
+) -> Result<(InstanceStart<D>, LogAuthority, C), Instance<D, C>>
     ensures goes_on { IfOk result (λ next. MayGoOn setting.now.instance_steps instance.closed) }
     ensures next { IfOk result (λ next. (instance.left ≡ InstanceEndAs.Resting) ×
         (next.0.history ≡ O.history) × (next.0.over.value ≡ instance.closed.store) ×
@@ -325,7 +325,7 @@ fn next_of<D: Disk, C, O: SignalSource, R: Wait>(
 /// store that has stopped. Where the first line was not printed, what printed tells why. The steps of all
 /// signals that were printed are among those that all instances have written.
 fn end_of<D: Disk, C, W: Write>(
-    history: &History,
+    history: &MonotoneLog,
     instance: Instance<D, C>,
     printed: Printed<W>,
 ) -> ServerEnd<D, C, W>

@@ -4,7 +4,7 @@ ghost use Rattle.std.specs.Prelude.{◌≡◌};
 ghost use Rattle.coord_server.specs.Workers.{worker_of};
 
 use crate::signal::{Signal, SignalSource};
-use coord_engine::{Port, Reader};
+use coord_engine::{LogPrefix, Port};
 use coord_types::{NodeId, Packet};
 use crossbeam_channel::Sender;
 use std::alloc::Global;
@@ -137,7 +137,7 @@ impl<R: Wait, O: SignalSource> Port for &LocalPort<R, O> {
         port.ways.lock(&port.rt).gather(packet)
     }
 
-    fn signal(&mut self, reader: Reader, step: u64, node: NodeId, epoch: u64) -> bool {
+    fn signal(&mut self, reader: LogPrefix, step: u64, node: NodeId, epoch: u64) -> bool {
         let port = *self;
         let signal = Signal::new(reader, step, node, epoch);
         match &*port.signals.lock(&port.rt) {

@@ -9,7 +9,7 @@ ghost use Rattle.coord_server.specs.Signals.{StepSignal};
 use crate::instance_end::InstanceEnd;
 use crate::{LocalPort, Printer, ServerFault, Signal, SignalPrinter, SignalSource};
 use coord_admin::Callers;
-use coord_engine::{History, Reader};
+use coord_engine::{LogPrefix, MonotoneLog};
 use crossbeam_channel::{Receiver, Sender};
 use std::alloc::{AllocError, Global};
 use std::io::Write;
@@ -22,7 +22,7 @@ use std::thread::Promise;
 #[derive(Drop)]
 pub struct Printed<W: Write> {
     pub printer: Printer<W>,
-    pub reader: Reader,
+    pub reader: LogPrefix,
     /// Why the first line was not printed, where it was to be printed and was not.
     pub unprinted: Option<ServerFault>,
 }
@@ -32,10 +32,10 @@ pub struct Printed<W: Write> {
 /// the last one.
 #[tactic(auto, using(crate::proofs::Starts::told_none))]
 pub fn print_signals<W: Write, O: SignalSource, I: Iterator<Item = Signal<O>>>(
-    history: &History,
+    history: &MonotoneLog,
     signals: I,
     printer: SignalPrinter<W, O>,
-    reader: Reader,
+    reader: LogPrefix,
 ) -> Printed<W>
     requires signals { I.can_next signals × IsFinite (I.remaining signals) }
     requires here { history.now ≡ O.history }
@@ -123,8 +123,8 @@ fn print_listening<W: Write, O: SignalSource>(
 #[derive(Drop)]
 pub struct Printing<W: Write + Drop, O: SignalSource> {
     pub printer: SignalPrinter<W, O>,
-    history: History,
-    reader: Reader,
+    history: MonotoneLog,
+    reader: LogPrefix,
     addresses: Receiver<SocketAddr>,
     printed: Sender<()>,
     signals: Receiver<Signal<O>>,
@@ -235,8 +235,8 @@ impl<R: Wait + Drop, W: Write + Drop, O: SignalSource> Outlet<R, W, O> {
         alloc: Global,
         channels: Channels<O>,
         printer: SignalPrinter<W, O>,
-        history: History,
-        reader: Reader,
+        history: MonotoneLog,
+        reader: LogPrefix,
     ) -> Self
         requires here { history ≡ O.history }
         requires own { reader.history ≡ O.history }

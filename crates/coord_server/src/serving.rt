@@ -13,7 +13,7 @@ use crate::instances::serve_instances;
 use crate::{Printer, ServerEnd, SignalPrinter, SignalSource};
 use coord_admin::{Accepted, Callers, Patience};
 use coord_disk::Disk;
-use coord_engine::{History, Writer};
+use coord_engine::{LogAuthority, MonotoneLog};
 use coord_store::Store;
 use std::alloc::Global;
 use std::io::{Read, Write};
@@ -49,7 +49,7 @@ pub fn serve_store<
     store: Store<D>,
     listener: &'a A,
     printer: SignalPrinter<W, O>,
-    written: (History, Writer),
+    written: (MonotoneLog, LogAuthority),
 ) -> Result<ServerEnd<D, Accepted<'a, A, R>, W>, (Store<D>, Printer<W>)>
     requires going { has_stopped store ≡ false }
     requires here { written.0 ≡ O.history }
@@ -84,7 +84,7 @@ fn serve_accepted<
     store: Store<D>,
     callers: Accepted<'a, A, R>,
     printer: SignalPrinter<W, O>,
-    written: (History, Writer),
+    written: (MonotoneLog, LogAuthority),
 ) -> Result<ServerEnd<D, Accepted<'a, A, R>, W>, (Store<D>, Printer<W>)>
     requires going { has_stopped store ≡ false }
     requires patience { IsUsual callers }
@@ -113,7 +113,7 @@ pub fn serve_callers<
     store: Store<D>,
     callers: C,
     printer: SignalPrinter<W, O>,
-    written: (History, Writer),
+    written: (MonotoneLog, LogAuthority),
 ) -> Result<ServerEnd<D, C, W>, (Store<D>, Printer<W>)>
     requires going { has_stopped store ≡ false }
     requires here { written.0 ≡ O.history }

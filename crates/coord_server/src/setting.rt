@@ -3,7 +3,7 @@
 ghost use Rattle.std.specs.Prelude.{◌≡◌};
 
 use crate::{LocalPort, SignalSource};
-use coord_engine::History;
+use coord_engine::MonotoneLog;
 use std::alloc::Global;
 use std::sync::Wait;
 
@@ -14,7 +14,7 @@ pub struct Setting<'r, R: Wait, O: SignalSource> {
     pub rt: &'r R,
     pub alloc: Global,
     pub port: &'r LocalPort<&'r R, O>,
-    pub history: &'r History,
+    pub history: &'r MonotoneLog,
     pub instance_steps: usize,
     pub ghost here: { history.now ≡ O.history },
 }

@@ -3,7 +3,7 @@
 ghost use Rattle.std.specs.Prelude.{◌≡◌};
 ghost use Rattle.coord_server.specs.Signals.{MaySignal};
 
-use coord_engine::Reader;
+use coord_engine::LogPrefix;
 use coord_types::NodeId;
 use std::marker::{Brand, Model, PhantomData};
 
@@ -31,7 +31,7 @@ pub trait SignalSource {
 
 impl SignalSource for Brand {
     ghost use Rattle.std.specs.Prelude.{⊤};
-    ghost use Rattle.coord_engine.specs.History.{no_history};
+    ghost use Rattle.coord_engine.specs.MonotoneLog.{no_history};
 
     ghost history = { no_history };
 
@@ -45,7 +45,7 @@ impl SignalSource for Brand {
 /// read: it is known of each that comes over a channel.
 #[derive(Drop)]
 pub struct Signal<O: SignalSource> {
-    reader: Reader,
+    reader: LogPrefix,
     step: u64,
     node: NodeId,
     epoch: u64,
@@ -64,7 +64,7 @@ impl<O: SignalSource> Model for Signal<O> {
 
 impl<O: SignalSource> Signal<O> {
     /// One that may be told.
-    pub fn new(reader: Reader, step: u64, node: NodeId, epoch: u64) -> Self
+    pub fn new(reader: LogPrefix, step: u64, node: NodeId, epoch: u64) -> Self
         requires { MaySignal O.history O.gives reader step node epoch }
         ensures { result ≡ record { step = step; node = node; epoch = epoch } }
     {
@@ -99,7 +99,7 @@ impl<O: SignalSource> Signal<O> {
     }
 
     /// What has read its step.
-    pub fn into_reader(self) -> Reader
+    pub fn into_reader(self) -> LogPrefix
         ensures { MaySignal O.history O.gives result self.step self.node self.epoch }
     {
         let Signal {

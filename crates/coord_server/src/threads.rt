@@ -16,7 +16,7 @@ use crate::{EngineDesk, ServerFault, SignalSource};
 use coord_admin::{Callers, Desk, Stop, serve_connections};
 use coord_disk::Disk;
 use coord_engine::{
-    Engine, Origin, PacketShare, Port, Reader, Share, SubmittingPort, flusher, packet_worker,
+    Engine, LogPrefix, Origin, PacketShare, Port, Share, SubmittingPort, flusher, packet_worker,
 };
 use coord_ledger::Seen;
 use coord_types::Packet;
@@ -33,7 +33,7 @@ pub struct Begun<L: Origin> {
     /// The desk's share.
     pub own: Share<L>,
     /// The desk's reader, which has read the steps of earlier instances.
-    pub reader: Reader,
+    pub reader: LogPrefix,
     /// The flusher's.
     pub flusher_share: PacketShare<L>,
     /// Room for all shares: none of them may be lost for want of memory.
@@ -52,7 +52,7 @@ pub struct Begun<L: Origin> {
 pub struct JoinedThreads<L: Count, C> {
     pub shares: Vec<Share<L>>,
     pub seen: Seen,
-    pub reader: Reader,
+    pub reader: LogPrefix,
     pub callers: C,
     pub left: InstanceEnd,
 }
@@ -285,10 +285,10 @@ fn serve_over<D: Disk, L: Origin, C: Callers, O: SignalSource, R: Wait>(
     engine: &Engine<D, L>,
     _crew: &Crew<L>,
     own: Share<L>,
-    reader: Reader,
+    reader: LogPrefix,
     callers: &mut C,
     opening: Option<Opening>,
-) -> (Share<L>, Seen, Reader, InstanceEnd)
+) -> (Share<L>, Seen, LogPrefix, InstanceEnd)
     requires unused { own ≡ [] }
     requires unread { reader ≡ record { history = L.history; steps = L.earlier } }
     ensures { (port : Local) × (later : Local) × (read : List Step) × ServesInstance

@@ -11,7 +11,7 @@ ghost use Rattle.coord_store.specs.Kept.{has_stopped};
 
 use super::Guarded;
 use super::comparing::{all_ascending, all_noted};
-use crate::{CloseFault, Closed, Origin, Retired, Share, Writer};
+use crate::{CloseFault, Closed, LogAuthority, Origin, Retired, Share};
 use coord_disk::Disk;
 use coord_ledger::{Ledger, Seen};
 use coord_types::{Kind, Step};
@@ -96,7 +96,7 @@ impl<D: Disk, L: Origin> Guarded<D, L> {
         self,
         shares: Vec<Share<L>>,
         seen: &Seen,
-    ) -> Result<(Closed<D>, Writer), (CloseFault, Self, Vec<Share<L>>)>
+    ) -> Result<(Closed<D>, LogAuthority), (CloseFault, Self, Vec<Share<L>>)>
         requires { L.parts ≡ 65536 }
         ensures may { IfOk result (λ left. MayClose self shares.items) }
         ensures since { IfOk result (λ left.
@@ -148,7 +148,7 @@ impl<D: Disk, L: Origin> Guarded<D, L> {
 
     /// Takes the ledger apart whatever the shares noted. What writes the history comes back too. It takes
     /// no memory.
-    fn abandon(self) -> (Closed<D>, Writer)
+    fn abandon(self) -> (Closed<D>, LogAuthority)
         requires home { is_none self.ledger.disk ≡ false }
         ensures store { (self.ledger.disk ≡ Some result.0.store.disk) ×
             (result.0.store.world ≡ settled_world self.ledger.log) ×

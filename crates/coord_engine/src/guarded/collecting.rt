@@ -2,12 +2,12 @@
 
 ghost use Rattle.std.specs.Prelude.{◌≡◌};
 ghost use Rattle.coord_engine.specs.Calls.{CollectsAs};
-ghost use Rattle.coord_engine.specs.History.{StartsWith};
+ghost use Rattle.coord_engine.specs.MonotoneLog.{StartsWith};
 ghost use Rattle.coord_engine.specs.Released.{HasReadSettled};
 ghost use Rattle.coord_ledger.specs.machine.Log.{settled_steps};
 
 use super::Guarded;
-use crate::{Collected, History, Origin, Reader};
+use crate::{Collected, LogPrefix, MonotoneLog, Origin};
 use coord_disk::Disk;
 use coord_ledger::Ticket;
 use coord_types::Refusal;
@@ -31,7 +31,7 @@ impl<D: Disk, L: Origin> Guarded<D, L> {
     }
 
     /// Has a reader read on, so that it has read all settled steps. They begin with what it had read.
-    pub fn read_on(&mut self, history: &History, reader: &mut Reader)
+    pub fn read_on(&mut self, history: &MonotoneLog, reader: &mut LogPrefix)
         requires here { history.now ≡ L.history }
         requires own { reader.old.history ≡ L.history }
         ensures read { HasReadSettled L.history L.earlier

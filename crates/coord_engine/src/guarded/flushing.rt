@@ -1,7 +1,7 @@
 //! Flights go out, and come back.
 
 ghost use Rattle.std.specs.Prelude.{◌≡◌, ◌-◌, ◌++◌, false, true, None, Ok, length, take, IfErr, IfOk, IfSome, IsSomeAnd, OnErr, OnOk, Some, ◌≤◌};
-ghost use Rattle.coord_engine.specs.History.{StartsWith};
+ghost use Rattle.coord_engine.specs.MonotoneLog.{StartsWith};
 ghost use Rattle.coord_engine.specs.Past.{FliesFrom};
 ghost use Rattle.coord_engine.specs.Released.{HasReadSettled};
 ghost use Rattle.coord_engine.specs.State.{with_ledger};
@@ -11,7 +11,7 @@ ghost use Rattle.coord_ledger.specs.machine.After.{resent};
 ghost use Rattle.coord_ledger.specs.machine.Log.{pending, settled_steps, settled_world};
 
 use super::Guarded;
-use crate::{History, Origin, OwnFlight, Released, Writer};
+use crate::{LogAuthority, MonotoneLog, Origin, OwnFlight, Released};
 use coord_disk::Disk;
 use coord_ledger::Ledger;
 use coord_types::{Refusal, Step};
@@ -28,8 +28,8 @@ fn first_steps(steps: &[Step], count: usize) -> &[Step]
 
 /// Writes the settled steps of a ledger in the history, behind those of earlier instances.
 pub(super) fn write_settled<D: Disk, L: Origin>(
-    writer: &mut Writer,
-    history: &History,
+    writer: &mut LogAuthority,
+    history: &MonotoneLog,
     ledger: &Ledger<D>,
 )
     requires here { history.now ≡ writer.old.history }
@@ -50,7 +50,7 @@ impl<D: Disk, L: Origin> Guarded<D, L> {
     }
 
     /// Sends the next flight out, as the ledger does. It has read the settled steps.
-    pub fn begin(&mut self, history: &History) -> Result<Option<OwnFlight<D, L>>, AllocError>
+    pub fn begin(&mut self, history: &MonotoneLog) -> Result<Option<OwnFlight<D, L>>, AllocError>
         requires here { history.now ≡ L.history }
         ensures nothing { keeps_store self.old.ledger ≡ true → (result ≡ Ok None) ×
             (self.new ≡ self.old) }
@@ -82,7 +82,7 @@ impl<D: Disk, L: Origin> Guarded<D, L> {
     /// steps, its own among them.
     pub fn end(
         &mut self,
-        history: &History,
+        history: &MonotoneLog,
         flight: OwnFlight<D, L>,
     ) -> Result<Released<L>, (Refusal, OwnFlight<D, L>)>
         requires here { history.now ≡ L.history }
@@ -118,7 +118,7 @@ impl<D: Disk, L: Origin> Guarded<D, L> {
     }
 
     /// What may have been lost, to be sent again as of step 0. No signal is among it.
-    pub fn resend(&mut self, history: &History) -> Result<Released<L>, AllocError>
+    pub fn resend(&mut self, history: &MonotoneLog) -> Result<Released<L>, AllocError>
         requires here { history.now ≡ L.history }
         ensures again { IfOk result (λ releases. releases ≡ resent (settled_world self.old.ledger.log)) }
         ensures same { self.new ≡ self.old }

@@ -1,7 +1,7 @@
 use Rattle.std.proofs.Common.{◌∙◌, sym, ap, arith}
-use Rattle.coord_engine.specs.History.{Beginning}
+use Rattle.coord_engine.specs.MonotoneLog.{Beginning}
 use Rattle.coord_engine.proofs.Histories.{joins, reads}
-use Rattle.coord_engine.proofs.history.Reader.join_as.Goals as goal
+use Rattle.coord_engine.proofs.history.LogPrefix.join_as.Goals as goal
 
 pub join_seat-requires : goal.join_seat-requires
 join_seat-requires g c =

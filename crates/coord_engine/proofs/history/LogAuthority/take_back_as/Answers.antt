@@ -1,7 +1,7 @@
 use Rattle.std.proofs.Common.{◌∙◌, sym, ap, arith}
-use Rattle.coord_engine.specs.History.{Beginning}
+use Rattle.coord_engine.specs.MonotoneLog.{Beginning}
 use Rattle.coord_engine.proofs.Histories.{compares, joins}
-use Rattle.coord_engine.proofs.history.Writer.take_back_as.Goals as goal
+use Rattle.coord_engine.proofs.history.LogAuthority.take_back_as.Goals as goal
 
 pub join_seat-requires : goal.join_seat-requires
 join_seat-requires g c =

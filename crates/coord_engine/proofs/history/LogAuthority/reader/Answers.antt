@@ -1,7 +1,7 @@
 use Rattle.std.proofs.Common.{◌∙◌, sym, ap, arith}
 use Rattle.coord_engine.proofs.Histories.{splits}
-use Rattle.coord_engine.specs.History.{Beginning}
-use Rattle.coord_engine.proofs.history.Reader.another.Goals as goal
+use Rattle.coord_engine.specs.MonotoneLog.{Beginning}
+use Rattle.coord_engine.proofs.history.LogAuthority.reader.Goals as goal
 
 pub split_seat-pass-requires : goal.split_seat-pass-requires
 split_seat-pass-requires c =

@@ -1,7 +1,7 @@
 use Rattle.std.proofs.Common.{◌∙◌, sym, ap, subst, arith}
-use Rattle.coord_engine.specs.History.{Beginning, StartsWith}
+use Rattle.coord_engine.specs.MonotoneLog.{Beginning, StartsWith}
 use Rattle.coord_engine.proofs.Histories.{writes}
-use Rattle.coord_engine.proofs.history.Writer.write_as.Goals as goal
+use Rattle.coord_engine.proofs.history.LogAuthority.write_as.Goals as goal
 
 pub load-requires : goal.load-requires
 load-requires g c =
