@@ -4,7 +4,7 @@ import os
 import subprocess
 
 from support.case import Case
-from support.program import PATIENCE, PROGRAM, Ended, ran
+from support.program import TIMEOUT, PROGRAM, Ended, ran
 from support.runs import worked_runs
 
 # Lines that ask for nothing: an unknown word, too few or too many words, other spaces, what is no number or one out of range.
@@ -45,7 +45,7 @@ class WorkedRuns(Case):
                         drill.stdin.write(piece)
                         drill.stdin.flush()
                 drill.stdin.write(b"".join(given.splitlines(keepends=True)[40:]))
-                printed += drill.communicate(timeout=PATIENCE)[0]
+                printed += drill.communicate(timeout=TIMEOUT)[0]
                 self.assertEqual((drill.returncode, printed.decode()), (0, wanted.decode()))
 
     def test_an_answer_does_not_wait_for_the_next_line(self) -> None:
@@ -56,7 +56,7 @@ class WorkedRuns(Case):
                 drill.stdin.flush()
                 self.assertEqual(drill.stdout.readline(), answer)
             drill.stdin.close()
-            self.assertEqual(drill.wait(PATIENCE), 0)
+            self.assertEqual(drill.wait(TIMEOUT), 0)
 
 
 class LongRuns(Case):
@@ -136,11 +136,11 @@ class LongRuns(Case):
 
     def test_no_input(self) -> None:
         """Standard input that is closed can't be read."""
-        done = subprocess.run(["sh", "-c", 'exec "$0" drill <&-', PROGRAM], capture_output=True, timeout=PATIENCE)
+        done = subprocess.run(["sh", "-c", 'exec "$0" drill <&-', PROGRAM], capture_output=True, timeout=TIMEOUT)
         self.assertEqual(Ended(done.returncode, done.stdout.decode(), done.stderr.decode()), Ended(3, "", "resetd: Read\n"))
 
     def test_an_input_that_is_a_folder(self) -> None:
         folder = os.open(self.folder, os.O_RDONLY)
         self.addCleanup(os.close, folder)
-        done = subprocess.run([PROGRAM, "drill"], stdin=folder, capture_output=True, timeout=PATIENCE)
+        done = subprocess.run([PROGRAM, "drill"], stdin=folder, capture_output=True, timeout=TIMEOUT)
         self.assertEqual((done.returncode, done.stdout, done.stderr), (3, b"", b"resetd: Read\n"))

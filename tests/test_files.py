@@ -10,7 +10,7 @@ import time
 
 from support import preloaded, stores
 from support.case import Case, until
-from support.program import PATIENCE, PROGRAM, Ended, faulted, ran
+from support.program import TIMEOUT, PROGRAM, Ended, faulted, ran
 from support.serving import Serving
 from support.stores import topology
 
@@ -55,7 +55,7 @@ class ReadOnly(Case):
     words = ["setpriv", "--bounding-set=-dac_override,-dac_read_search"] if os.geteuid() == 0 else []
 
     def user(self, *words: str) -> Ended:
-        done = subprocess.run([*self.words, PROGRAM, *words], stdin=subprocess.DEVNULL, capture_output=True, timeout=PATIENCE)
+        done = subprocess.run([*self.words, PROGRAM, *words], stdin=subprocess.DEVNULL, capture_output=True, timeout=TIMEOUT)
         return Ended(done.returncode, done.stdout.decode(), done.stderr.decode())
 
     def test_a_store(self) -> None:

@@ -5,7 +5,7 @@ import os
 import threading
 
 from support.piped import Piped
-from support.program import PATIENCE, SHORT, SHORT_STEPS, Ended
+from support.program import TIMEOUT, SHORT, SHORT_STEPS, Ended
 from support.served import Served
 from support.serving import Serving
 from support.stores import ring, topology
@@ -119,7 +119,7 @@ class Instances(Served):
             for first in range(1, count, SHORT_STEPS):
                 numbers = range(first, first + SHORT_STEPS)
                 with server.connect() as connection:
-                    connection.socket.settimeout(PATIENCE)
+                    connection.socket.settimeout(TIMEOUT)
                     connection.send(*({"op": "reset", "client": 1, "number": number, "node": 1} for number in numbers))
                     self.assertEqual([connection.reply()["step"] for _ in numbers], [1 + number for number in numbers])
             self.assertEqual(server.ask({"op": "close"}), {"kind": "closed"})

@@ -7,7 +7,7 @@ import subprocess
 
 from support import preloaded
 from support.case import Case, tool
-from support.program import PATIENCE, PROGRAM, SHORT, SHORT_STEPS, Ended, faulted, ran
+from support.program import TIMEOUT, PROGRAM, SHORT, SHORT_STEPS, Ended, faulted, ran
 from support.serving import Connection, Serving
 from support.stores import topology
 
@@ -24,7 +24,7 @@ class Descriptors(Case):
                 resource.prlimit(server.process.pid, resource.RLIMIT_NOFILE, (used, usual[1]))
                 with self.waiting_client(server) as connection:
                     resource.prlimit(server.process.pid, resource.RLIMIT_NOFILE, usual)
-                    connection.socket.settimeout(PATIENCE)
+                    connection.socket.settimeout(TIMEOUT)
                     self.assertEqual(connection.reply(), {"count": 0, "kind": "resent"})
             self.assertEqual(server.close().status, 0)
 

@@ -7,7 +7,7 @@ import subprocess
 
 from support import preloaded, stores
 from support.case import Case, until
-from support.program import PATIENCE, PROGRAM, Ended, ran
+from support.program import TIMEOUT, PROGRAM, Ended, ran
 from support.serving import Serving
 from support.stores import topology
 
@@ -18,7 +18,7 @@ LOST = (3, "resetd: Write\n")
 def by_shell(redirected: str, *words: str) -> tuple[int, str]:
     """Runs the program by a shell's redirections: its status, and its fault."""
     done = subprocess.run(["sh", "-c", f'exec "$0" "$@" {redirected}', PROGRAM, *words], stdin=subprocess.DEVNULL,
-                          capture_output=True, timeout=PATIENCE)
+                          capture_output=True, timeout=TIMEOUT)
     return done.returncode, done.stderr.decode()
 
 
@@ -113,7 +113,7 @@ class Unprinted(Case):
             until(f"a free store after {command}", lambda: self.is_free("store"))
             self.assertIsNone(waiting.poll())
             os.read(reader, 1 << 20)
-            self.assertEqual((waiting.wait(PATIENCE), os.read(reader, 100)[-2:]), (0, b"3\n"))
+            self.assertEqual((waiting.wait(TIMEOUT), os.read(reader, 100)[-2:]), (0, b"3\n"))
 
     def is_free(self, name: str) -> bool:
         """Whether a store of version 2 stands there that nobody has locked."""

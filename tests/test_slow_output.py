@@ -6,7 +6,7 @@ import subprocess
 from support import stores
 from support.case import Case
 from support.piped import Piped
-from support.program import PATIENCE, Ended
+from support.program import TIMEOUT, Ended
 from support.serving import Serving
 from support.stores import topology
 
@@ -20,7 +20,7 @@ class SlowOutput(Case):
     def reset(self, server: Serving, numbers: range) -> None:
         """Orders over one connection, each of which is answered though nothing is printed."""
         with server.connect() as connection:
-            connection.socket.settimeout(PATIENCE)
+            connection.socket.settimeout(TIMEOUT)
             for first in range(numbers.start, numbers.stop, 250):
                 each = range(first, min(first + 250, numbers.stop))
                 connection.send(*({"op": "reset", "client": 1, "number": number, "node": 1} for number in each))

@@ -10,7 +10,7 @@ from collections.abc import Callable, Iterator
 
 from support import preloaded
 from support.case import until
-from support.program import PATIENCE, PROGRAM, ROOT, Ended, ran
+from support.program import TIMEOUT, PROGRAM, ROOT, Ended, ran
 from support.refusing import ALL_THREADS, FIRST_THREAD, Refusing
 from support.served import DONE, FINISHED, Served, answered, refused
 from support.serving import Answer, Connection, Serving
@@ -136,7 +136,7 @@ class Together(Served):
         with self.serving(ring(64, HALF)) as server:
             self.assertEqual(server.order(1, "reset", node=1)["kind"], "started")
             server.await_quiet(1)
-            with Orders(Port(server.address, PATIENCE), 2, self.path("book")) as orders:
+            with Orders(Port(server.address, TIMEOUT), 2, self.path("book")) as orders:
                 gateway = Gateway(orders.port, orders, {node: [str(node)] for node in NODES}, self.path("members"))
                 gateway.look()
                 for node in NODES:
@@ -156,8 +156,8 @@ class Together(Served):
 
             def apply() -> None:
                 done = subprocess.run([f"{ROOT}/client/resetctl", "--address", server.address, "--state", self.path("state"),
-                                       "--seconds", str(PATIENCE), "apply", wanted],
-                                      capture_output=True, text=True, timeout=PATIENCE)
+                                       "--seconds", str(TIMEOUT), "apply", wanted],
+                                      capture_output=True, text=True, timeout=TIMEOUT)
                 self.assertEqual(done.returncode, 0, done.stderr)
             self.assertLessEqual(self.flights(server, apply), 10)
             self.assertEqual(server.show()["accepted"], 128)
@@ -182,7 +182,7 @@ class Refused(Served):
         before them and with them."""
         with self.started(store, refusing.environment(first, threads=threads)) as server, server.connect() as connection:
             before = refusing.count()
-            connection.socket.settimeout(PATIENCE)
+            connection.socket.settimeout(TIMEOUT)
             # a connection without memory may be over already
             with contextlib.suppress(OSError):
                 connection.send(*({"op": "reset", "client": 1, "number": number, "node": 1} for number in range(1, 4)))

@@ -14,7 +14,7 @@ MIB = 1 << 20
 HALF = 16 * MIB  # the greatest
 ONE_RESET = MIB // 16  # more than the log grows by in one
 RESEND, NOTHING = b'{"op":"resend"}\n', [b'{"count":0,"kind":"resent"}\n']
-PATIENCE = 60  # seconds within which a reset has to end
+TIMEOUT = 60  # seconds within which a reset has to end
 ROUNDS = 5
 SIZES = {1: MIB, 4: 4 * MIB, 16: HALF - ONE_RESET}  # of a log, by the MiB that it is named by
 
@@ -44,13 +44,13 @@ def grow(server: Server, resets: Resets, size: int) -> None:
 
 def wait_for(count: int, come: Callable[[], int]) -> None:
     """Waits until so many have come."""
-    until = time.monotonic() + PATIENCE
+    until = time.monotonic() + TIMEOUT
     while time.monotonic() < until:
         count -= come()
         if count == 0:
             return
         time.sleep(0.001)
-    raise Lost(f"a reset has not come to its end within {PATIENCE} seconds")
+    raise Lost(f"a reset has not come to its end within {TIMEOUT} seconds")
 
 
 def tell(server: Server, name: int) -> None:

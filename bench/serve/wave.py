@@ -12,7 +12,7 @@ import time
 
 sys.path.insert(0, os.path.join(os.path.dirname(os.path.abspath(__file__)), "..", "..", "tools"))
 from connection import Connection, Resets  # noqa: E402
-from opening import HALF, PATIENCE  # noqa: E402
+from opening import HALF, TIMEOUT  # noqa: E402
 from served.clients import Lost  # noqa: E402
 from served.ring import NODES, topology  # noqa: E402
 from served.server import Server  # noqa: E402
@@ -42,8 +42,8 @@ class Waves:
         self.resets.ask(self.connection)
         first, came = 0.0, 0
         while came < NODES:
-            if time.perf_counter() - begun > PATIENCE:
-                raise Lost(f"a reset has not come to its end within {PATIENCE} seconds")
+            if time.perf_counter() - begun > TIMEOUT:
+                raise Lost(f"a reset has not come to its end within {TIMEOUT} seconds")
             came += len(self.server.new_signals())
             first = first or (time.perf_counter() - begun if came else 0.0)
             time.sleep(0.0001)

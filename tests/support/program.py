@@ -10,7 +10,7 @@ ROOT = os.path.dirname(os.path.dirname(os.path.dirname(os.path.abspath(__file__)
 PROGRAM = os.environ.get("RESETD", "")
 SHORT = os.environ.get("RESETD_SHORT", "")
 SHORT_STEPS = 32
-PATIENCE = 600  # seconds within which a command has to end, on a busy machine too
+TIMEOUT = 600  # seconds within which a command has to end, on a busy machine too
 
 class Ended(NamedTuple):
     """How a command ended: its exit status, what it printed, and what it told as a fault."""
@@ -20,7 +20,7 @@ class Ended(NamedTuple):
     told: str
 
 
-def ran(*words: str | bytes, given: bytes = b"", program: str | None = None, seconds: float = PATIENCE,
+def ran(*words: str | bytes, given: bytes = b"", program: str | None = None, seconds: float = TIMEOUT,
         env: Mapping[str, str] | None = None, cwd: str | None = None, umask: int = -1) -> Ended:
     """Runs the program to its end."""
     done = subprocess.run([program or PROGRAM, *words], input=given, capture_output=True, timeout=seconds, env=env, cwd=cwd,

@@ -8,7 +8,7 @@ from collections.abc import Callable, Mapping, Sequence
 from typing import Any, Self
 
 from .case import until
-from .program import PATIENCE, PROGRAM, SHORT, Ended
+from .program import TIMEOUT, PROGRAM, SHORT, Ended
 
 
 # What goes over a connection: a line that is read as JSON, and one that is written so, or as it is.
@@ -24,7 +24,7 @@ class Connection:
         self.socket = socket.socket()
         if buffer:
             self.socket.setsockopt(socket.SOL_SOCKET, socket.SO_RCVBUF, buffer)
-        self.socket.settimeout(PATIENCE)
+        self.socket.settimeout(TIMEOUT)
         self.socket.connect((host, int(port)))
         self.came = b""
 
@@ -164,7 +164,7 @@ class Serving:
             raise AssertionError(f"a close was answered {answer}")
         return self.ended()
 
-    def ended(self, seconds: float = PATIENCE) -> Ended:
+    def ended(self, seconds: float = TIMEOUT) -> Ended:
         """Waits for its end: its status, what it printed, and its fault."""
         status = self.process.wait(timeout=seconds)
         with open(self.errors, encoding="utf-8") as errors:

@@ -18,7 +18,7 @@ if TYPE_CHECKING:
 # What is read of a line.
 Json = dict[str, Any]
 STOPPED, OLD_EPOCH = 1, 15
-PATIENCE = 2  # seconds for one answer, before the next address is tried
+TIMEOUT = 2  # seconds for one answer, before the next address is tried
 
 
 class Lost(Exception):
@@ -29,7 +29,7 @@ class Away(Exception):
     """No answer came from this address."""
 
 
-def ask(host: Host, address: str, request: Json, seconds: float = PATIENCE) -> Json:
+def ask(host: Host, address: str, request: Json, seconds: float = TIMEOUT) -> Json:
     """One request to an address, from the network of a host, and its reply."""
     name, port = address.rsplit(":", 1)
     try:

@@ -14,7 +14,7 @@ from typing import BinaryIO
 from . import kills
 from .clients import Client, Json, Lost
 from .ring import Ring
-from .server import PATIENCE, Away, Server
+from .server import TIMEOUT, Away, Server
 
 WORKERS = 8
 # What a server runs in the midst of an instance: itself, what prints, the flusher and the workers. The last two end with it.
@@ -109,7 +109,7 @@ class Staying:
     def send(self, text: bytes) -> None:
         if self.socket is None:
             host, port = self.server.address.rsplit(":", 1)
-            self.socket = socket.create_connection((host, int(port)), timeout=PATIENCE)
+            self.socket = socket.create_connection((host, int(port)), timeout=TIMEOUT)
             self.replies = self.socket.makefile("rb")
             self.connections += 1
         self.socket.sendall(text)

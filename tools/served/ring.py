@@ -8,7 +8,7 @@ from .history import History
 from .server import Away, Server
 
 NODES, CLIENTS, HALF = 64, 8, 32_768
-PATIENCE = 300  # seconds within which a reset has to end, on a busy machine too
+TIMEOUT = 300  # seconds within which a reset has to end, on a busy machine too
 
 
 def topology(half: int, reach: int) -> str:
@@ -60,7 +60,7 @@ class Ring:
 
     def follow(self) -> None:
         """Waits until each reset has come to its end, and compares the epochs."""
-        until = time.monotonic() + PATIENCE
+        until = time.monotonic() + TIMEOUT
         while time.monotonic() < until:
             view = self.server.ask({"op": "show"})
             if "nodes" not in view:
@@ -73,7 +73,7 @@ class Ring:
                 self.compare(epochs)
                 return self.await_signals(until)
             time.sleep(0.005)
-        raise Lost(f"a reset has not come to its end within {PATIENCE} seconds")
+        raise Lost(f"a reset has not come to its end within {TIMEOUT} seconds")
 
     def note_counts(self, accepted: int, settled: int, is_start: bool = False) -> None:
         """While a server runs, over all its lives, neither count falls."""

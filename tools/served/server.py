@@ -12,9 +12,9 @@ from resetd_client import Away, Port  # noqa: E402
 
 from .clients import Json, Lost  # noqa: E402
 
-__all__ = ["PATIENCE", "Away", "Server", "ask"]
+__all__ = ["TIMEOUT", "Away", "Server", "ask"]
 
-PATIENCE = 300  # seconds within which a server answers and ends, on a busy machine too
+TIMEOUT = 300  # seconds within which a server answers and ends, on a busy machine too
 
 
 def ask(address: str, request: Json, seconds: float) -> Json:
@@ -88,10 +88,10 @@ class Server:
         without one, and whoever asks a server sends again what had no reply. Raises Away once the process has ended."""
         if not self.address:
             raise Away("it does not listen")
-        until = time.monotonic() + PATIENCE
+        until = time.monotonic() + TIMEOUT
         while True:
             try:
-                return ask(self.address, request, PATIENCE)
+                return ask(self.address, request, TIMEOUT)
             except Away:
                 if self.process.poll() is not None or time.monotonic() > until:
                     raise
@@ -128,7 +128,7 @@ class Server:
 
     def ended(self) -> tuple[int, str]:
         """Waits for the end of the process: its exit status, and its faults."""
-        status = self.process.wait(timeout=PATIENCE)
+        status = self.process.wait(timeout=TIMEOUT)
         with open(self.errors, encoding="utf-8") as errors:
             return status, errors.read()
 

@@ -12,7 +12,7 @@ from typing import IO
 
 from .front import Front
 from .ports import held_address
-from .server import PATIENCE, Server
+from .server import TIMEOUT, Server
 
 ROOT = os.path.dirname(os.path.dirname(os.path.dirname(os.path.abspath(__file__))))
 sys.path.insert(0, os.path.join(ROOT, "client"))
@@ -108,11 +108,11 @@ class Trial:
             self.helpers.remove(helper)
 
     def order(self, op: str, **members: int) -> Reply:
-        return patiently(lambda: self.orders.order(op, **members), PATIENCE)
+        return patiently(lambda: self.orders.order(op, **members), TIMEOUT)
 
     def shown(self) -> View:
         """The view, which a server that has just been started gives a little later."""
-        return patiently(self.port.show, PATIENCE)
+        return patiently(self.port.show, TIMEOUT)
 
     def epoch(self, node: int) -> int:
         """The epoch that a node is shown in."""

@@ -10,7 +10,7 @@ from .ports import held_ports
 from .services import Failed, Trial, patiently, read, tags_at
 
 LIMIT = 400_000  # bytes of the file of signals, where a line is to be torn
-PATIENCE = 300  # seconds within which a server answers and ends, on a busy machine too
+TIMEOUT = 300  # seconds within which a server answers and ends, on a busy machine too
 
 
 def begin_first(trial: Trial) -> None:
@@ -76,7 +76,7 @@ def unread(trial: Trial) -> None:
         server.process = subprocess.Popen([server.program, "serve", server.store, server.wanted], stdin=subprocess.DEVNULL,
                                           stdout=reader.stdin, stderr=errors)
     server.address = server.wanted
-    patiently(trial.port.show, PATIENCE)
+    patiently(trial.port.show, TIMEOUT)
     assert reader.stdin
     fill(reader.stdin.fileno())
     reader.stdin.close()
@@ -86,7 +86,7 @@ def unread(trial: Trial) -> None:
     if server.process.poll() is not None:
         raise Failed(f"the process ended though its lines were not read: {server.ended()}")
     if (second := subprocess.run([server.program, "serve", server.store, "127.0.0.1:0"], capture_output=True, check=False,
-                                 timeout=PATIENCE)).returncode != 3:
+                                 timeout=TIMEOUT)).returncode != 3:
         raise Failed(f"the store was not locked: {second}")
     reader.kill()
     status, told = server.ended()

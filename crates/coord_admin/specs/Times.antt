@@ -1,8 +1,8 @@
 -- The timeouts of a client (docs/OPERATING.md lists them).
 use Rattle.std.specs.Prelude.{◌≡◌, ℕ, ◌*◌}
 use Rattle.std.specs.Duration.{as_nanos}
-use Rattle.coord_admin.specs.declared.patience.Patience.{Patience}
-use Rattle.coord_admin.specs.declared.patience.TheConstants.{ACCEPT_TRIES, DISCARD_READS}
+use Rattle.coord_admin.specs.declared.timeouts.Timeouts.{Timeouts}
+use Rattle.coord_admin.specs.declared.timeouts.TheConstants.{ACCEPT_TRIES, DISCARD_READS}
 
 abbrev pub seconds : ℕ → ℕ
 seconds n = n * 1000000000
@@ -11,7 +11,7 @@ abbrev pub milliseconds : ℕ → ℕ
 milliseconds n = n * 1000000
 
 -- the timeouts of a server: for a line, for a reply, between two lines, for a connection, after a close, and between two attempts to accept
-pub record IsUsual (p : Patience) : Type 0 where
+pub record IsUsual (p : Timeouts) : Type 0 where
   pub line : as_nanos p.line ≡ seconds 10
   pub reply : as_nanos p.reply ≡ seconds 10
   pub silence : as_nanos p.silence ≡ seconds 15

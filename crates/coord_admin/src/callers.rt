@@ -11,9 +11,9 @@ ghost use Rattle.coord_admin.specs.declared.session.Ended.TheVariants.{Input};
 use crate::accepting::Failure;
 use crate::duplex::Duplex;
 use crate::fault::ServeFault;
-use crate::patience::{ACCEPT_TRIES, Patience};
 use crate::session::Ended;
 use crate::timed::TimedStream;
+use crate::timeouts::{ACCEPT_TRIES, Timeouts};
 use std::io::{ErrorKind, Read, Write};
 use std::marker::Model;
 use std::net::{OpenListener, OpenStream, SocketAddr};
@@ -79,25 +79,25 @@ fn ends_here(served: Result<Ended, ServeFault>) -> bool
 pub struct Accepted<'a, L, T: Clock> {
     clock: &'a T,
     listener: &'a L,
-    patience: Patience,
+    timeouts: Timeouts,
 }
 
 impl<'a, L, T: Clock> Model for Accepted<'a, L, T> {
-    ghost use Rattle.coord_admin.specs.declared.patience.Patience.{Patience};
+    ghost use Rattle.coord_admin.specs.declared.timeouts.Timeouts.{Timeouts};
 
-    ghost Value = { Patience };
+    ghost Value = { Timeouts };
 
-    ghost view = { λ a. a.patience };
+    ghost view = { λ a. a.timeouts };
 }
 
 impl<'a, L: OpenListener, T: Clock> Accepted<'a, L, T> {
-    pub fn new(clock: &'a T, listener: &'a L, patience: Patience) -> Self
-        ensures { result ≡ patience }
+    pub fn new(clock: &'a T, listener: &'a L, timeouts: Timeouts) -> Self
+        ensures { result ≡ timeouts }
     {
         Accepted {
             clock,
             listener,
-            patience,
+            timeouts,
         }
     }
 }
@@ -108,7 +108,7 @@ impl<'a, S: Read + Write + OpenStream + Drop, L: OpenListener<Stream = S>, T: Cl
 
     ghost talked = { λ _ _ _. ⊤ };
 
-    ghost called = { λ callers line _. line.patience ≡ callers };
+    ghost called = { λ callers line _. line.timeouts ≡ callers };
 
     fn address(&self) -> io::Result<SocketAddr> {
         self.listener.local_addr()
@@ -121,7 +121,7 @@ impl<'a, S: Read + Write + OpenStream + Drop, L: OpenListener<Stream = S>, T: Cl
         for stream in self.listener.incoming() {
             match stream {
                 Ok(stream) => {
-                    if let Ok(line) = TimedStream::new(self.clock, stream, self.patience) {
+                    if let Ok(line) = TimedStream::new(self.clock, stream, self.timeouts) {
                         return Ok(line);
                     }
                 }
@@ -129,7 +129,7 @@ impl<'a, S: Read + Write + OpenStream + Drop, L: OpenListener<Stream = S>, T: Cl
                     Failure::OfClient => {}
                     Failure::OfMeans if tries < ACCEPT_TRIES => {
                         tries += 1;
-                        thread::sleep(self.clock, self.patience.accept_rest);
+                        thread::sleep(self.clock, self.timeouts.accept_rest);
                     }
                     _ => return Err(error),
                 },

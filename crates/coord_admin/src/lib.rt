@@ -23,13 +23,13 @@ mod halves;
 mod instance_limit;
 mod laws;
 mod op;
-mod patience;
 mod queue;
 mod reading;
 mod replies;
 mod request;
 mod session;
 mod timed;
+mod timeouts;
 mod writing;
 
 pub use answer::Answer;
@@ -43,10 +43,10 @@ pub use halves::Halves;
 pub use laws::{
     counts_are_usual, posted_together_answered_in_turn, worked_replies, worked_requests,
 };
-pub use patience::{
-    ACCEPT_REST_MILLIS, ACCEPT_TRIES, CONNECTION_SECONDS, DISCARD_MILLIS, DISCARD_READS,
-    LINE_SECONDS, Patience, REPLY_SECONDS, SILENCE_SECONDS,
-};
 pub use request::Request;
 pub use session::{Ended, serve};
 pub use timed::TimedStream;
+pub use timeouts::{
+    ACCEPT_REST_MILLIS, ACCEPT_TRIES, CONNECTION_SECONDS, DISCARD_MILLIS, DISCARD_READS,
+    LINE_SECONDS, REPLY_SECONDS, SILENCE_SECONDS, Timeouts,
+};

@@ -3,7 +3,7 @@
 ghost use Rattle.std.specs.Prelude.{◌≡◌, ◌≤◌, ⊤, length, IfOk};
 
 use crate::duplex::{Duplex, NotRead, NotWritten};
-use crate::patience::{DISCARD_READS, Patience};
+use crate::timeouts::{DISCARD_READS, Timeouts};
 use coord_lines::MOST_CALLS;
 use std::io;
 use std::io::{ErrorKind, Read, Write};
@@ -17,7 +17,7 @@ use std::time::{Clock, Duration, Instant};
 pub struct TimedStream<'a, S, T: Clock> {
     clock: &'a T,
     stream: S,
-    patience: Patience,
+    timeouts: Timeouts,
     opened: Instant,
     /// When it began to wait for the end of a line.
     line_begun: Option<Instant>,
@@ -73,15 +73,15 @@ fn read_within<S: Read + OpenStream, T: Clock>(
 
 impl<'a, S: Read + Write + OpenStream + Drop, T: Clock> TimedStream<'a, S, T> {
     /// Makes a connection over a stream that sends writes at once.
-    pub fn new(clock: &'a T, stream: S, patience: Patience) -> io::Result<Self>
-        ensures { IfOk result (λ line. line.patience ≡ patience) }
+    pub fn new(clock: &'a T, stream: S, timeouts: Timeouts) -> io::Result<Self>
+        ensures { IfOk result (λ line. line.timeouts ≡ timeouts) }
     {
         stream.set_nodelay(true)?;
         let opened = Instant::now(clock)?;
         Ok(TimedStream {
             clock,
             stream,
-            patience,
+            timeouts,
             opened,
             line_begun: None,
             read_wait: None,
@@ -97,24 +97,24 @@ impl<'a, S: Read + Write + OpenStream + Drop, T: Clock> TimedStream<'a, S, T> {
             self.line_begun = None;
         }
         if self.line_begun.is_none() {
-            left(self.clock, self.opened, self.patience.connection)?;
+            left(self.clock, self.opened, self.timeouts.connection)?;
         }
         if !is_within_line {
-            return Some(self.patience.silence);
+            return Some(self.timeouts.silence);
         }
         let begun = match self.line_begun {
             Some(begun) => begun,
             None => Instant::now(self.clock).ok()?,
         };
         self.line_begun = Some(begun);
-        left(self.clock, begun, self.patience.line)
+        left(self.clock, begun, self.timeouts.line)
     }
 
     /// Shuts down writing, and discards input for a while: if a connection is
     /// closed before its input was read, its client may lose bytes that it has not read yet. No clause can say which
     /// bytes these reads return.
     pub fn discard(&mut self)
-        ensures { self.new.patience ≡ self.old.patience }
+        ensures { self.new.timeouts ≡ self.old.timeouts }
     {
         if self.stream.shutdown(Shutdown::Write).is_err() {
             return;
@@ -124,7 +124,7 @@ impl<'a, S: Read + Write + OpenStream + Drop, T: Clock> TimedStream<'a, S, T> {
         };
         let mut buffer = [0; 512];
         for _ in 0..DISCARD_READS {
-            let Some(wait) = left(self.clock, start, self.patience.discard) else {
+            let Some(wait) = left(self.clock, start, self.timeouts.discard) else {
                 return;
             };
             let told = &mut self.read_wait;
@@ -173,7 +173,7 @@ impl<'a, S: Read + Write + OpenStream + Drop, T: Clock> Duplex for TimedStream<'
             return Err(NotWritten);
         };
         let mut rest = text;
-        let mut wait = Some(self.patience.reply);
+        let mut wait = Some(self.timeouts.reply);
         for _ in 0..MOST_CALLS {
             if rest.is_empty() {
                 return match self.stream.flush() {
@@ -194,7 +194,7 @@ impl<'a, S: Read + Write + OpenStream + Drop, T: Clock> Duplex for TimedStream<'
                 Err(error) if error.kind() == ErrorKind::Interrupted => {}
                 Err(_) => return Err(NotWritten),
             }
-            wait = left(self.clock, ready, self.patience.reply);
+            wait = left(self.clock, ready, self.timeouts.reply);
         }
         Err(NotWritten)
     }

@@ -2,7 +2,7 @@
 use Rattle.std.proofs.Common.{◌≡◌, ◌⊎◌, ◌∙◌, ℕ, List, [], ◌++◌, Option, Some, None, Result, Ok, Err, IfErr, IfOk, false, true, ◌≤◌, inl, inr, refl, subst, sym, ap}
 use Rattle.std.specs.Io.KnownBytes.{Appends}
 use Rattle.std.specs.declared.net.socket_addr.SocketAddr.{SocketAddr}
-use Rattle.coord_admin.specs.declared.patience.Patience.{Patience}
+use Rattle.coord_admin.specs.declared.timeouts.Timeouts.{Timeouts}
 use Rattle.coord_engine.specs.Facade.{first_settled}
 use Rattle.coord_engine.specs.declared.closed.Closed.{Closed}
 use Rattle.coord_server.specs.Lines.{is_next}
@@ -75,7 +75,7 @@ printed_back {V} contents of may since lent home ended printer first later old n
     }
 
 -- so a server that printed to it ran with this output
-pub run_back : {D V W : Type 0} (m : DiskModel D) (contents : V → Option (List ℕ)) (of : W → Option (List ℕ)) (gives : List Step → ℕ → ℕ → ℕ → Type 0) (store : Kept D) (lent home : V) (given : PrinterState V) (ended : ServerEnd D Patience V) (printer : PrinterState V) (first later : ℕ) (old : Option (List ℕ)) (now new : W) → HasServedUsual m contents gives store given ended
+pub run_back : {D V W : Type 0} (m : DiskModel D) (contents : V → Option (List ℕ)) (of : W → Option (List ℕ)) (gives : List Step → ℕ → ℕ → ℕ → Type 0) (store : Kept D) (lent home : V) (given : PrinterState V) (ended : ServerEnd D Timeouts V) (printer : PrinterState V) (first later : ℕ) (old : Option (List ℕ)) (now new : W) → HasServedUsual m contents gives store given ended
     → given ≡ new_printer lent store.world.count → printer ≡ ended.printer → home ≡ printer.output → contents lent ≡ known_as first old → contents home ≡ known_as later (of now) → (later ≡ first → new ≡ now) → RunsWithOutput m gives store old (of new) (known_end (of new) ended)
 run_back m contents of gives store lent home given ended printer first later old now new is made came out at_first at_last same =
     let run = is.2 in
@@ -104,5 +104,5 @@ told_of known ended (Ok closed) is fault = is
 told_of known ended (Err told) is fault = fault
 
 -- a server ran with this output, and this is told
-pub served_with : {D W : Type 0} (m : DiskModel D) (gives : List Step → ℕ → ℕ → ℕ → Type 0) (store : Kept D) (old known : Option (List ℕ)) (ended : ServerEnd D Patience W) (told : Result (Closed D) (ServerFault × Closed D)) → RunsWithOutput m gives store old known (known_end known ended) → IfOk told (λ closed. (closed ≡ ended.closed) × (fault_of_end ended ≡ None)) → IfErr told (λ t. (t.1 ≡ ended.closed) × (fault_of_end ended ≡ Some t.0)) → ServedWithOutput m gives store old known told
+pub served_with : {D W : Type 0} (m : DiskModel D) (gives : List Step → ℕ → ℕ → ℕ → Type 0) (store : Kept D) (old known : Option (List ℕ)) (ended : ServerEnd D Timeouts W) (told : Result (Closed D) (ServerFault × Closed D)) → RunsWithOutput m gives store old known (known_end known ended) → IfOk told (λ closed. (closed ≡ ended.closed) × (fault_of_end ended ≡ None)) → IfErr told (λ t. (t.1 ≡ ended.closed) × (fault_of_end ended ≡ Some t.0)) → ServedWithOutput m gives store old known told
 served_with m gives store old known ended told run is fault = record { ended = known_end known ended; run = run; tells = told_of known ended told is fault }

@@ -14,7 +14,7 @@ use Rattle.coord_store.specs.declared.faults.StoreFault.{StoreFault}
 use Rattle.coord_store.specs.declared.faults.StoreFault.TheVariants.{Device}
 use Rattle.coord_world.specs.protocol.NumberedWorld.{World}
 use Rattle.coord_commands.specs.Folders.{bytes_of, known_of, reads}
-use Rattle.coord_admin.specs.declared.patience.Patience.{Patience}
+use Rattle.coord_admin.specs.declared.timeouts.Timeouts.{Timeouts}
 use Rattle.coord_server.specs.declared.fault.ServerFault.{ServerFault}
 use Rattle.coord_server.specs.declared.server_end.ServerEnd.{ServerEnd}
 use Rattle.coord_commands.specs.Faults.{fault_of_server}
@@ -71,7 +71,7 @@ module _ {D : Type 0} (model : DiskModel D) where
   opened before taken store was world failures same_model moments same = grind (arith, nat_tests, if_keeps)
 
   -- a server ran over an opened store, and its disk was put back
-  abbrev is_served : (before after : Option Present) (old new : Option (List ℕ)) (store : Kept D) (ended : ServerEnd D Patience (Option (List ℕ))) (left : Closed D) (back : D) → IsOpenedStore model before store → RunsWithOutput model (GivesSignal store.world) store old new ended → left ≡ ended.closed → back ≡ left.store.disk → IfSome after (λ known. known_of model back ≡ Some known) → IsServedDisk model before after old new
+  abbrev is_served : (before after : Option Present) (old new : Option (List ℕ)) (store : Kept D) (ended : ServerEnd D Timeouts (Option (List ℕ))) (left : Closed D) (back : D) → IsOpenedStore model before store → RunsWithOutput model (GivesSignal store.world) store old new ended → left ≡ ended.closed → back ≡ left.store.disk → IfSome after (λ known. known_of model back ≡ Some known) → IsServedDisk model before after old new
   is_served before after old new store ended left back is run same home put = record {
     store = store;
     opened = is;

@@ -9,7 +9,7 @@ use Rattle.coord_disk.specs.Model.Present.{Present}
 use Rattle.coord_lines.specs.Written.{WritesFirstPart}
 use Rattle.coord_engine.specs.Released.{GivesSignal}
 use Rattle.coord_engine.specs.declared.closed.Closed.{Closed}
-use Rattle.coord_admin.specs.declared.patience.Patience.{Patience}
+use Rattle.coord_admin.specs.declared.timeouts.Timeouts.{Timeouts}
 use Rattle.coord_server.specs.Ending.{fault_at_end}
 use Rattle.coord_server.specs.Printed.{is_amiss, new_printer}
 use Rattle.coord_server.specs.ServerRun.{HasServedUsual}
@@ -51,7 +51,7 @@ abbrev pub fault_of_end : {D V W : Type 0} → ServerEnd D V W → Option Server
 fault_of_end ended = fault_at_end (has_stopped ended.closed.store) ended.served (is_amiss ended.printer ended.closed.settled)
 
 -- a server ran so over this store, whose clients are waited for as usual, and printed to an output of which the one and then the other was known. `gives`: which signals some steps give out, by step, node and epoch
-abbrev pub RunsWithOutput : {D : Type 0} → DiskModel D → (List Step → ℕ → ℕ → ℕ → Type 0) → Kept D → Option (List ℕ) → Option (List ℕ) → ServerEnd D Patience (Option (List ℕ)) → Type 0
+abbrev pub RunsWithOutput : {D : Type 0} → DiskModel D → (List Step → ℕ → ℕ → ℕ → Type 0) → Kept D → Option (List ℕ) → Option (List ℕ) → ServerEnd D Timeouts (Option (List ℕ)) → Type 0
 RunsWithOutput model gives store old new ended = HasServedUsual model (λ known. known) gives store (new_printer old store.world.count) ended × (ended.printer.output ≡ new)
 
 -- what is told of a server that ended so: what it left, beside the fault if there is one
@@ -61,7 +61,7 @@ ReportedAtEnd ended (Err told) = (told.1 ≡ ended.closed) × (fault_of_end ende
 
 -- a server ran so, and this is told
 pub record ServedWithOutput {D : Type 0} (model : DiskModel D) (gives : List Step → ℕ → ℕ → ℕ → Type 0) (store : Kept D) (old new : Option (List ℕ)) (told : Result (Closed D) (ServerFault × Closed D)) : Type 0 where
-  pub ended : ServerEnd D Patience (Option (List ℕ))
+  pub ended : ServerEnd D Timeouts (Option (List ℕ))
   pub run : RunsWithOutput model gives store old new ended
   pub tells : ReportedAtEnd ended told
 
@@ -100,7 +100,7 @@ module _ {D : Type 0} (model : DiskModel D) where
   pub record IsServedDisk (before after : Option Present) (old new : Option (List ℕ)) : Type 0 where
     pub store : Kept D
     pub opened : IsOpenedStore before store
-    pub ended : ServerEnd D Patience (Option (List ℕ))
+    pub ended : ServerEnd D Timeouts (Option (List ℕ))
     pub run : RunsWithOutput model (GivesSignal store.world) store old new ended
     pub put : IfSome after (λ known. known_of model ended.closed.store.disk ≡ Some known)
 

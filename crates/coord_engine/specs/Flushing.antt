@@ -9,12 +9,12 @@ use Rattle.coord_engine.specs.Pacing.{is_idle, is_over}
 use Rattle.coord_engine.specs.Port.{AreHanded, deliveries_of}
 use Rattle.coord_engine.specs.State.{Basis}
 use Rattle.coord_engine.specs.Threads.{AtSomeMoment}
-use Rattle.coord_engine.specs.declared.flushing.TheConstants.{CALLERS_PART, PATIENCE, REST}
+use Rattle.coord_engine.specs.declared.flushing.TheConstants.{CALLERS_PART, TIMEOUT, REST}
 use Rattle.coord_engine.specs.declared.guarded.pacing.TheConstants.{MOST_AWAITED}
 
 -- how many milliseconds a flight waits for packets, which part of the last flight's time for callers and for how many steps at most, and how many milliseconds a flusher rests that found no memory (docs/DECISIONS.md)
 pub record TimesAreUsual : Type 0 where
-  pub packets : PATIENCE ≡ 5
+  pub packets : TIMEOUT ≡ 5
   pub callers : CALLERS_PART ≡ 16
   pub awaited : MOST_AWAITED ≡ 32
   pub rest : REST ≡ 1

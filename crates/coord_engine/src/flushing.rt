@@ -20,7 +20,7 @@ use std::time::{Clock, Duration, Instant};
 use std::{io, thread};
 
 /// How many milliseconds a flight waits for packets that are in hand.
-const PATIENCE: u64 = 5;
+const TIMEOUT: u64 = 5;
 
 /// A flight waits for returning callers for at most this part of the last flight's time. A wait in
 /// vain costs a sixteenth of a flight; a caller who comes in time saves a whole one.
@@ -36,7 +36,7 @@ pub(crate) fn rest<R: Clock>(rt: &R) {
 
 /// How long to wait for callers after a flight that left at `start`; not at all if no clock can be
 /// read.
-fn patience_since<R: Clock>(rt: &R, start: io::Result<Instant>) -> Duration {
+fn timeout_since<R: Clock>(rt: &R, start: io::Result<Instant>) -> Duration {
     let Ok(start) = start else {
         return Duration::ZERO;
     };
@@ -101,7 +101,7 @@ impl<D: Disk, L: Origin> Engine<D, L> {
         if waited.timed_out() {
             guarded.forget_awaited();
         }
-        let for_packets = Duration::from_millis(PATIENCE);
+        let for_packets = Duration::from_millis(TIMEOUT);
         let (mut guarded, waited) = self
             .work
             .wait_timeout_while(rt, guarded, for_packets, |guarded| {
@@ -193,7 +193,7 @@ pub fn hand_over<D: Disk, L: Origin, P: Port, R: Wait>(
 /// answered, and whether it found no memory, so that a rest is due.
 #[derive(Drop)]
 struct Pace {
-    patience: Duration,
+    timeout: Duration,
     rest_is_due: bool,
 }
 
@@ -203,7 +203,7 @@ impl Pace {
         ensures { result.rest_is_due ≡ false }
     {
         Pace {
-            patience: Duration::ZERO,
+            timeout: Duration::ZERO,
             rest_is_due: false,
         }
     }
@@ -229,7 +229,7 @@ fn flush<D: Disk, L: Origin, R: Wait + Clock>(
 {
     let start = Instant::now(rt);
     let flushed = engine.flush_once(rt);
-    pace.patience = patience_since(rt, start);
+    pace.timeout = timeout_since(rt, start);
     pace.rest_is_due = matches!(flushed, Err(CommitFault::OutOfMemory));
     flushed
 }
@@ -252,7 +252,7 @@ pub fn flusher<D: Disk, L: Origin, P: Port, R: Wait + Clock>(
 {
     let mut pace = Pace::at_first();
     for _ in rt.forever() {
-        if !engine.waits_for_flight(rt, pace.patience) {
+        if !engine.waits_for_flight(rt, pace.timeout) {
             return;
         }
         match flush(rt, engine, &mut pace) {

@@ -22,7 +22,7 @@ use Rattle.coord_world.specs.laws.Trails.{IsTrail}
 use Rattle.coord_world.specs.Facade.{fold}
 use Rattle.coord_admin.specs.Connections.{Talk}
 use Rattle.coord_admin.specs.Times.{IsUsual}
-use Rattle.coord_admin.specs.declared.patience.Patience.{Patience}
+use Rattle.coord_admin.specs.declared.timeouts.Timeouts.{Timeouts}
 use Rattle.coord_engine.specs.Facade.{first_settled}
 use Rattle.coord_server.specs.Instances.{AreInstances, HasFaultForCause, InstanceRun, all_steps, instance_steps}
 use Rattle.coord_server.specs.Moments.{KeepsAlong}
@@ -48,6 +48,6 @@ pub record ServerRun {D V W : Type 0} (model : DiskModel D) (talked : V → List
 abbrev pub HasServed : {D V W : Type 0} → DiskModel D → (V → List Talk → V → Type 0) → (V → V → Type 0) → (W → Option (List ℕ)) → (List Step → ℕ → ℕ → ℕ → Type 0) → Kept D → V → PrinterState W → ServerEnd D V W → Type 0
 HasServed model talked failed contents gives store v printer ended = ServerRun model talked failed instance_steps contents gives store v printer ended
 
--- the same over the connections of a listener, with the usual patience for its clients
-abbrev pub HasServedUsual : {D W : Type 0} → DiskModel D → (W → Option (List ℕ)) → (List Step → ℕ → ℕ → ℕ → Type 0) → Kept D → PrinterState W → ServerEnd D Patience W → Type 0
-HasServedUsual {D} {W} model contents gives store printer ended = (callers : Patience) × IsUsual callers × HasServed model (λ _ _ _. ⊤) (λ _ _. ⊤) contents gives store callers printer ended
+-- the same over the connections of a listener, with the usual timeouts for its clients
+abbrev pub HasServedUsual : {D W : Type 0} → DiskModel D → (W → Option (List ℕ)) → (List Step → ℕ → ℕ → ℕ → Type 0) → Kept D → PrinterState W → ServerEnd D Timeouts W → Type 0
+HasServedUsual {D} {W} model contents gives store printer ended = (callers : Timeouts) × IsUsual callers × HasServed model (λ _ _ _. ⊤) (λ _ _. ⊤) contents gives store callers printer ended

@@ -11,7 +11,7 @@ ghost use Rattle.coord_world.specs.Facade.{fold};
 
 use crate::instances::serve_instances;
 use crate::{Printer, ServerEnd, SignalPrinter, SignalSource};
-use coord_admin::{Accepted, Callers, Patience};
+use coord_admin::{Accepted, Callers, Timeouts};
 use coord_disk::Disk;
 use coord_engine::{LogAuthority, MonotoneLog};
 use coord_store::Store;
@@ -29,7 +29,7 @@ pub const INSTANCE_STEPS: usize = 262_144;
 
 /// Serves a store to the connections of a listener, one after the other, until a line closes it, and
 /// gives back what is left of the engine of its last instance. It is `serve_callers` over these
-/// connections, with the usual patience. The history is new, and `O` names it. If there is no memory to
+/// connections, with the usual timeouts. The history is new, and `O` names it. If there is no memory to
 /// begin, the store and what prints are returned as they were.
 ///
 /// A server that never returns has no postcondition. But whatever it does and wherever it stops, it writes
@@ -63,7 +63,7 @@ pub fn serve_store<
         rt,
         alloc,
         store,
-        Accepted::new(rt, listener, Patience::usual()),
+        Accepted::new(rt, listener, Timeouts::usual()),
         printer,
         written,
     )
@@ -87,7 +87,7 @@ fn serve_accepted<
     written: (MonotoneLog, LogAuthority),
 ) -> Result<ServerEnd<D, Accepted<'a, A, R>, W>, (Store<D>, Printer<W>)>
     requires going { has_stopped store ≡ false }
-    requires patience { IsUsual callers }
+    requires timeouts { IsUsual callers }
     requires here { written.0 ≡ O.history }
     requires new { written.1 ≡ record { history = O.history; steps = [] } }
     requires tell { (earlier : List Step) → MayPrint O.history earlier (fold store.world earlier)

@@ -20,7 +20,7 @@
 #define PORT 4170
 #define ADDRESS "127.0.0.1:4170"
 #define MOST_REPLIES 64
-#define PATIENCE 120.0 /* seconds within which a server starts and answers */
+#define TIMEOUT 120.0 /* seconds within which a server starts and answers */
 #define IS_GONE (-3)
 
 /* Lines that come in pieces. */
@@ -114,7 +114,7 @@ static int listen_until(int wanted, double seconds) {
 /* Waits for the line that says where the server listens. */
 static int await_listening(void) {
   char head[200];
-  double end = now() + PATIENCE;
+  double end = now() + TIMEOUT;
   for (size_t size = 0; size < sizeof head - 1 && now() < end;) {
     struct pollfd from = {output, POLLIN, 0};
     if (poll(&from, 1, 1000) <= 0) continue;
@@ -162,7 +162,7 @@ static int find_numbers(void) {
       char line[200];
       int size = snprintf(line, sizeof line, "{\"op\":\"confirm\",\"client\":%d,\"number\":%d,\"node\":1,\"epoch\":0}\n", client, next_number[client]);
       replies = 0;
-      if (send_text(line, (size_t)size) || listen_until(1, PATIENCE)) return -1;
+      if (send_text(line, (size_t)size) || listen_until(1, TIMEOUT)) return -1;
       if (strstr(reply[0], "\"refused\":15}")) break;
     }
   replies = 0;
@@ -201,7 +201,7 @@ static int send_burst(int burst, int who[]) {
 
 /* Waits for all replies of a burst, and counts them. What went wrong, or NULL. */
 static const char *hear_burst(int burst, const int who[]) {
-  if (listen_until(burst, PATIENCE)) return "no answers";
+  if (listen_until(burst, TIMEOUT)) return "no answers";
   for (int each = 0; each < burst; each++) {
     if (strstr(reply[each], "\"step\":")) next_number[who[each]]++;
     else if (strstr(reply[each], "refused")) refused++;
@@ -216,7 +216,7 @@ static const char *hear_burst(int burst, const int who[]) {
 static int send_burst_again(int burst) {
   for (int each = 0; each < burst; each++) {
     replies = 0;
-    if (send_text(burst_lines[each], strlen(burst_lines[each])) || listen_until(1, PATIENCE)) return -1;
+    if (send_text(burst_lines[each], strlen(burst_lines[each])) || listen_until(1, TIMEOUT)) return -1;
   }
   return 0;
 }

@@ -33,7 +33,7 @@ pub const ACCEPT_REST_MILLIS: u64 = 100;
 
 /// The timeouts of a client, for each of its actions.
 #[derive(Clone, Copy, Debug, PartialEq, Eq, Drop)]
-pub struct Patience {
+pub struct Timeouts {
     pub line: Duration,
     pub reply: Duration,
     pub silence: Duration,
@@ -42,12 +42,12 @@ pub struct Patience {
     pub accept_rest: Duration,
 }
 
-impl Patience {
+impl Timeouts {
     /// Returns the timeouts of the constants above.
     pub fn usual() -> Self
         ensures { IsUsual result }
     {
-        Patience {
+        Timeouts {
             line: Duration::from_secs(LINE_SECONDS),
             reply: Duration::from_secs(REPLY_SECONDS),
             silence: Duration::from_secs(SILENCE_SECONDS),

@@ -8,7 +8,7 @@ import time
 
 from support import preloaded
 from support.case import Case, until
-from support.program import PATIENCE
+from support.program import TIMEOUT
 from support.serving import Answer, Connection, Serving
 from support.stores import ring, topology
 
@@ -66,7 +66,7 @@ def waits(server: Serving, connection: Connection) -> bool:
     return states == {"S"}
 
 
-class Patience(Case):
+class Timeouts(Case):
     takes = 25
     told = 0
 
@@ -282,7 +282,7 @@ class Patience(Case):
                 self.expect_nothing(connection)
                 self.clock(lines * (LINE - 3))
                 connection.send(HALVES[1] + HALVES[0])
-                connection.socket.settimeout(PATIENCE)
+                connection.socket.settimeout(TIMEOUT)
                 self.assertEqual(connection.line(), RESENT)
 
     def test_a_line_that_begins_before_the_reply_to_another(self) -> None:
@@ -308,7 +308,7 @@ class Patience(Case):
         with self.serving(env=preloaded.environment(self.folder, STILL=1, READ_SECONDS=1)) as server, \
                 server.connect() as connection:
             connection.send(*orders)
-            connection.socket.settimeout(PATIENCE)
+            connection.socket.settimeout(TIMEOUT)
             for number in range(1, 251):
                 self.assertEqual(connection.line(), b'{"kind":"finished","step":%d}\n' % (number + 1))
 
