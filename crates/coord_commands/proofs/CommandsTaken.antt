@@ -1,10 +1,10 @@
--- The words of each command are taken.
+-- The arguments of each command are taken.
 use Rattle.std.proofs.Common.{◌≡◌, true, [], ◌∷◌, codes, refl, None}
-use Rattle.clap.specs.Words.{Text, takes}
+use Rattle.clap.specs.Arguments.{Text, takes}
 use Rattle.clap.proofs.OnLiterals.{clap_on_literals}
 use Rattle.coord_commands.specs.Laws.{AreTakenAs, CommandsAreTaken}
-use Rattle.coord_commands.specs.Words.{resetd, task_of}
-use Rattle.coord_commands.specs.Words as asked
+use Rattle.coord_commands.specs.Arguments.{resetd, task_of}
+use Rattle.coord_commands.specs.Arguments as asked
 
 takes_drill : (name : Text) → AreTakenAs (name ∷ codes "drill" ∷ []) asked.drill
 unfolding clap_on_literals

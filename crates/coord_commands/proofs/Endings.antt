@@ -37,22 +37,22 @@ of_writing Q (Ok x) among of = tt
 of_writing Q (Err fault) among of = among fault of
 
 -- what was served, or was not
-pub served : {A D : Type 0} (of : Fault → Type 0) (model : DiskModel D) (word : List ℕ) (before after : Option Present) (was is : Option (List ℕ)) (ended : Result A Fault) (status : ℕ) (old new : Option (List ℕ)) → IsAddress word → status ≡ status_of ended
+pub served : {A D : Type 0} (of : Fault → Type 0) (model : DiskModel D) (argument : List ℕ) (before after : Option Present) (was is : Option (List ℕ)) (ended : Result A Fault) (status : ℕ) (old new : Option (List ℕ)) → IsAddress argument → status ≡ status_of ended
     → MatchResult ended (λ _. Keeps old new) (λ fault. WritesFirstPart old new (fault_line fault))
-    → OnOk ended (ServedWhole model before after was is) → IfErr ended of → ServesAt of word (reads before) (reads after) status old new
-served of model word before after was is (Ok x) status old new proper number told closed possible =
+    → OnOk ended (ServedWhole model before after was is) → IfErr ended of → ServesAt of argument (reads before) (reads after) status old new
+served of model argument before after was is (Ok x) status old new proper number told closed possible =
     let gives = gave model before after was is closed in
     inl (record { number = number; address = proper; opened = gives.0; closed = gives.1; silent = told })
-served of model word before after was is (Err fault) status old new proper number told closed possible = inr (record { fault = fault; possible = inr (proper, possible); number = number; told = told })
+served of model argument before after was is (Err fault) status old new proper number told closed possible = inr (record { fault = fault; possible = inr (proper, possible); number = number; told = told })
 
-serving_weaker : (P Q : Fault → Type 0) (word : List ℕ) (fault : Fault) → (P fault → Q fault) → IsOfServingAt P word fault → IsOfServingAt Q word fault
-serving_weaker P Q word fault so (inl none) = inl none
-serving_weaker P Q word fault so (inr is) = inr (is.0, so is.1)
+serving_weaker : (P Q : Fault → Type 0) (argument : List ℕ) (fault : Fault) → (P fault → Q fault) → IsOfServingAt P argument fault → IsOfServingAt Q argument fault
+serving_weaker P Q argument fault so (inl none) = inl none
+serving_weaker P Q argument fault so (inr is) = inr (is.0, so is.1)
 
 -- what is said of its faults, or less
-pub serves_weaker : (P Q : Fault → Type 0) (word : List ℕ) (bytes after : Option (List ℕ)) (status : ℕ) (old new : Option (List ℕ)) → ((fault : Fault) → P fault → Q fault) → ServesAt P word bytes after status old new → ServesAt Q word bytes after status old new
-serves_weaker P Q word bytes after status old new so (inl is) = inl is
-serves_weaker P Q word bytes after status old new so (inr is) = inr (record { fault = is.fault; possible = serving_weaker P Q word is.fault (so is.fault) is.possible; number = is.number; told = is.told })
+pub serves_weaker : (P Q : Fault → Type 0) (argument : List ℕ) (bytes after : Option (List ℕ)) (status : ℕ) (old new : Option (List ℕ)) → ((fault : Fault) → P fault → Q fault) → ServesAt P argument bytes after status old new → ServesAt Q argument bytes after status old new
+serves_weaker P Q argument bytes after status old new so (inl is) = inl is
+serves_weaker P Q argument bytes after status old new so (inr is) = inr (record { fault = is.fault; possible = serving_weaker P Q argument is.fault (so is.fault) is.possible; number = is.number; told = is.told })
 
 -- what holds where it has ended well
 pub is_done : {A : Type 0} (P : Type 0) (ended : Result A Fault) → IsOk ended → OnOk ended P → P

@@ -6,6 +6,6 @@ mod Made
 mod OneClient
 mod Opening
 mod Raising
-mod RefusedWords
+mod RefusedArguments
 mod SaidBytes
 mod Submitted

@@ -1,14 +1,14 @@
--- The law of the program's words.
+-- The law of the program's arguments.
 use Rattle.std.specs.Prelude.{◌≡◌, true, List, [], ◌∷◌, codes, None, Some}
-use Rattle.clap.specs.Words.{Text, takes}
-use Rattle.coord_commands.specs.Words.{AskedCommand, resetd, task_of}
-use Rattle.coord_commands.specs.Words as asked
+use Rattle.clap.specs.Arguments.{Text, takes}
+use Rattle.coord_commands.specs.Arguments.{AskedCommand, resetd, task_of}
+use Rattle.coord_commands.specs.Arguments as asked
 
--- `clap` takes the words, and they ask for this
+-- `clap` takes the arguments, and they ask for this
 abbrev pub AreTakenAs : List Text → AskedCommand → Type 0
-AreTakenAs words asked = (takes resetd words ≡ true) × (task_of words ≡ Some asked)
+AreTakenAs arguments asked = (takes resetd arguments ≡ true) × (task_of arguments ≡ Some asked)
 
--- the words of each command are taken, whatever name the program goes by; of files those with a name from the root, and of addresses those that begin with 1
+-- the arguments of each command are taken, whatever name the program goes by; of files those with a name from the root, and of addresses those that begin with 1
 pub record CommandsAreTaken : Type 0 where
   pub drill : (name : Text) → AreTakenAs (name ∷ codes "drill" ∷ []) asked.drill
   pub init : (name file topology : Text) → AreTakenAs (name ∷ codes "init" ∷ (47 ∷ file) ∷ (47 ∷ topology) ∷ []) (asked.init (47 ∷ file) (47 ∷ topology))
@@ -16,5 +16,5 @@ pub record CommandsAreTaken : Type 0 where
   pub show : (name file : Text) → AreTakenAs (name ∷ codes "show" ∷ (47 ∷ file) ∷ []) (asked.show (47 ∷ file))
   pub migrate : (name file : Text) → AreTakenAs (name ∷ codes "migrate" ∷ (47 ∷ file) ∷ []) (asked.migrate (47 ∷ file))
   pub serve : (name file address : Text) → AreTakenAs (name ∷ codes "serve" ∷ (47 ∷ file) ∷ (49 ∷ address) ∷ []) (asked.serve (47 ∷ file) (49 ∷ address))
-  -- `clap` takes `--` before a file, and the words then ask for nothing
+  -- `clap` takes `--` before a file, and the arguments then ask for nothing
   pub behind_dashes : (name file : Text) → (takes resetd (name ∷ codes "check" ∷ codes "--" ∷ file ∷ []) ≡ true) × (task_of (name ∷ codes "check" ∷ codes "--" ∷ file ∷ []) ≡ None)

@@ -12,4 +12,4 @@ pub mod Running
 pub mod Serving
 pub mod Streams
 pub mod Topology
-pub mod Words
+pub mod Arguments

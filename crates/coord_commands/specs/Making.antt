@@ -77,7 +77,7 @@ RefusesStore before after topology fault = ⊥
 abbrev pub LacksMemoryToMake : Option (List ℕ) → Option (List ℕ) → Option (List ℕ) → Type 0
 LacksMemoryToMake file before after = (topology : Content) × Says file topology × (LeavesWithoutMemory topology before after ⊎ IsFounded topology (begun topology) before after)
 
--- The faults of `init`, its words aside. The topology file is judged first: it says a topology where its store is not made. Where the line cannot be written, the store was made.
+-- The faults of `init`, its arguments aside. The topology file is judged first: it says a topology where its store is not made. Where the line cannot be written, the store was made.
 abbrev pub IsOfMaking : Option (List ℕ) → Option (List ℕ) → Option (List ℕ) → Fault → Type 0
 IsOfMaking file before after Read = StaysKnown before after
 IsOfMaking file before after Write = (topology : Content) × Says file topology × IsFounded topology (begun topology) before after

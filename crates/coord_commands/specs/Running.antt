@@ -1,7 +1,7 @@
--- What a run of the program does, by its words.
+-- What a run of the program does, by its arguments.
 use Rattle.std.specs.Prelude.{◌≡◌, ◌⊎◌, ℕ, true, List, Option, Some, None}
 use Rattle.std.specs.Io.KnownBytes.{IsAtEnd, Keeps}
-use Rattle.clap.specs.Words.{Text, takes}
+use Rattle.clap.specs.Arguments.{Text, takes}
 use Rattle.coord_disk.specs.Model.DiskModel.{DiskModel}
 use Rattle.coord_disk.specs.Model.Present.{Present}
 use Rattle.coord_lines.specs.Written.{WritesFirstPart}
@@ -15,7 +15,7 @@ use Rattle.coord_commands.specs.Making.{IsCreatedLine, IsOfMaking}
 use Rattle.coord_commands.specs.Migrating.{EndsMigrating, IsMigratedLine, IsOfMigrating}
 use Rattle.coord_commands.specs.Serving.{IsOfServing, ServesAt}
 use Rattle.coord_commands.specs.Streams.{Streams}
-use Rattle.coord_commands.specs.Words.{AskedCommand, check, drill, init, migrate, resetd, serve, show, task_of}
+use Rattle.coord_commands.specs.Arguments.{AskedCommand, check, drill, init, migrate, resetd, serve, show, task_of}
 use Rattle.coord_commands.specs.declared.fault.Fault.{Fault}
 use Rattle.coord_commands.specs.declared.fault.Fault.TheVariants.{Usage, OutOfMemory}
 
@@ -57,27 +57,27 @@ Does (show file) status old new = ShowsStore (reads (old.holds file)) status old
 Does (migrate file) status old new = CommandEnds (IsOfMigrating (old.holds file) (new.holds file)) (IsMigratedLine (old.holds file) (new.holds file)) status old.streams new.streams
 Does (serve file address) status old new = ServesAt (IsOfServing (reads (old.holds file))) address (reads (old.holds file)) (reads (new.holds file)) status old.streams.errors new.streams.errors
 
--- the words are refused, or there is no memory to read them
-abbrev pub IsOfWords : List Text → Fault → Type 0
-IsOfWords words OutOfMemory = Unit {0}
-IsOfWords words Usage = takes resetd words ≡ true → task_of words ≡ None
-IsOfWords words fault = ⊥
+-- the arguments are refused, or there is no memory to read them
+abbrev pub IsOfArguments : List Text → Fault → Type 0
+IsOfArguments arguments OutOfMemory = Unit {0}
+IsOfArguments arguments Usage = takes resetd arguments ≡ true → task_of arguments ≡ None
+IsOfArguments arguments fault = ⊥
 
--- where words are refused, nothing but the fault's line is printed, nothing is read, and each disk stays
-pub record RefusesWords (words : List Text) (status : ℕ) (old new : Around) : Type 0 where
-  pub fails : CommandFails (IsOfWords words) (λ _. ⊥) status old.streams new.streams
+-- where arguments are refused, nothing but the fault's line is printed, nothing is read, and each disk stays
+pub record RefusesArguments (arguments : List Text) (status : ℕ) (old new : Around) : Type 0 where
+  pub fails : CommandFails (IsOfArguments arguments) (λ _. ⊥) status old.streams new.streams
   pub unread : Keeps old.streams.input new.streams.input
   pub untouched : (name : List ℕ) → new.holds name ≡ old.holds name
 
--- the words could not be had: nothing but this fault's line is printed, and nothing is read
-pub record LacksWords (fault : Fault) (status : ℕ) (old new : Around) : Type 0 where
+-- the arguments could not be had: nothing but this fault's line is printed, and nothing is read
+pub record LacksArguments (fault : Fault) (status : ℕ) (old new : Around) : Type 0 where
   pub fails : CommandFails (λ told. told ≡ fault) (λ _. ⊥) status old.streams new.streams
   pub unread : Keeps old.streams.input new.streams.input
 
--- the words are refused, or the disk of this name is raised as they ask: a crash may have left nothing else of it at any moment
+-- the arguments are refused, or the disk of this name is raised as they ask: a crash may have left nothing else of it at any moment
 abbrev pub RunsMigrate : {D : Type 0} → DiskModel D → List Text → List ℕ → ℕ → Around → Around → Type 0
-RunsMigrate model words file status old new = RefusesWords words status old new ⊎ EndsMigrating model (old.holds file) (new.holds file) status old.streams new.streams
+RunsMigrate model arguments file status old new = RefusesArguments arguments status old new ⊎ EndsMigrating model (old.holds file) (new.holds file) status old.streams new.streams
 
--- the words are refused, or what they ask for is done
-abbrev pub RunsWords : List Text → ℕ → Around → Around → Type 0
-RunsWords words status old new = RefusesWords words status old new ⊎ ((asked : AskedCommand) × (task_of words ≡ Some asked) × Does asked status old new)
+-- the arguments are refused, or what they ask for is done
+abbrev pub RunsArguments : List Text → ℕ → Around → Around → Type 0
+RunsArguments arguments status old new = RefusesArguments arguments status old new ⊎ ((asked : AskedCommand) × (task_of arguments ≡ Some asked) × Does asked status old new)

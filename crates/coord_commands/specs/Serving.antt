@@ -1,4 +1,4 @@
--- How `serve` ends, where this is the word of its address, and this is what is known of the disk before and after it.
+-- How `serve` ends, where this is the argument of its address, and this is what is known of the disk before and after it.
 use Rattle.std.specs.Prelude.{◌≡◌, ◌⊎◌, ℕ, ◌+◌, true, List, Option, Some, None, IfSome, Result, Ok, Err}
 use Rattle.std.specs.Io.KnownBytes.{Keeps}
 use Rattle.std.specs.Net.Grammar.{IsSocketV4Text}
@@ -33,9 +33,9 @@ use Rattle.coord_commands.specs.declared.fault.Fault.TheVariants.{Usage, Socket,
 abbrev pub GivesWorld : Option (List ℕ) → Type 0
 GivesWorld bytes = IfSome bytes (λ known. (w : World) × Recovered known w)
 
--- the word is an address
+-- the argument is an address
 abbrev pub IsAddress : List ℕ → Type 0
-IsAddress word = (address : SocketAddrV4) × IsSocketV4Text word address
+IsAddress argument = (address : SocketAddrV4) × IsSocketV4Text argument address
 
 -- The faults of `serve` at an address, as far as the bytes of the disk tell. The disk is judged, and then the socket is bound: the store is open where a fault of the socket or of serving is told.
 abbrev pub IsOfServing : Option (List ℕ) → Fault → Type 0
@@ -122,26 +122,26 @@ abbrev pub ServedWhole : {D : Type 0} → DiskModel D → Option Present → Opt
 ServedWhole model before after old new = (is : IsServedDisk model before after old new) × (fault_of_end is.ended ≡ None) × IfSome (reads after) (λ known. Recovered known is.ended.closed.store.world)
 
 -- the store was served until a line closed it, and the disk put back
-pub record ServesToEnd (word : List ℕ) (bytes after : Option (List ℕ)) (status : ℕ) (old new : Option (List ℕ)) : Type 0 where
+pub record ServesToEnd (argument : List ℕ) (bytes after : Option (List ℕ)) (status : ℕ) (old new : Option (List ℕ)) : Type 0 where
   pub number : status ≡ 0
-  pub address : IsAddress word
+  pub address : IsAddress argument
   pub opened : GivesWorld bytes
   pub closed : GivesWorld after
   pub silent : Keeps old new
 
 -- `of`: the faults of `serve` at an address
 module _ (of : Fault → Type 0) where
-  -- the word is judged first: it is no address, or it is one
+  -- the argument is judged first: it is no address, or it is one
   abbrev pub IsOfServingAt : List ℕ → Fault → Type 0
-  IsOfServingAt word told = ((told ≡ Usage) × ¬ IsAddress word) ⊎ (IsAddress word × of told)
+  IsOfServingAt argument told = ((told ≡ Usage) × ¬ IsAddress argument) ⊎ (IsAddress argument × of told)
 
   -- the command has ended with a fault
-  pub record IsNotServed (word : List ℕ) (status : ℕ) (old new : Option (List ℕ)) : Type 0 where
+  pub record IsNotServed (argument : List ℕ) (status : ℕ) (old new : Option (List ℕ)) : Type 0 where
     pub fault : Fault
-    pub possible : IsOfServingAt word fault
+    pub possible : IsOfServingAt argument fault
     pub number : status ≡ fault_status fault
     pub told : WritesFirstPart old new (fault_line fault)
 
   -- with this status, and on standard error
   abbrev pub ServesAt : List ℕ → Option (List ℕ) → Option (List ℕ) → ℕ → Option (List ℕ) → Option (List ℕ) → Type 0
-  ServesAt word bytes after status old new = ServesToEnd word bytes after status old new ⊎ IsNotServed word status old new
+  ServesAt argument bytes after status old new = ServesToEnd argument bytes after status old new ⊎ IsNotServed argument status old new

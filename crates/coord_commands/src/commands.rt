@@ -5,7 +5,7 @@ ghost use Rattle.coord_commands.specs.Ending.{CommandEnds};
 ghost use Rattle.coord_commands.specs.Inspection.{Checks, ShowsStore};
 ghost use Rattle.coord_commands.specs.Making.{IsCreatedLine, IsOfMaking};
 ghost use Rattle.coord_commands.specs.Migrating.{IsMigratedLine, IsOfMigrating};
-ghost use Rattle.coord_commands.specs.Running.{RunsWords, files_around};
+ghost use Rattle.coord_commands.specs.Running.{RunsArguments, files_around};
 
 use crate::folder::{FileFolder, Folder};
 use crate::inspection::{check_in, show_in};
@@ -22,30 +22,30 @@ use std::sync::Wait;
 use std::thread::Threads;
 use std::time::Clock;
 
-/// Carries out what the program's words ask for, and answers the exit status. Nothing but `serve`
+/// Carries out what the program's arguments ask for, and answers the exit status. Nothing but `serve`
 /// waits for anybody.
 pub fn run<
     S: Files<File = File> + Net + Threads + Wait + Clock + Sync + AllocGlobal,
     R: Read,
     W: Write + Send,
     E: Write,
->(rt: &S, words: &[String], streams: &mut Streams<R, W, E>) -> u8
-    ensures { RunsWords (map string_bytes words.now) result (files_around streams.old.known)
+>(rt: &S, arguments: &[String], streams: &mut Streams<R, W, E>) -> u8
+    ensures { RunsArguments (map string_bytes arguments.now) result (files_around streams.old.known)
         (files_around streams.new.known) }
 {
     let mut folder = FileFolder::new(rt);
-    carry_out(rt, &mut folder, words, streams)
+    carry_out(rt, &mut folder, arguments, streams)
 }
 
-/// Carries out what the program's words ask for in a folder, and answers the exit status.
+/// Carries out what the program's arguments ask for in a folder, and answers the exit status.
 fn carry_out<
     S: Net + Threads + Wait + Clock + Sync + AllocGlobal,
     F: Folder,
     R: Read,
     W: Write + Send,
     E: Write,
->(rt: &S, folder: &mut F, words: &[String], streams: &mut Streams<R, W, E>) -> u8
-    ensures { RunsWords (map string_bytes words.now) result
+>(rt: &S, folder: &mut F, arguments: &[String], streams: &mut Streams<R, W, E>) -> u8
+    ensures { RunsArguments (map string_bytes arguments.now) result
         (record {
           streams = streams.old.known;
           holds = F.holds folder.old;
@@ -57,7 +57,7 @@ fn carry_out<
           says = F.says folder.new;
         }) }
 {
-    match run_in(rt.alloc(), folder, words, streams) {
+    match run_in(rt.alloc(), folder, arguments, streams) {
         Ok(status) => status,
         Err(left) => serve_in(rt, folder, left.file, left.address, streams),
     }

@@ -17,7 +17,7 @@ use std::io::{Error, ErrorKind};
 /// What ends a command early. Each has a name, printed on standard error, and an exit status.
 #[derive(Clone, Copy, Debug, PartialEq, Eq)]
 pub enum Fault {
-    /// The words were refused.
+    /// The arguments were refused.
     Usage,
     /// Standard input or the topology file could not be read.
     Read,
@@ -40,8 +40,8 @@ pub enum Fault {
 }
 
 impl Fault {
-    /// Why the program's words could not be read: want of memory, or else `Usage`.
-    pub fn of_words(error: &Error) -> Fault
+    /// Why the program's arguments could not be read: want of memory, or else `Usage`.
+    pub fn of_arguments(error: &Error) -> Fault
         ensures memory { error_kind error.now ≡ ErrorKind.OutOfMemory → result ≡ Fault.OutOfMemory }
         ensures other { error_kind error.now ≢ ErrorKind.OutOfMemory → result ≡ Fault.Usage }
     {
@@ -60,7 +60,7 @@ impl Fault {
         }
     }
 
-    /// The exit status: 1 for what was refused, 2 for refused words, 3 for reading, writing, sockets
+    /// The exit status: 1 for what was refused, 2 for refused arguments, 3 for reading, writing, sockets
     /// and the device, 4 for want of memory.
     pub fn status(&self) -> u8
         ensures number { result ≡ fault_status self.now }

@@ -1,8 +1,8 @@
 //! The program's commands: each a function that answers its exit status.
 //!
-//! `specs/Words.antt` says what the program's words ask for, `specs/Faults.antt` what the faults
+//! `specs/Arguments.antt` says what the program's arguments ask for, `specs/Faults.antt` what the faults
 //! are called, which status each has and what is printed of it, and `specs/Printed.antt` the lines
-//! of a store. `run` carries out what the words ask for.
+//! of a store. `run` carries out what the arguments ask for.
 //!
 //! Each command but the drill works in a `Folder`, which says where the disks and texts of names
 //! are: `run_in`, `init_in`, `check_in`, `show_in`, `migrate_in` and `serve_in`. The public
@@ -22,6 +22,7 @@
 //! `specs/Inspection.antt`, `specs/Serving.antt`).
 #![tactic(auto)]
 
+mod arguments;
 mod commands;
 mod creation;
 mod fault;
@@ -40,8 +41,8 @@ mod serving;
 mod status;
 mod streams;
 mod topology;
-mod words;
 
+pub use arguments::{Task, read_arguments};
 pub use commands::{check, init, migrate, run, show};
 pub use creation::create_store;
 pub use fault::Fault;
@@ -56,4 +57,3 @@ pub use serving::{serve, serve_in};
 pub use status::report;
 pub use streams::Streams;
 pub use topology::topology_from;
-pub use words::{Task, read_words};

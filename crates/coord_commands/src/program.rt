@@ -1,10 +1,10 @@
-//! The whole program, over its words, its streams and a runtime.
+//! The whole program, over its arguments, its streams and a runtime.
 
 ghost use Rattle.std.specs.Prelude.{◌≡◌, ◌≢◌, ◌⊎◌, List, String, Err, IfErr, IfOk, map, string_bytes};
 ghost use Rattle.std.specs.Global.{Global};
 ghost use Rattle.std.specs.Iterator.{Drains, IsFinite};
 ghost use Rattle.std.specs.IoError.{error_kind};
-ghost use Rattle.coord_commands.specs.Running.{LacksWords, RunsWords, files_around};
+ghost use Rattle.coord_commands.specs.Running.{LacksArguments, RunsArguments, files_around};
 ghost use Rattle.coord_commands.specs.declared.fault.Fault.TheVariants.{OutOfMemory, Usage};
 
 use crate::commands::run;
@@ -21,30 +21,30 @@ use std::sync::Wait;
 use std::thread::Threads;
 use std::time::Clock;
 
-/// Carries out what the program's words ask for, the first of which is its own name, and answers the
+/// Carries out what the program's arguments ask for, the first of which is its own name, and answers the
 /// exit status: the drill reads the input, what is asked for is printed on the output, and the line
-/// of a fault on standard error. Where the words could not be had, that is told, and nothing is done.
+/// of a fault on standard error. Where the arguments could not be had, that is told, and nothing is done.
 pub fn run_program<
     S: Files<File = File> + Net + Threads + Wait + Clock + Sync + AllocGlobal,
     I: Iterator<Item = String>,
     R: Read,
     W: Write + Send,
     E: Write,
->(rt: &S, words: io::Result<I>, streams: &mut Streams<R, W, E>) -> u8
-    requires { IfOk words (λ words. I.can_next words × IsFinite (I.remaining words)) }
-    ensures had { IfOk words (λ words.
-        LacksWords OutOfMemory result (files_around streams.old.known) (files_around streams.new.known)
-        ⊎ ((came : List (String Global)) × Drains I.next_gives words came × RunsWords (map string_bytes came)
+>(rt: &S, arguments: io::Result<I>, streams: &mut Streams<R, W, E>) -> u8
+    requires { IfOk arguments (λ arguments. I.can_next arguments × IsFinite (I.remaining arguments)) }
+    ensures had { IfOk arguments (λ arguments.
+        LacksArguments OutOfMemory result (files_around streams.old.known) (files_around streams.new.known)
+        ⊎ ((came : List (String Global)) × Drains I.next_gives arguments came × RunsArguments (map string_bytes came)
         result (files_around streams.old.known) (files_around streams.new.known))) }
-    ensures memory { IfErr words (λ error. error_kind error ≡ ErrorKind.OutOfMemory →
-        LacksWords OutOfMemory result (files_around streams.old.known)
+    ensures memory { IfErr arguments (λ error. error_kind error ≡ ErrorKind.OutOfMemory →
+        LacksArguments OutOfMemory result (files_around streams.old.known)
         (files_around streams.new.known)) }
-    ensures refused { IfErr words (λ error. error_kind error ≢ ErrorKind.OutOfMemory →
-        LacksWords Usage result (files_around streams.old.known) (files_around streams.new.known)) }
+    ensures refused { IfErr arguments (λ error. error_kind error ≢ ErrorKind.OutOfMemory →
+        LacksArguments Usage result (files_around streams.old.known) (files_around streams.new.known)) }
 {
     let _taken = take_descriptors(rt);
-    match gathered(rt.alloc(), words) {
-        Ok(words) => run(rt, &words, streams),
+    match gathered(rt.alloc(), arguments) {
+        Ok(arguments) => run(rt, &arguments, streams),
         Err(fault) => report(Err(fault), &mut streams.errors),
     }
 }
@@ -60,21 +60,21 @@ fn take_descriptors<S: Files<File = File>>(rt: &S) -> [io::Result<File>; 3] {
     ]
 }
 
-/// The program's words, the first of which is its own name.
+/// The program's arguments, the first of which is its own name.
 fn gathered<I: Iterator<Item = String>>(
     alloc: Global,
-    words: io::Result<I>,
+    arguments: io::Result<I>,
 ) -> Result<Vec<String>, Fault>
-    requires { IfOk words (λ words. I.can_next words × IsFinite (I.remaining words)) }
-    ensures had { IfOk words (λ words. IfOk result (λ all. Drains I.next_gives words all.items)) }
-    ensures memory { IfOk words (λ _. IfErr result (λ fault. fault ≡ OutOfMemory)) }
-    ensures missing { IfErr words (λ error. error_kind error ≡ ErrorKind.OutOfMemory →
+    requires { IfOk arguments (λ arguments. I.can_next arguments × IsFinite (I.remaining arguments)) }
+    ensures had { IfOk arguments (λ arguments. IfOk result (λ all. Drains I.next_gives arguments all.items)) }
+    ensures memory { IfOk arguments (λ _. IfErr result (λ fault. fault ≡ OutOfMemory)) }
+    ensures missing { IfErr arguments (λ error. error_kind error ≡ ErrorKind.OutOfMemory →
         result ≡ Err OutOfMemory) }
-    ensures refused { IfErr words (λ error. error_kind error ≢ ErrorKind.OutOfMemory →
+    ensures refused { IfErr arguments (λ error. error_kind error ≢ ErrorKind.OutOfMemory →
         result ≡ Err Usage) }
 {
-    match words {
-        Ok(words) => Ok(words.collect(alloc)?),
-        Err(error) => Err(Fault::of_words(&error)),
+    match arguments {
+        Ok(arguments) => Ok(arguments.collect(alloc)?),
+        Err(error) => Err(Fault::of_arguments(&error)),
     }
 }

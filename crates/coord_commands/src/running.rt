@@ -1,9 +1,10 @@
-//! What words ask for, in a folder.
+//! What arguments ask for, in a folder.
 
 ghost use Rattle.std.specs.Prelude.{◌≡◌, ℕ, List, map, IfErr, IfOk, Some, string_bytes};
-ghost use Rattle.coord_commands.specs.Running.{RunsDrill, RunsMigrate, RunsWords};
-ghost use Rattle.coord_commands.specs.Words.{migrate, serve, task_of};
+ghost use Rattle.coord_commands.specs.Running.{RunsDrill, RunsMigrate, RunsArguments};
+ghost use Rattle.coord_commands.specs.Arguments.{migrate, serve, task_of};
 
+use crate::arguments::{Task, read_arguments};
 use crate::fault::Fault;
 use crate::folder::Folder;
 use crate::inspection::{check_in, show_in};
@@ -11,7 +12,6 @@ use crate::making::init_in;
 use crate::migrating::migrate_in;
 use crate::status::report;
 use crate::streams::Streams;
-use crate::words::{Task, read_words};
 use coord_drill::coord_drill;
 use std::alloc::Global;
 use std::io::{Read, Write};
@@ -23,16 +23,16 @@ pub struct ToServe<'a> {
     pub address: &'a str,
 }
 
-/// Carries out what the program's words ask for in a folder, and answers the exit status; with
+/// Carries out what the program's arguments ask for in a folder, and answers the exit status; with
 /// nothing done what is to be served, where they ask for `serve`. It waits for nobody. Of `migrate` it
 /// says too what a crash may leave at each moment.
 pub fn run_in<'a, F: Folder, R: Read, W: Write, E: Write>(
     alloc: Global,
     folder: &mut F,
-    words: &'a [String],
+    arguments: &'a [String],
     streams: &mut Streams<R, W, E>,
 ) -> Result<u8, ToServe<'a>>
-    ensures done { IfOk result (λ status. RunsWords (map string_bytes words.now) status
+    ensures done { IfOk result (λ status. RunsArguments (map string_bytes arguments.now) status
         (record {
           streams = streams.old.known;
           holds = F.holds folder.old;
@@ -43,8 +43,8 @@ pub fn run_in<'a, F: Folder, R: Read, W: Write, E: Write>(
           holds = F.holds folder.new;
           says = F.says folder.new;
         })) }
-    ensures moments { (file : List ℕ) → task_of (map string_bytes words.now) ≡ Some (migrate file) →
-        IfOk result (λ status. RunsMigrate F.Disk.model (map string_bytes words.now) file status
+    ensures moments { (file : List ℕ) → task_of (map string_bytes arguments.now) ≡ Some (migrate file) →
+        IfOk result (λ status. RunsMigrate F.Disk.model (map string_bytes arguments.now) file status
         (record {
           streams = streams.old.known;
           holds = F.holds folder.old;
@@ -55,12 +55,12 @@ pub fn run_in<'a, F: Folder, R: Read, W: Write, E: Write>(
           holds = F.holds folder.new;
           says = F.says folder.new;
         })) }
-    ensures left { IfErr result (λ left. task_of (map string_bytes words.now)
+    ensures left { IfErr result (λ left. task_of (map string_bytes arguments.now)
         ≡ Some (serve left.file.now left.address.now)) }
     ensures unopened { IfErr result (λ _. folder.new ≡ folder.old) }
     ensures unprinted { IfErr result (λ _. streams.new ≡ streams.old) }
 {
-    match read_words(alloc, words) {
+    match read_arguments(alloc, arguments) {
         Ok(Task::Drill) => Ok(drill(alloc, streams)),
         Ok(Task::Init { file, topology }) => Ok(init_in(alloc, folder, file, topology, streams)),
         Ok(Task::Check { file }) => Ok(check_in(alloc, folder, file, streams)),

@@ -231,10 +231,10 @@ fn left<D: Disk + Takable>(closed: Closed<D>) -> D
     closed.store.into_disk()
 }
 
-/// The address that a word is: four numbers up to 255 without leading zeros, and a port.
-fn address_of(word: &str) -> Option<SocketAddrV4>
-    ensures some { IfSome result (IsSocketV4Text word.now) }
-    ensures none { IfNone result ((a : SocketAddrV4) → ¬ IsSocketV4Text word.now a) }
+/// The address that an argument is: four numbers up to 255 without leading zeros, and a port.
+fn address_of(argument: &str) -> Option<SocketAddrV4>
+    ensures some { IfSome result (IsSocketV4Text argument.now) }
+    ensures none { IfNone result ((a : SocketAddrV4) → ¬ IsSocketV4Text argument.now a) }
 {
-    word.parse().ok()
+    argument.parse().ok()
 }

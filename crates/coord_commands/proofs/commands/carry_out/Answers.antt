@@ -3,7 +3,7 @@ use Rattle.coord_commands.proofs.Endings.{serves_weaker}
 use Rattle.coord_commands.proofs.Opening.{of_ending}
 use Rattle.coord_commands.specs.Folders.{reads}
 use Rattle.coord_commands.specs.Serving.{IsOfServing, ServesAt}
-use Rattle.coord_commands.specs.Words.{serve}
+use Rattle.coord_commands.specs.Arguments.{serve}
 use Rattle.coord_commands.proofs.commands.carry_out.Goals as goal
 
 -- what is to be served is served, around the same folder and streams

@@ -18,6 +18,6 @@ returns-clause-served g c =
 pub returns-clause-closed : goal.returns-clause-closed
 returns-clause-closed g c = rw (← c.streams.view_is) (λ zero. is_done _ c.serve_at.result (c.report-2.ensures.done zero) c.serve_at.ensures.served)
 
--- the word is an address
+-- the argument is an address
 pub returns-clause-usage : goal.returns-clause-usage
 returns-clause-usage g c = λ none. absurd (none c.in-Some.place c.in-Some.ensures.some)

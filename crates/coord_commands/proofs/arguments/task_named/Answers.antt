@@ -1,7 +1,7 @@
 use Rattle.std.proofs.Common.{codes, rules}
-use Rattle.clap.specs.Words.{found_of}
+use Rattle.clap.specs.Arguments.{found_of}
 use Rattle.clap.proofs.WalkLemmas.{first_value-rows}
-use Rattle.coord_commands.proofs.words.task_named.Goals as goal
+use Rattle.coord_commands.proofs.arguments.task_named.Goals as goal
 
 pub returns-in_err-file : goal.returns-in_err-file
 returns-in_err-file c =

@@ -22,7 +22,7 @@ NO_ADDRESSES = [
 ]
 
 
-class Words(Case):
+class Arguments(Case):
     def test_refused_words(self) -> None:
         for words in WORD_LISTS:
             with self.subTest(words=words):

@@ -1,8 +1,8 @@
 use Rattle.std.proofs.Common.{ap, ap₂, codes, refl, true, ◌∙◌, ◌≡◌}
 use Rattle.std.proofs.lemmas.Result.{IfOk-weaker}
 use Rattle.clap.specs.Simple.{app_of_fields, on_top}
-use Rattle.clap.specs.Words.{App, Shape, app_of, new_app, with_subcommand}
-use Rattle.coord_commands.proofs.words.program.Goals as goal
+use Rattle.clap.specs.Arguments.{App, Shape, app_of, new_app, with_subcommand}
+use Rattle.coord_commands.proofs.arguments.program.Goals as goal
 
 pub returns : goal.returns
 returns c =
@@ -14,4 +14,4 @@ returns c =
     let three = c.in_ok-with_check.ensures ∙ ap₂ with_subcommand two refl in
     let four = c.in_ok-with_show.ensures ∙ ap₂ with_subcommand three refl in
     let five = c.in_ok-with_serve.ensures ∙ ap₂ with_subcommand four refl in
-    IfOk-weaker c.add_of_word-3.result _ _ (λ program is. is ∙ ap₂ with_subcommand five refl) c.add_of_word-3.ensures
+    IfOk-weaker c.add_of_argument-3.result _ _ (λ program is. is ∙ ap₂ with_subcommand five refl) c.add_of_argument-3.ensures

@@ -1,16 +1,16 @@
-//! The program's words.
+//! The program's arguments.
 
 ghost use Rattle.std.specs.Prelude.{◌≡◌, ◌⊎◌, false, true, map, option_and_then, option_map, IfOk, IfErr, Some, None, string_bytes};
-ghost use Rattle.clap.specs.Words.{app_of, found_of, new_app, rows_of, rule_of, subcommand_rows_of, takes, with_rule, with_subcommand};
+ghost use Rattle.clap.specs.Arguments.{app_of, found_of, new_app, rows_of, rule_of, subcommand_rows_of, takes, with_rule, with_subcommand};
 ghost use Rattle.coord_commands.specs.declared.fault.Fault.TheVariants.{Usage, OutOfMemory};
-ghost use Rattle.coord_commands.specs.Words.{asked_of, asked_of_file, asked_of_name, in_words, resetd, task_of, word_named, words_for};
+ghost use Rattle.coord_commands.specs.Arguments.{asked_of, asked_of_file, asked_of_name, in_arguments, resetd, task_of, argument_named, arguments_for};
 
 use crate::fault::Fault;
 use clap::error::ErrorKind;
 use clap::{Arg, ArgAction, ArgMatches, Command};
 use std::alloc::{AllocError, Global};
 
-/// What the words ask for, with the words behind its name.
+/// What the arguments ask for, with the arguments behind its name.
 #[derive(Clone, Copy)]
 pub enum Task<'a> {
     /// Read requests from standard input, and print what becomes of each.
@@ -28,9 +28,9 @@ pub enum Task<'a> {
 }
 
 impl Task<'_> {
-    /// How many words ask for it, with the program's name.
-    fn words(&self) -> usize
-        ensures { result ≡ words_for (asked_of self.now) }
+    /// How many arguments ask for it, with the program's name.
+    fn arguments(&self) -> usize
+        ensures { result ≡ arguments_for (asked_of self.now) }
     {
         match self {
             Task::Drill => 2,
@@ -40,18 +40,18 @@ impl Task<'_> {
     }
 }
 
-/// What the program's words ask for, the first of which is its own name: `drill`, `check FILE`,
+/// What the program's arguments ask for, the first of which is its own name: `drill`, `check FILE`,
 /// `show FILE`, `migrate FILE`, `init FILE TOPOLOGY` or `serve FILE ADDRESS`. All else, and what
 /// `clap` refuses, is refused: `help`, `--help`, `-h` and `--version` too.
-pub fn read_words<'a>(alloc: Global, words: &'a [String]) -> Result<Task<'a>, Fault>
-    ensures ok { IfOk result (λ task. task_of (map string_bytes words.now) ≡ Some (asked_of task)) }
+pub fn read_arguments<'a>(alloc: Global, arguments: &'a [String]) -> Result<Task<'a>, Fault>
+    ensures ok { IfOk result (λ task. task_of (map string_bytes arguments.now) ≡ Some (asked_of task)) }
     ensures err { IfErr result (λ fault. (fault ≡ OutOfMemory)
-        ⊎ ((fault ≡ Usage) × (takes resetd (map string_bytes words.now) ≡ true →
-        task_of (map string_bytes words.now) ≡ None))) }
+        ⊎ ((fault ≡ Usage) × (takes resetd (map string_bytes arguments.now) ≡ true →
+        task_of (map string_bytes arguments.now) ≡ None))) }
 {
     let program = program(alloc)?;
-    match program.try_get_matches_from(words) {
-        Ok(matches) => task_in(&matches, words.len()).ok_or(Fault::Usage),
+    match program.try_get_matches_from(arguments) {
+        Ok(matches) => task_in(&matches, arguments.len()).ok_or(Fault::Usage),
         Err(error) => match error.kind() {
             ErrorKind::OutOfMemory => Err(Fault::OutOfMemory),
             _ => Err(Fault::Usage),
@@ -66,29 +66,29 @@ fn program<'a>(alloc: Global) -> Result<Command<'a>, AllocError>
     let with_drill = Command::new(alloc, "resetd")
         .subcommand_required(true)
         .subcommand(Command::new(alloc, "drill"))?;
-    let with_init = add_of_two_words(with_drill, alloc, "init", "file", "topology")?;
-    let with_check = add_of_word(with_init, alloc, "check", "file")?;
-    let with_show = add_of_word(with_check, alloc, "show", "file")?;
-    let with_serve = add_of_two_words(with_show, alloc, "serve", "file", "address")?;
-    add_of_word(with_serve, alloc, "migrate", "file")
+    let with_init = add_of_two_arguments(with_drill, alloc, "init", "file", "topology")?;
+    let with_check = add_of_argument(with_init, alloc, "check", "file")?;
+    let with_show = add_of_argument(with_check, alloc, "show", "file")?;
+    let with_serve = add_of_two_arguments(with_show, alloc, "serve", "file", "address")?;
+    add_of_argument(with_serve, alloc, "migrate", "file")
 }
 
-/// The program with one more command, which has a word behind it.
-fn add_of_word<'a>(
+/// The program with one more command, which has an argument behind it.
+fn add_of_argument<'a>(
     program: Command<'a>,
     alloc: Global,
     name: &'a str,
-    word: &'a str,
+    argument: &'a str,
 ) -> Result<Command<'a>, AllocError>
     ensures { IfOk result (λ more. app_of more ≡ with_subcommand (app_of program.entry)
-        (with_rule (new_app name.now) (word_named word.now)).top) }
+        (with_rule (new_app name.now) (argument_named argument.now)).top) }
 {
-    let command = Command::new(alloc, name).arg(word_named(alloc, word))?;
+    let command = Command::new(alloc, name).arg(argument_named(alloc, argument))?;
     program.subcommand(command)
 }
 
-/// The program with one more command, which has two words behind it.
-fn add_of_two_words<'a>(
+/// The program with one more command, which has two arguments behind it.
+fn add_of_two_arguments<'a>(
     program: Command<'a>,
     alloc: Global,
     name: &'a str,
@@ -96,38 +96,38 @@ fn add_of_two_words<'a>(
     second: &'a str,
 ) -> Result<Command<'a>, AllocError>
     ensures { IfOk result (λ more. app_of more ≡ with_subcommand (app_of program.entry)
-        (with_rule (with_rule (new_app name.now) (word_named first.now))
-        (word_named second.now)).top) }
+        (with_rule (with_rule (new_app name.now) (argument_named first.now))
+        (argument_named second.now)).top) }
 {
     let command = Command::new(alloc, name)
-        .arg(word_named(alloc, first))?
-        .arg(word_named(alloc, second))?;
+        .arg(argument_named(alloc, first))?
+        .arg(argument_named(alloc, second))?;
     program.subcommand(command)
 }
 
-/// A word behind a command, which has to be there.
-fn word_named(alloc: Global, id: &str) -> Arg<'_>
-    ensures rule { rule_of result ≡ word_named id.now }
+/// An argument behind a command, which has to be there.
+fn argument_named(alloc: Global, id: &str) -> Arg<'_>
+    ensures rule { rule_of result ≡ argument_named id.now }
     ensures local { result.global ≡ false }
 {
     Arg::new(alloc, id).required(true).action(ArgAction::Set)
 }
 
-/// What the command asks for that `clap` found in so many words.
+/// What the command asks for that `clap` found in so many arguments.
 fn task_in<'a>(matches: &ArgMatches<'a>, count: usize) -> Option<Task<'a>>
-    ensures { option_map asked_of result ≡ option_and_then (in_words count)
+    ensures { option_map asked_of result ≡ option_and_then (in_arguments count)
         (option_and_then (λ found. asked_of_name found.0 found.1) (subcommand_rows_of matches.now)) }
 {
     let (name, found) = matches.subcommand()?;
     let task = task_named(name, found)?;
-    if task.words() == count {
+    if task.arguments() == count {
         Some(task)
     } else {
         None
     }
 }
 
-/// What the command of a name asks for, with the first values of its words.
+/// What the command of a name asks for, with the first values of its arguments.
 fn task_named<'a>(name: &str, matches: &ArgMatches<'a>) -> Option<Task<'a>>
     ensures { option_map asked_of result ≡ asked_of_name name.now (rows_of (found_of matches.now)) }
 {

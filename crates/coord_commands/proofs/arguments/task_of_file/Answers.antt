@@ -1,7 +1,7 @@
 use Rattle.std.proofs.Common.{codes, rules}
-use Rattle.clap.specs.Words.{found_of}
+use Rattle.clap.specs.Arguments.{found_of}
 use Rattle.clap.proofs.WalkLemmas.{first_value-rows}
-use Rattle.coord_commands.proofs.words.task_of_file.Goals as goal
+use Rattle.coord_commands.proofs.arguments.task_of_file.Goals as goal
 
 pub returns-in_err-topology : goal.returns-in_err-topology
 returns-in_err-topology c =

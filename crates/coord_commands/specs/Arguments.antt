@@ -1,0 +1,77 @@
+-- What the program's arguments ask for.
+use Rattle.std.specs.Prelude.{ℕ, ◌==◌, length, List, codes, bytes_eq, Option, Some, None, true, if◌then◌else◌, option_and_then, option_map}
+use Rattle.clap.specs.Arguments.{App, Row, Rule, Text, first_of, new_app, new_rule, subcommand_of, with_rule, with_subcommand}
+use Rattle.clap.specs.Simple.{on_top}
+use Rattle.clap.specs.declared.builder.action.ArgAction.TheVariants.{Set}
+use Rattle.coord_commands.specs.declared.arguments.Task.{Task}
+use Rattle.coord_commands.specs.declared.arguments.Task.TheVariants as task
+
+-- what is asked for, with the arguments behind its name
+pub data AskedCommand : Type 0 where
+  drill : AskedCommand
+  check : Text → AskedCommand
+  show : Text → AskedCommand
+  migrate : Text → AskedCommand
+  init : Text → Text → AskedCommand
+  serve : Text → Text → AskedCommand
+
+-- what a task is
+abbrev pub asked_of : Task → AskedCommand
+asked_of task.Drill = drill
+asked_of (task.Check file) = check file.now
+asked_of (task.Show file) = show file.now
+asked_of (task.Migrate file) = migrate file.now
+asked_of (task.Init file topology) = init file.now topology.now
+asked_of (task.Serve file address) = serve file.now address.now
+
+-- how many arguments ask for it, with the program's name
+abbrev pub arguments_for : AskedCommand → ℕ
+arguments_for drill = 2
+arguments_for (check file) = 3
+arguments_for (show file) = 3
+arguments_for (migrate file) = 3
+arguments_for (init file topology) = 4
+arguments_for (serve file address) = 4
+
+-- what is asked, where the count of arguments is the one that its command takes
+abbrev pub in_arguments : ℕ → AskedCommand → Option AskedCommand
+in_arguments count asked = if arguments_for asked == count then Some asked else None
+
+-- what a command asks for with a file and, where it has one, a second argument
+abbrev pub asked_of_file : Text → Text → List Row → Option AskedCommand
+asked_of_file name file rows =
+    if bytes_eq name (codes "check") then Some (check file)
+    else (if bytes_eq name (codes "show") then Some (show file)
+    else (if bytes_eq name (codes "migrate") then Some (migrate file)
+    else (if bytes_eq name (codes "init") then option_map (init file) (first_of (codes "topology") rows)
+    else (if bytes_eq name (codes "serve") then option_map (serve file) (first_of (codes "address") rows)
+    else None))))
+
+-- what the command of a name asks for, with the first values of its arguments
+abbrev pub asked_of_name : Text → List Row → Option AskedCommand
+asked_of_name name rows =
+    if bytes_eq name (codes "drill") then Some drill
+    else option_and_then (λ file. asked_of_file name file rows) (first_of (codes "file") rows)
+
+-- an argument that has to be there
+abbrev pub argument_named : Text → Rule
+argument_named id = record (new_rule id) { action = Some Set; required = true }
+
+-- the program as `clap` is told of it: what that refuses asks for nothing
+abbrev pub resetd : App
+resetd =
+    with_subcommand
+    (with_subcommand
+    (with_subcommand
+    (with_subcommand
+    (with_subcommand (with_subcommand (on_top (λ s. record s { subcommand_required = true }) (new_app (codes "resetd"))) (new_app (codes "drill")).top)
+    (with_rule (with_rule (new_app (codes "init")) (argument_named (codes "file"))) (argument_named (codes "topology"))).top)
+    (with_rule (new_app (codes "check")) (argument_named (codes "file"))).top)
+    (with_rule (new_app (codes "show")) (argument_named (codes "file"))).top)
+    (with_rule (with_rule (new_app (codes "serve")) (argument_named (codes "file"))) (argument_named (codes "address"))).top)
+    (with_rule (new_app (codes "migrate")) (argument_named (codes "file"))).top
+
+-- What the arguments ask for, the first of which is the program's own name: what the command that `clap` finds in them asks for,
+-- where no other argument is among them, as `--`.
+abbrev pub task_of : List Text → Option AskedCommand
+task_of arguments = option_and_then (in_arguments (length arguments)) (option_and_then (λ found. asked_of_name found.0 found.1) (subcommand_of resetd arguments))
