@@ -65,7 +65,7 @@ class Memory(Case):
                 yield f"{words[0]}, {many} from {first} of {count}", ample, ended
 
     def expect_unchanged(self, wanted: Ended, *words: str, content: bytes) -> None:
-        """The command ends as wanted, or for want of memory, and its file stays as it was."""
+        """The command ends as wanted, or for lack of memory, and its file stays as it was."""
         path, told = self.path("store"), 0
         for where, ample, ended in self.each_refusal([words[0], path, *words[1:]], lambda: self.write("store", content)):
             self.assertEqual(ample, wanted)

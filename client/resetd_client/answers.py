@@ -38,7 +38,7 @@ class Refusal(enum.IntEnum):
 
 
 class Fault(enum.Enum):
-    """The faults of lines that are no request, or not allowed, and want of memory."""
+    """The faults of lines that are no request, or not allowed, and out of memory."""
 
     UNFINISHED = "Unfinished"
     TOO_LONG = "TooLong"

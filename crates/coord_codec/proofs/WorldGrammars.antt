@@ -169,7 +169,7 @@ world_grammar version =
 pub world_found : (version : ℕ) (bytes : List ℕ) (result : Result World CodecFault) → IsBytes bytes → IfOk result InRange → AnswersDecoded rows_of result (decoded world version bytes) → IfOk result (λ v. (v.version ≡ version) × InRange v × (bytes ≡ (world version).text (rows_of v)))
 world_found version bytes result fits ranges answers = grind (arith, answers_found, world_grammar, version_fits)
 
--- what is said of every fault but want of memory, in other words
+-- what is said of every fault but out of memory, in other words
 weaker : (k : FaultKind) (P Q : Type 0) → (P → Q) → Unless k P → Unless k Q
 weaker k P Q h1 h2 = grind arith
 

@@ -29,7 +29,7 @@ made_halves size version disk is same = (0, half_front version ((world version).
 pub just_made : (topology : Content) (disk : Present) → IsJustMade topology.half 2 disk → IsStore topology (no_world 2) disk.read
 just_made topology disk is = record { gives = is.gives; halves = made_halves topology.half 2 disk is.half is.bytes }
 
--- what want of memory leaves, from what making a store says
+-- what out of memory leaves, from what making a store says
 pub no_step : {D : Type 0} (model : DiskModel D) (size : ℕ) (old new : D) → IsUntouched model old new ⊎ IsJustMade size 2 (model.present new) → LeavesNoStep size (model.present old).read (model.present new).read
 no_step model size old new (inl same) = inl (ap (λ (p : Present). p.read) same.same)
 no_step model size old new (inr is) = inr (is.gives, made_halves size 2 (model.present new) is.half is.bytes)

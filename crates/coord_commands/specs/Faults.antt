@@ -67,7 +67,7 @@ fault_of_server of_server.Device = Store of_store.Device
 fault_of_server of_server.Write = Write
 fault_of_server (of_server.NotClosed fault) = NotClosed fault
 
--- a commit is refused for want of memory, or since the device fails or has failed
+-- a commit is refused for lack of memory, or since the device fails or has failed
 abbrev pub fault_of_commit : CommitFault → Fault
 fault_of_commit of_commit.OutOfMemory = OutOfMemory
 fault_of_commit fault = Store of_store.Device

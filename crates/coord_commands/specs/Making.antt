@@ -48,7 +48,7 @@ StaysKnown before after = IfSome before (λ old. IfSome after (λ new. new ≡ o
 abbrev pub KeepsTaken : Option (List ℕ) → Option (List ℕ) → Type 0
 KeepsTaken before after = IfSome before (λ old. 0 < length old → IfSome after (λ new. new ≡ old))
 
--- What want of memory leaves: bytes that were there stay, and a disk that was empty is so still, or has the store of a
+-- What out of memory leaves: bytes that were there stay, and a disk that was empty is so still, or has the store of a
 -- topology without any step.
 pub record LeavesWithoutMemory (topology : Content) (before after : Option (List ℕ)) : Type 0 where
   pub taken : KeepsTaken before after

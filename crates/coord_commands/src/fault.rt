@@ -40,7 +40,7 @@ pub enum Fault {
 }
 
 impl Fault {
-    /// Why the program's arguments could not be read: want of memory, or else `Usage`.
+    /// Why the program's arguments could not be read: out of memory, or else `Usage`.
     pub fn of_arguments(error: &Error) -> Fault
         ensures memory { error_kind error.now ≡ ErrorKind.OutOfMemory → result ≡ Fault.OutOfMemory }
         ensures other { error_kind error.now ≢ ErrorKind.OutOfMemory → result ≡ Fault.Usage }
@@ -48,7 +48,7 @@ impl Fault {
         Fault::or_memory(error, Fault::Usage)
     }
 
-    /// The fault of a call that failed: want of memory if the error says so, else the fault that is
+    /// The fault of a call that failed: out of memory if the error says so, else the fault that is
     /// given here.
     pub(crate) fn or_memory(error: &Error, other: Fault) -> Fault
         ensures memory { error_kind error.now ≡ ErrorKind.OutOfMemory → result ≡ Fault.OutOfMemory }
@@ -61,7 +61,7 @@ impl Fault {
     }
 
     /// The exit status: 1 for what was refused, 2 for refused arguments, 3 for reading, writing, sockets
-    /// and the device, 4 for want of memory.
+    /// and the device, 4 for lack of memory.
     pub fn status(&self) -> u8
         ensures number { result ≡ fault_status self.now }
         ensures failed { 0 < result }

@@ -95,7 +95,7 @@ impl MemFile {
     }
 }
 
-/// A disk in memory fails for want of memory alone.
+/// A disk in memory fails for lack of memory alone.
 fn io_answer<T>(answer: Result<T, DiskFault>) -> io::Result<T>
     ensures ok { IfOk result (λ value. answer ≡ Ok value) }
     ensures same { is_ok result ≡ is_ok answer }

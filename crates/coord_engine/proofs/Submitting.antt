@@ -20,7 +20,7 @@ refused_step {D} s l later why notes to = by (verdict l.log s) to.why
     by (Ok (Repeat kept)) is = absurd is
     by (Err other) is = (inl is, ap (λ x. record { ledger = x; notes = notes }) to.now)
 
--- want of memory may stand in the place of any answer
+-- out of memory may stand in the place of any answer
 pub no_memory : {D : Type 0} (s : Step) (v : Result Verdict Refusal) (x : LedgerAndNotes D) → AnswersStep s v x (Err OutOfMemory) x
 no_memory s (Ok (Fresh kind)) x = (refl, refl)
 no_memory s (Ok (Repeat kept)) x = (refl, refl)

@@ -26,7 +26,7 @@ pub record LedgerAndNotes (D : Type 0) : Type 0 where
   pub ledger : LedgerState D
   pub notes : List Note
 
--- An accepted step is added to the trail, and its note to the caller's; a repeat gets the reply that was kept. Want of memory may stand in the place of any answer, and after a refusal nothing has changed.
+-- An accepted step is added to the trail, and its note to the caller's; a repeat gets the reply that was kept. Being out of memory may stand in the place of any answer, and after a refusal nothing has changed.
 abbrev pub AnswersStep : {D : Type 0} → Step → Result Verdict Refusal → LedgerAndNotes D → Result Claim Refusal → LedgerAndNotes D → Type 0
 AnswersStep s (Ok (Fresh kind)) before (Ok claim) after = (claim ≡ claimed s (reply (front_world before.ledger.log) s)) × (after ≡ record { ledger = with_accepted before.ledger s; notes = before.notes ++ note_of claim ∷ [] })
 AnswersStep s (Ok (Repeat kept)) before (Ok claim) after = (claim ≡ claimed s kept) × (after ≡ before)

@@ -30,7 +30,7 @@ pub record IsTried {D : Type 0} (failures : D → ℕ) (left now : FlightState D
   pub mark_is : now.mark ≡ mark
   pub failures_are : failures now.disk ≡ failures left.disk + failed
 
--- a new flight was committed with this answer: it is good; or torn, by a call that its device failed; or still new, for want of memory
+-- a new flight was committed with this answer: it is good; or torn, by a call that its device failed; or still new, for lack of memory
 abbrev pub CommitsFlight : {D : Type 0} → (D → ℕ) → FlightState D → Result (Unit {0}) CommitFault → FlightState D → Type 0
 CommitsFlight failures left (Ok done) now = IsTried failures left now Good 0
 CommitsFlight failures left (Err Device) now = IsTried failures left now Torn 1

@@ -41,7 +41,7 @@ one_more n = min (n + 1) (2 ^ 64 - 1)
 abbrev pub with_put_down : Hand → Hand
 with_put_down hand = record hand { put_down = one_more hand.put_down }
 
--- What a worker has once a packet was submitted: one that has to wait does so, or it is lost for want of memory to wait in, and counted; any other is done with.
+-- What a worker has once a packet was submitted: one that has to wait does so, or it is lost for lack of memory to wait in, and counted; any other is done with.
 abbrev pub Keeps : Bool → Hand → Packet → Hand → Type 0
 Keeps true hand p kept = (kept ≡ record hand { waiting = with_packet hand.waiting p }) ⊎ (kept ≡ record hand { lost = one_more hand.lost })
 Keeps false hand p kept = kept ≡ hand

@@ -14,7 +14,7 @@ use std::sync::Wait;
 
 /// Room for so many packets is taken at first: more than a flight releases, which has at most 256 steps,
 /// each with a receipt and a packet to at most 16 neighbours. Only where there is no memory for that, a packet
-/// may be lost later for want of memory to gather it.
+/// may be lost later for lack of memory to gather it.
 const ROOM: usize = 4_352;
 
 /// A flusher's port that submits packets itself, by a share of its own, so that none of them goes to

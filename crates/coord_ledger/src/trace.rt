@@ -26,7 +26,7 @@ pub enum RunFaultKind {
 }
 
 impl RunFaultKind {
-    /// 1 for want of memory, 2 for a fault of the store.
+    /// 1 for lack of memory, 2 for a fault of the store.
     pub fn number(self) -> u8
         ensures { result ≡ run_fault_number self }
     {

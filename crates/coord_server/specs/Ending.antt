@@ -72,7 +72,7 @@ module _ {D : Type 0} (b : Basis D) {V : Type 0} (talked : V → List Talk → V
 
   -- `failed v w`: those who call were v, and have failed
   module _ (failed : V → V → Type 0) (most : ℕ) where
-    -- How the desk went on in an instance of so many steps, from this port. It rests only once it keeps them; and it ends by a close, by want of memory or of a first line before anyone was served, or because those who call have failed.
+    -- How the desk went on in an instance of so many steps, from this port. It rests only once it keeps them; and it ends by a close, by out of memory or of a first line before anyone was served, or because those who call have failed.
     abbrev pub ServesInstance : {P : Type 0} → P → V → V → DeskState P → InstanceEnd → Type 0
     ServesInstance port v w desk end.Resting = ServedWhileOpen most port v w desk × HasKept (DeskKeeps b) desk most
     ServesInstance port v w desk end.Unfollowed = ⊥
@@ -89,7 +89,7 @@ module _ {D : Type 0} (b : Basis D) {V : Type 0} (talked : V → List Talk → V
     LeavesInstance port v w desk (end.Ended (Some (fault.NotClosed why))) = (served : InstanceEnd) × ServesInstance port v w desk served
     LeavesInstance port v w desk left = ServesInstance port v w desk left
 
-    -- how the desk went on in the last instance of a server that ends so: a store that has stopped, or want of memory for the next instance, is met where an instance rests, an output that fails before the first instance serves
+    -- how the desk went on in the last instance of a server that ends so: a store that has stopped, or out of memory for the next instance, is met where an instance rests, an output that fails before the first instance serves
     abbrev pub Serves : {P : Type 0} → P → V → V → DeskState P → Option ServerFault → Type 0
     Serves port v w desk (Some fault.Device) = ServesInstance port v w desk end.Resting
     Serves port v w desk (Some fault.Write) = ServesInstance port v w desk end.Unprinted

@@ -46,7 +46,7 @@ use std::time::Clock;
 /// It prints the address and signals of the history that `O` names, which is new and which it writes. Its
 /// printer can't print anything else, also if the server never returns.
 ///
-/// The server's end tells what ended it, want of memory or of a thread for an instance too, or of the thread
+/// The server's end tells what ended it, out of memory or of a thread for an instance too, or of the thread
 /// that prints. Only where there was no memory to begin with there is no end: then the store and what
 /// prints come back as they were, and nobody was served.
 pub fn serve_instances<

@@ -243,7 +243,7 @@ fn write_line<W: Write>(output: &mut W, line: &str) -> Result<(), ServerFault>
     }
 }
 
-/// Of an output that has failed: want of memory if it says so, else that it could not be written.
+/// Of an output that has failed: out of memory if it says so, else that it could not be written.
 fn fault_of(error: io::Error) -> ServerFault
     ensures memory { error_kind error ≡ ErrorKind.OutOfMemory → result ≡ ServerFault.OutOfMemory }
     ensures other { error_kind error ≢ ErrorKind.OutOfMemory → result ≡ ServerFault.Write }

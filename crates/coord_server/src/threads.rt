@@ -36,7 +36,7 @@ pub struct Begun<L: Origin> {
     pub reader: LogPrefix,
     /// The flusher's.
     pub flusher_share: PacketShare<L>,
-    /// Room for all shares: none of them may be lost for want of memory.
+    /// Room for all shares: none of them may be lost for lack of memory.
     pub room: Vec<Share<L>>,
     /// What the workers receive.
     pub packets: Vec<Receiver<Vec<Packet>>>,

@@ -90,7 +90,7 @@ starts_serving w v task events items trace bytes same is listed once =
     let at : ServesOnce w events.items trace.answers.items trace.released.items bytes = subst (λ x. ServesOnce x events.items trace.answers.items trace.released.items bytes) same (subst (λ l. ServesOnce v l trace.answers.items trace.released.items bytes) listed once) in
     subst (λ t. StartsOnce w t (Served trace) bytes) (sym is) (record { start = Serves events.items trace.answers.items at.kept; is_of = (at.kept, refl, at.all); may = at.may; left = at.left })
 
--- a run ends early for want of memory, or since the device fails
+-- a run ends early for lack of memory, or since the device fails
 pub passing_kind : (keeps : Bool) (events : List Event) (at : ℕ) (released : List Release) (why : RunFaultKind) → HasCauseToEnd keeps events at released why → keeps ≡ true → IsPassing (told_as why)
 passing_kind keeps events at released kind.OutOfMemory cause k = inl refl
 passing_kind keeps events at released (kind.Store fault) cause k = cause.2 k

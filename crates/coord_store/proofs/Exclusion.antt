@@ -103,7 +103,7 @@ begins_with_header : (content : Content) (bytes : List ℕ) → IsText content b
 begins_with_header content bytes is =
     let text = is.3 in (text.selector, is.0, behind_header bytes content is.0 is.1 is.2 text, text_header bytes content is.0 is.1 is.2 text)
 
--- the journal of such a text is refused for want of memory or by the device alone
+-- the journal of such a text is refused for lack of memory or by the device alone
 pub journal_unrefused : (bytes : List ℕ) (content : Content) (why : JournalFault) → IsText content bytes → JournalRefuses bytes why → IsPassing (store_fault_of why)
 journal_unrefused bytes content journal.OutOfMemory text refused = inl refl
 journal_unrefused bytes content journal.Device text refused = inr refl
@@ -126,7 +126,7 @@ recovered_is_opened bytes w fault recovered (inr (inr by_text)) = absurd (text_u
 pub content_refused : (bytes : List ℕ) (content : Content) (fault : StoreFault) → IsText content bytes → (fault ≡ OutOfMemory) ⊎ RefusesContent content fault → RefusesOpen bytes fault
 content_refused bytes content fault text refused = ⊎_elim (λ memory. inl (inl memory)) (λ r. inr (inr (content, text, r))) refused
 
--- a journal that was just made is refused for want of memory or by the device alone
+-- a journal that was just made is refused for lack of memory or by the device alone
 pub made_refused : (bytes made : List ℕ) (half_size : ℕ) (content : Content) (why : JournalFault) (fault : StoreFault) → fault ≡ store_fault_of why → IsText content made → JournalRefuses made why → RefusesCreate bytes half_size fault
 made_refused bytes made half_size content why fault is text refused =
     rw is (⊎_elim (λ memory. rw memory tt) (λ device. rw device tt) (journal_unrefused made content why text refused))

@@ -13,7 +13,7 @@ pub told_failures : (why : StoreFault) → failed_by (store_fault why) ≡ faile
 told_failures store.OutOfMemory = refl
 told_failures why = refl
 
--- want of memory, or a failure of the device
+-- out of memory, or a failure of the device
 pub told_passing : (why : StoreFault) → IsStorePassing why → IsPassingFault (store_fault why)
 told_passing why (inl memory) = inl (ap store_fault memory)
 told_passing why (inr device) = inr (ap store_fault device)

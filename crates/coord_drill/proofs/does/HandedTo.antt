@@ -22,7 +22,7 @@ use Rattle.coord_drill.proofs.does.Verdicts.{no_refusal, other_refusal}
 
 -- ---- what a ledger answers
 
--- a refusal but for want of memory is what it says to the step
+-- a refusal but for lack of memory is what it says to the step
 pub refused_said : (e : Refusal) (v : Result Verdict Refusal) → RefusesStep e v → e ≢ OutOfMemory → v ≡ Err e
 refused_said e v h1 h2 = grind arith
 

@@ -1,4 +1,4 @@
--- There always is a text that lines may print: the machine has an answer to each event that is not want of memory.
+-- There always is a text that lines may print: the machine has an answer to each event that is not out of memory.
 use Rattle.std.proofs.Common.{◌≡◌, ◌≢◌, ℕ, ◌+◌, Bool, true, false, List, [], ◌∷◌, ◌++◌, Option, Some, None, Result, Ok, Err, refl, ap, ◌∙◌, inl, map}
 use Rattle.std.specs.List.{AllByRecursion}
 use Rattle.coord_lines.specs.Lines.{Line}

@@ -134,7 +134,7 @@ failed_committing failures o p d e r a n there now is says so = grind (arith, na
 pub failed_aside : {D : Type 0} (failures : D → ℕ) (o p : Option D) (e what : Event) (a : Answer) (n : ℕ) → e ≡ what → failed_at what a ≡ 0 → p ≡ o → HasFailed failures o n → HasFailed failures p (n + failed_at e a)
 failed_aside failures o p e what a n event none same so = grind (arith, nat_tests, failed_as, failed_same)
 
--- for want of memory the disk is given back as it is
+-- for lack of memory the disk is given back as it is
 pub failed_giving_up : {D : Type 0} (failures : D → ℕ) (o : Option D) (lost : D) (kind : RunFaultKind) (n : ℕ) → o ≡ Some lost → kind ≡ OutOfMemory → HasFailed failures o n → failures lost ≡ n + failed_in_run kind
 failed_giving_up failures o lost kind n there memory so = grind (arith, nat_tests, failed_so)
 

@@ -92,7 +92,7 @@ wants_memory event = false
 
 -- Where a run may want memory: as it begins, for its list of answers; in an event of
 -- `wants_memory`; at its end, where the flight comes back. A store's fault comes of a crash alone;
--- where the disk keeps the model it is want of memory or a failure of the device.
+-- where the disk keeps the model it is out of memory or a failure of the device.
 abbrev pub HasCauseToEnd : Bool → List Event → ℕ → List Release → RunFaultKind → Type 0
 HasCauseToEnd keeps_model events at released OutOfMemory = ((at ≡ 0) × (released ≡ [])) ⊎ ((at ≡ length events) ⊎ ((e : Event) × ((slice_get events at ≡ Some e) × (wants_memory e ≡ true))))
 HasCauseToEnd keeps_model events at released (Store fault) = (slice_get events at ≡ Some Crash) × IsOpenFault fault × (keeps_model ≡ true → IsPassing fault)

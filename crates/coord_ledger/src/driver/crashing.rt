@@ -32,7 +32,7 @@ fn reopen<D: CrashDisk>(alloc: Global, disk: D) -> Result<Ledger<D>, (RunFaultKi
     adopt(alloc, opened)
 }
 
-/// Makes a ledger of a store that was just opened. A refusal is for want of memory, and gives the
+/// Makes a ledger of a store that was just opened. A refusal is for lack of memory, and gives the
 /// disk back.
 fn adopt<D: CrashDisk>(alloc: Global, store: Store<D>) -> Result<Ledger<D>, (RunFaultKind, D)>
     requires { has_stopped store ≡ false }

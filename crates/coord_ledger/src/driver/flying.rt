@@ -10,7 +10,7 @@ use coord_types::Refusal;
 
 impl<D: CrashDisk> Driver<D> {
     /// A flight goes out. While one is out, none does. Answers `Begun`, `Nothing`, or `Refused` for
-    /// want of memory.
+    /// out of memory.
     pub fn begin(&mut self) -> Answer
         ensures simulates { Simulates self.old Begin result self.new }
         ensures log { self.new.ledger.log ≡ self.old.ledger.log }

@@ -12,7 +12,7 @@ use coord_disk::{CrashDisk, Disk};
 use std::alloc::Global;
 
 impl<D: CrashDisk> Run<D> {
-    /// Ends the run for want of memory, and keeps only what was released.
+    /// Ends the run for lack of memory, and keeps only what was released.
     pub fn lose(self) -> Broken<D>
         ensures kind { result.kind ≡ OutOfMemory }
         ensures released { result.released.items ≡ self.released.items }

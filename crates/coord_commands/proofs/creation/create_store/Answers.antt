@@ -21,7 +21,7 @@ returns-in-Ok-commit-clause-halves g c k =
     c.in-Ok-commit.ensures.commits.changes.halves (c.in-Ok.ensures.runs.model ∙ k) c.in-Ok.ensures.going c.args.topology.now.half
     (made_halves c.args.topology.now.half 2 (g.D.Disk.model.present c.in-Ok.store.disk) c.in-Ok.ensures.half_size (c.in-Ok.ensures.bytes k))
 
--- ---- what want of memory leaves
+-- ---- what out of memory leaves
 
 pub returns-in-Err-clause-memory : goal.returns-in-Err-clause-memory
 returns-in-Err-clause-memory g c k is = no_step g.D.Disk.model c.args.topology.now.half c.args.disk c.in-Err.disk (c.in-Err.ensures.memory k (in_creation c.in-Err.fault is))
