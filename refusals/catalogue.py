@@ -10,7 +10,7 @@ A catalogue is made of blocks, with an empty line between two:
     % print_view
     ! units drill::lines::one_of_each
 
-`@` names the file of the blocks behind it, up to the next `@`; a block that changes several files names each in its
+`@` names the file of the blocks after it, up to the next `@`; a block that changes several files names each in its
 midst. `#` gives the block its name, and ` killed` behind that says that no clause refuses it. The lines behind `-`
 stand once in the file, the lines behind `+` take their place; a `-` behind a `+` begins the next exchange. In a proof
 file (`proofs/..`) the texts are names, and each place of an old one is changed. `%` names a clause that the mutant breaks,
@@ -201,7 +201,7 @@ def source(crate: str, file: str) -> str:
 def misfits(mutant: Mutant) -> list[str]:
     """What of a mutant does not fit the sources: an old text that does not stand just once in its file (in a proof file, at all).
 
-    The exchanges are made one behind the other, so an old text stands once where those before it are made.
+    The exchanges are made one after the other, so an old text stands once where those before it are made.
     """
     texts: dict[str, str] = {}
     found = []

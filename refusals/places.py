@@ -35,7 +35,7 @@ def function_at(file: str, text: str, at: int) -> tuple[Place | None, str]:
 
 
 def owner_of(head: str) -> str:
-    """What a method goes by in its path, by what follows `impl` or `trait`: its type, and behind that its trait."""
+    """What a method goes by in its path, by what follows `impl` or `trait`: its type, and after that its trait."""
     head = head.split("{")[0]
     # one type may have a trait several times, each for another argument
     of_argument = re.match(r"\s*(\w+)<([\w:]+)> for (\w+)\s*$", head)

@@ -97,7 +97,7 @@ class Function:
 
 
 def behind_bracket(text: str, at: int) -> int:
-    """The place behind the bracket that closes the one at `at`."""
+    """The place after the bracket that closes the one at `at`."""
     depth = 0
     while True:
         if text[at] in "([{<":

@@ -1,4 +1,4 @@
-"""What stands behind a close: it is discarded, so that the client can read the answer, and holds up no end."""
+"""What stands after a close: it is discarded, so that the client can read the answer, and holds up no end."""
 
 import contextlib
 import socket
@@ -55,7 +55,7 @@ class BehindAClose(Case):
         self.assertEqual(server.ended().status, 0)
 
     def test_a_client_is_told_that_no_more_comes(self) -> None:
-        """Behind the answer, and before what it still sends is discarded: so it need not wait for the end of that."""
+        """After the answer, and before what it still sends is discarded: so it need not wait for the end of that."""
         self.needs("a C compiler", preloaded.has_compiler())
         environment = preloaded.environment(self.folder, CALLS=self.path("calls"), WAITS=1)
         with Serving(self.made(topology([(1, 1)])), env=environment) as server, server.connect() as connection:

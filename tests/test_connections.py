@@ -58,7 +58,7 @@ class Connections(Case):
         self.assertEqual(told, ["1"] * 3)
 
     def test_an_order_is_not_looked_behind(self) -> None:
-        """A read that found less than it asked for has taken all that was there. Behind any other it is looked for more."""
+        """A read that found less than it asked for has taken all that was there. After any other it is looked for more."""
         self.needs("a C compiler", preloaded.has_compiler())
         environment = preloaded.environment(self.folder, CALLS=self.path("calls"), WAITS=1)
         with Serving(self.made(topology([(1, 1)])), env=environment) as server:
@@ -195,7 +195,7 @@ class Connections(Case):
                 self.assertEqual([connection.reply() for _ in range(64)], [RESENT] * 64)
 
     def test_a_second_connection_after_each_kind_of_end(self) -> None:
-        """Behind a line that is too long, one that is cut, and one that was reset."""
+        """After a line that is too long, one that is cut, and one that was reset."""
         with self.serving() as server:
             for last in (b"x" * 600 + b"\n", b"x" * 600, b'{"op":"resend"}', b"\xff\xff\n", b"\0" * 5_000):
                 with server.connect() as connection:

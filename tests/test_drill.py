@@ -129,7 +129,7 @@ class LongRuns(Case):
         self.assertEqual(drill_text(text), Ended(0, wanted, ""))
 
     def test_each_line_that_is_bad(self) -> None:
-        """Alone, and with no line feed behind it."""
+        """Alone, and with no line feed after it."""
         for line in BAD_LINES:
             with self.subTest(line=line):
                 self.assertEqual(drill_text(line), Ended(0, "bad line 1\n", ""))

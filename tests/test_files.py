@@ -220,7 +220,7 @@ class Called(Case):
                 self.assertEqual((where, ended, self.read("store")), (where, FAILED, content))
 
     def test_a_write_that_fails_where_a_store_is_made(self) -> None:
-        """Nothing more is asked of the device behind it."""
+        """Nothing more is asked of the device after it."""
         words = ["init", self.path("store"), self.write("topology", ONE)]
         ended, made = self.called(words, WRITE_FAILS=4)
         self.assertEqual(ended, Ended(0, "created 1\n", ""))

@@ -55,7 +55,7 @@ class Init(Case):
                          Ended(0, "view 3 3\nnode 1 1 ready 0 0 0\nnode 2 1 ready 0 0 0\nlink 1 2 3\n", ""))
 
     def test_the_bytes_of_a_pair(self) -> None:
-        """An empty world of version 2 in the first half, and one batch behind it."""
+        """An empty world of version 2 in the first half, and one batch after it."""
         self.assertEqual(self.init(topology([(7, 1)], half=40_000))[0], 0)
         order = b"\0\x10" + stores.wide(1) + b"\0\7\1"
         whole = stores.store(version=2, bodies=[stores.batch(1, order)], half=40_000)

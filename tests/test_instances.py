@@ -11,7 +11,7 @@ from support.serving import Serving
 from support.stores import ring, topology
 
 INSTANCES = 50
-MANY = 1_000  # lines, more than an instance takes, and fewer bytes than are discarded behind its end
+MANY = 1_000  # lines, more than an instance takes, and fewer bytes than are discarded after its end
 FLUSHER = 2  # the third thread, in the order of their starts: each instance has its own
 
 # When a thread was started, in ticks of the system's clock, and its number, which others may have had before.
@@ -102,7 +102,7 @@ class Instances(Served):
             self.assertEqual(signals, [(1, epoch) for epoch in range(1, len(signals) + 1)])
 
     def test_a_close_behind_many_instances(self) -> None:
-        """The answer to a close can be read though lines stand behind it, and all is settled."""
+        """The answer to a close can be read though lines stand after it, and all is settled."""
         with Serving(self.made(topology([(1, 1)])), program=SHORT) as server:
             for number in range(1, 101):
                 server.order(number, "reset", node=1)

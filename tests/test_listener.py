@@ -48,7 +48,7 @@ class Listener(Failing):
                 self.assertEqual(server.close().status, 0)
 
     def test_what_does_not_pass(self) -> None:
-        """At once, or behind the first clients."""
+        """At once, or after the first clients."""
         for name in ENDS_IT:
             for after in (0, 2):
                 with self.serving(name, ALWAYS, after) as server:
@@ -125,7 +125,7 @@ class Idle(Case):
     takes = 3
 
     def test_a_server_that_nobody_asks(self) -> None:
-        """A server waits, and takes no processor for that: before the first client, behind an order of one that stays,
+        """A server waits, and takes no processor for that: before the first client, after an order of one that stays,
         and behind the first part of a line."""
         with Serving(self.made(topology([(1, 1)]))) as server:
             self.expect_rest(server)

@@ -25,7 +25,7 @@ CHECKED = [faulted(1, "NoMagic"), Ended(0, "legal 0\n", ""), Ended(0, "legal 3\n
 # How an answer of a drill tells that its ledger lacked memory, or its disk, which is in memory and fails for nothing else.
 ENDS = [(0, ""), (4, "resetd: OutOfMemory\n"), (3, "resetd: Device\n")]
 LACKS = re.compile(r"^(no 2 OutOfMemory|commit 1 OutOfMemory|commit 2 Device)$", re.MULTILINE)
-# Behind the reset each of its three packets is taken and cleared.
+# After the reset each of its three packets is taken and cleared.
 AFTER_A_WAVE = {"accepted": 10, "links": [[1, 2, 3]], "nodes": [[1, 1, "ready", 0, 1, 0], [2, 1, "ready", 0, 1, 0]],
                 "settled": 10}
 VIOLATED = world(4, [node(64, ABORT)])
@@ -51,7 +51,7 @@ class Memory(Case):
 
     def each_refusal(self, words: list[str], prepare: Callable[[], object],
                      given: bytes = b"") -> Iterator[tuple[str, Ended, Ended]]:
-        """Runs a command with each of its allocations refused, alone or with all behind it: where that was, how it ends
+        """Runs a command with each of its allocations refused, alone or with all after it: where that was, how it ends
         with ample memory, and how it ended.
 
         The words take many, the same each time: of those that a command without a file takes too, only some are refused."""
@@ -132,7 +132,7 @@ class Start(Case):
     takes = 20
 
     def test_each_allocation_of_a_start(self) -> None:
-        """Refused alone, or with all behind it: the server listens, or it says so, prints nothing and leaves its store."""
+        """Refused alone, or with all after it: the server listens, or it says so, prints nothing and leaves its store."""
         self.needs("a C compiler", preloaded.has_compiler())
         refusing, store = Refusing(PROGRAM, self.folder), self.made(PAIR)
         content, told, usual = self.read("store"), 0, refusing.ran("check", self.path("none/store"))[1]
@@ -147,7 +147,7 @@ class Start(Case):
         self.assertGreater(told, 10)
 
     def test_each_allocation_of_a_start_in_a_reset(self) -> None:
-        """What was on its way is sent again behind the line `listening`, for which the first thread asks for memory: the server
+        """What was on its way is sent again after the line `listening`, for which the first thread asks for memory: the server
         says that it has none and ends, or it serves on, and what it has lost is sent once a client asks for that."""
         self.needs("a C compiler", preloaded.has_compiler())
         refusing, content = Refusing(PROGRAM, self.folder), stores.store(IN_A_RESET)
@@ -186,7 +186,7 @@ class Start(Case):
 
 
 class Later(Case):
-    """An instance behind the first one."""
+    """An instance after the first one."""
 
     takes = 30
     programs = ("RESETD_SHORT",)
@@ -214,7 +214,7 @@ class Later(Case):
         return Serving(store, program=SHORT, env=refusing.environment(threads=FIRST_THREAD))
 
     def live(self, server: Serving, refusing: Refusing, first: int) -> int:
-        """Makes an instance old, behind which this allocation is refused. How many there were by then."""
+        """Makes an instance old, after which this allocation is refused. How many there were by then."""
         with server.connect() as connection:
             numbers = range(1, SHORT_STEPS + 1)
             connection.send(*({"op": "reset", "client": 1, "number": each, "node": 1} for each in numbers))
@@ -359,7 +359,7 @@ class Kept(Case):
         self.expect_no_more(PROGRAM, self.made(PAIR), leave, times=18)
 
     def test_of_signals_that_nobody_reads(self) -> None:
-        """Once a line can't be printed, those behind it are not kept: counted in bytes, each time as an instance begins."""
+        """Once a line can't be printed, those after it are not kept: counted in bytes, each time as an instance begins."""
         self.needs("a C compiler", preloaded.has_compiler())
         refusing, store = Refusing(SHORT, self.folder), self.made(topology([(1, 1)]))
         kept = []

@@ -118,7 +118,7 @@ class SlowDevice(Case):
             self.assertEqual(sorted(signals + rest), [(node, 1) for node in range(1, 5)])
 
     def closed_in_a_wave(self, seconds: float) -> tuple[str, int, list[tuple[int, int]]]:
-        """A close behind the order that begins a wave: the store, what was shown as accepted before it, and the signals. A wave
+        """A close after the order that begins a wave: the store, what was shown as accepted before it, and the signals. A wave
         takes more flights than the one or two that a close settles; a machine that is too busy may be through with it before."""
         with self.serving(ring(4), seconds) as server:
             self.assertEqual(server.order(1, "reset", node=1)["kind"], "started")

@@ -49,7 +49,7 @@ class SlowOutput(Case):
             self.assertEqual((ended.status, ended.told), (3, "resetd: Write\n"))
 
     def test_a_last_line_that_no_one_takes(self) -> None:
-        """One signal alone is not printed, and no other comes behind it."""
+        """One signal alone is not printed, and no other comes after it."""
         with Piped(self.made(topology([(1, 1)]))) as server:
             server.leave()
             self.reset(server, range(1, 2))

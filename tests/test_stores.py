@@ -68,7 +68,7 @@ TOLD = [
     ("violated 1 2 C", world(3, PAIR, [link(1, 2, 3, (0, 0, [IS_READY, IS_READY]))])),
     ("violated 1 2 C", world(5, [node(1), node(2), node(3)],
                              [link(1, 2, 4, (0, 0, [IS_READY, IS_READY])), link(2, 3, 5, (0, 0, [IS_READY, IS_READY]))])),
-    # a Ready behind the Abort that node 1 sent; before it, it is right
+    # a Ready after the Abort that node 1 sent; before it, it is right
     ("violated 1 2 D", world(3, [node(1, ABORT, awaits=[2]), node(2)], [link(1, 2, 3, (0, 0, [abort(), IS_READY]))])),
     ("legal 3", world(3, [node(1, ABORT, awaits=[2]), node(2, CONVERGE, 1)], [link(1, 2, 3, (0, 0, [IS_READY, abort()]))])),
     # node 2 is Converge with parent 1, which is Ready and has no Ready on the way
@@ -213,7 +213,7 @@ class Checked(Case):
                     self.assertEqual(self.check(snapshot, version), Ended(int(line[0] == "v"), f"{line}\n", ""))
 
     def test_a_distance_that_differs(self) -> None:
-        """A distance is told behind a fault of an earlier letter, though that is of the other end."""
+        """A distance is told after a fault of an earlier letter, though that is of the other end."""
         rows = [node(2, ABORT, awaits=[64], version=2), node(64, version=2)]
         queue = (0, 0, [abort(3, 2)])
         self.assertEqual(self.check(world(4, rows, [link(2, 64, 3, queue)]), 2), Ended(1, "violated 2 64 H\n", ""))

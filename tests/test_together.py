@@ -111,7 +111,7 @@ class Together(Served):
         self.expect_at_once()
 
     def test_a_stop_between_orders_that_came_together(self) -> None:
-        """The sync behind their first flight fails: those that were settled have their replies, and each other one is Stopped."""
+        """The sync after their first flight fails: those that were settled have their replies, and each other one is Stopped."""
         settings = preloaded.environment(self.folder, SYNC_FAILS=AT_A_START + AT_A_FLIGHT + 1, STILL=1)
         with Serving(self.made(ALONE), env=settings) as server, server.connect() as connection:
             numbers = range(1, 301)
@@ -172,13 +172,13 @@ class Refused(Served):
 
     @contextlib.contextmanager
     def started(self, store: str, environment: dict[str, str]) -> Iterator[Serving]:
-        """A server that has allocated all that its start takes: it goes on with that behind the line that it listens."""
+        """A server that has allocated all that its start takes: it goes on with that after the line that it listens."""
         with Serving(store, env=environment) as server:
             server.show()
             yield server
 
     def orders(self, store: str, refusing: Refusing, threads: range, first: int = 0) -> tuple[list[Answer], int, int]:
-        """Three orders in one packet, behind which nothing comes: their replies, and how many allocations were asked for
+        """Three orders in one packet, after which nothing comes: their replies, and how many allocations were asked for
         before them and with them."""
         with self.started(store, refusing.environment(first, threads=threads)) as server, server.connect() as connection:
             before = refusing.count()

@@ -1,4 +1,4 @@
-"""From a reset to members that talk: 64 behind one gateway, some services of their own, and one that is told."""
+"""From a reset to members that talk: 64 after one gateway, some services of their own, and one that is told."""
 
 import asyncio
 import contextlib
@@ -78,7 +78,7 @@ def at_port(server: Server, before: int) -> Order:
 
 
 def gateway(program: str, library: str, count: int) -> tuple[float, float]:
-    """64 members behind `examples/gateway`, over a ring with chords."""
+    """64 members after `examples/gateway`, over a ring with chords."""
     with Server(program, library, NODES, CHORDS) as server:
         folder = f"{server.folder}/gateway"
         words = [f"{ROOT}/examples/gateway", f"1-{NODES}", "1", server.address, folder, "--signals", server.signals]

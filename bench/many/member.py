@@ -1,4 +1,4 @@
-"""A member behind a gateway: a line for each time that it begins or may talk, with the moment. usage: member.py FOLDER"""
+"""A member after a gateway: a line for each time that it begins or may talk, with the moment. usage: member.py FOLDER"""
 
 import os
 import sys

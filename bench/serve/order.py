@@ -35,7 +35,7 @@ UNREADABLE = b'{"op":"none","client":1,"number":1000000,"node":1}\n'
 
 
 class Pairs:
-    """The writes and syncs of orders, one behind the other: what is appended, with a sync of the length too, and a byte
+    """The writes and syncs of orders, one after the other: what is appended, with a sync of the length too, and a byte
     that says so."""
 
     def __init__(self, path: str, growth: int) -> None:
@@ -51,7 +51,7 @@ class Pairs:
 
 
 def stand_in(make_work: Callable[[], Callable[[], object]]) -> Connection:
-    """A process that answers each line over one connection, behind some work that it prepares itself. A connection to
+    """A process that answers each line over one connection, after some work that it prepares itself. A connection to
     it."""
     listener = socket.create_server(("127.0.0.1", 0))
     if os.fork() == 0:
@@ -102,7 +102,7 @@ class Confirmations:
 
 
 def calls(server: Server, folder: str) -> tuple[int, dict[str, Timed]]:
-    """What is timed, by its name, each behind what is done before. The server is lent a client, which stays."""
+    """What is timed, by its name, each after what is done before. The server is lent a client, which stays."""
     connection, resets = Connection(server.address), Resets("finished")
     growth = growth_of(server, connection, resets)
     own, lone, two = (Pairs(f"{folder}/{name}", growth) for name in ("pairs", "lone", "two"))

@@ -18,7 +18,7 @@ from served.ring import NODES, topology  # noqa: E402
 from served.server import Server  # noqa: E402
 
 WAVES = 21
-REST = 0.05  # seconds behind the last signal, after which nothing is on its way any more
+REST = 0.05  # seconds after the last signal, after which nothing is on its way any more
 WAITS = {"file": 0, "+1 ms": 1000}
 
 

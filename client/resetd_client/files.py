@@ -113,7 +113,7 @@ def overwrite(path: str, text: str) -> None:
 
 
 def append(path: str, size: int, text: bytes) -> None:
-    """Writes a text behind the first `size` bytes of a file, in the place of all that stands there, and makes the file if
+    """Writes a text after the first `size` bytes of a file, in the place of all that stands there, and makes the file if
     it is not there. When it returns, the text is on the disk."""
     is_new = not os.path.exists(path)
     descriptor = os.open(path, os.O_WRONLY | os.O_CREAT | os.O_CLOEXEC | os.O_NOFOLLOW, 0o666)

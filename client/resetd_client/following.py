@@ -23,7 +23,7 @@ LOOK_SECONDS = 30.0  # between two looks, where nothing wakes it
 STOP_SECONDS = 0.1  # of a wait for wake-ups without a descriptor, which is looked into for a `stop`
 FIRST_WAIT = 0.01  # seconds between looks while others are not through: nothing wakes it when another one confirms
 MOST_WAITS = 20  # after which that wait, longer by 1.3 each time, stays as it is: some 2 seconds
-PUSH_SECONDS = 1.0  # for which a view is awaited that a front pushes behind an order
+PUSH_SECONDS = 1.0  # for which a view is awaited that a front pushes after an order
 TOLD_SECONDS = 2.0  # between looks while others are not through, and a front tells of each change
 PAST_SECONDS = 30.0  # for which every address that answers may show the past, until one reset is asked for to find out
 DOUBT_SECONDS = 0.1  # until it looks after a message of another run: more of them bring no more looks
@@ -123,7 +123,7 @@ class Following:
         return every if is_through else min(every, FIRST_WAIT * 1.3 ** self._waits)
 
     def _view(self) -> View:
-        """The view that a front has pushed behind the last order, if there is one that was not looked at yet, else a look."""
+        """The view that a front has pushed after the last order, if there is one that was not looked at yet, else a look."""
         view = self._front.take() if self._front else None
         if view is None or view.settled < self._settled:
             view = self.port.show()

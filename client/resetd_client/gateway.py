@@ -1,4 +1,4 @@
-"""A gateway: one process and one client that looks and confirms for any number of members, each behind a folder (seats.py)."""
+"""A gateway: one process and one client that looks and confirms for any number of members, each after a folder (seats.py)."""
 
 from __future__ import annotations
 

@@ -65,7 +65,7 @@ def check(port: Port, since: Since, bounds: Bounds, patience: float = 0.0, signa
 
 
 class Comparison:
-    """The coordinator's store beside the one on a file, if there is one to compare with: read before and behind a view."""
+    """The coordinator's store beside the one on a file, if there is one to compare with: read before and after a view."""
 
     def __init__(self, path: str | None) -> None:
         self._path = path

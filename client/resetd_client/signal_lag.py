@@ -11,13 +11,13 @@ from dataclasses import asdict, dataclass
 from . import files
 from .view import View
 
-LISTENING = re.compile(rb"listening [0-9.]+:\d+\n")  # perhaps behind a line that was torn
+LISTENING = re.compile(rb"listening [0-9.]+:\d+\n")  # perhaps after a line that was torn
 SIGNAL = re.compile(rb"signal (\d+) (\d+)\n")
 
 
 @dataclass(frozen=True)
 class Mark:
-    """A place in a file of signals, behind a whole line, and each node's epoch when that was the end of the file."""
+    """A place in a file of signals, after a whole line, and each node's epoch when that was the end of the file."""
 
     path: str
     inode: int

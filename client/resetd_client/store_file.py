@@ -37,7 +37,7 @@ class Restless(ResetdError):
 
 @dataclass(frozen=True)
 class Half:
-    """What one half of a store reads as: its version, its snapshot, and the bodies behind open gates. `start` is the
+    """What one half of a store reads as: its version, its snapshot, and the bodies after open gates. `start` is the
     half's place in the file, `places` are those of the bodies."""
 
     size: int
@@ -123,7 +123,7 @@ def read_half(read: Read, is_other: bool = False) -> Half:
 def one_pass(read: Read, size: int, is_other: bool) -> Half | None:
     """One pass over a half; None where a checkpoint came in between.
 
-    A half is written anew only while the other one is selected. So the selector is the same before and behind the first
+    A half is written anew only while the other one is selected. So the selector is the same before and after the first
     reading of the top, and behind the walk, and then the top is still the same: each checkpoint has a new count of
     steps.
     """
@@ -155,13 +155,13 @@ def top_of(read: Read, start: int) -> bytes:
 
 
 def walked(read: Read, size: int, index: int, top: bytes) -> Half:
-    """A half from its top to its first closed gate. A gate opens only once its body and the closed gate behind that are
+    """A half from its top to its first closed gate. A gate opens only once its body and the closed gate after that are
     written. So each gate is read by a call that began after the one before it was seen open, with the body between
     them. Raises NoStore."""
     start = HEADER + index * size
 
     def with_gate(place: int, length: int, most: int, what: str) -> tuple[bytes, int]:
-        """A field, and the gate behind it."""
+        """A field, and the gate after it."""
         if length > most:
             raise NoStore("BadRecord", start + place - 4, f"{what} of {length} bytes is longer than {most}")
         field = read(start + place, length + 1)

@@ -1,4 +1,4 @@
-"""What is behind a fault of `resetd`, as Device or NoMagic, at a store's file: it looks from outside, and locks, writes and
+"""What is after a fault of `resetd`, as Device or NoMagic, at a store's file: it looks from outside, and locks, writes and
 keeps open nothing."""
 
 from __future__ import annotations

@@ -1,4 +1,4 @@
-"""What is behind a fault of a server at an address: what listens there, who has its one connection, and what it does."""
+"""What is after a fault of a server at an address: what listens there, who has its one connection, and what it does."""
 
 from __future__ import annotations
 

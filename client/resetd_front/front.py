@@ -48,7 +48,7 @@ def text_of(answer: dict[str, Any]) -> bytes:
 
 
 class Front(Events):
-    """All connections, and the server behind them."""
+    """All connections, and the server after them."""
 
     def __init__(self, addresses: str, own: OwnOrders, policy: Policy, audit: Audit, patience: float, stuck: float, silent: float) -> None:
         """`patience` is for how many seconds a line waits for its answer, `stuck` for how many a client may take nothing of

@@ -16,7 +16,7 @@ LEAST_GATHER, MOST_GATHER = 0.005, 0.1  # the same for the confirms of others th
 
 
 class Judging:
-    """The judge of one flight at one moment. `is_fresh` says that the last view was read behind all that was sent. Afterwards
+    """The judge of one flight at one moment. `is_fresh` says that the last view was read after all that was sent. Afterwards
     `wants_count`, `wants_look` and `wants_end` say what lines were held for: the count of the front's own client, a look,
     the end of a reset.
 

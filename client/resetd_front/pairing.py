@@ -56,7 +56,7 @@ class Pairing:
         return asked
 
     def answer_here(self, asker: Asker, request: Request | bytes, answer: bytes, now: float) -> Asked:
-        """A line that the server does not get: its answer is given out behind those of the lines before it."""
+        """A line that the server does not get: its answer is given out after those of the lines before it."""
         return self._noted(Asked(asker, request, now, answer))
 
     def take(self, judge: Judge, most: int = MOST_LINES) -> tuple[list[Line], list[Asked]]:

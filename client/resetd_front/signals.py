@@ -9,7 +9,7 @@ import struct
 from collections.abc import Callable
 
 IN_MODIFY, IN_MOVED_TO, IN_CREATE = 0x2, 0x80, 0x100
-HEAD = struct.Struct("iIII")  # of an event: the watch, what happened, a cookie, the length of the name behind it
+HEAD = struct.Struct("iIII")  # of an event: the watch, what happened, a cookie, the length of the name after it
 MOST_BYTES = 65_536
 OF_THE_FILE = b""  # the name in an event of a file that is watched itself
 

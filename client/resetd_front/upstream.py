@@ -117,7 +117,7 @@ class Upstream:
         self._let_go()
 
     def _go_on(self) -> None:
-        """Does what is next. A view is fresh only for the flight right behind it."""
+        """Does what is next. A view is fresh only for the flight right after it."""
         self._is_due = False
         if self._task or self._is_sent:
             return
@@ -207,7 +207,7 @@ class Upstream:
             for outcome in self._own.answered(line, text, answer):
                 self._settle(outcome.line, outcome.answer)
         elif line.sent > 1 and answer.get("refused") == Refusal.OUT_OF_TURN:
-            # the order may have been carried out when it was sent before, and another order of its client behind it
+            # the order may have been carried out when it was sent before, and another order of its client after it
             self._events.unanswered(line.asked)
         else:
             self._events.answered(self._pairing.give(line, text), line)

@@ -29,7 +29,7 @@ class Bash(unittest.TestCase):
             file.write(bash(parser()))
 
     def offered(self, *words: str) -> set[str]:
-        """What bash offers behind these words, of which the last one is begun."""
+        """What bash offers after these words, of which the last one is begun."""
         done = subprocess.run(["bash", "--norc", "-c", ASK, "bash", self.script, "resetctl", *words], capture_output=True,
                               encoding="utf-8", check=False, cwd="/")
         self.assertEqual((done.returncode, done.stderr), (0, ""))

@@ -34,7 +34,7 @@ class UntilEnded:
 
 
 class Seats(unittest.TestCase):
-    """A member behind a gateway, from either side."""
+    """A member after a gateway, from either side."""
 
     def setUp(self) -> None:
         temporary = tempfile.TemporaryDirectory()

@@ -259,7 +259,7 @@ class Kept(MemberCase):
         self.assertIsNone(member.run)
 
     def test_no_confirm_before_the_begin_is_written_down(self) -> None:
-        """Else it would ask for a reset after a death behind the confirm."""
+        """Else it would ask for a reset after a death after the confirm."""
         kept: list[str | None] = []
         orders = self.orders()
         member = Member(self.port, orders, 1, None, self.begun.append, told=self.told.append)

@@ -462,7 +462,7 @@ class Earlier(Case):
         self.assertEqual(read(f"{self.folder}/start.history"), None)
 
     def test_what_it_knew_counts_no_more_once_a_greater_epoch_is_shown(self) -> None:
-        """Though the store goes back behind that."""
+        """Though the store goes back after that."""
         starts = self.of(6, view_of((1, 6, 6), (2, 6, 6)))
         self.assertEqual([self.due(starts, view) for view in (view_of((1, 7, 6), (2, 7, 7)), UNCONFIRMED)], [Due.BEGIN, Due.BEGIN])
 

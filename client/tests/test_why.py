@@ -1,4 +1,4 @@
-"""`resetctl why`: what stands behind one word of a start."""
+"""`resetctl why`: what stands after one word of a start."""
 
 from __future__ import annotations
 

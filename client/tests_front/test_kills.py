@@ -48,7 +48,7 @@ class Orderer(threading.Thread):
         return until(f"an answer to {order}", answered) or {}
 
     def both(self, connection: Client, order: dict[str, Any]) -> dict[str, Any]:
-        """The answer to an order with a look behind it. Raises ConnectionError."""
+        """The answer to an order with a look after it. Raises ConnectionError."""
         connection.send(order, {"op": "show"})
         answer = connection.reply()
         if "refused" in answer and answer.get("name") == "Stopped":

@@ -90,7 +90,7 @@ class Lost(unittest.TestCase):
         self.assertEqual((self.server.nodes[1][1], self.server.last(15)), (4, 4))
 
     def test_looks_that_take_longer_than_a_connection_is_kept(self) -> None:
-        """A reset that names an epoch goes right behind its look all the same."""
+        """A reset that names an epoch goes right after its look all the same."""
         client = self.connect()
         self.server.look_seconds = 1.1
         self.assertEqual(client.ask(op="reset", node=1, epoch=0)["kind"], "started")

@@ -68,7 +68,7 @@ class Unnumbered(Case):
         self.assertEqual(self.epochs(), [3, 3, 3])
 
     def test_a_refused_order_leaves_its_number_to_the_next(self) -> None:
-        """Orders of others behind it, in the same flight, are carried out all the same."""
+        """Orders of others after it, in the same flight, are carried out all the same."""
         self.front.ask(op="reset", node=1)
         self.server.await_settled()
         client, other = self.client(), self.client()
@@ -91,7 +91,7 @@ class Unnumbered(Case):
         self.assertEqual(self.front.ask(op="reset", client=OWN - 1, number=1, node=1)["kind"], "started")
 
     def test_equal_confirms_are_one_order(self) -> None:
-        """While the server stands still they wait behind a look, and then go together."""
+        """While the server stands still they wait after a look, and then go together."""
         self.front.ask(op="reset", node=1)
         self.server.await_settled()
         self.hold()

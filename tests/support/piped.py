@@ -23,7 +23,7 @@ class Piped(Serving):
         self.leave()
 
     def first_line(self) -> str:
-        """Read byte by byte, so that nothing behind it is taken out of the pipe."""
+        """Read byte by byte, so that nothing after it is taken out of the pipe."""
         assert self.reader is not None
         while not self.printed.endswith(b"\n"):
             if not (byte := os.read(self.reader, 1)):

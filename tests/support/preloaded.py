@@ -30,7 +30,7 @@ static int fails(const char *number, const char *error, long *calls) {
     errno = setting(error) ? setting(error) : EIO;
     return 1;
 }
-// Behind the first ACCEPT_AFTER clients, each further one comes only after ACCEPT_TIMES calls that fail with ACCEPT_ERROR.
+// After the first ACCEPT_AFTER clients, each further one comes only after ACCEPT_TIMES calls that fail with ACCEPT_ERROR.
 // What goes out to a client is kept by the system up to SEND_BUFFER bytes.
 int accept4(int socket, struct sockaddr *address, socklen_t *length, int flags) {
     static long clients, failures;
@@ -68,7 +68,7 @@ int clock_gettime(clockid_t id, struct timespec *time) {
     return 0;
 }
 // Calls of a device and what goes out are written down in the file CALLS, a line each: what is to be written before it is,
-// and a sync once it is over. So what stands before a line was done before what stands behind it.
+// and a sync once it is over. So what stands before a line was done before what stands after it.
 static void note(const char *call, int file, long place, const void *bytes, size_t count) {
     static int calls;
     if (!getenv("CALLS")) return;

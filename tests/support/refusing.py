@@ -72,7 +72,7 @@ static int refuses(void) {
     long call = __atomic_add_fetch(calls, 1, __ATOMIC_SEQ_CST);
     return calls[2] <= call && call < calls[2] + calls[3];
 }
-// Behind the count of allocations stands how many were not given back, from which one on some are refused, how many, and how
+// After the count of allocations stands how many were not given back, from which one on some are refused, how many, and how
 // many bytes were not given back.
 static void *counted_malloc(size_t size) {
     void *given = refuses() ? 0 : real_malloc(size);

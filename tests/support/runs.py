@@ -4,7 +4,7 @@
     > add 1 1
     done 1
 
-`==` begins a run and gives its name. A line behind `> ` is read, as is one behind `>| `, which has no line feed; what
+`==` begins a run and gives its name. A line after `> ` is read, as is one after `>| `, which has no line feed; what
 stands below is printed for it. Empty lines part the runs.
 """
 

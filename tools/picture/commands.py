@@ -3,7 +3,7 @@
 import re
 from collections import deque
 
-# These are printed behind an answer's first line, and answer nothing by themselves.
+# These are printed after an answer's first line, and answer nothing by themselves.
 FOLLOWS = ("receipt", "signal", "data", "node", "link")
 # These print no line of their own, or any number of lines that follow.
 UNANSWERED = ("hold", "version", "resend")

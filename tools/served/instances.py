@@ -77,7 +77,7 @@ class Killer(threading.Thread):
 
 
 class Staying:
-    """A connection that its client never closes: the server does, once its instance is too old, behind a reply. What has no
+    """A connection that its client never closes: the server does, once its instance is too old, after a reply. What has no
     reply then is sent again over the next one."""
 
     def __init__(self, server: Watched) -> None:

@@ -82,7 +82,7 @@ class Ring:
         self.counts = accepted, settled
 
     def await_signals(self, until: float) -> None:
-        """Waits until each signal that was settled is printed: that comes behind the answers."""
+        """Waits until each signal that was settled is printed: that comes after the answers."""
         while self.history.find_unprinted() and time.monotonic() < until:
             if self.server.process.poll() is not None:
                 raise Away("the coordinator is gone")

@@ -139,7 +139,7 @@ class Server:
         return [(int(node), int(epoch)) for _, node, epoch in rows]
 
     def lines_from(self, place: int) -> tuple[list[str], int]:
-        """The whole lines behind a place of the file of signals, and the place behind them."""
+        """The whole lines after a place of the file of signals, and the place after them."""
         with open(self.signals, "rb") as file:
             file.seek(place)
             text = file.read()

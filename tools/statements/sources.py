@@ -98,7 +98,7 @@ def digest(text: str) -> str:
 
 
 def closing(text: str, at: int) -> int:
-    """The place behind the bracket that closes the one at a place."""
+    """The place after the bracket that closes the one at a place."""
     depth = 0
     for place in range(at, len(text)):
         depth += (text[place] in "([{") - (text[place] in ")]}")
@@ -108,7 +108,7 @@ def closing(text: str, at: int) -> int:
 
 
 def clauses_of(text: str, at: int) -> tuple[list[tuple[str, str]], int]:
-    """The clauses of a function whose parameters begin behind a place, by kind and name, and the place behind them."""
+    """The clauses of a function whose parameters begin after a place, by kind and name, and the place after them."""
     found: list[tuple[str, str]] = []
     while at < len(text):
         clause = CLAUSE.match(text, at)
@@ -125,7 +125,7 @@ def clauses_of(text: str, at: int) -> tuple[list[tuple[str, str]], int]:
 
 
 def owner_of(head: str) -> str:
-    """What the methods of an impl or a trait go by: the type, and behind `as` the trait that it implements."""
+    """What the methods of an impl or a trait go by: the type, and after `as` the trait that it implements."""
     head = re.sub(r"\s+", " ", head.split("{")[0].split(";")[0]).strip()
     while re.search(r"<[^<>]*>", head):
         head = re.sub(r"(?<!-)<[^<>]*>", "", head)

@@ -86,7 +86,7 @@ def names_of(found: list[Option]) -> list[str]:
 
 
 def bash(top: argparse.ArgumentParser) -> str:
-    """The script for bash. Behind an option that takes a value, and where a command takes a file, bash completes files."""
+    """The script for bash. After an option that takes a value, and where a command takes a file, bash completes files."""
     every, taking, cases = list(options(top)), set[str](), list[str]()
     for name, _, parser in commands(top):
         found = list(options(parser))

@@ -21,7 +21,7 @@ from .base import DONE, REFUSED, WRONG_WORDS, Command, Control, add_json, compla
 
 
 def why(control: Control) -> int:
-    """Prints what is behind a fault of a start, of a store's file and of an address."""
+    """Prints what is after a fault of a start, of a store's file and of an address."""
     words = control.words
     findings = []
     for finding in looked_at(words.file, words.user, words.at, control.seconds, words.audit):
@@ -162,7 +162,7 @@ def add_backup_words(parser: argparse.ArgumentParser) -> None:
 
 
 COMMANDS = (
-    Command("why", "prints what stands behind a fault of a start: of the store's file and of the address; status 1 where there "
+    Command("why", "prints what stands after a fault of a start: of the store's file and of the address; status 1 where there "
             "is a reason", why, add_why_words, is_look=True),
     Command("steps", "prints the steps of a store, each with its batch, the steps of which were settled together", steps,
             add_steps_words),

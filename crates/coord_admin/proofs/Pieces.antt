@@ -91,7 +91,7 @@ module _ {D P : Type 0} (answers : D → Request → Answer → D → Type 0) (p
     goes-closed answers posts d e w.1 h all lines line behind told w.0 posted g same w.2 w.3,
   )
 
-  -- the reply to a line behind those that have theirs was not written whole
+  -- the reply to a line after those that have theirs was not written whole
   pub line-broken : (d f e : D) (a b c : C) (lines : List Line) (line : Line) (told : List Answer) → AllGet answers d lines told f → exchanged a [] (reply_lines told) b → (x : Answer) × Gets answers f line x e × WritesPart exchanged b c (reply_line x)
       → (text : List ℕ) × exchanged a [] text c × ((left : List Line) → BreaksOff answers d (lines ++ line ∷ left) text e)
   line-broken d f e a b c lines line told h written w = (
@@ -100,7 +100,7 @@ module _ {D P : Type 0} (answers : D → Request → Answer → D → Type 0) (p
     λ left. (told, line, [], left, f, e, w.0, [], w.2.0, (lines, refl, h), inl w.1, refl, inl refl, w.2.2, refl),
   )
 
-  -- a line behind those that have their replies has closed the desk
+  -- a line after those that have their replies has closed the desk
   pub line-closed : (f e : D) (a b c : C) (line : Line) (told : List Answer) (x : Answer) → is_closed x ≡ true → Gets answers f line x e → exchanged a [] (reply_lines told) b → exchanged b [] (reply_line x) c → Gets answers f line Closed e × exchanged a [] (reply_lines told ++ reply_line Closed) c
   line-closed f e a b c line told x closed gets written now =
       let same = closes-told x closed in (

@@ -159,7 +159,7 @@ module _ {D : Type 0} (answers : D → Request → Answer → D → Type 0) wher
   all-ordered d e (line ∷ lines) (r ∷ orders) (x ∷ results) asks h =
       (h.0, inl (rw asks.0 h.1), order-open x, all-ordered h.0 e lines orders results asks.2 h.2)
 
-  -- ---- lines behind lines
+  -- ---- lines after lines
 
   pub all-append : (xs ys : List Line) (xas yas : List Answer) (d f e : D) → AllGet answers d xs xas f → AllGet answers f ys yas e → AllGet answers d (xs ++ ys) (xas ++ yas) e
   all-append [] ys [] yas d f e h k = rw (sym h) k
@@ -212,7 +212,7 @@ module _ {D : Type 0} (answers : D → Request → Answer → D → Type 0) wher
 
   -- ---- one more line
 
-  -- a line that ended, and those behind it
+  -- a line that ended, and those after it
   pub line_ended : (line : Line) (piece more behind : List ℕ) (whole : Line) → Some behind ≡ behind_line_feed piece → whole ≡ extended line (before_line_feed piece) → lines_on line (piece ++ more) ≡ whole ∷ lines_on (Some []) (behind ++ more)
   line_ended line piece more behind whole e f = lines_on-ended line piece more behind (sym e) ∙ ap (λ l. l ∷ lines_on (Some []) (behind ++ more)) (sym f)
 

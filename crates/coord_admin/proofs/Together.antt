@@ -1,4 +1,4 @@
--- A reply moves before all that was posted behind its order.
+-- A reply moves before all that was posted after its order.
 use Rattle.std.proofs.Common.{List, [], ◌∷◌, Result, refl, ◌∙◌, subst}
 use Rattle.coord_types.specs.declared.refusals.Refusal.{Refusal}
 use Rattle.coord_types.specs.declared.steps.Reply.{Reply}

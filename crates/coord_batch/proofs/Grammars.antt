@@ -19,7 +19,7 @@ pub record Takes {A : Type 0} (f : Format A) (bytes : List ℕ) (x : A) (rest : 
   pub left : IsBytes rest
   pub fits : f.Fits x
 
--- what is read is spelled so, what is spelled is read whatever stands behind it, and what is cut is Short
+-- what is read is spelled so, what is spelled is read whatever stands after it, and what is cut is Short
 pub record IsGrammar {A : Type 0} (f : Format A) : Type 0 where
   pub takes : (bytes : List ℕ) (x : A) (rest : List ℕ) → IsBytes bytes → f.read bytes ≡ Ok (x, rest) → Takes f bytes x rest
   pub again : (x : A) (rest : List ℕ) → f.Fits x → f.read (f.text x ++ rest) ≡ Ok (x, rest)
@@ -50,7 +50,7 @@ ok_is x y e = cc
 
 -- ---- where a text is cut
 
--- a text of two parts is cut in the first one, or behind it
+-- a text of two parts is cut in the first one, or after it
 cut_in_two : (a c front rest : List ℕ) (b : ℕ) → a ++ c ≡ front ++ b ∷ rest → ((more : List ℕ) × (a ≡ front ++ b ∷ more)) ⊎ ((behind : List ℕ) × (front ≡ a ++ behind) × (c ≡ behind ++ b ∷ rest))
 cut_in_two [] c front rest b is = inr (front, refl, is)
 cut_in_two (x ∷ a) c [] rest b is = let first : x ≡ b = cc in inl (a, ap (λ y. y ∷ a) first)

@@ -79,7 +79,7 @@ module _ {X : Type 0} (m : Table nat_cmp_total X) (n : ℕ) (within : HasKeysTo 
   unfolding numbers
   by_number = let many : n + 1 - 1 ≡ n = omega arith in ap (λ k. flat_map (entry_at m) (range_with_len 1 k)) many ∙ sym entries_listed
 
--- a table is written number by number: behind its length stand the texts of its entries
+-- a table is written number by number: after its length stand the texts of its entries
 module _ {X : Type 0} (m : Table nat_cmp_total X) (most : ℕ) (text : ℕ × X → List ℕ) where
   abbrev written : List ℕ → List ℕ
   written before = before ++ len m ∷ flat_map text (entries m)

@@ -75,7 +75,7 @@ node_distance_fits version count n m h1 h2 h3 = grind (arith, distance_fits)
 
 -- ---- rows by number
 
--- a row fits behind others where it is in its range and its number above theirs
+-- a row fits after others where it is in its range and its number above theirs
 module _ {Row : Type 0} (key : Row → ℕ) (row : List Row → Format Row) (IsRow : Row → Type 0) where
   abbrev IsAbove : List Row → Row → Type 0
   IsAbove front r = is_lt (nat_cmp (last_by key 0 front) (key r)) ≡ true
@@ -278,7 +278,7 @@ module _ (version count : ℕ) (listed : List NodeRow) (small : count < 2 ^ 64) 
       }
 
   module _ (all : AllByRecursion (NodeRowFits count) listed) where
-    -- an end of a link behind has one link fewer before it
+    -- an end of a link after has one link fewer before it
     room_before : (front rs : List LinkRow) (r : LinkRow) (u : ℕ) → is_end u r ≡ true → degree u (front ++ r ∷ rs) ≤ 16 → degree u front < 16
     room_before front rs r u is few = grind (arith, nat_tests, is, degree-append u front (r ∷ rs), few)
 

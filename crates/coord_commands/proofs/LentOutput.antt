@@ -57,7 +57,7 @@ opened_back : {V W : Type 0} (may : ℕ → ℕ → ℕ → Type 0) (p : Printer
 opened_back may p q first torn signals broken last (inl is) = inl (is.0, is.1, address_back p q torn broken is.2)
 opened_back may p q first torn signals broken last (inr is) = inr (is.0, is.1, signal_back may p q torn broken last is.2)
 
--- What was printed to an output that was lent was printed to this very output: `home` is what came back out of what printed, and `new` is what the lender has at last, which is what stands behind it where it is the one that was lent.
+-- What was printed to an output that was lent was printed to this very output: `home` is what came back out of what printed, and `new` is what the lender has at last, which is what stands after it where it is the one that was lent.
 printed_back : {V W : Type 0} (contents : V → Option (List ℕ)) (of : W → Option (List ℕ)) (may : ℕ → ℕ → ℕ → Type 0) (since : ℕ) (lent home : V) (ended printer : PrinterState V) (first later : ℕ) (old : Option (List ℕ)) (now new : W) → IsPrinted contents may (new_printer lent since) ended
     → printer ≡ ended → home ≡ printer.output → contents lent ≡ known_as first old → contents home ≡ known_as later (of now) → (later ≡ first → new ≡ now) → IsPrinted (λ known. known) may (new_printer old since) (known_printer (of new) ended)
 printed_back {V} contents of may since lent home ended printer first later old now new is came out at_first at_last same =

@@ -31,7 +31,7 @@ judged_no_repeat k (t ∷ ts) r e = refused_if t.0 t.1 (refused_or (Fresh k) ts)
 next_no_repeat : (o : Option Session) (n : ℕ) (x : Command) (v : Result Verdict Refusal) (r : Reply) → last_number o ≡ n → (v ≡ Ok (Repeat r) → ⊥) → or_repeat o (n + 1) x v ≡ Ok (Repeat r) → ⊥
 next_no_repeat o n x v r h1 h2 h3 = grind (arith, nat_tests)
 
--- the order behind a client's last one repeats none
+-- the order after a client's last one repeats none
 pub no_repeat : (w settled : World) (c n : ℕ) (x : Command) (r : Reply) → last_number (get w.sessions c) ≡ n → accepts w settled (Order c (n + 1) x) ≡ Ok (Repeat r) → ⊥
 no_repeat w settled c n x r last e =
     next_no_repeat (get w.sessions c) n x (judged w settled (Order c (n + 1) x)) r last

@@ -29,7 +29,7 @@ pub record IsFounded (topology : Content) (w : World) (before after : Option (Li
   pub empty : IfSome before (λ bytes. length bytes ≡ 0)
   pub made : IfSome after (IsStore topology w)
 
--- the topology file, where it is known, says this topology; no more of it is read than one byte behind the longest
+-- the topology file, where it is known, says this topology; no more of it is read than one byte after the longest
 abbrev pub Says : Option (List ℕ) → Content → Type 0
 Says file topology = IfSome file (λ bytes. said_by (take MOST_BYTES bytes) ≡ Ok topology)
 

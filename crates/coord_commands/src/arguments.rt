@@ -73,7 +73,7 @@ fn program<'a>(alloc: Global) -> Result<Command<'a>, AllocError>
     add_of_argument(with_serve, alloc, "migrate", "file")
 }
 
-/// The program with one more command, which has an argument behind it.
+/// The program with one more command, which has an argument after it.
 fn add_of_argument<'a>(
     program: Command<'a>,
     alloc: Global,
@@ -87,7 +87,7 @@ fn add_of_argument<'a>(
     program.subcommand(command)
 }
 
-/// The program with one more command, which has two arguments behind it.
+/// The program with one more command, which has two arguments after it.
 fn add_of_two_arguments<'a>(
     program: Command<'a>,
     alloc: Global,
@@ -105,7 +105,7 @@ fn add_of_two_arguments<'a>(
     program.subcommand(command)
 }
 
-/// An argument behind a command, which has to be there.
+/// An argument after a command, which has to be there.
 fn argument_named(alloc: Global, id: &str) -> Arg<'_>
     ensures rule { rule_of result ≡ argument_named id.now }
     ensures local { result.global ≡ false }

@@ -54,7 +54,7 @@ single [] one = absurd (omega (arith, one))
 single (x ∷ []) one = (x, refl)
 single (x ∷ (y ∷ l)) one = absurd (omega (arith, one))
 
--- One byte is written over another: whatever a crash leaves in its place, what stands before and behind it stays.
+-- One byte is written over another: whatever a crash leaves in its place, what stands before and after it stays.
 pub torn_byte : (front behind : List ℕ) (old new at : ℕ) → at ≡ length front → (c : List ℕ) → Torn (front ++ old ∷ behind) at (new ∷ []) c → (x : ℕ) × (rest : List ℕ) × (c ≡ front ++ x ∷ (behind ++ rest))
 torn_byte front behind old new at is c image =
     let long : length (front ++ old ∷ behind) ≡ length front + 1 + length behind = omega (arith, length-append front (old ∷ behind)) in

@@ -77,7 +77,7 @@ fn opened<F: RawFile>(file: &mut F) -> io::Result<u64>
     file.len()
 }
 
-/// The place behind so many bytes from a place on, which a file has to have.
+/// The place after so many bytes from a place on, which a file has to have.
 fn end_of(at: u64, len: usize) -> io::Result<u64>
     ensures ok { IfOk result (λ end. (end ≡ at + len) × (end < 2 ^ 63)) }
     ensures within { at + len < 2 ^ 63 → IsOk result }

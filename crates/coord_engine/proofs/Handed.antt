@@ -17,7 +17,7 @@ next_at (suc k) [] r is = cc
 next_at zero (x ∷ xs) r is = ap (λ y. delivery_of y.step y.output ∷ []) (ap (some_is r) is)
 next_at (suc k) (x ∷ xs) r is = ap (λ l. delivery_of x.step x.output ∷ l) (next_at k xs r is)
 
--- the next release is asked for behind those before it
+-- the next release is asked for after those before it
 next_asked : (k : ℕ) (released : List Release) (r : Release) → slice_get (drop k released) 0 ≡ Some r → deliveries_of (take (k + 1) released) ≡ deliveries_of (take k released) ++ delivery_of r.step r.output ∷ []
 next_asked k released r is = let e : k + 1 ≡ suc k = omega arith in ap (λ n. deliveries_of (take n released)) e ∙ next_at k released r is
 
@@ -28,7 +28,7 @@ one_left (suc k) [] is lt = omega (arith, lt)
 one_left zero (x ∷ xs) is lt = cc
 one_left (suc k) (x ∷ xs) is lt = one_left k xs is (omega (arith, lt))
 
--- a port that may be asked for some may be asked for the next one, and for those behind it
+-- a port that may be asked for some may be asked for the next one, and for those after it
 one_may : (may : ℕ → ℕ → ℕ → Type 0) (left rest : List Release) (step : ℕ) (given : Output) → MayAskAll may left → left ≡ record { step = step; output = given } ∷ rest → MayAsk may (delivery_of step given)
 one_may may left rest step (output.Sent p) all is = tt
 one_may may left rest step (output.Receipted p) all is = tt

@@ -1,4 +1,4 @@
--- Trails one behind the other, and worlds on their way.
+-- Trails one after the other, and worlds on their way.
 use Rattle.std.proofs.Common.{◌≡◌, ℕ, List, [], ◌∷◌, ◌++◌, sym, ap, subst, ◌∙◌, append_assoc}
 use Rattle.coord_types.specs.declared.steps.Step.{Step}
 use Rattle.coord_world.proofs.Facade.{EachFresh, fold-append, trail_each_fresh, trail_of}
@@ -28,7 +28,7 @@ farther base w bytes more trail way =
       recovered = way.recovered;
     }
 
--- a way behind a trail
+-- a way after a trail
 pub from_before : (base w end : World) (bytes : List ℕ) (path : List Step) → IsTrail base path → fold base path ≡ w → IsOnTheWay w end bytes → IsOnTheWay base end bytes
 from_before base w end bytes path to led way =
     let more : IsTrail (fold base path) (way.steps ++ way.others) = subst (λ v. IsTrail v (way.steps ++ way.others)) (sym led) way.trail in

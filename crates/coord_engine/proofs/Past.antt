@@ -43,7 +43,7 @@ module _ {D : Type 0} (m : DiskModel D) where
     before = λ t c le is. ⊎_elim (λ early. inl (past.no_more t c early)) (λ late. inr late) (left.before t c (omega (arith, past.clock, le)) is);
   }
 
-  -- what was left since then, was left behind one run of calls more
+  -- what was left since then, was left over one run of calls more
   pub and_on : (first : Past) (mid new : D) (P Q R : List ℕ → Type 0) → HasLeft m first mid P → LeavesOnly m mid new Q → ((c : List ℕ) → P c → R c) → ((c : List ℕ) → Q c → R c) → HasLeft m first new R
   and_on first mid new P Q R so_far run early late = grind arith
 
@@ -124,7 +124,7 @@ module _ {D : Type 0} (m : DiskModel D) where
 
   -- ---- flights
 
-  -- a flight that left behind these settled steps, with its own
+  -- a flight that left over these settled steps, with its own
   module _ (first : Past) (base : World) (settled steps : List Step) where
     abbrev left_from : World
     left_from = fold base settled
@@ -236,7 +236,7 @@ module _ {D : Type 0} (m : DiskModel D) where
             gone = ap (λ (x : LedgerState D). x.disk) so.2;
           }
 
-  -- a flight leaves behind the settled steps
+  -- a flight leaves after the settled steps
   pub leaves_from : (first : Past) (base : World) (l later : LedgerState D) (f : FlightState D) → HasLeftFrom l later f → l.log.base ≡ base → l.log.settled ≤ length l.log.trail → IfSome l.disk (StaysAlong m first base (last_steps l.log l.log.doubt)) → FliesFrom m first base (settled_steps l.log) f
   leaves_from first base l later f is same within stays =
       let at : StaysAlong m first base (last_steps l.log l.log.doubt) f.disk = subst (λ o. IfSome o (StaysAlong m first base (last_steps l.log l.log.doubt))) is.disk stays in
@@ -247,14 +247,14 @@ module _ {D : Type 0} (m : DiskModel D) where
         along = here;
       })
 
-  -- a flight that comes back left behind the steps that are settled still
+  -- a flight that comes back left over the steps that are settled still
   pub is_behind : (first : Past) (base : World) (l : LedgerState D) (f : FlightState D) (written read : List Step) → l.log.base ≡ base → IsOut l f → FliesFrom m first base read f → StartsWith (settled_steps l.log) written → StartsWith written read → read ≡ settled_steps l.log
   is_behind first base l f written read same own flies grown begins =
       let starts : StartsWith (settled_steps l.log) read = first_of_first read written (settled_steps l.log) begins grown in
       let count : length read ≡ l.log.settled = omega (arith, flies.number, own.first, ap (λ (w : World). w.count) same) in
       sym (by_length (settled_steps l.log) read starts) ∙ ap (λ n. take n (settled_steps l.log)) count ∙ take-take l.log.settled l.log.settled l.log.trail (le_refl l.log.settled)
 
-  -- what is so of a ledger behind the coming of a flight
+  -- what is so of a ledger after the coming of a flight
   pub record HasEnded (first : Past) (base : World) (l later : LedgerState D) (written : List Step) : Type 0 where
     pub trail : later.log.trail ≡ l.log.trail
     pub base_is : later.log.base ≡ l.log.base

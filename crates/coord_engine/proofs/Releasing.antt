@@ -21,9 +21,9 @@ use Rattle.coord_ledger.specs.machine.After.{release_of, releases_of, resent}
 use Rattle.coord_ledger.specs.Facade.{FlightState, IsOut, LedgerState, Log, log_back, pending, releases_in, settled_count, settled_steps, taken_back}
 use Rattle.coord_engine.specs.Facade.{AreOfSettled, Beginning, GivesSignal, HasReadSettled, MayAskAll, MayHand, MayPrint, StartsWith, first_settled}
 
--- ---- beginnings behind earlier steps
+-- ---- beginnings after earlier steps
 
--- what begins so behind the same steps begins so
+-- what begins so after the same steps begins so
 pub behind_both : (earlier xs first : List Step) → StartsWith xs first → StartsWith (earlier ++ xs) (earlier ++ first)
 behind_both earlier xs first is = (is.0, ap (λ l. earlier ++ l) is.1 ∙ sym (append_assoc earlier first is.0))
 
@@ -76,7 +76,7 @@ gives_behind w xs ys step node epoch is = record {
       gives-append w xs ys ∙ ap (λ l. gives w xs ++ l) is.given ∙ sym (append_assoc (gives w xs) is.before (one ∷ is.after));
 }
 
--- what steps release that come behind others
+-- what steps release that come after others
 last_given : (w : World) (xs ys : List Step) → MayAskAll (GivesSignal w (xs ++ ys)) (gives (fold w xs) ys)
 last_given w xs ys = λ before after step node epoch is. gives_behind w xs ys step node epoch (record { before = before; after = after; given = is })
 

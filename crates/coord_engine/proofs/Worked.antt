@@ -21,7 +21,7 @@ module _ {D : Type 0} (b : Basis D) where
   works_last notes next taken later hand rest kept (q ∷ came) left p so takes tries =
       (so.0, so.1, so.2, so.3, so.4, so.5, works_last so.2 next taken later (record so.1 { waiting = so.3 }) rest kept came left p so.6 takes tries)
 
-  -- more packets were taken behind those that were worked on
+  -- more packets were taken after those that were worked on
   pub works_on : (notes next later : List Note) (hand rest left : Hand) (came more : List Packet) → Works b notes hand came next rest → Works b next rest more later left → Works b notes hand (came ++ more) later left
   works_on notes next later hand rest left [] more so then = subst (λ h. Works b notes h more later left) so.1 (subst (λ n. Works b n rest more later left) so.0 then)
   works_on notes next later hand rest left (q ∷ came) more so then =

@@ -6,7 +6,7 @@ use Rattle.coord_types.specs.declared.steps.Kind.{Kind}
 use Rattle.coord_types.specs.declared.steps.Step.{Step}
 use Rattle.coord_ledger.specs.declared.ticket.Note.{Note}
 
--- the notes of steps that come behind n others, and have replies of these kinds
+-- the notes of steps that come after n others, and have replies of these kinds
 abbrev pub notes_of : ℕ → List Step → List Kind → List Note
 notes_of n [] kinds = []
 notes_of n (s ∷ steps) [] = []
@@ -20,17 +20,17 @@ all_notes shares = flat_map (λ notes. notes) shares
 abbrev pub IsAscending : List Note → Type 0
 IsAscending notes = AllAdjacentBelow (λ a b. a.step < b.step) notes (length notes)
 
--- each share noted its steps in order, and each of the steps that come behind n others was noted, with the kind of its reply
+-- each share noted its steps in order, and each of the steps that come after n others was noted, with the kind of its reply
 pub record AreNoted (shares : List (List Note)) (n : ℕ) (steps : List Step) (kinds : List Kind) : Type 0 where
   pub ascending : All IsAscending shares
   pub noted : All (Contains (all_notes shares)) (notes_of n steps kinds)
 
--- The steps that come behind n others, with the kinds of their replies, are what the shares noted: each step once, and each share noted its own in order.
+-- The steps that come after n others, with the kinds of their replies, are what the shares noted: each step once, and each share noted its own in order.
 pub record IsNamed (shares : List (List Note)) (n : ℕ) (steps : List Step) (kinds : List Kind) : Type 0 where
   pub ascending : All IsAscending shares
   pub each_once : IsPermutation (all_notes shares) (notes_of n steps kinds)
 
--- the steps behind the first `base` have the note's step at its number
+-- the steps after the first `base` have the note's step at its number
 pub record IsAmong (base : ℕ) (steps : List Step) (note : Note) : Type 0 where
   pub newer : base < note.step
   pub there : slice_get steps (note.step - base - 1) ≡ Some note.what

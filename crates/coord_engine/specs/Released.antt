@@ -15,7 +15,7 @@ pub record GivesSignal (base : World) (steps : List Step) (step node epoch : ℕ
   pub after : List Release
   pub given : releases_of (outs base steps) ≡ before ++ release_of step (Signalled node epoch) ∷ after
 
--- what was read are earlier steps of this history, and behind them the settled steps of an instance that began with this world
+-- what was read are earlier steps of this history, and after them the settled steps of an instance that began with this world
 abbrev pub HasReadSettled : TableId → List Step → List Step → Beginning → Type 0
 HasReadSettled history earlier settled read = read ≡ record { history = history; steps = earlier ++ settled }
 

@@ -21,7 +21,7 @@ pub record KeepsRest {P : Type 0} (port later : Submitting P) : Type 0 where
   pub hand : later.hand ≡ port.hand
   pub room : port.room ≤ later.room
 
--- a packet is gathered behind the others; only where there is no room it may be lost
+-- a packet is gathered after the others; only where there is no room it may be lost
 abbrev pub Gathers : {P : Type 0} → Submitting P → ℕ → Packet → Bool → Submitting P → Type 0
 Gathers port to packet true later = (later.gathered ≡ port.gathered ++ packet ∷ []) × KeepsRest port later
 Gathers port to packet false later = (later.gathered ≡ port.gathered) × (port.room ≤ length port.gathered) × KeepsRest port later
@@ -31,7 +31,7 @@ abbrev pub PassesOn : {P : Type 0} → (P → ℕ → ℕ → ℕ → Bool → P
 PassesOn signalled port step node epoch answer later =
     signalled port.signals step node epoch answer later.signals × (later.gathered ≡ port.gathered) × (later.room ≡ port.room) × (later.notes ≡ port.notes) × (later.hand ≡ port.hand)
 
--- Those that were gathered are submitted in order, and behind them those that wait are tried once more. None is in another hand then, and nothing is gathered any more.
+-- Those that were gathered are submitted in order, and after them those that wait are tried once more. None is in another hand then, and nothing is gathered any more.
 abbrev pub SubmitsGathered : {D P : Type 0} → Basis D → Submitting P → ℕ → Submitting P → Type 0
 SubmitsGathered b port lost later =
     (lost ≡ 0) × (later.signals ≡ port.signals) × (later.gathered ≡ []) × (port.room ≤ later.room) × WorksAndTries b port.notes port.hand port.gathered later.notes later.hand

@@ -25,7 +25,7 @@ pub record AtSomeMoment {D : Type 0} (b : Basis D) (P : GuardedState D → Type 
   pub held : CanHold b state
   pub so : P state
 
--- this holds in some state that the value under the lock can have, of which this one has read the settled steps, behind the steps of earlier instances in this history
+-- this holds in some state that the value under the lock can have, of which this one has read the settled steps, after the steps of earlier instances in this history
 abbrev pub AtMomentRead : {D : Type 0} → Basis D → TableId → List Step → Beginning → (GuardedState D → Type 0) → Type 0
 AtMomentRead {D} b history earlier read P = AtSomeMoment {D = D} b (λ g. P g × HasReadSettled history earlier (settled_steps g.ledger.log) read)
 

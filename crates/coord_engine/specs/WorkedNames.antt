@@ -8,7 +8,7 @@ use Rattle.coord_types.specs.declared.steps.Step.TheVariants.{Order}
 use Rattle.coord_ledger.specs.declared.ticket.Note.{Note}
 use Rattle.coord_engine.specs.Named.{IsAmong, IsNamed}
 
--- two steps that come behind two others, the kinds of their replies, and their notes
+-- two steps that come after two others, the kinds of their replies, and their notes
 abbrev pub first : Step
 first = Order 1 3 (Reset 1)
 
@@ -40,6 +40,6 @@ NotOneShort = ¬ IsNamed ((third_note ∷ []) ∷ []) 2 (first ∷ second ∷ []
 abbrev pub NotOfAnotherKind : Type 0
 NotOfAnotherKind = ¬ IsNamed ((record third_note { kind = Joined } ∷ []) ∷ []) 2 (first ∷ []) (Started ∷ [])
 
--- behind a base of two steps, the fourth note's step stands second, and a note with another number isn't among them
+-- after a base of two steps, the fourth note's step stands second, and a note with another number isn't among them
 abbrev pub NamesInPlace : Type 0
 NamesInPlace = IsAmong 2 (first ∷ second ∷ []) fourth_note × ¬ IsAmong 2 (first ∷ second ∷ []) (record { step = 2; what = second; kind = Joined })

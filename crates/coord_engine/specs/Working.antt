@@ -79,7 +79,7 @@ module _ {D : Type 0} (b : Basis D) where
       (taken : List Note) × (kept : Hand) × (next : List Note) × (rest : List Packet)
       × TakesPacket notes hand p taken kept × TriesAll taken kept.waiting next rest × Works next (record kept { waiting = rest }) came later left
 
-  -- these packets came, in order, and behind them those that wait were tried once more
+  -- these packets came, in order, and after them those that wait were tried once more
   abbrev pub WorksAndTries : List Note → Hand → List Packet → List Note → Hand → Type 0
   WorksAndTries notes hand came later left =
       (next : List Note) × (kept : Hand) × (rest : List Packet) × Works notes hand came next kept × TriesAll next kept.waiting later rest × (left ≡ record kept { waiting = rest })

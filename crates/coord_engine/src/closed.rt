@@ -69,7 +69,7 @@ pub struct Retired<D: Disk> {
     pub refused: Option<CloseFault>,
 }
 
-/// Whether the steps behind the first `base` have the note's step at its number.
+/// Whether the steps after the first `base` have the note's step at its number.
 fn is_among(base: u64, steps: &[Step], note: &Note) -> bool
     ensures { IsTrue result ↔ IsAmong base steps.now note.now }
 {

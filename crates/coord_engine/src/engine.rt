@@ -124,7 +124,7 @@ impl<D: Disk, L: Origin> Engine<D, L> {
     }
 
     /// Accepts a step as `submit` does, but does not wake the flusher. Whoever posts several steps
-    /// wakes it behind the last one, so that one flight takes them all.
+    /// wakes it after the last one, so that one flight takes them all.
     pub fn post<R: Wait>(&self, rt: &R, step: Step, mine: &mut Share<L>) -> Result<Ticket, Refusal>
         ensures { AtSomeMoment (based_on D.model L.base L.before)
             (Submits {D = D} step result mine.old mine.new) }
@@ -261,7 +261,7 @@ impl<D: Disk, L: Origin> Engine<D, L> {
         guarded.begin(&self.history)
     }
 
-    /// Takes a flight back. Where it is refused, for memory, it is tried again behind a rest.
+    /// Takes a flight back. Where it is refused, for memory, it is tried again after a rest.
     pub(crate) fn end<R: Wait + Clock>(&self, rt: &R, flight: OwnFlight<D, L>) -> Released<L>
         ensures released { result ≡ releases_in flight flight.mark }
         ensures back { AtSomeMoment (based_on D.model L.base L.before) (ComesBack flight) }
@@ -295,7 +295,7 @@ impl<D: Disk, L: Origin> Engine<D, L> {
     /// has the base of the ledger that the engine was made over, and a trail that begins with that
     /// ledger's. A crash at any moment since then left only worlds after the first steps of that
     /// trail. What writes the history comes back too: it has written the settled steps of that trail
-    /// behind those of earlier instances. It takes no memory.
+    /// after those of earlier instances. It takes no memory.
     pub fn close(
         self,
         shares: Vec<Share<L>>,

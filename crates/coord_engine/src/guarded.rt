@@ -38,7 +38,7 @@ pub struct Guarded<D: Disk, L: Origin> {
     ledger: Ledger<D>,
     /// Counts the steps that were accepted for shares.
     book: Book<L>,
-    /// Has written the steps of earlier instances, and behind them the settled ones.
+    /// Has written the steps of earlier instances, and after them the settled ones.
     writer: LogAuthority,
     /// The parts of the count that were not given out.
     rest: Part<L>,

@@ -1,4 +1,4 @@
-//! The steps that were settled, instance behind instance, as a history that grows. It stands in the proofs
+//! The steps that were settled, instance after instance, as a history that grows. It stands in the proofs
 //! alone.
 //!
 //! Nothing is known of the value under a lock but what its type keeps. So a flight that leaves under
@@ -187,7 +187,7 @@ impl LogAuthority {
     ghost use Rattle.coord_engine.specs.MonotoneLog.{StartsWith};
 
     /// Writes on, so that the steps of the history are those of earlier instances, as `L` names them, and
-    /// behind them these.
+    /// after them these.
     pub(crate) fn write_on<L: Origin>(&mut self, history: &MonotoneLog, steps: &[Step])
         requires here { history.now ≡ self.old.history }
         requires on { StartsWith (L.earlier ++ steps.now) self.old.steps }

@@ -22,7 +22,7 @@ const ROOM: usize = 4_352;
 /// on. Signals go to another port, which is asked for no packet.
 ///
 /// It takes, keeps, drops or loses a packet as a worker does (`worker`), and tries those that it keeps once
-/// more behind each flight.
+/// more after each flight.
 #[derive(Drop)]
 pub struct SubmittingPort<'e, D: Disk, L: Origin, P: Port, R: Wait> {
     rt: &'e R,

@@ -74,7 +74,7 @@ fn take<D: Disk, L: Origin>(
     hand.count(guarded.put_down());
 }
 
-/// Takes packets in order, and tries those that wait behind each.
+/// Takes packets in order, and tries those that wait after each.
 fn take_each<D: Disk, L: Origin>(
     guarded: &mut Guarded<D, L>,
     packets: &[Packet],
@@ -139,7 +139,7 @@ pub(crate) fn take_and_try<D: Disk, L: Origin, R: Wait>(
     unlock(engine, guarded, was_idle);
 }
 
-/// Submits the packets that come, in order, and ends behind the last one. Their replies are
+/// Submits the packets that come, in order, and ends after the last one. Their replies are
 /// forgotten. Those that come together are submitted under one lock.
 ///
 /// Where no more steps may be pending, or no memory is found, it keeps the packet, and tries those

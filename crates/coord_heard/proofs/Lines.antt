@@ -1,4 +1,4 @@
--- A line of JSON is read as the value that it was written for, with the line feed behind it.
+-- A line of JSON is read as the value that it was written for, with the line feed after it.
 use Rattle.std.proofs.Common.{◌≡◌, ◌≤◌, ◌<◌, ◌^◌, ℕ, Bool, true, false, List, [], ◌∷◌, ◌++◌, Some, option_and_then, option_map, decimal, if◌then◌else◌, refl, sym, ap, ap₂, ◌∙◌, arith, append_assoc, append-nil}
 use Rattle.json.specs.Token as token
 use Rattle.json.specs.Word.{ends_word}
@@ -76,7 +76,7 @@ quoted_lexed s r =
     ap (λ l. lex between (34 ∷ l)) (append_assoc (escape s) (34 ∷ []) r)
     ∙ ap₂ (λ content rest. lexeme.token (string_token content) ∷ rest) (content-escape s r) (lex-escape s r)
 
--- what stands behind a value ends it
+-- what stands after a value ends it
 each_ends : (ds : Items) (r : List ℕ) → ends_word (items_text true ds ++ r) ≡ true
 each_ends no_items r = refl
 each_ends (item d ds) r = refl

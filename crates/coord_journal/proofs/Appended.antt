@@ -73,7 +73,7 @@ module _ {bytes : List ℕ} {content : Content} {half_size half used : ℕ} (tex
   closed : (c rest : List ℕ) → c ≡ before ++ 0 ∷ rest → IsTextAt c content half_size half used
   closed c rest is = respelled c text.selector text.skipped rest text.selected refl (is ∙ sym (lead_push text.selector half_size text.skipped front (0 ∷ rest)))
 
-  -- a write behind the text leaves it, however the write is torn
+  -- a write after the text leaves it, however the write is torn
   pub torn_behind : (new : List ℕ) (at : ℕ) → gate_place half_size half used < at → (c : List ℕ) → Torn bytes at new c → IsTextAt c content half_size half used
   torn_behind new at is c image =
       let place : length (before ++ 0 ∷ []) ≤ at = omega (arith, is, gate, length-append before (0 ∷ [])) in

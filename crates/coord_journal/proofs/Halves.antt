@@ -26,7 +26,7 @@ pub length_opened : (batches : List (List ℕ)) (opened : List ℕ) → IsOpened
 length_opened [] opened is = ap length is
 length_opened (b ∷ bs) opened is = omega (arith, ap length is.3.1, length-append (sized b) is.1, length_sized b, length_opened bs is.1 is.4)
 
--- a half is refused where what is behind its snapshot is
+-- a half is refused where what is after its snapshot is
 pub half_refused : (bytes snapshot rest : List ℕ) (version : ℕ) → BeginsWithBody MAX_SNAPSHOT version snapshot rest bytes → ((batches : List (List ℕ)) (size : ℕ) → ReadsAs batches size rest → ⊥) → (content : Content) (used : ℕ) → IsHalf bytes content used → ⊥
 half_refused bytes snapshot rest version body bad content used half =
     let behind = same_behind MAX_SNAPSHOT small_snapshot content.version version content.snapshot snapshot _ rest bytes (begins bytes content used half) body in
@@ -56,7 +56,7 @@ half_same bytes c d m n one other =
 pub half_long : (bytes : List ℕ) (content : Content) (used : ℕ) → IsHalf bytes content used → used ≤ length bytes
 half_long bytes content used half = omega (arith, half.used_is, ap length half.spelled, length-append (half_front content.version content.snapshot half.opened) (0 ∷ half.behind))
 
--- a half that is cut off behind what it uses is the same half
+-- a half that is cut off after what it uses is the same half
 pub half_cut : (bytes : List ℕ) (content : Content) (used n : ℕ) → IsHalf bytes content used → used ≤ n → IsHalf (take n bytes) content used
 half_cut bytes content used n half fits =
     let front = half_front content.version content.snapshot half.opened in

@@ -20,7 +20,7 @@ module _ (limit : ℕ) (small : limit < 2 ^ 32) where
   after_read : (first : ℕ) (body behind l : List ℕ) → BeginsWithBody limit first body behind l → drop 5 l ≡ body ++ behind
   after_read first body behind l h1 = grind (arith, nat_tests, h1)
 
-  -- the body and what is behind it are the same, however they are read
+  -- the body and what is after it are the same, however they are read
   same_size : (first first' : ℕ) (body body' behind behind' l : List ℕ) → BeginsWithBody limit first body behind l → BeginsWithBody limit first' body' behind' l → length body ≡ length body'
   same_size first first' body body' behind behind' l one other = sym (size_read first body behind l one) ∙ size_read first' body' behind' l other
 

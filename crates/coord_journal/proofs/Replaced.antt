@@ -9,7 +9,7 @@ use Rattle.coord_journal.specs.Facade.{Content, IsEitherText, IsTextAt, TornInTu
 use Rattle.coord_journal.specs.declared.layout.TheConstants.{MAX_SNAPSHOT}
 use Rattle.coord_journal.proofs.Appended.{lead, lead_push, length_sized, respelled, torn_behind}
 
--- a text is the same behind any selector that names its half
+-- a text is the same after any selector that names its half
 reselected : {s : ℕ} {tail : List ℕ} {content : Content} {half_size half used : ℕ} → IsTextAt (s ∷ tail) content half_size half used → (x : ℕ) (more : List ℕ) → x % 2 ≡ half → IsTextAt (x ∷ (tail ++ more)) content half_size half used
 reselected {tail = tail} {content = content} {half_size = half_size} text x more named =
     let front : List ℕ = half_front content.version content.snapshot text.holds.opened in

@@ -7,7 +7,7 @@ ghost use Rattle.coord_kept.specs.History.{are_lines, is_among, is_digit, is_lin
 /// What a history says of a line.
 #[derive(Clone, Copy, Debug, PartialEq, Eq)]
 pub struct Found {
-    /// The bytes of its whole lines: the next line goes behind them, in the place of what a power cut
+    /// The bytes of its whole lines: the next line goes after them, in the place of what a power cut
     /// may have left there.
     pub size: usize,
     pub has: bool,

@@ -4,7 +4,7 @@ ghost use Rattle.std.specs.Prelude.{◌≡◌, ◌≤◌, length};
 ghost use Rattle.std.specs.List.{position_or_len};
 ghost use Rattle.coord_kept.specs.Tag.{are_parted, is_dash, is_same_run, run_of, shown_of};
 
-/// Where the dash of a tag stands; behind its end, where it has none.
+/// Where the dash of a tag stands; after its end, where it has none.
 #[tactic(auto, using(crate::proofs::Dashes::first_dash))]
 fn dash_in(tag: &[u8]) -> usize
     ensures is { result ≡ position_or_len is_dash tag.now }
@@ -24,7 +24,7 @@ fn run_of(tag: &[u8]) -> &[u8]
     tag.split_at(dash_in(tag)).0
 }
 
-/// The digest behind it.
+/// The digest after it.
 fn shown_of(tag: &[u8]) -> &[u8]
     ensures { result.now ≡ shown_of tag.now }
 {

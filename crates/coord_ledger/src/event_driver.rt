@@ -33,7 +33,7 @@ use std::alloc::Global;
 /// A fault names the event at which the run ended, and has the answers to the events before it and
 /// all that was released until then. The ledger, its flight and its tickets are given up. The disk
 /// is given back: as those events have left it, or, where the run ended in a crash, as the opening
-/// behind the crash has left it (`EndedEarly`).
+/// after the crash has left it (`EndedEarly`).
 pub fn run_events<D: CrashDisk>(
     alloc: Global,
     ledger: Ledger<D>,

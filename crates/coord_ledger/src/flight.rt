@@ -92,7 +92,7 @@ impl<D: Disk> Flight<D> {
         ensures calls { D.model.keeps_model self.old.disk ≡ true →
             D.model.clock self.new.disk ≤ D.model.clock self.old.disk + 8 }
 
-        // Where the body of the batch fits behind what is there, no checkpoint is made.
+        // Where the body of the batch fits after what is there, no checkpoint is made.
         ensures calls_where_it_fits { (half : ℕ) (body : List ℕ) →
             D.model.keeps_model self.old.disk ≡ true → self.old.mark ≡ New →
             IsBody self.old.world body self.old.steps →

@@ -91,7 +91,7 @@ found : (text behind : List ℕ) (place : Option ℕ) → position is_line_feed 
 found text behind None e f = absurd cc
 found text behind (Some place) e f = let at = at_line_feed text place e in (omega arith, cc)
 
--- a piece with a line feed ends the line, and what stands behind that begins the next one
+-- a piece with a line feed ends the line, and what stands after that begins the next one
 pub lines_on-ended : (line : Line) (piece more behind : List ℕ) → behind_line_feed piece ≡ Some behind → lines_on line (piece ++ more) ≡ extended line (before_line_feed piece) ∷ lines_on (Some []) (behind ++ more)
 lines_on-ended line piece more behind e =
     let at = found piece behind _ refl e in

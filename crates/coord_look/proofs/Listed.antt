@@ -48,7 +48,7 @@ one_of_both x [] ys one = inr one
 one_of_both x (y ∷ xs) ys (inl same) = inl (inl same)
 one_of_both x (y ∷ xs) ys (inr more) = elim (one_of_both x xs ys more) [ inl k ↦ inl (inr k) | inr k ↦ inr k ]
 
--- one of the lists that are put behind one another
+-- one of the lists that are put after one another
 pub record IsAmongOf {A B : Type 0} (f : A → List B) (xs : List A) (y : B) : Type 0 where
   pub of : A
   pub one : IsOneOf of xs

@@ -6,7 +6,7 @@ use Rattle.coord_member.specs.declared.view.Entry.{Entry}
 use Rattle.coord_member.specs.declared.view.Entry.TheVariants.{Node, Link}
 use Rattle.coord_member.specs.Text.{entry_line, party_text, IsWritten, PartyTextInjective}
 
--- ---- digits, and what stands behind them
+-- ---- digits, and what stands after them
 
 -- no space and no line feed
 abbrev IsDigit : ℕ → Type 0
@@ -19,7 +19,7 @@ more_digits (x ∷ xs) ys a b = (a.0, more_digits xs ys a.1 b)
 digits : (n : ℕ) → n < 2 ^ 64 → AllByRecursion IsDigit (decimal n)
 digits = decimal_by_steps (λ n ds. AllByRecursion IsDigit ds) (λ n below. (omega arith, tt)) (λ n ds above is. more_digits ds ((48 + n % 10) ∷ []) is (omega arith, tt))
 
--- two texts are the same up to the first character that isn't a digit, there, and behind it
+-- two texts are the same up to the first character that isn't a digit, there, and after it
 record IsSplit (xs ys : List ℕ) (c d : ℕ) (vs ws : List ℕ) : Type 0 where
   before : xs ≡ ys
   at : c ≡ d

@@ -17,7 +17,7 @@ new_gate = record { floor = 0; count = 0 }
 abbrev pub admits : Gate → Bool → ℕ → Bool
 admits gate is_own count = nat_lt gate.count count || (is_own && nat_lt gate.floor count)
 
--- behind a count that is accepted
+-- after a count that is accepted
 abbrev pub passed : Gate → Bool → ℕ → Gate
 passed gate is_own count = record { floor = if is_own then gate.floor else gate.count; count = if nat_lt gate.count count then count else gate.count }
 
@@ -44,7 +44,7 @@ accepts r f = admits r.gate (is_own r f) f.count
 abbrev pub held_by : Bool → Resource → Fence → Resource
 held_by own r f = record { gate = passed r.gate own f.count; tag = f.tag }
 
--- behind a fence that is presented, and behind several. One that is refused changes nothing
+-- after a fence that is presented, and after several. One that is refused changes nothing
 abbrev pub behind : Resource → Fence → Resource
 behind r f = if accepts r f then held_by (is_own r f) r f else r
 
@@ -54,11 +54,11 @@ behind_all r (f ∷ fences) = behind_all (behind r f) fences
 
 -- ---- what holds, whatever is presented, in any order, late and again
 
--- behind a fence that was accepted, those of other runs have greater counts
+-- after a fence that was accepted, those of other runs have greater counts
 abbrev pub LaterIsGreater : Type 0
 LaterIsGreater = (r : Resource) (g f : Fence) (between : List Fence) → accepts r g ≡ true → accepts (behind_all (behind r g) between) f ≡ true → (f.tag ≡ g.tag) ⊎ (g.count < f.count)
 
--- a start that was accepted before one of another run is never accepted behind it
+-- a start that was accepted before one of another run is never accepted after it
 abbrev pub NoStartReturns : Type 0
 NoStartReturns =
     (r : Resource) (f g : Fence) (between later : List Fence) → (f.tag ≡ g.tag → ⊥) → accepts r f ≡ true → accepts (behind_all (behind r f) between) g ≡ true →

@@ -21,7 +21,7 @@ impl Gate {
         Gate { floor: 0, count: 0 }
     }
 
-    /// The gate behind a fence with this count, whose tag is that of the last one that was accepted or
+    /// The gate after a fence with this count, whose tag is that of the last one that was accepted or
     /// not. None: the fence is refused, and nothing changes.
     pub fn pass(self, is_own: bool, count: u64) -> Option<Gate>
         ensures { result ≡ (if admits self is_own count then Some (passed self is_own count) else None) }

@@ -49,13 +49,13 @@ pub fn what_is_left_is_enough()
     ensures { LeftIsEnough }
 {}
 
-/// Behind a fence that a resource accepted, it accepts those of other runs with greater counts alone.
+/// After a fence that a resource accepted, it accepts those of other runs with greater counts alone.
 #[tactic(auto, using(crate::proofs::Fences::later_is_greater))]
 pub fn later_fences_are_greater()
     ensures { LaterIsGreater }
 {}
 
-/// A start that a resource accepted before one of another run is never accepted behind it, whatever
+/// A start that a resource accepted before one of another run is never accepted after it, whatever
 /// is presented, in any order, late and again.
 #[tactic(auto, using(crate::proofs::Fences::no_start_returns))]
 pub fn no_start_returns()

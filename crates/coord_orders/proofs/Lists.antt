@@ -84,7 +84,7 @@ rising_without (suc k) lo hi [] is = is
 rising_without zero lo hi (l ∷ ls) is = let first = is.0 in rising_lower lo (l.serial + 1) hi ls (omega (arith, first)) is.1
 rising_without (suc k) lo hi (l ∷ ls) is = (is.0, rising_without k (l.serial + 1) hi ls is.1)
 
--- behind the newest line there is none
+-- after the newest line there is none
 pub newest_alone : (l : Sent) (ls : List Sent) (hi : ℕ) → l.serial + 1 ≡ hi → IsRising (l.serial + 1) ls hi → ls ≡ []
 newest_alone l [] hi e is = refl
 newest_alone l (m ∷ ms) hi e is = let rest = rising_le (m.serial + 1) hi ms is.1 in let first = is.0 in absurd (omega (arith, first, rest))

@@ -5,7 +5,7 @@
 //! client, the lines and answers on their way, and the server's part as far as this client sees it
 //! (`specs/Exchange.antt`). The main theorem is the contract of [`laws::exactly_once`]: whatever is
 //! lost, late, heard again or cut off by a crash, the orders of the client that the server carried
-//! out are just those that the client noted as done, in turn, and at most the one in hand behind
+//! out are just those that the client noted as done, in turn, and at most the one in hand after
 //! them. [`laws::count_is_found`] says what the answers to a probe tell of a lost count.
 #![tactic(auto)]
 

@@ -28,7 +28,7 @@ use Rattle.coord_server.specs.declared.server_end.ServerEnd.{ServerEnd}
 pub adds_worker : (first all later : List (List Note)) (notes : List Note) → AddsWorkers first all → later ≡ all ++ notes ∷ [] → All IsOfPacket notes → AddsWorkers first later
 adds_worker first all later notes added pushed packets = (added.0 ++ notes ∷ [], pushed ∙ ap (λ l. l ++ notes ∷ []) added.1 ∙ append_assoc first added.0 (notes ∷ []), All-push (All IsOfPacket) added.0 notes added.2 packets)
 
--- the flusher's share behind the desk's, in room that was empty
+-- the flusher's share after the desk's, in room that was empty
 pub adds_flusher : (own flushed : List Note) (room first second : List (List Note)) → room ≡ [] → first ≡ room ++ own ∷ [] → second ≡ first ++ flushed ∷ [] → All IsOfPacket flushed → AddsWorkers (own ∷ []) second
 adds_flusher own flushed room first second empty pushed again packets =
     (flushed ∷ [], again ∙ ap (λ l. l ++ flushed ∷ []) (pushed ∙ ap (λ r. r ++ own ∷ []) empty), All-push (All IsOfPacket) [] flushed (All-nil (All IsOfPacket)) packets)
@@ -184,7 +184,7 @@ module _ {D : Type 0} (m : DiskModel D) {V : Type 0} (talked : V → List Talk �
     told = so.told;
   }
 
-  -- one more instance behind those that rested
+  -- one more instance after those that rested
   pub one_more : (began world : World) (v u : V) (ls : List (InstanceRun D V)) (l : InstanceRun D V) → HaveRested m talked most began v ls world u → Rests m talked most world u l → HaveRested m talked most began v (ls ++ l ∷ []) l.left.store.world l.callers
   one_more began world v u [] l here r = (rw (sym here.0) (rw (sym here.1) r), (refl, refl))
   one_more began world v u (q ∷ qs) l here r = (here.0, one_more q.left.store.world world q.callers u qs l here.1 r)

@@ -36,7 +36,7 @@ use Rattle.coord_server.specs.EngineDesk.{AnswersOrder, DeskAnswers, DeskKeeps, 
 use Rattle.coord_server.specs.Ending.{new_desk}
 use Rattle.coord_server.specs.InOrder.{AllInOrder, BearOut, GoOn, IsBorneOut, IsOwnReply, Told, AnsweredInOrder, WritesInOrder}
 
--- ---- one answer behind the other
+-- ---- one answer after the other
 
 more_on : (first : List Step) (told : List Told) (now last : List Step) → GoOn first told now → StartsWith last now → GoOn first told last
 more_on first [] now last is on = first_of_first first now last is on

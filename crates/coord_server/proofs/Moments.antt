@@ -31,7 +31,7 @@ use Rattle.coord_server.specs.declared.instance.Instance.{Instance}
 use Rattle.coord_server.specs.declared.instance_end.InstanceEnd.TheVariants.{Resting}
 use Rattle.coord_server.specs.declared.server_end.ServerEnd.{ServerEnd}
 
--- after some steps behind others
+-- after some steps after others
 behind : (base : World) (steps more : List Step) (bytes : List ℕ) → IsAfterSome (fold base steps) more bytes → IsAfterSome base (steps ++ more) bytes
 behind base steps more bytes after = record {
   number = length steps + after.number;
@@ -74,7 +74,7 @@ module _ {D : Type 0} (m : DiskModel D) where
       (λ late. behind first.world steps more bytes (subst (λ w. IsAfterSome w more bytes) (sym come.leads) late))
       either)
 
-  -- behind the instances so far, one more
+  -- after the instances so far, one more
   pub after_instance : (first now : Kept D) (steps : List Step) (left : Closed D) → ComesFrom m first steps now → KeepsAlong m now left.trail.items left.store → KeepsAlong m first (steps ++ left.trail.items) left.store
   after_instance first now steps left (inl same) along = subst (λ l. KeepsAlong m first (l ++ left.trail.items) left.store) (sym same.0) (subst (λ k. KeepsAlong m k left.trail.items left.store) same.1 along)
   after_instance first now steps left (inr come) along = record {
@@ -103,7 +103,7 @@ module _ {D : Type 0} (m : DiskModel D) where
   leads_of first now steps (inl is) = ap (fold first.world) is.0 ∙ ap (λ (k : Kept D). k.world) (sym is.1)
   leads_of first now steps (inr come) = come.leads
 
-  -- the settled steps of an instance behind those before it
+  -- the settled steps of an instance after those before it
   pub settled_behind : (first : World) (steps : List Step) (world : World) (left : Closed D) → fold first steps ≡ world → Tells world left → first_settled first (steps ++ left.trail.items) left.settled ≡ steps ++ first_settled left.base left.trail.items left.settled
   settled_behind first steps world left leads t =
       let trail = left.trail.items in

@@ -53,10 +53,10 @@ leaves_all world left t all =
     let whole : t.done ≡ length left.trail.items = omega (arith, t.counted, all, same) in
     t.kept ∙ ap (λ n. fold world (take n left.trail.items)) whole ∙ ap (fold world) (take-length left.trail.items)
 
--- ---- instances one behind the other
+-- ---- instances one after the other
 
 module _ {D V : Type 0} where
-  -- each begins with the world after the steps of those before it, over which its own are a trail; behind them is this world
+  -- each begins with the world after the steps of those before it, over which its own are a trail; after them is this world
   abbrev GoOn : World → List (InstanceRun D V) → World → Type 0
   GoOn w [] next = next ≡ w
   GoOn w (l ∷ ls) next = (l.left.base ≡ w) × IsTrail w l.left.trail.items × GoOn (fold w l.left.trail.items) ls next
@@ -111,7 +111,7 @@ module _ {D V : Type 0} where
   given_by (l ∷ ls) w next here =
       ap (λ (x : World). outs x l.left.trail.items ++ all_given ls) here.0 ∙ ap (λ (o : List StepOutcome). outs w l.left.trail.items ++ o) (given_by ls (fold w l.left.trail.items) next here.2) ∙ sym (outs-append l.left.trail.items (all_steps ls) w)
 
--- each step has the number behind the one before
+-- each step has the number after the one before
 numbers : (ss : List Step) (w : World) → map (λ (o : StepOutcome). o.reply.step) (outs w ss) ≡ range_with_len (w.count + 1) (length ss)
 numbers [] w = refl
 numbers (s ∷ ss) w = ap (λ l. (w.count + 1) ∷ l) (numbers ss (next w s))

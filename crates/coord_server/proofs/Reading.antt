@@ -16,18 +16,18 @@ drop_all (x ∷ xs) ys = drop_all xs ys
 cancel : (xs ys zs : List Step) → xs ++ ys ≡ xs ++ zs → ys ≡ zs
 cancel xs ys zs is = sym (drop_all xs ys) ∙ ap (drop (length xs)) is ∙ drop_all xs zs
 
--- behind the same steps
+-- after the same steps
 pub begins_behind : (earlier first later : List Step) → StartsWith (earlier ++ later) (earlier ++ first) → StartsWith later first
 begins_behind earlier first later (others, is) = (others, cancel earlier later (first ++ others) (is ∙ append_assoc earlier first others))
 
--- what was read behind earlier steps
+-- what was read after earlier steps
 pub read_back : (history : TableId) (earlier settled : List Step) (read : Beginning) → HasReadSettled history earlier settled read → read_in earlier read ≡ settled
 read_back history earlier settled read is = ap (λ (r : Beginning). drop (length earlier) r.steps) is ∙ drop_all earlier settled
 
 pub is_read : (history : TableId) (earlier settled : List Step) (read : Beginning) → HasReadSettled history earlier settled read → IsReadIn history earlier read
 is_read history earlier settled read is = subst (λ steps. HasReadSettled history earlier steps read) (sym (read_back history earlier settled read is)) is
 
--- nothing was read behind them
+-- nothing was read after them
 pub reads_nothing : (history : TableId) (earlier : List Step) (read : Beginning) → read ≡ record { history = history; steps = earlier } → HasReadSettled history earlier [] read
 reads_nothing history earlier read is = is ∙ ap (λ steps. record { history = history; steps = steps }) (sym (append-nil earlier))
 

@@ -37,7 +37,7 @@ use Rattle.coord_server.specs.declared.fault.ServerFault.TheVariants as fault
 use Rattle.coord_server.specs.declared.instance_end.InstanceEnd.{InstanceEnd}
 use Rattle.coord_server.specs.declared.instance_end.InstanceEnd.TheVariants as end
 
--- ---- connections, one behind the other
+-- ---- connections, one after the other
 
 -- what is read later begins with what was told of
 pub leads : (first : List Step) (told : List Told) (last : List Step) → GoOn first told last → StartsWith last first
@@ -52,7 +52,7 @@ from_before : (base : World) (first now last : List Step) (cs : List Connection)
 from_before base first now last [] by is = first_of_first first now last by is
 from_before base first now last (c ∷ cs) by is = (is.0, from_earlier base first now c.talk is.0 by is.1, is.2)
 
--- those of one instance, and those of the instances behind it
+-- those of one instance, and those of the instances after it
 and_later : (base : World) (first now last : List Step) (cs ds : List Connection) → AllInOrder base first cs now → AllInOrder base now ds last → AllInOrder base first (cs ++ ds) last
 and_later base first now last [] ds is later = from_before base first now last ds is later
 and_later base first now last (c ∷ cs) ds is later = (is.0, is.1, and_later base is.0 now last cs ds is.2 later)
@@ -61,12 +61,12 @@ all_lead : (base : World) (first last : List Step) (cs : List Connection) → Al
 all_lead base first last [] is = is
 all_lead base first last (c ∷ cs) is = first_of_first first is.0 last (leads first (is.1.told ++ is.1.torn) is.0 is.1.go_on) (all_lead base is.0 last cs is.2)
 
--- ---- an instance, behind the steps of those before it
+-- ---- an instance, after the steps of those before it
 
 behind_these : (before now first : List Step) → StartsWith now first → StartsWith (before ++ now) (before ++ first)
 behind_these before now first is = (is.0, ap (λ l. before ++ l) is.1 ∙ sym (append_assoc before first is.0))
 
--- the step at a place behind others
+-- the step at a place after others
 there_behind : (before steps : List Step) (place : ℕ) (s : Step) → slice_get steps place ≡ Some s → slice_get (before ++ steps) (length before + place) ≡ Some s
 there_behind [] steps place s there =
     let same : place ≡ 0 + place = omega arith in
@@ -85,7 +85,7 @@ take_before [] steps place s there = absurd cc
 take_before (x ∷ before) steps zero s there = refl
 take_before (x ∷ before) steps (suc place) s there = ap (λ l. x ∷ l) (take_before before steps place s there)
 
--- the step behind some first ones
+-- the step after some first ones
 first_there : (before rest : List Step) (s : Step) → slice_get (before ++ s ∷ rest) (length before) ≡ Some s
 first_there [] rest s = refl
 first_there (x ∷ before) rest s =
@@ -251,7 +251,7 @@ module _ {D : Type 0} (m : DiskModel D) {V : Type 0} (talked : V → List Talk �
     told : AllInOrder began before connections settled
     reads : EachReads began settled before instances
 
-  -- what was told over the connections of an instance, behind the steps of the instances before
+  -- what was told over the connections of an instance, after the steps of the instances before
   lifted : (before read : List Step) (world : World) (cs : List Connection) → world ≡ fold began before → AllInOrder world [] cs read → AllInOrder began before cs (before ++ read)
   lifted before read world cs is told =
       subst (λ first. AllInOrder began first cs (before ++ read)) (append-nil before)

@@ -61,7 +61,7 @@ text_further n m text le is = record { told = is.told; up_to = all_further n m i
 lines_distinguish : (n : ℕ) (told : List Answer) (text : List ℕ) → AllByRecursion (AnswersUpTo n) told → text ≡ reply_lines told → WritesUpTo n text
 lines_distinguish n told text all is = record { told = told; up_to = all; part = []; broken = inl refl; text_is = is ∙ sym (append-nil (reply_lines told)) }
 
--- and those behind them
+-- and those after them
 more_tell : (n : ℕ) (told more : List Answer) (text : List ℕ) → AllByRecursion (AnswersUpTo n) told → AllByRecursion (AnswersUpTo n) more → text ≡ reply_lines told ++ reply_lines more → WritesUpTo n text
 more_tell n told more text all also is = lines_distinguish n (told ++ more) text (all_both n told more all also) (is ∙ sym (flat_map-append reply_line told more))
 

@@ -1,4 +1,4 @@
--- What is printed first, and behind it.
+-- What is printed first, and after it.
 use Rattle.std.proofs.Common.{◌≡◌, ◌⊎◌, ℕ, Bool, true, false, List, [], ◌∷◌, ◌++◌, Option, None, Some, inl, inr, refl, sym, ap, ◌∙◌, subst, append-nil, append_assoc}
 use Rattle.std.proofs.lemmas.Bool.{false≢true}
 use Rattle.std.proofs.lemmas.Grind.{flat_map-append}
@@ -41,7 +41,7 @@ module _ {W : Type 0} (contents : W → Option (List ℕ)) where
   appends_none None = tt
   appends_none (Some xs) = sym (append-nil xs)
 
-  -- one text behind another
+  -- one text after another
   appends_both : (a b c : Option (List ℕ)) (xs ys : List ℕ) → Appends a b xs → Appends b c ys → Appends a c (xs ++ ys)
   appends_both None b c xs ys one other = tt
   appends_both (Some front) None c xs ys one other = absurd one

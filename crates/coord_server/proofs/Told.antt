@@ -15,7 +15,7 @@ use Rattle.coord_engine.specs.declared.closed.Closed.{Closed}
 use Rattle.coord_engine.specs.Facade.{AnswersStep, AtSomeMoment, Basis, LedgerAndNotes, all_notes, engine_verdict, note_of, notes_of}
 use Rattle.coord_server.specs.Told.{InstanceGives, InstancesLeaveSteps, NamesItsStep, NotesAreReplies, NotesEndALife, RepliesNameSteps}
 
--- the note's step stands at this place behind a world, with that reply
+-- the note's step stands at this place after a world, with that reply
 record IsRepliedIn (w : World) (steps : List Step) (note : Note) (place : ℕ) : Type 0 where
   number : note.step ≡ w.count + place + 1
   there : slice_get steps place ≡ Some note.what
@@ -23,7 +23,7 @@ record IsRepliedIn (w : World) (steps : List Step) (note : Note) (place : ℕ) :
   given : slice_get (outs w steps) place ≡ Some outcome
   reply : outcome.reply ≡ record { step = note.step; kind = note.kind }
 
--- the first note behind a world has the number of its reply
+-- the first note after a world has the number of its reply
 numbered : (n : ℕ) (w : World) (s : Step) → n ≡ w.count → ◌≡◌ {A = Note} (record { step = w.count + 1; what = s; kind = (reply w s).kind }) (record { step = n + 1; what = s; kind = (reply w s).kind })
 numbered n w s count = ap (λ c. record { step = c + 1; what = s; kind = (reply w s).kind }) (sym count)
 

@@ -51,7 +51,7 @@ IsLeftAs b desk left (Some fault.NotBegun) = LeavesLedger b left
 IsLeftAs b desk left (Some (fault.NotClosed why)) = RefusesShares b desk left why
 IsLeftAs b desk left other = IsOneHistory b desk left
 
--- behind these shares those of the flusher and of workers were put, whose notes are all of packets
+-- after these shares those of the flusher and of workers were put, whose notes are all of packets
 abbrev pub AddsWorkers : List (List Note) → List (List Note) → Type 0
 AddsWorkers first all = (workers : List (List Note)) × (all ≡ first ++ workers) × All (All IsOfPacket) workers
 
@@ -96,7 +96,7 @@ module _ {D : Type 0} (b : Basis D) {V : Type 0} (talked : V → List Talk → V
     Serves port v w desk (Some fault.OutOfMemory) = ServesInstance port v w desk (end.Ended (Some fault.OutOfMemory)) ⊎ ServesInstance port v w desk end.Resting
     Serves port v w desk served = LeavesInstance port v w desk (end.Ended served)
 
-    -- the threads of an instance have run: the desk served until this end and saw that much, this one has read what the desk told of behind these earlier steps, and with its share all ten are back, the desk's, the flusher's and those of eight workers
+    -- the threads of an instance have run: the desk served until this end and saw that much, this one has read what the desk told of after these earlier steps, and with its share all ten are back, the desk's, the flusher's and those of eight workers
     pub record HasRun (history : TableId) (earlier : List Step) (v w : V) (left : InstanceEnd) (shares : List (List Note)) (seen : ℕ) (reader : Beginning) : Type 0 where
       pub port : Local
       pub desk : DeskState Local

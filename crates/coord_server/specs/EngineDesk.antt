@@ -28,11 +28,11 @@ pub record DeskState (P : Type 0) : Type 0 where
   pub read : List Step
   pub port : P
 
--- the steps that were read behind earlier ones
+-- the steps that were read after earlier ones
 abbrev pub read_in : List Step → Beginning → List Step
 read_in earlier read = drop (length earlier) read.steps
 
--- some steps of this history were read behind earlier ones
+-- some steps of this history were read after earlier ones
 abbrev pub IsReadIn : TableId → List Step → Beginning → Type 0
 IsReadIn history earlier read = HasReadSettled history earlier (read_in earlier read) read
 

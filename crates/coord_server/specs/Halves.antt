@@ -33,7 +33,7 @@ desk_answered b d e f request.Show posted reply put told = absurd put
 desk_answered b d e f request.Resend posted reply put told = absurd put
 desk_answered b d e f request.Close posted reply put told = absurd put
 
--- a reply is the same before an order is posted and behind that
+-- a reply is the same before an order is posted and after that
 pub desk_apart : {D P : Type 0} (b : Basis D) (d e f : DeskState P) (r : Request) (p q : Result Claim Refusal) (reply : Result Reply Refusal) → DeskPosts b d r q e → DeskReplies b e p reply f → (m : DeskState P) × DeskReplies b d p reply m × DeskPosts b m r q f
 desk_apart {D} b d e f (request.Order client number command) p q reply put told = (
   record { notes = d.notes; seen = f.seen; read = f.read; port = d.port },

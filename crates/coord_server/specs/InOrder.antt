@@ -1,4 +1,4 @@
--- What the answers of an instance tell, by its one history: each is borne out by some first settled steps, and none goes back behind the one before.
+-- What the answers of an instance tell, by its one history: each is borne out by some first settled steps, and none goes back after the one before.
 use Rattle.std.specs.List.{AllByRecursion}
 use Rattle.std.specs.Prelude.{◌≡◌, ◌⊎◌, ℕ, List, [], ◌∷◌, ◌++◌, Result, Ok, Some, map, slice_get, take}
 use Rattle.coord_types.specs.declared.steps.Reply.{Reply}
@@ -60,7 +60,7 @@ abbrev pub GoOn : List Step → List Told → List Step → Type 0
 GoOn first [] last = StartsWith last first
 GoOn first (t ∷ told) last = StartsWith t.after first × GoOn t.after told last
 
--- What was written over a connection are the answers to its first lines, each borne out by settled steps, of which none goes back behind these first ones, nor behind those of an answer before. In one more line it may break off.
+-- What was written over a connection are the answers to its first lines, each borne out by settled steps, of which none goes back after these first ones, nor after those of an answer before. In one more line it may break off.
 pub record WritesInOrder (base : World) (first : List Step) (talk : Talk) (last : List Step) : Type 0 where
   pub told : List Told
   pub torn : List Told

@@ -44,7 +44,7 @@ pub record InstanceRun (D V : Type 0) : Type 0 where
   pub left : Closed D
   pub callers : V
 
--- the steps that these instances accepted, those of each behind those of the instance before
+-- the steps that these instances accepted, those of each after those of the instance before
 abbrev pub all_steps : {D V : Type 0} → List (InstanceRun D V) → List Step
 all_steps instances = flat_map (λ l. l.left.trail.items) instances
 

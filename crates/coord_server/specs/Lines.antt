@@ -1,4 +1,4 @@
--- Which signal may be printed behind which.
+-- Which signal may be printed after which.
 use Rattle.std.specs.Prelude.{ℕ, Bool, true, ◌&&◌, ◌||◌, ◌==◌, nat_lt, not}
 use Rattle.coord_server.specs.declared.last_line.LastLine.{LastLine}
 
@@ -6,7 +6,7 @@ use Rattle.coord_server.specs.declared.last_line.LastLine.{LastLine}
 abbrev pub nothing_since : ℕ → LastLine
 nothing_since step = record { step = step; node = 0; is_second = true }
 
--- whether the signal of a step at a node comes behind the last one: its step is a later one, or it is the second signal of the same step, at another node
+-- whether the signal of a step at a node comes after the last one: its step is a later one, or it is the second signal of the same step, at another node
 abbrev pub is_next : LastLine → ℕ → ℕ → Bool
 is_next last step node = nat_lt last.step step || (((last.step == step) && not last.is_second) && not (last.node == node))
 

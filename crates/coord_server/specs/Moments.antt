@@ -19,7 +19,7 @@ pub record KeepsAlong {D : Type 0} (m : DiskModel D) (first : Kept D) (steps : L
   pub same_model : m.keeps_model now.disk ≡ m.keeps_model first.disk
   pub moments : m.keeps_model first.disk ≡ true → LeavesOnly m first.disk now.disk (IsAfterSome first.world steps)
 
--- behind the earlier steps of this history the settled ones of an instance are written
+-- after the earlier steps of this history the settled ones of an instance are written
 abbrev pub HasWritten : {D : Type 0} → TableId → List Step → Closed D → Beginning → Type 0
 HasWritten history earlier left written = HasReadSettled history earlier (first_settled left.base left.trail.items left.settled) written
 

@@ -20,14 +20,14 @@ listening_line address = codes "listening " ++ socket_text address ++ codes "\n"
 abbrev pub signal_line : ℕ → ℕ → List ℕ
 signal_line node epoch = codes "signal " ++ decimal node ++ codes " " ++ decimal epoch ++ codes "\n"
 
--- an output as contracts see it, whether a line to it has failed, how many signals were lost, since there was no memory for their lines or they did not come behind the last one, and the last one that was printed
+-- an output as contracts see it, whether a line to it has failed, how many signals were lost, since there was no memory for their lines or they did not come after the last one, and the last one that was printed
 pub record PrinterState (W : Type 0) : Type 0 where
   pub output : W
   pub is_broken : Bool
   pub lost : ℕ
   pub last : LastLine
 
--- nothing was printed to it yet, and signals will be of the steps behind this one
+-- nothing was printed to it yet, and signals will be of the steps after this one
 abbrev pub new_printer : {W : Type 0} → W → ℕ → PrinterState W
 new_printer output since = record { output = output; is_broken = false; lost = 0; last = nothing_since since }
 
@@ -35,7 +35,7 @@ new_printer output since = record { output = output; is_broken = false; lost = 0
 abbrev pub signal_lines : List StepSignal → List ℕ
 signal_lines signals = flat_map (λ s. signal_line s.node s.epoch) signals
 
--- each of these signals comes behind the one before it, the first behind this one; and that is the last of them
+-- each of these signals comes after the one before it, the first after this one; and that is the last of them
 abbrev pub Follow : LastLine → List StepSignal → LastLine → Type 0
 Follow first [] last = last ≡ first
 Follow first (s ∷ later) last = (is_next first s.step s.node ≡ true) × Follow (after_line first s.step s.node) later last
@@ -44,7 +44,7 @@ Follow first (s ∷ later) last = (is_next first s.step s.node ≡ true) × Foll
 abbrev pub with_lost : {W : Type 0} → PrinterState W → PrinterState W
 with_lost p = record p { lost = one_more p.lost }
 
--- whether a line to it has failed, or a signal was printed of a step behind this one
+-- whether a line to it has failed, or a signal was printed of a step after this one
 abbrev pub is_amiss : {W : Type 0} → PrinterState W → ℕ → Bool
 is_amiss p settled = p.is_broken || not (nat_le p.last.step settled)
 
@@ -58,7 +58,7 @@ pub record IsTornAddress {W : Type 0} (q : PrinterState W) (torn : List ℕ) : T
   pub address : SocketAddr
   pub part : IsFirstPart torn (listening_line address)
 
--- what was written of the line of a signal in which the output failed: a first part of it. The signal may be told, and comes behind the last one
+-- what was written of the line of a signal in which the output failed: a first part of it. The signal may be told, and comes after the last one
 pub record IsTornSignal {W : Type 0} (may : ℕ → ℕ → ℕ → Type 0) (q : PrinterState W) (torn : List ℕ) : Type 0 where
   pub broken : q.is_broken ≡ true
   pub signal : StepSignal
@@ -83,7 +83,7 @@ module _ {W : Type 0} (contents : W → Option (List ℕ)) where
   abbrev pub BreaksIn : PrinterState W → List ℕ → PrinterState W → Type 0
   BreaksIn p line q = WritesFirstPart (contents p.output) (contents q.output) line × (q.is_broken ≡ true) × (q.lost ≡ p.lost) × (q.last ≡ p.last)
 
-  -- the line of a signal that comes behind the last one was printed; or nothing of it, and it was counted as lost
+  -- the line of a signal that comes after the last one was printed; or nothing of it, and it was counted as lost
   abbrev pub Prints : PrinterState W → StepSignal → PrinterState W → Type 0
   Prints p s q =
       ((is_next p.last s.step s.node ≡ true) × Appends (contents p.output) (contents q.output) (signal_line s.node s.epoch) × (q.is_broken ≡ false) × (q.lost ≡ p.lost) × (q.last ≡ after_line p.last s.step s.node))
@@ -96,7 +96,7 @@ module _ {W : Type 0} (contents : W → Option (List ℕ)) where
 
   -- `may`: of which signals may be told, by step, node and epoch
   module _ (may : ℕ → ℕ → ℕ → Type 0) where
-    -- The lines of such signals were printed, each behind the one before it; where the output failed in a line, a first part of that one behind them.
+    -- The lines of such signals were printed, each after the one before it; where the output failed in a line, a first part of that one after them.
     pub record HasPrinted (p q : PrinterState W) : Type 0 where
       pub signals : List StepSignal
       pub torn : List ℕ
@@ -105,7 +105,7 @@ module _ {W : Type 0} (contents : W → Option (List ℕ)) where
       pub follow : Follow p.last signals q.last
       pub whole : (torn ≡ []) ⊎ IsTornSignal may q torn
 
-    -- The line of an address was printed, and behind it what tells of such signals; or nothing, or a first part of that line.
+    -- The line of an address was printed, and after it what tells of such signals; or nothing, or a first part of that line.
     pub record IsPrinted (p q : PrinterState W) : Type 0 where
       pub first : List ℕ
       pub signals : List StepSignal

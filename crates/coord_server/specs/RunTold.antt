@@ -30,7 +30,7 @@ module _ {V : Type 0} (talked : V → List Talk → V → Type 0) (failed : V �
   AreConnectionsOf v [] connections = connections ≡ []
   AreConnectionsOf v (instance ∷ later) connections = (own : List Connection) × (rest : List Connection) × (connections ≡ own ++ rest) × HadConnections v own instance.callers × AreConnectionsOf instance.callers later rest
 
--- Each instance began with the world after the steps of the instances before it. What its desk read, behind those steps, is a first part of the settled ones.
+-- Each instance began with the world after the steps of the instances before it. What its desk read, after those steps, is a first part of the settled ones.
 abbrev pub EachReads : {D V : Type 0} → World → List Step → List Step → List (InstanceRun D V) → Type 0
 EachReads world settled before [] = Unit {0}
 EachReads world settled before (instance ∷ later) = (instance.left.base ≡ fold world before) × StartsWith settled (before ++ instance.desk.read) × EachReads world settled (before ++ instance.left.trail.items) later

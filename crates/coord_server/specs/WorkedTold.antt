@@ -16,7 +16,7 @@ third_line = codes "{\"kind\":\"started\",\"step\":3}\n"
 abbrev pub third_world : Answer
 third_world = Shown (record { accepted = 5; settled = 3; nodes = []; links = [] })
 
--- they tell of no step behind the third, and not of the first two alone; whoever reads the line alone knows it too
+-- they tell of no step after the third, and not of the first two alone; whoever reads the line alone knows it too
 pub record TellUpToThird : Type 0 where
   pub told : AllByRecursion (AnswersUpTo 3) (third_reply ∷ third_world ∷ Closed ∷ [])
   pub written : WritesUpTo 3 third_line

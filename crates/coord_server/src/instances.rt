@@ -39,7 +39,7 @@ use std::time::Clock;
 /// order, from a channel without bound: an output that is slow holds up nothing else. Where a line
 /// can't be printed, no more are, and the server goes on: a signal that was not printed is told by
 /// the epochs that are shown. An instance ends between two connections once its engine keeps `most`
-/// steps; a connection is ended behind a reply once it keeps twice as many. Then, by a close or
+/// steps; a connection is ended after a reply once it keeps twice as many. Then, by a close or
 /// after a fault, all that was accepted is settled, the flusher ends, then the workers, and at the
 /// last end what is left is printed, however long the output takes it.
 ///
@@ -173,7 +173,7 @@ fn start_printing<
     }
 }
 
-/// Instances while a thread prints, which ends behind the last signal.
+/// Instances while a thread prints, which ends after the last signal.
 fn print_and_live<
     D: Disk + Send,
     C: Callers + Drop,

@@ -26,14 +26,14 @@ impl LastLine {
         }
     }
 
-    /// Whether a signal of this step at this node comes behind it.
+    /// Whether a signal of this step at this node comes after it.
     pub fn is_before(self, step: u64, node: NodeId) -> bool
         ensures { result ≡ is_next self step node }
     {
         self.step < step || (self.step == step && !self.is_second && self.node != node.number())
     }
 
-    /// That one is printed behind it.
+    /// That one is printed after it.
     pub fn then(self, step: u64, node: NodeId) -> Self
         ensures { result ≡ after_line self step node }
     {

@@ -43,7 +43,7 @@ pub fn told_is_settled<D: Disk, C: Callers, P: Port>()
 
 /// What the desk of an instance told or showed, over one connection after the other, is borne out by the
 /// settled steps that it had read then: a reply is that of the order's own step, and a view that of the
-/// world after them. None goes back behind those of an answer before.
+/// world after them. None goes back after those of an answer before.
 pub fn answered_in_order<D: Disk, C: Callers, P: Port>()
     ensures { AnsweredInOrder D P C.talked }
 {}

@@ -1,4 +1,4 @@
-//! The server: a store behind an engine with its threads, and the administration over it.
+//! The server: a store after an engine with its threads, and the administration over it.
 //!
 //! [`serve_store`] runs an engine with a flusher and eight workers over a store, and serves the
 //! connections of a listener to an [`EngineDesk`], one after the other, until a line closes it. So that

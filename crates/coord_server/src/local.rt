@@ -27,7 +27,7 @@ struct Ways {
 /// packets, and hands on those for one worker as one message, so that each is woken once. It gets the
 /// packets that are sent again, and all signals: a flusher submits the packets of its flights itself
 /// (`SubmittingPort`). It waits for nobody: what there is no memory for is lost. No clause can say what
-/// lies behind its locks, so contracts see nothing of it.
+/// lies after its locks, so contracts see nothing of it.
 #[derive(Drop)]
 pub struct LocalPort<R: Wait, O: SignalSource> {
     rt: R,

@@ -31,7 +31,7 @@ pub struct Printer<W: Write> {
     output: W,
     is_broken: bool,
     /// How many signals were lost, since there was no memory for their lines, or they did not come
-    /// behind the last one.
+    /// after the last one.
     lost: u64,
     last: LastLine,
 }

@@ -28,7 +28,7 @@ pub struct Printed<W: Write> {
 }
 
 /// Prints the signals that come, in their order, up to the last one or to a line that could not be
-/// written. A signal for whose line there is no memory is lost, and so is one that does not come behind
+/// written. A signal for whose line there is no memory is lost, and so is one that does not come after
 /// the last one.
 #[tactic(auto, using(crate::proofs::Starts::told_none))]
 pub fn print_signals<W: Write, O: SignalSource, I: Iterator<Item = Signal<O>>>(
@@ -82,7 +82,7 @@ impl Opening {
         self.to = None;
     }
 
-    /// Has the address printed at which the server listens, and signals behind it; or says how the instance
+    /// Has the address printed at which the server listens, and signals after it; or says how the instance
     /// ends where that line was not printed, as where nobody is asked for it.
     pub fn open<C: Callers, R: Wait>(self, rt: &R, callers: &C) -> Result<(), InstanceEnd>
         ensures unopened { IfErr result (EndsUnopened C.failed callers.now) }

@@ -372,7 +372,7 @@ fn serve_until_old<D: Disk, L: Origin, C: Callers, P: Port, O: SignalSource, R: 
     }
 }
 
-/// The desk's share, and behind it the flusher's and those of all workers, which are waited for.
+/// The desk's share, and after it the flusher's and those of all workers, which are waited for.
 fn all_joined<L: Count, R: Threads + Wait>(
     rt: &R,
     room: Vec<Share<L>>,

@@ -31,7 +31,7 @@ use Rattle.coord_server.specs.InOrder.{AllInOrder, BearOut, GoOn, IsBorneOut, To
 use Rattle.coord_server.specs.Lives.{all_steps}
 use Rattle.coord_serving_members.specs.Server.{AreReadIn, IsLookAt, NoMixOverAServer, told_over}
 
--- ---- what was told, one answer behind the other
+-- ---- what was told, one answer after the other
 
 go_on_behind : (first now last : List Step) (told later : List Told) → GoOn first told now → GoOn now later last → GoOn first (told ++ later) last
 go_on_behind first now last [] [] is on = first_of_first first now last is on

@@ -136,7 +136,7 @@ all_sound : (starts : List Start) (w : World) → IsSound w → AreStarts w star
 all_sound [] w sound are = sound
 all_sound (s ∷ starts) w sound are = all_sound starts (led w (turns_in w s)) (start_sound w s sound are.0) are.1
 
--- with more turns behind, and with more in front
+-- with more turns after, and with more in front
 reply_more : (xs ys : List Turn) (w : World) (r : Reply) → IsReplyIn w xs r → IsReplyIn w (xs ++ ys) r
 reply_more xs ys w r (inl one) =
     inl (subst (λ os. IsOneOf r (map (λ (o : StepOutcome). o.reply) os)) (sym (outcomes-append xs ys w)) (one_more (λ (o : StepOutcome). o.reply) r (outcomes w xs) (outcomes (led w xs) ys) one))

@@ -1,4 +1,4 @@
--- Lists of turns, one behind the other, and what they give out.
+-- Lists of turns, one after the other, and what they give out.
 use Rattle.std.proofs.Common.{◌≡◌, ℕ, zero, suc, ◌+◌, List, [], ◌∷◌, ◌++◌, length, map, Some, slice_get, inl, inr, refl, sym, ap, arith}
 use Rattle.coord_types.specs.declared.steps.Reply.{Reply}
 use Rattle.coord_types.specs.declared.steps.Step.{Step}
@@ -12,7 +12,7 @@ use Rattle.coord_starts.specs.Told.{IsReplyTo, led, outcomes, steps_of}
 abbrev pub outcome_of : World → Step → StepOutcome
 outcome_of w s = record { reply = reply w s; outputs = outputs w s }
 
--- ---- one behind the other
+-- ---- one after the other
 
 pub led-append : (xs ys : List Turn) (w : World) → led w (xs ++ ys) ≡ led (led w xs) ys
 led-append [] ys w = refl

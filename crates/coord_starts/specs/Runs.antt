@@ -35,14 +35,14 @@ IsOf w Migrate Raised start = (start ≡ Raises) ⊎ ((start ≡ idle_start) × 
 IsOf w Migrate (Refused fault) start = RefusesMigration w fault × ((start ≡ idle_start) ⊎ ((start ≡ Raises) × (fault ≡ Device)))
 IsOf w task outcome start = ⊥
 
--- a start that serves these events, with these answers and releases, and leaves these bytes once the power was cut behind it
+-- a start that serves these events, with these answers and releases, and leaves these bytes once the power was cut after it
 pub record ServesOnce (w : World) (events : List Event) (given : List Answer) (released : List Release) (bytes : List ℕ) : Type 0 where
   pub kept : ℕ
   pub may : MayServe w events given kept
   pub all : released ≡ (at_end w events given).released
   pub left : Recovered bytes (led w (turns_in w (Serves events given kept)))
 
--- any start from a world, which leaves these bytes once the power was cut behind it
+-- any start from a world, which leaves these bytes once the power was cut after it
 pub record StartsOnce (w : World) (task : Task) (outcome : Outcome) (bytes : List ℕ) : Type 0 where
   pub start : Start
   pub is_of : IsOf w task outcome start

@@ -34,7 +34,7 @@ fn cut<D: CrashDisk>(ledger: Ledger<D>) -> D
     }
 }
 
-/// Asks a ledger over a store these events, and cuts the power behind them.
+/// Asks a ledger over a store these events, and cuts the power after them.
 pub fn serve<D: CrashDisk>(
     alloc: Global,
     store: Store<D>,

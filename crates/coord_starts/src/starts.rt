@@ -1,4 +1,4 @@
-//! The starts of a store, one after the other, with a power cut behind each.
+//! The starts of a store, one after the other, with a power cut after each.
 
 ghost use Rattle.std.specs.Prelude.{◌≡◌, ◌⊎◌, ◌≤◌, true, IfErr, IfOk, None};
 ghost use Rattle.coord_disk.specs.Model.Present.{whole};
@@ -35,7 +35,7 @@ pub enum Outcome {
     Refused(StoreFault),
 }
 
-/// Raises an opened store, and cuts the power behind that.
+/// Raises an opened store, and cuts the power after that.
 fn migrate<D: CrashDisk>(mut store: Store<D>) -> (Outcome, D)
     requires going { store.torn ≡ None }
     ensures once { D.model.keeps_model store.disk ≡ true →
@@ -52,7 +52,7 @@ fn migrate<D: CrashDisk>(mut store: Store<D>) -> (Outcome, D)
     (outcome, store.into_disk().crash())
 }
 
-/// Starts the store on a disk once, and cuts the power behind that.
+/// Starts the store on a disk once, and cuts the power after that.
 fn start<D: CrashDisk>(alloc: Global, disk: D, task: &Task) -> Result<(Outcome, D), (StoreFault, D)>
     ensures once { (w : Numbered) → D.model.keeps_model disk ≡ true →
         Recovered (D.model.present disk).read w → IfOk result (λ r.

@@ -119,7 +119,7 @@ out_below (t ∷ steps) settled zero s below is = by_test (has_given_out settled
 out_below (t ∷ steps) settled (suc i) s below is = by_test (has_given_out settled t) (λ b. suc i < cond b (suc (how_many_out settled steps)) zero → has_given_out settled s ≡ true)
     (λ _ more. out_below steps settled i s (omega (arith, more)) is) (λ _ none. absurd (omega (arith, none))) below
 
--- the step behind those that name what is out does not
+-- the step after those that name what is out does not
 pub out_further : (steps : List Step) (settled : World) (i : ℕ) (s : Step) → i ≤ how_many_out settled steps → i < length steps → s ≡ get_or steps i s → has_given_out settled s ≡ true → i < how_many_out settled steps
 out_further [] settled i s within below is out = absurd (omega (arith, below))
 out_further (t ∷ steps) settled zero s within below is out = by_test (has_given_out settled t) (λ b. has_given_out settled t ≡ b → zero < cond b (suc (how_many_out settled steps)) zero)
@@ -199,7 +199,7 @@ module _ (batches : List (Bor (List ℕ))) (i : ℕ) (none : Bor (List ℕ)) (be
     refuses = refuses;
   }
 
-  -- once it is taken, the one behind it is reached
+  -- once it is taken, the one after it is reached
   pub replays_on : (steps : List Step) → Takes w (get_or batches i none).now steps → Replays start (bodies (take (i + 1) batches)) (fold w steps)
   replays_on steps takes =
       let P : List (List ℕ) → Type 0 = λ l. Replays start l (fold w steps) in

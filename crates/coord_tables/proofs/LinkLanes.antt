@@ -166,7 +166,7 @@ lanes_step rows i before after r all sorted here made so_far =
       ap (λ n. with_lanes (from_sorted after) (drop n (map link_entry rows))) more ∙ ap (λ m. with_lanes m (drop (suc i) (map link_entry rows))) grown ∙ ap (with_lanes (from_sorted before)) (sym next) ∙ so_far,
     )
 
--- behind the last link stand all lanes
+-- after the last link stand all lanes
 pub lanes_done : (rows : List LinkRow) (n : ℕ) (lanes : List ((ℕ × ℕ) × Lane)) → LinksRise rows → is_sorted pair_cmp lanes ≡ true → length rows ≤ n →
     with_lanes (from_sorted lanes) (drop n (map link_entry rows)) ≡ with_lanes empty (map link_entry rows) → lanes ≡ lanes_in_order (links_of rows)
 lanes_done rows n lanes rise sorted past all = grind (arith, entries-from_sorted, drop_of_length-le, length-map)

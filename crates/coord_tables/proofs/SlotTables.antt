@@ -86,6 +86,6 @@ module _ {X : Type 0} where
       each same zero = get_none xs ∙ sym (get_none ys)
       each same (suc i) = get_next xs i ∙ same i ∙ sym (get_next ys i)
 
-  -- behind the last slots of both stands nothing
+  -- after the last slots of both stands nothing
   pub all_slots : (xs ys : List (Option X)) (n : ℕ) → length xs ≤ n → length ys ≤ n → ((i : ℕ) → i < n → slot_at xs i ≡ slot_at ys i) → (i : ℕ) → slot_at xs i ≡ slot_at ys i
   all_slots xs ys n long also each i = grind (arith, by_test, slice_get_past)

@@ -196,7 +196,7 @@ no_first bits none = ap (λ b. first (nodes_of b)) none ∙ ap first nodes_of-ze
 no_ones : (bits : ℕ) → bits ≡ 0 → trailing_zeros w64 bits ≡ 64
 no_ones bits none = ap (trailing_zeros w64) none ∙ trailing_of_zero 64
 
--- the node behind the lowest zeros, where that is one
+-- the node after the lowest zeros, where that is one
 pub first-nodes_of : (bits : ℕ) (o : Option ℕ) → bits < 2 ^ 64 → IsSome o ↔ ((1 ≤ trailing_zeros w64 bits + 1) × (trailing_zeros w64 bits + 1 ≤ 64)) → IfSome o (λ id. id ≡ trailing_zeros w64 bits + 1) → o ≡ first (nodes_of bits)
 first-nodes_of bits None fits within value = sym (no_first bits (empty (trailing_zeros w64 bits) refl (bits == 0) refl))
   where

@@ -3,7 +3,7 @@ use Rattle.std.proofs.Common.{◌≡◌, ℕ, suc, ◌+◌, ◌-◌, ◌<◌, �
 use Rattle.std.specs.List.{range_with_len}
 use Rattle.coord_types.specs.Numbers.{numbers}
 
--- the first of the numbers, and those behind it
+-- the first of the numbers, and those after it
 pub numbers_next : (most u : ℕ) → u ≤ most → numbers most u ≡ u ∷ numbers most (u + 1)
 unfolding numbers
 numbers_next most u le = let one_more : most + 1 - u ≡ suc (most + 1 - (u + 1)) = omega (arith, le) in ap (range_with_len u) one_more

@@ -179,7 +179,7 @@ below_each k q [] below any = cc
 below_each k q (x ∷ xs) below any =
     by_test (nat_eq x q) (λ b. (b || list_any (λ y. nat_eq y q) xs) ≡ true → k < q) (λ is _. grind (arith, nat_tests, below.0, is)) (λ _ further. below_each k q xs below.1 further) any
 
--- a set's first member, and what stands behind it
+-- a set's first member, and what stands after it
 behind_first : (s : NodeSet) (k : ℕ) (xs : List ℕ) → items s ≡ xs → IsStrictlySortedBy nat_cmp xs → first_of xs ≡ Some k → items s ≡ k ∷ items (remove s k)
 behind_first s k [] is sorted e = cc
 behind_first s k (x ∷ xs) is sorted e =

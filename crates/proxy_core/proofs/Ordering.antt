@@ -284,7 +284,7 @@ first_rising a more queued rising c = rising_right (place_if (a.from == c) a.pla
 first_all : (a : Request) (more queued : List Request) (P : ℕ → Type 0) (c : ℕ) → AllByRecursion P (hand c (a ∷ more) queued) → AllByRecursion P (hand c more queued)
 first_all a more queued P c all = all_right_of P (place_if (a.from == c) a.place) (hand c more queued) (subst (AllByRecursion P) (append_assoc (place_if (a.from == c) a.place) (places_of c more) (places_of c queued)) all)
 
--- those behind the first line of its connection are younger
+-- those after the first line of its connection are younger
 first_past : (a : Request) (more queued : List Request) → ((c : ℕ) → Rising (hand c (a ∷ more) queued)) → AllByRecursion (λ p. a.place ≤ p) (hand a.from more queued)
 first_past a more queued rising =
     let here : (a.from == a.from) ≡ true = grind (arith, nat_tests) in

@@ -131,7 +131,7 @@ AreApart xs = (p : ℕ) → count_by (is_at p) xs ≤ 1
 apart_rest : (x : Request) (xs : List Request) → AreApart (x ∷ xs) → AreApart xs
 apart_rest x xs apart p = let whole = count_cons p x xs in let all = apart p in omega (arith, whole, all)
 
--- no request behind the first has its place
+-- no request after the first has its place
 apart_first : (x a : Request) (xs : List Request) → AreApart (x ∷ xs) → Contains xs a → x.place ≡ a.place → ⊥
 apart_first x a xs apart in_it same =
     let whole = count_cons a.place x xs in

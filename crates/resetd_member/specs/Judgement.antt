@@ -179,7 +179,7 @@ IsTagged show node file word (Err _) = ⊥
 
 -- ---- the judgement as C hears of it
 
--- the start's text and the history's line stand one behind the other
+-- the start's text and the history's line stand one after the other
 abbrev pub out_of : Judgement → List ℕ
 out_of j = string_bytes j.start ++ string_bytes j.line
 

@@ -262,7 +262,7 @@ pub(crate) fn tag(
     Ok(tag?)
 }
 
-/// A text with another one behind it.
+/// A text with another one after it.
 fn joined(mut text: String, behind: &str) -> Result<String, AllocError>
     ensures { IfOk result (λ both. string_bytes both ≡ string_bytes text ++ behind.now) }
 {

@@ -1,4 +1,4 @@
-//! The starts of one store, with a power cut behind each.
+//! The starts of one store, with a power cut after each.
 
 use coord_disk::MemDisk;
 use coord_ledger::{Event, Trace};

@@ -54,7 +54,7 @@ module _ {D : Type 0} (disk : DiskModel D) (crashes : D → D → Type 0) (d : D
         failed = omega (arith, ap disk.failures same, none);
       }
 
-  -- behind no event
+  -- after no event
   cut_before_events : (a : Asked) (refused : Fault × D) → (a ≡ Version2 → IsSettled (adopted (no_world 2)) p.told) → MayCutShort (opens_disk a) refused.0 → IsLeftBy disk crashes a p.machine p.disk refused.1 → disk.failures refused.1 ≡ disk.failures p.disk + failed_by refused.0 → CutShort disk crashes p a refused
   cut_before_events a refused none cause left failed = record { cause = cause; none_told = none; given = []; mid = p.disk; runs = record { in_range = tt; answered = tt; moments = (refl, at.survives); failed = omega arith }; left = left; failed = failed }
 

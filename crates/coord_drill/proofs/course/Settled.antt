@@ -20,7 +20,7 @@ use Rattle.coord_drill.specs.declared.asked.Asked.TheVariants as ask
 use Rattle.coord_drill.specs.Facade.{Accepted, Answer, Asked, Begun, Committed, Refusal, Refused, Repeated, Step, Verdict}
 use Rattle.coord_drill.proofs.does.FlownTo.{begun_size}
 
--- ---- what a line tells of is settled behind it
+-- ---- what a line tells of is settled after it
 
 abbrev HaveMemory : List Answer → Type 0
 HaveMemory given = AllByRecursion (λ a. a ≢ Refused OutOfMemory) given

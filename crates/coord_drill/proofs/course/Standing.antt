@@ -62,14 +62,14 @@ module _ {D : Type 0} (disk : DiskModel D) (crashes : D → D → Type 0) where
       let to = led.moments old there keeps in
       (to.0, to.1, to.2, record { in_range = led.in_range; answered = led.answered; moments = to.3; failed = failed_is old to.0 (disk_held d) (disk_held new) es given led.failed there to.1 })
 
-  -- behind them whatever a crash may leave survives
+  -- after them whatever a crash may leave survives
   survives_behind : (s : Machine) (es : List Event) (gs : List Answer) (old new : D) → EachMoment disk crashes true s es gs old new → CrashPrefix (run s es gs) true (disk.present new)
   survives_behind s [] [] old new moments = moments.1
   survives_behind s [] (a ∷ gs) old new moments = absurd moments
   survives_behind s (e ∷ es) [] old new moments = absurd moments
   survives_behind s (e ∷ es) (a ∷ gs) old new moments = survives_behind (after s e a) es gs moments.1.0 new moments.1.1.1
 
-  -- a place behind, which the drill stands at
+  -- a place after, which the drill stands at
   pub record Reached (d new : Drill D) (p : Place D) (a : Asked) (given : List Answer) (text : List ℕ) : Type 0 where
     pub place : Place D
     pub state : place.state ≡ state_of new

@@ -33,7 +33,7 @@ abbrev pub is_version : Asked → Bool
 is_version Version2 = true
 is_version other = false
 
--- ---- two runs, one behind the other
+-- ---- two runs, one after the other
 
 pub run_both : (s : Machine) (es fs : List Event) (gs hs : List Answer) → Answered s es gs → run s (es ++ fs) (gs ++ hs) ≡ run (run s es gs) fs hs
 run_both s [] fs [] hs answered = refl
@@ -154,7 +154,7 @@ module _ {D : Type 0} (disk : DiskModel D) (crashes : D → D → Type 0) where
   pub run_of : (d new : DriverState D) (es : List Event) (gs : List Answer) → Begins d → Leads disk crashes d es gs new → Led disk crashes (started d.ledger) es gs d new
   run_of d new es gs begins leads = leads (started d.ledger) begins.consistent begins.represents
 
-  -- all of the events were answered, and the disk is given up behind them
+  -- all of the events were answered, and the disk is given up after them
   pub all_led : (d mid : DriverState D) (es : List Answer → List Event) (gs : List Answer) (lost : D) → Begins d → Leads disk crashes d (es gs) gs mid → disk_held mid ≡ Some lost → LeadsPart disk crashes d es lost
   all_led d mid es gs lost begins leads there =
       let run = run_of d mid (es gs) gs begins leads in

@@ -10,7 +10,7 @@ use Rattle.coord_drill.proofs.course.Lines.{goes_both, goes_one}
 use Rattle.coord_drill.proofs.prints.FirstParts.{short_behind, short_longer}
 
 module _ {D : Type 0} (disk : DiskModel D) (crashes : D → D → Type 0) where
-  -- ---- lines that were carried out, and more behind them
+  -- ---- lines that were carried out, and more after them
 
   first_cut_more : (q : Place D) (ls more : List Line) (refused : Fault × D) → FirstCutShort disk crashes q ls refused → FirstCutShort disk crashes q (ls ++ more) refused
   first_cut_more q [] more refused cut = absurd cut
@@ -64,7 +64,7 @@ module _ {D : Type 0} (disk : DiskModel D) (crashes : D → D → Type 0) where
           (two.0, goes_both disk crashes p one.0 two.0 ls breaks.ended one.3 two.1, subst (Why two.0 (breaks.others ++ more)) (ap (λ x. x ++ u) one.2 ∙ append_assoc p.printed t u) (so two.0 breaks.others (one.0.printed ++ u) two.2));
     }
 
-  -- the disk is given back behind them
+  -- the disk is given back after them
   breaks_behind : (c new : Console D) (ls others all : List Line) (t u : List ℕ) (lost : D) (Why : Place D → List Line → List ℕ → Type 0) → all ≡ ls ++ others → CarriesOut disk crashes c ls t new → disk_held new.drill.driver ≡ Some lost →
       ((p q : Place D) → lost ≡ q.disk → q.printed ≡ p.printed ++ t → Why q others (p.printed ++ u)) → Breaks disk crashes c all u Why
   breaks_behind c new ls others all t u lost Why split out there why = record {
@@ -107,7 +107,7 @@ module _ {D : Type 0} (disk : DiskModel D) (crashes : D → D → Type 0) where
   pub last_ends : (c new : Console D) (t : List ℕ) (last : D) → IsWithin c.line → CarriesOut disk crashes c (c.line ∷ []) t new → disk_held new.drill.driver ≡ Some last → EndsWith disk crashes c (lines_on c.line []) t last
   last_ends c new t last within out there = subst (λ ls. EndsWith disk crashes c ls t last) (sym (last_line c.line within)) (λ p at. let one = out p at in (one.0, cc (there, one.1.0.holds), one.2, one.3))
 
-  -- the writer could not be flushed behind it
+  -- the writer could not be flushed after it
   pub last_unflushed : (c new : Console D) (t : List ℕ) (refused : Fault × D) → IsWithin c.line → CarriesOut disk crashes c (c.line ∷ []) t new → IsOfWriting refused.0 → disk_held new.drill.driver ≡ Some refused.1 → EndsEarly disk crashes c (lines_on c.line []) refused t
   last_unflushed c new t refused within out writing there =
       last_breaks c refused t within

@@ -1,4 +1,4 @@
--- What is spelled of a format is read so, whatever words stand behind it, and no word of it holds a space: a law of each way of making formats.
+-- What is spelled of a format is read so, whatever words stand after it, and no word of it holds a space: a law of each way of making formats.
 use Rattle.std.proofs.Common.{◌≡◌, Bool, true, false, not, ◌&&◌, List, [], ◌∷◌, ◌++◌, length, Option, Some, None, refl, sym, ap, ◌∙◌, subst, append_assoc, arith, bytes_eq}
 use Rattle.std.specs.List.{All, AllByRecursion, position_or_len, join_with_byte}
 use Rattle.std.proofs.lemmas.Option.{none-some}
@@ -20,7 +20,7 @@ abbrev pub ArePlain : List Word → Type 0
 ArePlain [] = Unit {0}
 ArePlain (w ∷ ws) = IsPlain w × ArePlain ws
 
--- words without spaces behind words without spaces
+-- words without spaces after words without spaces
 ArePlain-append : (ws vs : List Word) → ArePlain ws → ArePlain vs → ArePlain (ws ++ vs)
 ArePlain-append [] vs p q = q
 ArePlain-append (w ∷ ws) vs p q = (p.0, ArePlain-append ws vs p.1 q)

@@ -24,7 +24,7 @@ use Rattle.coord_types.specs.declared.messages.Msg.TheVariants.{Abort, Ack, Read
 use Rattle.coord_drill.specs.Facade.{Request}
 use Rattle.coord_drill.specs.Laws.{SpelledIsRead}
 
--- ---- the first word of a line, and the words behind it
+-- ---- the first word of a line, and the words after it
 
 pub words_of-first : (text word rest : List ℕ) → word ≡ before_first is_space text → rest ≡ after_first is_space text → position_or_len is_space text < length text → words_of text ≡ word ∷ words_of rest
 words_of-first text word rest e f below = slice_split_first is_space text 0 below ∙ ap (λ w. w ∷ words_of (after_first is_space text)) (sym e) ∙ ap (λ r. word ∷ words_of r) (sym f)

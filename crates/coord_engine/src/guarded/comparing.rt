@@ -72,7 +72,7 @@ fn kind_at(kinds: &[Kind], place: usize) -> Kind
     kinds[place]
 }
 
-/// Whether each of these steps, which come behind some others, was noted in some share with the kind
+/// Whether each of these steps, which come after some others, was noted in some share with the kind
 /// of its reply.
 pub fn all_noted<L: Count>(shares: &[Share<L>], others: u64, steps: &[Step], kinds: &[Kind]) -> bool
     requires ascending { All IsAscending shares.now }

@@ -26,7 +26,7 @@ fn first_steps(steps: &[Step], count: usize) -> &[Step]
     &steps[..count]
 }
 
-/// Writes the settled steps of a ledger in the history, behind those of earlier instances.
+/// Writes the settled steps of a ledger in the history, after those of earlier instances.
 pub(super) fn write_settled<D: Disk, L: Origin>(
     writer: &mut LogAuthority,
     history: &MonotoneLog,

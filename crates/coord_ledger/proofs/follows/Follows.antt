@@ -45,7 +45,7 @@ module _ {D : Type 0} (d : DriverState D) (s : Machine) (is : IsConsistent s) (r
   pub log_is : d.ledger.log.base ≡ s.log.base → d.ledger.log ≡ s.log
   log_is same = grind (arith, nat_tests, log_rebased, count_after)
 
-  -- the driver's log is what is behind the machine's settled steps, where none of its own is settled
+  -- the driver's log is what is after the machine's settled steps, where none of its own is settled
   pub log_behind : d.ledger.log.settled ≡ 0 → d.ledger.log ≡ rebased s.log s.log.settled
   log_behind none = grind (arith, nat_tests, log_rebased)
 

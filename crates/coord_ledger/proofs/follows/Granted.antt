@@ -28,7 +28,7 @@ pub outputs_of-length : (xs : List Step) (w : World) → length (outputs_of w xs
 outputs_of-length [] w = refl
 outputs_of-length (x ∷ xs) w = ap suc (outputs_of-length xs (next w x))
 
--- of the first steps, and of those behind them
+-- of the first steps, and of those after them
 pub outputs_of-take : (n : ℕ) (xs : List Step) (w : World) → take n (outputs_of w xs) ≡ outputs_of w (take n xs)
 outputs_of-take zero xs w = refl
 outputs_of-take (suc n) [] w = refl
@@ -189,7 +189,7 @@ within [] i x there = cc
 within (y ∷ ys) zero x there = omega arith
 within (y ∷ ys) (suc i) x there = omega (arith, within ys i x there)
 
--- the claim's step stands at this place behind the base, settled, and was answered with the claim's kind
+-- the claim's step stands at this place after the base, settled, and was answered with the claim's kind
 pub record StandsAt (log : Log) (claim : Claim) (place : ℕ) : Type 0 where
   pub number : claim.step ≡ log.base.count + place + 1
   pub settled : place < log.settled

@@ -149,7 +149,7 @@ module _ {D : Type 0} where
       → AllFresh settled settled steps
   fresh_next log kinds given front settled out store steps is same = grind (arith, nat_tests, fresh_first)
 
-  -- the next steps, where no others are behind them, lead to the front
+  -- the next steps, where no others are after them, lead to the front
   pub front_behind : (log : Log) (kinds : List Kind) (given : List (List Output)) (front settled : World) (out : ℕ) (store : Option (Kept D)) (steps : List Step) → IsLedger log kinds given front settled out store → steps ≡ take (length steps) (pending log)
       → length steps ≡ length (pending log) → front ≡ fold (settled_world log) steps
   front_behind log kinds given front settled out store steps is same all =

@@ -16,7 +16,7 @@ one_mapped f x [] one = one
 one_mapped f x (y ∷ ys) (inl same) = inl (ap f same)
 one_mapped f x (y ∷ ys) (inr one) = inr (one_mapped f x ys one)
 
--- of two lists, one behind the other
+-- of two lists, one after the other
 pub all_both : {A : Type 0} (P : A → Type 0) (xs ys : List A) → AllByRecursion P xs → AllByRecursion P ys → AllByRecursion P (xs ++ ys)
 all_both P [] ys all more = more
 all_both P (x ∷ xs) ys all more = (all.0, all_both P xs ys all.1 more)
@@ -37,13 +37,13 @@ part_behind [] us vs part = part
 part_behind (y ∷ ys) [] vs part = tt
 part_behind (y ∷ ys) (u ∷ us) vs part = inr (part_behind ys (u ∷ us) vs part)
 
--- parts of two lists, one behind the other
+-- parts of two lists, one after the other
 pub part_both : {A : Type 0} (xs ys us vs : List A) → IsPartOf xs ys → IsPartOf us vs → IsPartOf (xs ++ us) (ys ++ vs)
 part_both [] ys us vs part more = part_behind ys us vs more
 part_both (x ∷ xs) [] us vs part more = absurd part
 part_both (x ∷ xs) (y ∷ ys) us vs (inl same) more = inl (same.0, part_both xs ys us vs same.1 more)
 part_both (x ∷ xs) (y ∷ ys) us vs (inr part) more = inr (part_both (x ∷ xs) ys us vs part more)
 
--- with more behind
+-- with more after
 pub part_before : {A : Type 0} (xs ys vs : List A) → IsPartOf xs ys → IsPartOf xs (ys ++ vs)
 part_before xs ys vs part = rw (sym (append-nil xs)) (part_both xs ys [] vs part tt)

@@ -114,7 +114,7 @@ doubted_stays log b is = record { trail = is.trail; within = is.within; few = is
 
 -- ---- the first steps alone
 
--- none is behind the first n of the first n
+-- none is after the first n of the first n
 pub none_behind : {A : Type 0} (n : ℕ) (xs : List A) → drop n (take n xs) ≡ []
 none_behind zero xs = refl
 none_behind (suc n) [] = refl

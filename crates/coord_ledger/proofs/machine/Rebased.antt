@@ -14,7 +14,7 @@ use Rattle.coord_view.specs.Shown.{shown}
 use Rattle.coord_ledger.proofs.machine.Lists.{each_one}
 use Rattle.coord_ledger.proofs.machine.Logs.{rebased_accepted, rebased_base, rebased_count, rebased_front, rebased_pending, rebased_settled, none_behind}
 
--- what a crash may keep behind c more steps
+-- what a crash may keep after c more steps
 pub kept_later : (c d : ℕ) (f : Option FlightOut) (o : Option ℕ) → kept_by (c + d) f o ≡ map (λ n. c + n) (kept_by d f o)
 kept_later c d f o = grind (arith, nat_tests)
 

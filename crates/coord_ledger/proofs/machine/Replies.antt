@@ -45,7 +45,7 @@ kept_reply w steps client last there = elim (kept_reply_law w steps client) [
   | inr none ↦ inr (client, (last, (sym none.0 ∙ there, refl)))
 ]
 
--- with more steps behind
+-- with more steps after
 among_more : (w : World) (steps more : List Step) (r : Reply) → IsOneOf r (replies w steps) → IsOneOf r (replies w (steps ++ more))
 among_more w [] more r one = absurd one
 among_more w (s ∷ steps) more r (inl same) = inl same

@@ -22,7 +22,7 @@ full_first : (full : Bool) (k : Kind) (ts : Tests) → unless_full full (refused
 full_first full k [] = refl
 full_first full k (t ∷ ts) = by_test t.0 (λ b. unless_full full (cond b (Err t.1) (refused_or (Fresh k) ts)) ≡ cond full (Err PendingFull) (cond b (Err t.1) (refused_or (Fresh k) ts))) (λ _. refl) (λ _. full_first full k ts)
 
--- the test of a full ledger comes behind that of a repeat
+-- the test of a full ledger comes after that of a repeat
 behind_repeat : (full : Bool) (o : Option Session) (n : ℕ) (x : Command) (v : Result Verdict Refusal) → unless_full full (or_repeat o n x v) ≡ or_repeat o n x (unless_full full v)
 behind_repeat full o n x v = grind arith
 

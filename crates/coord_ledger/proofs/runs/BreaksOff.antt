@@ -1,4 +1,4 @@
--- A run that ends early: within an event, before the first one or behind the last one.
+-- A run that ends early: within an event, before the first one or after the last one.
 use Rattle.std.proofs.Common.{◌≡◌, ◌≤◌, List, ◌++◌, length, ap, ◌∙◌, ℕ, ◌<◌, Bool, [], get_or, Option, Some, None, refl, sym, subst, arith, inl, inr, slice_get, take, IsSomeAnd}
 use Rattle.std.specs.Option.{option_map}
 use Rattle.std.proofs.lemmas.Option.{slice_get_past}
@@ -15,7 +15,7 @@ pub cut_within : {D : Type 0} (h : Run D) (s : Machine) (e : Event) (a : Answer)
 cut_within h s e a released more rest follows allowed begins ends some =
     record { answer = a; allowed = allowed; more = more; rest = rest; begins = begins ∙ ap (λ l. l ++ more) follows.released; ends = ends; some = some }
 
--- ---- before or behind one
+-- ---- before or after one
 
 -- the flight that is held was committed
 committed : {D : Type 0} (f : Option (FlightState D)) (o : Option FlightOut) → option_map flight_out f ≡ o → IsSomeAnd f (λ g. g.mark ≡ Good) → IsCommitted o
@@ -31,7 +31,7 @@ module _ {D : Type 0} (model : DiskModel D) (crashes : D → D → Type 0) where
   -- ---- in the loop
 
   module _ (start : LedgerState D) (events : List Event) (at : ℕ) (given : List Answer) (h : Run D) (loop : LoopInvariant model crashes start events at given h) where
-    -- behind the last event
+    -- after the last event
     pub ended_after : (at2 : ℕ) (given2 : List Answer) (kind : RunFaultKind) (released : List Release) (lost : D) → at ≡ length events → at2 ≡ at → given2 ≡ given → kind ≡ OutOfMemory → released ≡ h.released.items → disk_held h.driver ≡ Some lost → IsSomeAnd h.driver.flight (λ f. f.mark ≡ Good) →
         (before : D) → start.disk ≡ Some before → Promised (model.keeps_model before) events (EndedEarly model crashes (started start) events at2 given2 released kind (model.keeps_model before) before lost)
     ended_after at2 given2 kind released lost last here same memory kept there good before disk promised =

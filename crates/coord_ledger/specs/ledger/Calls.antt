@@ -107,12 +107,12 @@ GivesFlown Torn w steps bytes = GivesEither w (fold w steps) bytes
 abbrev pub FlightGives : {D : Type 0} → (D → Present) → FlightState D → Type 0
 FlightGives present f = (image : List ℕ) → IsImage (present f.disk) image → GivesFlown f.mark f.world f.steps image
 
--- These bytes give the settled world; after a stop perhaps the world behind the steps in doubt.
+-- These bytes give the settled world; after a stop perhaps the world after the steps in doubt.
 abbrev pub GivesSettled : Log → Option ℕ → List ℕ → Type 0
 GivesSettled log None bytes = Recovered bytes (settled_world log)
 GivesSettled log (Some b) bytes = GivesEither (settled_world log) (world_after log (log.settled + b)) bytes
 
--- each image of a ledger's disk, while its store is at home, gives the settled world; after a stop perhaps the world behind
+-- each image of a ledger's disk, while its store is at home, gives the settled world; after a stop perhaps the world after
 -- the steps in doubt
 abbrev pub LedgerGives : {D : Type 0} → (D → Present) → LedgerState D → D → Type 0
 LedgerGives present l disk = (image : List ℕ) → IsImage (present disk) image → GivesSettled l.log l.log.doubt image

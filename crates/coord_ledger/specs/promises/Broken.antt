@@ -1,8 +1,8 @@
 -- A run that ends early: what was answered and released until then, which disk is given back, and why.
 --
--- It ends at an event that is cut short; or behind the last event, where the flight that is out
+-- It ends at an event that is cut short; or after the last event, where the flight that is out
 -- can't be taken back; or before the first one. What was answered and released is kept, all else is
--- given up. The disk is given back as the events before have left it; in a crash, as it is behind
+-- given up. The disk is given back as the events before have left it; in a crash, as it is after
 -- the taking of an image.
 use Rattle.std.specs.Prelude.{◌≡◌, ◌⊎◌, ℕ, ◌≤◌, Bool, true, false, List, [], ◌++◌, length, take, slice_get, Option, Some, None}
 use Rattle.coord_disk.specs.Model.DiskModel.{DiskModel}
@@ -34,8 +34,8 @@ pub record IsLeftOut (before : Machine) (e : Event) (released : List Release) : 
   pub ends : (after before e answer).released ≡ released ++ rest
   pub some : 1 ≤ length rest
 
--- What was released then. There is no memory for a ticket, for a release, or for the ledger behind a crash, or the
--- store is not opened behind it.
+-- What was released then. There is no memory for a ticket, for a release, or for the ledger after a crash, or the
+-- store is not opened after it.
 abbrev pub IsCutShort : Machine → Event → RunFaultKind → List Release → Type 0
 IsCutShort before (Submit step) OutOfMemory released = released ≡ before.released
 IsCutShort before Finish OutOfMemory released = IsLeftOut before Finish released
@@ -65,7 +65,7 @@ pub record IsGivenUp {D : Type 0} (before : Machine) (kind : RunFaultKind) (rele
 abbrev pub IsCommitted : Option FlightOut → Type 0
 IsCommitted flight = (size : ℕ) × (flight ≡ Some (record { size = size; mark = Good }))
 
--- why it ends at this event, or behind the last one
+-- why it ends at this event, or after the last one
 abbrev pub EndsAt : {D : Type 0} → DiskModel D → (D → D → Type 0) → Bool → Machine → Option Event → RunFaultKind → List Release → D → D → Type 0
 EndsAt model crashes keeps_model before None kind released disk lost = IsGivenUp before kind released disk lost × IsCommitted before.flight
 EndsAt model crashes keeps_model before (Some event) kind released disk lost = IsCutShort before event kind released × IsGivenBack model crashes keeps_model before event kind disk lost

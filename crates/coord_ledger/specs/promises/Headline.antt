@@ -8,7 +8,7 @@
 -- all images of a disk between two events, and `EachMoment` for each moment of a run, within its events too: what the
 -- run does to its disk is told event by event, each from the disk that the event before it left. A commit leaves at
 -- each of its moments only images of the world before it or after it. A crash takes one of the disk's images, and the
--- opening behind it leaves only images of that. No other event touches the disk. So at every moment inside every event
+-- opening after it leaves only images of that. No other event touches the disk. So at every moment inside every event
 -- of every run, whatever the disk may hold survives.
 --
 -- `Completed` has these beside what else a run promises: that the answers are the event machine's, that what was

@@ -17,7 +17,7 @@ touches_disk Commit (Failed fault.OutOfMemory) = true
 touches_disk Crash answer = true
 touches_disk event answer = false
 
--- A crash has taken one of the disk's images, and at each moment of the opening behind it a crash left only images of
+-- A crash has taken one of the disk's images, and at each moment of the opening after it a crash left only images of
 -- what was taken. These have P.
 pub record Reopens {D : Type 0} (model : DiskModel D) (crashes : D → D → Type 0) (P : List ℕ → Type 0) (old new : D) : Type 0 where
   pub taken : D

@@ -15,7 +15,7 @@ use coord_world::World;
 use std::alloc::AllocError;
 use std::mem::replace;
 
-/// The next `size` steps behind the settled ones.
+/// The next `size` steps after the settled ones.
 fn next_steps(trail: &[Step], done: usize, size: usize) -> &[Step]
     requires { done + size ≤ length trail.now }
     ensures { result.now ≡ take size (drop done trail.now) }

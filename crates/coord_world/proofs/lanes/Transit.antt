@@ -86,7 +86,7 @@ readies-append (Abort k ∷ xs) ys = readies-append xs ys
 readies-append (Ack ∷ xs) ys = readies-append xs ys
 readies-append (Ready ∷ xs) ys = omega (arith, readies-append xs ys)
 
--- no Ready stands behind a new last message that is none
+-- no Ready stands after a new last message that is none
 pub readies_behind-abort : (xs : List Msg) (n : ℕ) → readies_behind (xs ++ Abort n ∷ []) ≡ readies_behind xs
 readies_behind-abort [] n = omega arith
 readies_behind-abort (Abort k ∷ xs) n = omega (arith, readies-append xs (Abort n ∷ []))
@@ -99,14 +99,14 @@ readies_behind-ack (Abort k ∷ xs) = omega (arith, readies-append xs (Ack ∷ [
 readies_behind-ack (Ack ∷ xs) = readies_behind-ack xs
 readies_behind-ack (Ready ∷ xs) = readies_behind-ack xs
 
--- at most all stand behind one
+-- at most all stand after one
 pub readies_behind_le : (xs : List Msg) → readies_behind xs ≤ readies xs
 readies_behind_le [] = omega arith
 readies_behind_le (Abort k ∷ xs) = omega arith
 readies_behind_le (Ack ∷ xs) = readies_behind_le xs
 readies_behind_le (Ready ∷ xs) = omega (arith, readies_behind_le xs)
 
--- without an Abort nothing stands behind one
+-- without an Abort nothing stands after one
 pub readies_behind-ready : (xs : List Msg) → aborts xs ≡ 0 → readies_behind (xs ++ Ready ∷ []) ≡ 0
 readies_behind-ready [] none = omega arith
 readies_behind-ready (Abort k ∷ xs) none = absurd (omega arith)

@@ -75,7 +75,7 @@ module _ (w : Ideal) (u : ℕ) (d : Transition) where
   pub row_there : (x : ℕ) → x ≢ u → (ideal_applied w u d).state x ≡ w.state x
   row_there x apart = grind (arith, nat_tests)
 
-  -- the messages are behind those on the way
+  -- the messages are after those on the way
   way_out : (y : ℕ) → w.linked u y ≡ true → (ideal_applied w u d).in_transit u y ≡ w.in_transit u y ++ added d y
   way_out y with_y = grind (arith, nat_tests)
 

@@ -67,7 +67,7 @@ distances_next w settled s range fresh =
 
 -- ---- distances that lanes carry
 
--- messages within a distance, one behind the others
+-- messages within a distance, one after the others
 within_append : (n : ℕ) (xs ys : List Msg) → CarryWithin n xs → CarryWithin n ys → CarryWithin n (xs ++ ys)
 within_append n [] ys one two = two
 within_append n (m ∷ xs) ys one two = (one.0, within_append n xs ys one.1 two)

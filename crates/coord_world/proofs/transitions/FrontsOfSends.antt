@@ -85,7 +85,7 @@ module _ (before : Links) where
   none_at [] = refl
   none_at (k ∷ ks) = none_at ks
 
-  -- keys above an entry are found behind it
+  -- keys above an entry are found after it
   skip : (e : (ℕ × ℕ) × Lane) (es : List ((ℕ × ℕ) × Lane)) (ks : List (ℕ × ℕ)) → AllByRecursion (λ q. pair_cmp e.0 q ≡ Less) ks → fronts_at (e ∷ es) ks ≡ fronts_at es ks
   skip e es [] above = refl
   skip e es (q ∷ ks) above = grind (arith, nat_tests, above, ap (λ r. cond (is_eq r) (Some e.1) (find pair_cmp q es)) (turned e.0 q above.0), skip e es ks above.1)

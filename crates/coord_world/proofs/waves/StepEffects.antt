@@ -61,7 +61,7 @@ module _ (z : Ideal) (v t n : ℕ) (rest : List Msg) (front : z.in_transit v t �
     apart = λ x y p q. grind (arith, nat_tests, p, q);
   }
     where
-      -- what it sends is behind what was on the way
+      -- what it sends is after what was on the way
       sends_out : (x : ℕ) → x ≢ t → z.linked t x ≡ true → (after_take z v t d).in_transit t x ≡ z.in_transit t x ++ added d x
       sends_out x far linked = grind (arith, nat_tests)
 
@@ -69,7 +69,7 @@ module _ (z : Ideal) (v t n : ℕ) (rest : List Msg) (front : z.in_transit v t �
       way_back : (after_take z v t d).in_transit v t ≡ rest
       way_back = grind (arith, nat_tests, front)
 
-      -- no second Abort was behind it
+      -- no second Abort was after it
       alone : aborts rest ≡ 0
       alone = let count = (sound.links v t (sym (sound.mirrored t v) ∙ near)).counted in grind (arith, count, ap aborts front)
 

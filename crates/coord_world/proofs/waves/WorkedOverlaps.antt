@@ -19,7 +19,7 @@ use Rattle.coord_world.proofs.waves.StoredWave.{all_ready, linking, ready_before
 abbrev linked : World
 linked = fold (no_world 1) two_linked
 
--- steps that are fresh in turn, of which none changes the topology, behind steps that are fresh in turn and leave each node Ready
+-- steps that are fresh in turn, of which none changes the topology, after steps that are fresh in turn and leave each node Ready
 begins_there : (making steps : List Step) → EachFresh (no_world 1) making → AllByRecursion (λ e. e.1.mode ≡ Ready) (fold (no_world 1) making).nodes.list → EachFresh (fold (no_world 1) making) steps →
     AllByRecursion (λ s. changes_topology s ≡ false) steps → BeginsReady (fold (no_world 1) making) steps (λ _. true)
 begins_there making steps made ready fresh stays =

@@ -123,7 +123,7 @@ returns-clause-served g c =
     let all = so-far-all g.D.Desk.answers g.D.Desk.posts g.C.Duplex.exchanged g.met.C.Duplex.in_turn c.args.desk.now _ _ c.args.connection.now _ _ inv.1.0 c.loop.line _ inv.1.2 c.in_ok-answer_all.ensures.whole in
     (inv.1.0, reply_lines all.1, all.3, (stops-at g.D.Desk.answers c.args.desk.now _ inv.1.0 c.loop.line all.0 all.1 all.2 all.4, omega (arith, inv.1.1, c.loop-test.false)))
 
--- the instance was over before the last replies, and is so behind them
+-- the instance was over before the last replies, and is so after them
 pub returns-in-Err-Over-clause-cut : goal.returns-in-Err-Over-clause-cut
 returns-in-Err-Over-clause-cut g c = λ _.
     let over = c.receive_in_instance.ensures.over (search rules) in

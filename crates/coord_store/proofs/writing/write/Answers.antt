@@ -6,7 +6,7 @@ use Rattle.coord_store.proofs.writing.write.Goals as goal
 pub returns-then-fits-clause-ends : goal.returns-then-fits-clause-ends
 returns-then-fits-clause-ends g c = ends_within g.D.Disk.model 4 8 _ _ _ (omega arith) c.append.ensures.ends
 
--- behind a checkpoint
+-- after a checkpoint
 
 pub returns-in-Ok-clause-follows : goal.returns-in-Ok-clause-follows
 returns-in-Ok-clause-follows g c steps holds takes =
