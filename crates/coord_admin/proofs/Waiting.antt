@@ -12,7 +12,7 @@ use Rattle.coord_admin.specs.Requests.{asked_by}
 use Rattle.coord_admin.specs.Replies.{order_answer, reply_lines}
 use Rattle.coord_admin.specs.Stream.{AllGet, AreWritten, BreaksOff}
 use Rattle.coord_admin.specs.Together.{AllPosted, AllReplied, ArePosted, AskFor, AwaitReplies, is_order}
-use Rattle.coord_admin.proofs.Stream.{all-ordered, all-told, breaks-among}
+use Rattle.coord_admin.proofs.Stream.{all-ordered, all-returned, breaks-among}
 use Rattle.coord_admin.proofs.Together.{answers_in_turn}
 
 -- ---- one more
@@ -88,15 +88,15 @@ module _ {D P : Type 0} (answers : D → Request → Answer → D → Type 0) (p
       all-ordered answers d f lines h.0 results h.1 (answers_in_turn answers posts replies is_answered stays_apart d e f h.0 posted results h.2 replied)
 
   -- all that was told of the orders that were posted was written
-  pub whole-written : (d e f : D) (lines : List Line) (posted : List P) (results : List (Result Reply Refusal)) (told : List Answer) → AwaitReplies posts d lines posted e → AllReplied replies e posted results f → AreWritten (map order_answer results) told → AllGet answers d lines told f
-  whole-written d e f lines posted results told h replied w = all-told answers d f lines (map order_answer results) told (all-answered d e f lines posted results h replied) w
+  pub whole-written : (d e f : D) (lines : List Line) (posted : List P) (results : List (Result Reply Refusal)) (returned : List Answer) → AwaitReplies posts d lines posted e → AllReplied replies e posted results f → AreWritten (map order_answer results) returned → AllGet answers d lines returned f
+  whole-written d e f lines posted results returned h replied w = all-returned answers d f lines (map order_answer results) returned (all-answered d e f lines posted results h replied) w
 
   -- a first part of what was told of the orders that were posted was written
-  pub part-written : (d e f : D) (lines : List Line) (posted : List P) (results : List (Result Reply Refusal)) (told : List Answer) (part : List ℕ) → length posted ≤ MAX_BATCH_STEPS → 0 < length posted → AwaitReplies posts d lines posted e → AllReplied replies e posted results f
-      → AreWritten (map order_answer results) told → IsFirstPart part (reply_lines told) → (left : List Line) → BreaksOff answers d (lines ++ left) part f
-  part-written d e f [] posted results told part few some h replied w is_part left = absurd (omega (arith, as-many posts d e [] h.0 posted h.1 h.2, some))
-  part-written d e f (line ∷ lines) posted results told part few some h replied w is_part left =
-      breaks-among answers d f line lines left told part (are-posted posts d e (line ∷ lines) posted h few) (whole-written d e f (line ∷ lines) posted results told h replied w) is_part
+  pub part-written : (d e f : D) (lines : List Line) (posted : List P) (results : List (Result Reply Refusal)) (returned : List Answer) (part : List ℕ) → length posted ≤ MAX_BATCH_STEPS → 0 < length posted → AwaitReplies posts d lines posted e → AllReplied replies e posted results f
+      → AreWritten (map order_answer results) returned → IsFirstPart part (reply_lines returned) → (left : List Line) → BreaksOff answers d (lines ++ left) part f
+  part-written d e f [] posted results returned part few some h replied w is_part left = absurd (omega (arith, as-many posts d e [] h.0 posted h.1 h.2, some))
+  part-written d e f (line ∷ lines) posted results returned part few some h replied w is_part left =
+      breaks-among answers d f line lines left returned part (are-posted posts d e (line ∷ lines) posted h few) (whole-written d e f (line ∷ lines) posted results returned h replied w) is_part
 
 -- ---- steps
 
@@ -104,6 +104,6 @@ module _ {D P : Type 0} (answers : D → Request → Answer → D → Type 0) (p
 pub all-kept : {D P : Type 0} (replies : D → P → Result Reply Refusal → D → Type 0) (keeps : D → ℕ → Type 0) (loses_none : (a b : D) (p : P) (x : Result Reply Refusal) (kept : ℕ) → replies a p x b → keeps a kept → keeps b kept)
     → (d e : D) (posted : List P) (results : List (Result Reply Refusal)) (kept : ℕ) → AllReplied replies d posted results e → keeps d kept → keeps e kept
 all-kept replies keeps loses_none d e [] [] kept same is = subst (λ x. keeps x kept) (sym same) is
-all-kept replies keeps loses_none d e [] (r ∷ results) kept told is = absurd told
-all-kept replies keeps loses_none d e (p ∷ posted) [] kept told is = absurd told
-all-kept replies keeps loses_none d e (p ∷ posted) (r ∷ results) kept told is = all-kept replies keeps loses_none told.0 e posted results kept told.2 (loses_none d told.0 p r kept told.1 is)
+all-kept replies keeps loses_none d e [] (r ∷ results) kept returned is = absurd returned
+all-kept replies keeps loses_none d e (p ∷ posted) [] kept returned is = absurd returned
+all-kept replies keeps loses_none d e (p ∷ posted) (r ∷ results) kept returned is = all-kept replies keeps loses_none returned.0 e posted results kept returned.2 (loses_none d returned.0 p r kept returned.1 is)

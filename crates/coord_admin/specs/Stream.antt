@@ -43,13 +43,13 @@ has_begun line = true
 
 -- the reply for an answer: the answer itself, or out of memory if it could not be written
 abbrev pub IsWritten : Answer → Answer → Type 0
-IsWritten answer told = (told ≡ answer) ⊎ ((told ≡ Faulted OutOfMemory) × (takes_memory answer ≡ true))
+IsWritten answer returned = (returned ≡ answer) ⊎ ((returned ≡ Faulted OutOfMemory) × (takes_memory answer ≡ true))
 
 -- the reply for each answer
 abbrev pub AreWritten : List Answer → List Answer → Type 0
 AreWritten [] [] = Unit {0}
-AreWritten (answer ∷ answers) (a ∷ told) = IsWritten answer a × AreWritten answers told
-AreWritten answers told = ⊥
+AreWritten (answer ∷ answers) (a ∷ returned) = IsWritten answer a × AreWritten answers returned
+AreWritten answers returned = ⊥
 
 -- a line within the limit that is valid UTF-8
 abbrev pub IsText : Line → Type 0
@@ -76,30 +76,30 @@ module _ {D : Type 0} (answers : D → Request → Answer → D → Type 0) wher
   -- lines with one reply each, in order, none of which closed the desk
   abbrev pub AllGet : D → List Line → List Answer → D → Type 0
   AllGet d [] [] e = e ≡ d
-  AllGet d (line ∷ lines) (a ∷ told) e = (f : D) × Gets d line a f × (is_closed a ≡ false) × AllGet f lines told e
-  AllGet d lines told e = ⊥
+  AllGet d (line ∷ lines) (a ∷ returned) e = (f : D) × Gets d line a f × (is_closed a ≡ false) × AllGet f lines returned e
+  AllGet d lines returned e = ⊥
 
   -- the first of these lines got these replies, and the others are posted orders without a reply yet
   abbrev pub GoesOn : {P : Type 0} → (D → Request → P → D → Type 0) → D → List Line → List Answer → List P → D → Type 0
-  GoesOn posts d lines told posted e = (done : List Line) × (waiting : List Line) × (f : D) × (lines ≡ done ++ waiting) × AllGet d done told f × AwaitReplies posts f waiting posted e
+  GoesOn posts d lines returned posted e = (done : List Line) × (waiting : List Line) × (f : D) × (lines ≡ done ++ waiting) × AllGet d done returned f × AwaitReplies posts f waiting posted e
 
   -- the first of these lines got these replies, and others are left
   abbrev pub Reaches : D → List Line → List Answer → List Line → D → Type 0
-  Reaches d lines told left e = (done : List Line) × (lines ≡ done ++ left) × AllGet d done told e
+  Reaches d lines returned left e = (done : List Line) × (lines ≡ done ++ left) × AllGet d done returned e
 
   -- the input has ended
   abbrev pub Finishes : D → List Line → List ℕ → D → Type 0
-  Finishes d lines text e = (told : List Answer) × (last : Line) × Reaches d lines told (last ∷ []) e × (text ≡ reply_lines told ++ reply_lines (last_answers last))
+  Finishes d lines text e = (returned : List Answer) × (last : Line) × Reaches d lines returned (last ∷ []) e × (text ≡ reply_lines returned ++ reply_lines (last_answers last))
 
   -- a complete line has closed the desk; the lines after it are not answered
   abbrev pub Closes : D → List Line → List ℕ → D → Type 0
   Closes d lines text e =
-      (told : List Answer) × (line : Line) × (next : Line) × (left : List Line) × (f : D)
-      × Reaches d lines told (line ∷ next ∷ left) f × Gets f line Closed e × (text ≡ reply_lines told ++ reply_line Closed)
+      (returned : List Answer) × (line : Line) × (next : Line) × (left : List Line) × (f : D)
+      × Reaches d lines returned (line ∷ next ∷ left) f × Gets f line Closed e × (text ≡ reply_lines returned ++ reply_line Closed)
 
   -- nothing more was read, and each complete line has its reply
   abbrev pub Stops : D → List Line → List ℕ → D → Type 0
-  Stops d lines text e = (told : List Answer) × (last : Line) × Reaches d lines told (last ∷ []) e × (text ≡ reply_lines told)
+  Stops d lines text e = (returned : List Answer) × (last : Line) × Reaches d lines returned (last ∷ []) e × (text ≡ reply_lines returned)
 
   -- the reply to a line, which may be the last one
   abbrev pub GetsAtLast : D → Line → Answer → D → Type 0
@@ -108,9 +108,9 @@ module _ {D : Type 0} (answers : D → Request → Answer → D → Type 0) wher
   -- The reply to a line was not written completely. If the line was one of several orders posted together, the orders after it were carried out too, and nobody got their replies.
   abbrev pub BreaksOff : D → List Line → List ℕ → D → Type 0
   BreaksOff d lines text e =
-      (told : List Answer) × (line : Line) × (behind : List Line) × (left : List Line) × (f : D) × (g : D) × (a : Answer) × (untold : List Answer) × (part : List ℕ)
-      × Reaches d lines told (line ∷ behind ++ left) f × GetsAtLast f line a g × AllGet g behind untold e × ((behind ≡ []) ⊎ ArePosted (line ∷ behind))
-      × IsFirstPart part (reply_line a) × (text ≡ reply_lines told ++ part)
+      (returned : List Answer) × (line : Line) × (behind : List Line) × (left : List Line) × (f : D) × (g : D) × (a : Answer) × (unreturned : List Answer) × (part : List ℕ)
+      × Reaches d lines returned (line ∷ behind ++ left) f × GetsAtLast f line a g × AllGet g behind unreturned e × ((behind ≡ []) ⊎ ArePosted (line ∷ behind))
+      × IsFirstPart part (reply_line a) × (text ≡ reply_lines returned ++ part)
 
   -- the bytes written for a text that was read, and the desk afterwards
   abbrev pub Served : D → List ℕ → List ℕ → Result Ended ServeFault → D → Type 0

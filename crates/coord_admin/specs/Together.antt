@@ -27,8 +27,8 @@ ArePosted lines = (length lines ≤ MAX_BATCH_STEPS) × ((orders : List Request)
 -- a desk got one request after the other
 abbrev pub AllAnswered : {D : Type 0} → (D → Request → Answer → D → Type 0) → D → List Request → List Answer → D → Type 0
 AllAnswered answers d [] [] e = e ≡ d
-AllAnswered {D} answers d (request ∷ requests) (a ∷ told) e = (f : D) × answers d request a f × AllAnswered answers f requests told e
-AllAnswered answers d requests told e = ⊥
+AllAnswered {D} answers d (request ∷ requests) (a ∷ returned) e = (f : D) × answers d request a f × AllAnswered answers f requests returned e
+AllAnswered answers d requests returned e = ⊥
 
 -- `posts d r p e`: the desk d may post the order r as p, and is e afterwards
 module _ {D P : Type 0} (posts : D → Request → P → D → Type 0) where

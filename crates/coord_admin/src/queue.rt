@@ -85,9 +85,9 @@ impl<D: Desk> Queue<D> {
         ensures room { OnOk result (deque_len self.new.posted < MAX_BATCH_STEPS) }
         ensures all { more ≡ false → self.new.posted.items ≡ [] }
         ensures whole { OnOk result ((d : D) (lines : List Line) →
-            AwaitReplies D.posts d lines self.old.posted.items desk.old → (told : List Answer)
-            × GoesOn D.answers D.posts d lines told self.new.posted.items desk.new
-            × C.exchanged connection.old [] (reply_lines told) connection.new) }
+            AwaitReplies D.posts d lines self.old.posted.items desk.old → (returned : List Answer)
+            × GoesOn D.answers D.posts d lines returned self.new.posted.items desk.new
+            × C.exchanged connection.old [] (reply_lines returned) connection.new) }
         ensures part { OnErr result ((d : D) (lines : List Line) →
             AwaitReplies D.posts d lines self.old.posted.items desk.old → (part : List ℕ)
             × C.exchanged connection.old [] part connection.new
@@ -110,9 +110,9 @@ impl<D: Desk> Queue<D> {
         desk: &mut D,
     ) -> Result<(), NotWritten>
         ensures whole { OnOk result ((d : D) (lines : List Line) →
-            AwaitReplies D.posts d lines self.old.posted.items desk.old → (told : List Answer)
-            × AllGet D.answers d lines told desk.new
-            × C.exchanged connection.old [] (reply_lines told) connection.new) }
+            AwaitReplies D.posts d lines self.old.posted.items desk.old → (returned : List Answer)
+            × AllGet D.answers d lines returned desk.new
+            × C.exchanged connection.old [] (reply_lines returned) connection.new) }
         ensures part { OnErr result ((d : D) (lines : List Line) →
             AwaitReplies D.posts d lines self.old.posted.items desk.old → (part : List ℕ)
             × C.exchanged connection.old [] part connection.new

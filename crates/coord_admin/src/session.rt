@@ -160,9 +160,9 @@ fn take<C: Duplex, D: Desk>(
 ) -> Result<bool, NotWritten>
     ensures open { result ≡ Ok false → (d : D) (waiting : List Line) →
         AwaitReplies D.posts d waiting queue.old.posted.items desk.old →
-        (lines : List Line) × (told : List Answer)
-        × GoesOn D.answers D.posts d lines told queue.new.posted.items desk.new
-        × C.exchanged connection.old [] (reply_lines told) connection.new
+        (lines : List Line) × (returned : List Answer)
+        × GoesOn D.answers D.posts d lines returned queue.new.posted.items desk.new
+        × C.exchanged connection.old [] (reply_lines returned) connection.new
         × ((more : List ℕ) → waiting ++ lines_on line.old (piece.now ++ more) ≡
         lines ++ lines_on line.new more) }
     ensures closed { result ≡ Ok true → (d : D) (waiting : List Line) →
@@ -199,15 +199,15 @@ fn end_line<C: Duplex, D: Desk>(
     desk: &mut D,
 ) -> Result<bool, NotWritten>
     ensures open { IfOk result (λ closed. closed ≡ false → (d : D) (waiting : List Line) →
-        AwaitReplies D.posts d waiting queue.old.posted.items desk.old → (told : List Answer)
-        × GoesOn D.answers D.posts d (waiting ++ option_copied line.entry ∷ []) told
+        AwaitReplies D.posts d waiting queue.old.posted.items desk.old → (returned : List Answer)
+        × GoesOn D.answers D.posts d (waiting ++ option_copied line.entry ∷ []) returned
         queue.new.posted.items desk.new
-        × C.exchanged connection.old [] (reply_lines told) connection.new) }
+        × C.exchanged connection.old [] (reply_lines returned) connection.new) }
     ensures closed { IfOk result (λ closed. closed ≡ true → (d : D) (waiting : List Line) →
-        AwaitReplies D.posts d waiting queue.old.posted.items desk.old → (told : List Answer)
-        × (f : D) × AllGet D.answers d waiting told f
+        AwaitReplies D.posts d waiting queue.old.posted.items desk.old → (returned : List Answer)
+        × (f : D) × AllGet D.answers d waiting returned f
         × Gets D.answers f (option_copied line.entry) Closed desk.new
-        × C.exchanged connection.old [] (reply_lines told ++ reply_line Closed) connection.new) }
+        × C.exchanged connection.old [] (reply_lines returned ++ reply_line Closed) connection.new) }
     ensures failed { OnErr result ((d : D) (waiting : List Line) →
         AwaitReplies D.posts d waiting queue.old.posted.items desk.old → (text : List ℕ)
         × C.exchanged connection.old [] text connection.new

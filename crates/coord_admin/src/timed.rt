@@ -42,7 +42,7 @@ fn left<T: Clock>(clock: &T, start: Instant, span: Duration) -> Option<Duration>
 fn read_within<S: Read + OpenStream, T: Clock>(
     clock: &T,
     stream: &mut S,
-    told: &mut Option<Duration>,
+    returned: &mut Option<Duration>,
     buffer: &mut [u8],
     span: Duration,
 ) -> Result<usize, NotRead>
@@ -54,10 +54,10 @@ fn read_within<S: Read + OpenStream, T: Clock>(
     };
     let mut wait = span;
     for _ in 0..MOST_CALLS {
-        if *told != Some(wait) && stream.set_read_timeout(Some(wait)).is_err() {
+        if *returned != Some(wait) && stream.set_read_timeout(Some(wait)).is_err() {
             return Err(NotRead);
         }
-        *told = Some(wait);
+        *returned = Some(wait);
         match stream.read(buffer) {
             Ok(count) => return Ok(count),
             Err(error) if error.kind() == ErrorKind::Interrupted => {}
@@ -127,8 +127,8 @@ impl<'a, S: Read + Write + OpenStream + Drop, T: Clock> TimedStream<'a, S, T> {
             let Some(wait) = left(self.clock, start, self.timeouts.discard) else {
                 return;
             };
-            let told = &mut self.read_wait;
-            match read_within(self.clock, &mut self.stream, told, &mut buffer, wait) {
+            let returned = &mut self.read_wait;
+            match read_within(self.clock, &mut self.stream, returned, &mut buffer, wait) {
                 Ok(0) | Err(NotRead) => return,
                 Ok(_) => {}
             }
@@ -145,8 +145,8 @@ impl<'a, S: Read + Write + OpenStream + Drop, T: Clock> Duplex for TimedStream<'
         let Some(wait) = self.waits(is_within_line) else {
             return Err(NotRead);
         };
-        let told = &mut self.read_wait;
-        let read = read_within(self.clock, &mut self.stream, told, buffer, wait);
+        let returned = &mut self.read_wait;
+        let read = read_within(self.clock, &mut self.stream, returned, buffer, wait);
         self.has_filled = read == Ok(buffer.len());
         if let Ok(count) = read {
             // bytes after a line feed belong to another line, which has its own timeout

@@ -40,10 +40,10 @@ pub fn write_answer<C: Duplex>(
     connection: &mut C,
     answer: &Answer,
 ) -> Result<(), NotWritten>
-    ensures ok { OnOk result ((told : Answer) × IsWritten answer.now told
-        × C.exchanged connection.old [] (reply_line told) connection.new) }
-    ensures err { OnErr result ((told : Answer) × IsWritten answer.now told
-        × WritesPart C.exchanged connection.old connection.new (reply_line told)) }
+    ensures ok { OnOk result ((returned : Answer) × IsWritten answer.now returned
+        × C.exchanged connection.old [] (reply_line returned) connection.new) }
+    ensures err { OnErr result ((returned : Answer) × IsWritten answer.now returned
+        × WritesPart C.exchanged connection.old connection.new (reply_line returned)) }
     ensures failed { OnErr result (C.has_failed connection.new) }
 {
     let line = line_of_answer(alloc, answer);
@@ -56,11 +56,11 @@ pub fn write_answers<C: Duplex>(
     connection: &mut C,
     answers: &[Answer],
 ) -> Result<(), NotWritten>
-    ensures whole { OnOk result ((told : List Answer) × AreWritten answers.now told
-        × C.exchanged connection.old [] (reply_lines told) connection.new) }
-    ensures part { OnErr result ((told : List Answer) × (part : List ℕ)
-        × AreWritten answers.now told × C.exchanged connection.old [] part connection.new
-        × IsFirstPart part (reply_lines told)) }
+    ensures whole { OnOk result ((returned : List Answer) × AreWritten answers.now returned
+        × C.exchanged connection.old [] (reply_lines returned) connection.new) }
+    ensures part { OnErr result ((returned : List Answer) × (part : List ℕ)
+        × AreWritten answers.now returned × C.exchanged connection.old [] part connection.new
+        × IsFirstPart part (reply_lines returned)) }
     ensures failed { OnErr result (C.has_failed connection.new) }
     ensures still { C.has_failed connection.old → C.has_failed connection.new }
     ensures end { C.has_ended connection.old → C.has_ended connection.new }
@@ -100,7 +100,7 @@ fn add_line<C: Duplex>(
 
 /// The reply to a close and the reply for a fault need no memory.
 fn line_of_answer(alloc: Global, answer: &Answer) -> ReplyLine
-    ensures { (told : Answer) × IsWritten answer.now told × (line_bytes result ≡ reply_line told) }
+    ensures { (returned : Answer) × IsWritten answer.now returned × (line_bytes result ≡ reply_line returned) }
 {
     match answer {
         Answer::Replied(reply) => made(replied(alloc, *reply)),

@@ -18,13 +18,13 @@ use Rattle.coord_check.specs.declared.violation.Letter.TheVariants as letter
 
 -- ---- when nothing is told
 
-pub untold : (b : Bool) (v : Violation) → fault_unless b v ≡ [] → b ≡ true
-untold true v is = refl
-untold false v is = cc
+pub unreported : (b : Bool) (v : Violation) → fault_unless b v ≡ [] → b ≡ true
+unreported true v is = refl
+unreported false v is = cc
 
-pub not_told : (b : Bool) (v : Violation) → b ≡ true → fault_unless b v ≡ []
-not_told true v is = refl
-not_told false v is = cc
+pub not_reported : (b : Bool) (v : Violation) → b ≡ true → fault_unless b v ≡ []
+not_reported true v is = refl
+not_reported false v is = cc
 
 pub both_empty : {X : Type 0} (xs ys : List X) → xs ++ ys ≡ [] → (xs ≡ []) × (ys ≡ [])
 both_empty [] ys is = (refl, is)
@@ -47,13 +47,13 @@ module _ {X : Type 0} (f : ℕ → List X) where
   empty_range u zero all = refl
   empty_range u (suc n) all = empty_both (f u) (flat_map f (range_with_len (u + 1) n)) (all u (omega arith) (omega arith)) (empty_range (u + 1) n (λ v le lt. all v (omega arith) (omega arith)))
 
-  pub none_told : (u : ℕ) → flat_map f (nodes_from u) ≡ [] → (v : ℕ) → u ≤ v → v ≤ 64 → f v ≡ []
+  pub none_reported : (u : ℕ) → flat_map f (nodes_from u) ≡ [] → (v : ℕ) → u ≤ v → v ≤ 64 → f v ≡ []
   unfolding numbers
-  none_told u is v le lt = range_empty u (65 - u) is v le (omega arith)
+  none_reported u is v le lt = range_empty u (65 - u) is v le (omega arith)
 
-  pub tell_none : (u : ℕ) → ((v : ℕ) → u ≤ v → v ≤ 64 → f v ≡ []) → flat_map f (nodes_from u) ≡ []
+  pub report_none : (u : ℕ) → ((v : ℕ) → u ≤ v → v ≤ 64 → f v ≡ []) → flat_map f (nodes_from u) ≡ []
   unfolding numbers
-  tell_none u all = empty_range u (65 - u) (λ v le lt. all v le (omega arith))
+  report_none u all = empty_range u (65 - u) (λ v le lt. all v le (omega arith))
 
 module _ {X : Type 0} (f : Letter → List X) where
   each_empty : (xs : List Letter) → flat_map f xs ≡ [] → AllByRecursion (λ x. f x ≡ []) xs
@@ -123,9 +123,9 @@ way_is (Some l) = refl
 link_is : (w : World) (u v : ℕ) → link (view w) u v ≡ seen (link_end w u v) (link_end w v u)
 link_is w u v i = record { here = end_at (link_end w u v); there = end_at (link_end w v u); out = way_is (lane_at w.links u v) i; back = way_is (lane_at w.links v u) i }
 
-told_false : (b : Bool) (v : Violation) → b ≡ false → fault_unless b v ≡ v ∷ []
-told_false true v is = cc
-told_false false v is = refl
+reported_false : (b : Bool) (v : Violation) → b ≡ false → fault_unless b v ≡ v ∷ []
+reported_false true v is = cc
+reported_false false v is = refl
 
 -- the letters of links, as the code has them
 abbrev pub tried : List Letter
@@ -158,17 +158,17 @@ module _ (w : World) (a b : ℕ) where
 
     -- this end sees the letter broken
     pub broken_here : (t : Bool) → t ≡ holds_of x near.lane (seen near far) → t ≡ false → first (flat_map (letter_faults w a b) (drop i link_letters)) ≡ Some (record { a = a; b = b; letter = x })
-    broken_here t e is = met_letter _ (ap (λ l. first (l ++ end_faults w b a x)) (told_false _ _ (here t false e is)))
+    broken_here t e is = met_letter _ (ap (λ l. first (l ++ end_faults w b a x)) (reported_false _ _ (here t false e is)))
 
     -- the other end alone does
     pub broken_back : (t s : Bool) → t ≡ holds_of x near.lane (seen near far) → t ≡ true → s ≡ holds_of x far.lane (seen far near) → s ≡ false → first (flat_map (letter_faults w a b) (drop i link_letters)) ≡ Some (record { a = b; b = a; letter = x })
     broken_back t s e not_here d is =
-        met_letter _ (ap (λ l. first (l ++ end_faults w b a x)) (not_told _ _ (here t true e not_here)) ∙ ap first (told_false _ _ (back s false d is)))
+        met_letter _ (ap (λ l. first (l ++ end_faults w b a x)) (not_reported _ _ (here t true e not_here)) ∙ ap first (reported_false _ _ (back s false d is)))
 
     -- neither does
     pub unbroken_letter : (t s : Bool) → t ≡ holds_of x near.lane (seen near far) → t ≡ true → s ≡ holds_of x far.lane (seen far near) → s ≡ true → first (flat_map (letter_faults w a b) (drop (i + 1) link_letters)) ≡ first (flat_map (letter_faults w a b) (drop i link_letters))
     unbroken_letter t s e not_here d not_back =
-        let none : first (letter_faults w a b x) ≡ None = ap (λ l. first (l ++ end_faults w b a x)) (not_told _ _ (here t true e not_here)) ∙ ap first (not_told _ _ (back s true d not_back)) in
+        let none : first (letter_faults w a b x) ≡ None = ap (λ l. first (l ++ end_faults w b a x)) (not_reported _ _ (here t true e not_here)) ∙ ap first (not_reported _ _ (back s true d not_back)) in
         sym (left_is (i + 1)) ∙ passed_at (letter_faults w a b) tried i letter.N lt (ap (λ y. first (letter_faults w a b y)) at ∙ none) ∙ left_is i
 
 -- ---- each fails where it says
@@ -191,9 +191,9 @@ module _ {X : Type 0} (P : X → Type 0) where
   of_first (x ∷ xs) all = all.0
 
 -- what is told fails
-all_told : (P : Violation → Type 0) (t : Bool) (v : Violation) → (t ≡ false → P v) → AllByRecursion P (fault_unless t v)
-all_told P true v fails = tt
-all_told P false v fails = (fails refl, tt)
+all_reported : (P : Violation → Type 0) (t : Bool) (v : Violation) → (t ≡ false → P v) → AllByRecursion P (fault_unless t v)
+all_reported P true v fails = tt
+all_reported P false v fails = (fails refl, tt)
 
 module _ (w : World) (range : InRange w) where
   -- a letter that fails at a link
@@ -201,7 +201,7 @@ module _ (w : World) (range : InRange w) where
   at_link u v h1 x h2 = grind arith
 
   end_fails : (u v : ℕ) → is_linked w u v ≡ true → (x : Letter) → AllByRecursion (Fails w) (end_faults w u v x)
-  end_fails u v is x = all_told (Fails w) (link_holds w u v x) (record { a = u; b = v; letter = x }) (at_link u v is x)
+  end_fails u v is x = all_reported (Fails w) (link_holds w u v x) (record { a = u; b = v; letter = x }) (at_link u v is x)
 
   link_fails : (a b : ℕ) → AllByRecursion (Fails w) (link_faults w a b)
   link_fails a b = all_where (Fails w) (is_linked w a b) (flat_map (letter_faults w a b) link_letters) (λ is.
@@ -209,7 +209,7 @@ module _ (w : World) (range : InRange w) where
       all_append (Fails w) (end_faults w a b x) (end_faults w b a x) (end_fails a b is x) (end_fails b a (sym (lane-mirrored w.links a b) ∙ is) x)))
 
   node_fails : (u : ℕ) → AllByRecursion (Fails w) (node_faults w u)
-  node_fails u = all_where (Fails w) (has w.nodes u) _ (λ there. all_told (Fails w) _ (record { a = u; b = u; letter = letter.N }) (λ fails. (refl, there, fails)))
+  node_fails u = all_where (Fails w) (has w.nodes u) _ (λ there. all_reported (Fails w) _ (record { a = u; b = u; letter = letter.N }) (λ fails. (refl, there, fails)))
 
   all_fail : AllByRecursion (Fails w) (faults w)
   all_fail = all_append (Fails w) (flat_map (node_faults w) (nodes_from 1)) (flat_map (faults_from w) (nodes_from 1))

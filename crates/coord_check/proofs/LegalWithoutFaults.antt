@@ -10,15 +10,15 @@ use Rattle.coord_check.specs.declared.violation.Letter.{Letter}
 use Rattle.coord_check.specs.declared.violation.Letter.TheVariants as letter
 use Rattle.coord_check.specs.declared.violation.Violation.{Violation}
 use Rattle.coord_check.specs.Faults.{first, fault_unless, link_holds, node_faults, end_faults, letter_faults, link_letters, link_faults, faults_from, nodes_from, faults}
-use Rattle.coord_check.proofs.Faults.{untold, not_told, both_empty, empty_both, none_told, tell_none, no_letter, letters_none, no_first, there}
+use Rattle.coord_check.proofs.Faults.{unreported, not_reported, both_empty, empty_both, none_reported, report_none, no_letter, letters_none, no_first, there}
 
 order : (u v : ℕ) → (u < v) ⊎ ((v < u) ⊎ (u ≡ v))
 order u v = grind arith
 
 module _ (w : World) (range : InRange w) where
   -- what is told of a node, there or not
-  abbrev node_told : ℕ → Option NodeState → List Violation
-  node_told u o = if is_some o then fault_unless (is_legal_node w.count (state_or_none o)) (record { a = u; b = u; letter = letter.N }) else []
+  abbrev node_reported : ℕ → Option NodeState → List Violation
+  node_reported u o = if is_some o then fault_unless (is_legal_node w.count (state_or_none o)) (record { a = u; b = u; letter = letter.N }) else []
 
   pub is_node : (u v : ℕ) → is_linked w u v ≡ true → (1 ≤ u) × (u ≤ 64)
   is_node u v is =
@@ -31,7 +31,7 @@ module _ (w : World) (range : InRange w) where
   clean_link a b is none x =
       let each : letter_faults w a b x ≡ [] = no_letter (letter_faults w a b) refl (sym (there w a b is) ∙ none) x in
       let ends = both_empty (end_faults w a b x) (end_faults w b a x) each in
-      (untold _ _ ends.0, untold _ _ ends.1)
+      (unreported _ _ ends.0, unreported _ _ ends.1)
 
   module _ (clear : faults w ≡ []) where
     lesser_first : (a b : ℕ) → a < b → is_linked w a b ≡ true → link_faults w a b ≡ []
@@ -39,7 +39,7 @@ module _ (w : World) (range : InRange w) where
         let parts = both_empty (flat_map (node_faults w) (nodes_from 1)) (flat_map (faults_from w) (nodes_from 1)) clear in
         let node = is_node a b is in
         let other = is_node b a (sym (lane-mirrored w.links a b) ∙ is) in
-        none_told (link_faults w a) (a + 1) (none_told (faults_from w) 1 parts.1 a node.0 node.1) b (omega arith) other.1
+        none_reported (link_faults w a) (a + 1) (none_reported (faults_from w) 1 parts.1 a node.0 node.1) b (omega arith) other.1
 
     each_holds : (u v : ℕ) → is_linked w u v ≡ true → (x : Letter) → link_holds w u v x ≡ true
     each_holds u v is x =
@@ -54,8 +54,8 @@ module _ (w : World) (range : InRange w) where
     node_holds u r is =
         let parts = both_empty (flat_map (node_faults w) (nodes_from 1)) (flat_map (faults_from w) (nodes_from 1)) clear in
         let named = range.nodes u r is in
-        let none : node_faults w u ≡ [] = none_told (node_faults w) 1 parts.0 u named.least named.greatest in
-        untold _ (record { a = u; b = u; letter = letter.N }) (ap (node_told u) (sym is) ∙ none)
+        let none : node_faults w u ≡ [] = none_reported (node_faults w) 1 parts.0 u named.least named.greatest in
+        unreported _ (record { a = u; b = u; letter = letter.N }) (ap (node_reported u) (sym is) ∙ none)
 
     pub legal_where_clear : Legal w
     legal_where_clear = record {
@@ -92,14 +92,14 @@ module _ (w : World) (range : InRange w) where
         of_test : (t : Bool) → is_linked w a b ≡ t → link_faults w a b ≡ []
         of_test true is =
             there w a b is
-            ∙ letters_none (letter_faults w a b) (λ x. empty_both _ _ (not_told _ _ (holds a b is x)) (not_told _ _ (holds b a (sym (lane-mirrored w.links a b) ∙ is) x)))
+            ∙ letters_none (letter_faults w a b) (λ x. empty_both _ _ (not_reported _ _ (holds a b is x)) (not_reported _ _ (holds b a (sym (lane-mirrored w.links a b) ∙ is) x)))
         of_test false is = ap (λ t. if t then flat_map (letter_faults w a b) link_letters else []) is
 
     no_node_fault : (u : ℕ) → node_faults w u ≡ []
-    no_node_fault u = grind (arith, not_told)
+    no_node_fault u = grind (arith, not_reported)
 
     pub clear_where_legal : faults w ≡ []
-    clear_where_legal = grind (arith, empty_both, tell_none, no_node_fault, no_link_fault)
+    clear_where_legal = grind (arith, empty_both, report_none, no_node_fault, no_link_fault)
 
   -- no fault is the first one exactly where the world is legal
   pub clear_or_not : (o : Option Violation) → o ≡ first (faults w) → (IsNone o → Legal w) × (Legal w → IsNone o)

@@ -93,12 +93,12 @@ nothing false l e = refl
 
 module _ (w : World) (a : ℕ) where
   -- what is told of the link to a neighbour
-  abbrev pub told_above : ℕ → List Violation
-  told_above = from_above (link_faults w a) a
+  abbrev pub reported_above : ℕ → List Violation
+  reported_above = from_above (link_faults w a) a
 
   -- a neighbour without a fault is passed, and the first fault is met
-  pub passed_by : (rest : NodeSet) (b : ℕ) → first_member rest ≡ Some b → first (told_above b) ≡ None → first (flat_map told_above (items (remove rest b))) ≡ first (flat_map told_above (items rest))
-  passed_by rest b is none = sym (ap (λ xs. first (flat_map told_above xs)) (items-first rest b is) ∙ first_further (told_above b) (flat_map told_above (items (remove rest b))) none)
+  pub passed_by : (rest : NodeSet) (b : ℕ) → first_member rest ≡ Some b → first (reported_above b) ≡ None → first (flat_map reported_above (items (remove rest b))) ≡ first (flat_map reported_above (items rest))
+  passed_by rest b is none = sym (ap (λ xs. first (flat_map reported_above xs)) (items-first rest b is) ∙ first_further (reported_above b) (flat_map reported_above (items (remove rest b))) none)
 
   module _ (range : InRange w) where
     near : NodeSet
@@ -113,15 +113,15 @@ module _ (w : World) (a : ℕ) where
         let most = found.1 in
         (omega arith, omega arith)
 
-    stranger : (v : ℕ) → list_any (λ y. nat_eq y v) (items near) ≡ false → told_above v ≡ []
+    stranger : (v : ℕ) → list_any (λ y. nat_eq y v) (items near) ≡ false → reported_above v ≡ []
     unfolding near
     stranger v is = nothing (nat_lt a v) (link_faults w a v) (unlinked w a v (is_linked w a v) (range.linked a v ∙ contains-items near v ∙ is))
 
     -- the walk meets what is told of the links from a node upwards
-    pub walk_is : a < 65 → flat_map told_above (items (state w a).neighbours) ≡ faults_from w a
+    pub walk_is : a < 65 → flat_map reported_above (items (state w a).neighbours) ≡ faults_from w a
     unfolding near numbers
     walk_is lt =
-        sym (sparse told_above 65 1 64 (items near) refl
+        sym (sparse reported_above 65 1 64 (items near) refl
         (rise_of_sorted 1 (items near) (items-sorted near) (all_listed (λ y. 1 ≤ y) (items near) (λ v is. (neighbour v is).0)))
         (all_listed (λ y. y < 65) (items near) (λ v is. (neighbour v is).1))
         (λ v le most out. stranger v out))

@@ -18,8 +18,8 @@ use Rattle.coord_commands.specs.declared.fault.Fault.{Fault}
 pub reported : {A : Type 0} (Q : Fault → Type 0) (P : List ℕ → Type 0) (ended : Result A Fault) (status : ℕ) (old new : Streams) → status ≡ status_of ended
     → MatchResult ended (λ _. Keeps old.errors new.errors) (λ fault. WritesFirstPart old.errors new.errors (fault_line fault))
     → OnOk ended (PrintsOne P old.output new.output) → IfErr ended Q → IfErr ended (OutputCutShort P old.output new.output) → CommandEnds Q P status old new
-reported Q P (Ok x) status old new is told printed of cut = inl (record { number = is; printed = printed; silent = told })
-reported Q P (Err fault) status old new is told printed of cut = inr (record { fault = fault; possible = of; number = is; told = told; cut = cut })
+reported Q P (Ok x) status old new is answered printed of cut = inl (record { number = is; printed = printed; silent = answered })
+reported Q P (Err fault) status old new is answered printed of cut = inr (record { fault = fault; possible = of; number = is; answered = answered; cut = cut })
 
 -- a text is printed last
 pub printed_last : {A : Type 0} (P : List ℕ → Type 0) (result : Result A Fault) (old new : Option (List ℕ)) (text : List ℕ) → P text → OnOk result (Appends old new text) → OnOk result (PrintsOne P old new)
@@ -40,10 +40,10 @@ of_writing Q (Err fault) among of = among fault of
 pub served : {A D : Type 0} (of : Fault → Type 0) (model : DiskModel D) (argument : List ℕ) (before after : Option Present) (was is : Option (List ℕ)) (ended : Result A Fault) (status : ℕ) (old new : Option (List ℕ)) → IsAddress argument → status ≡ status_of ended
     → MatchResult ended (λ _. Keeps old new) (λ fault. WritesFirstPart old new (fault_line fault))
     → OnOk ended (ServedWhole model before after was is) → IfErr ended of → ServesAt of argument (reads before) (reads after) status old new
-served of model argument before after was is (Ok x) status old new proper number told closed possible =
+served of model argument before after was is (Ok x) status old new proper number answered closed possible =
     let gives = gave model before after was is closed in
-    inl (record { number = number; address = proper; opened = gives.0; closed = gives.1; silent = told })
-served of model argument before after was is (Err fault) status old new proper number told closed possible = inr (record { fault = fault; possible = inr (proper, possible); number = number; told = told })
+    inl (record { number = number; address = proper; opened = gives.0; closed = gives.1; silent = answered })
+served of model argument before after was is (Err fault) status old new proper number answered closed possible = inr (record { fault = fault; possible = inr (proper, possible); number = number; answered = answered })
 
 serving_weaker : (P Q : Fault → Type 0) (argument : List ℕ) (fault : Fault) → (P fault → Q fault) → IsOfServingAt P argument fault → IsOfServingAt Q argument fault
 serving_weaker P Q argument fault so (inl none) = inl none
@@ -52,7 +52,7 @@ serving_weaker P Q argument fault so (inr is) = inr (is.0, so is.1)
 -- what is said of its faults, or less
 pub serves_weaker : (P Q : Fault → Type 0) (argument : List ℕ) (bytes after : Option (List ℕ)) (status : ℕ) (old new : Option (List ℕ)) → ((fault : Fault) → P fault → Q fault) → ServesAt P argument bytes after status old new → ServesAt Q argument bytes after status old new
 serves_weaker P Q argument bytes after status old new so (inl is) = inl is
-serves_weaker P Q argument bytes after status old new so (inr is) = inr (record { fault = is.fault; possible = serving_weaker P Q argument is.fault (so is.fault) is.possible; number = is.number; told = is.told })
+serves_weaker P Q argument bytes after status old new so (inr is) = inr (record { fault = is.fault; possible = serving_weaker P Q argument is.fault (so is.fault) is.possible; number = is.number; answered = is.answered })
 
 -- what holds where it has ended well
 pub is_done : {A : Type 0} (P : Type 0) (ended : Result A Fault) → IsOk ended → OnOk ended P → P

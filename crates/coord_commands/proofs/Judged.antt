@@ -13,9 +13,9 @@ use Rattle.coord_commands.specs.declared.fault.Fault.{Fault}
 use Rattle.coord_commands.specs.declared.fault.Fault.TheVariants.{Usage, Read, Write, Socket, TooManyReads, OutOfMemory, Topology, Store, Refused, NotClosed}
 
 -- a file that is refused for a reason says no topology for just this one
-told : {A : Type 0} (file : Option (List ℕ)) (P : List ℕ → Type 0) → IfSome file (λ bytes. A → P bytes) → A → IfSome file P
-told None P why so = tt
-told (Some bytes) P why so = why so
+answered : {A : Type 0} (file : Option (List ℕ)) (P : List ℕ → Type 0) → IfSome file (λ bytes. A → P bytes) → A → IfSome file P
+answered None P why so = tt
+answered (Some bytes) P why so = why so
 
 of_reason : (file : Option (List ℕ)) (reason : ConfigFault) → (reason ≢ of_topology.OutOfMemory → IfSome file (λ bytes. said_by (take MOST_BYTES bytes) ≡ Err reason)) → RefusesFile file reason
 of_reason file reason h1 = grind (arith, nat_tests)
@@ -34,7 +34,7 @@ of_text file same Write is why = absurd is
 of_text file same Socket is why = absurd is
 of_text file same TooManyReads is why = absurd is
 of_text file same OutOfMemory is why = inl (stays same)
-of_text file same (Topology reason) is why = (of_reason file reason (λ wanted. told file (λ bytes. said_by (take MOST_BYTES bytes) ≡ Err reason) (why reason wanted) refl), stays same)
+of_text file same (Topology reason) is why = (of_reason file reason (λ wanted. answered file (λ bytes. said_by (take MOST_BYTES bytes) ≡ Err reason) (why reason wanted) refl), stays same)
 of_text file same (Store fault) is why = absurd is
 of_text file same (Refused refusal) is why = absurd is
 of_text file same (NotClosed fault) is why = absurd is

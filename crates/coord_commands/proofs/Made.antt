@@ -39,9 +39,9 @@ pub in_creation : (fault : StoreFault) → (Store fault ≡ OutOfMemory) ⊎ (St
 in_creation fault (inl is) = absurd cc
 in_creation fault (inr is) = cc is
 
-pub in_commit : (fault : CommitFault) (told : Fault) → told ≡ fault_of_commit fault → (told ≡ OutOfMemory) ⊎ (told ≡ Store of_store.OutOfMemory) → fault ≢ of_commit.Device
-in_commit fault told is (inl memory) device = let same : OutOfMemory ≡ Store of_store.Device = sym memory ∙ is ∙ ap fault_of_commit device in cc
-in_commit fault told is (inr memory) device = let same : Store of_store.OutOfMemory ≡ Store of_store.Device = sym memory ∙ is ∙ ap fault_of_commit device in cc
+pub in_commit : (fault : CommitFault) (answered : Fault) → answered ≡ fault_of_commit fault → (answered ≡ OutOfMemory) ⊎ (answered ≡ Store of_store.OutOfMemory) → fault ≢ of_commit.Device
+in_commit fault answered is (inl memory) device = let same : OutOfMemory ≡ Store of_store.Device = sym memory ∙ is ∙ ap fault_of_commit device in cc
+in_commit fault answered is (inr memory) device = let same : Store of_store.OutOfMemory ≡ Store of_store.Device = sym memory ∙ is ∙ ap fault_of_commit device in cc
 
 -- ---- what is known of the bytes
 

@@ -84,9 +84,9 @@ module _ {D : Type 0} (model : DiskModel D) where
   pub served_whole : (before after : Option Present) (old new : Option (List ℕ)) (store : Kept D) (closed : Closed D) (back : D) → IsOpenedStore model before store → ServedWithOutput model (GivesSignal store.world) store old new (Ok closed)
       → IfSome (bytes_of model back) (λ known. Recovered known closed.store.world) → back ≡ closed.store.disk → IfSome after (λ known. known_of model back ≡ Some known) → ServedWhole model before after old new
   served_whole before after old new store closed back is served gives same put = (
-    is_served before after old new store served.ended closed back is served.run served.tells.0 same put,
-    served.tells.1,
-    subst (λ (c : Closed D). IfSome (reads after) (λ known. Recovered known c.store.world)) served.tells.0 (back_gives model after back closed.store.world gives put),
+    is_served before after old new store served.ended closed back is served.run served.reports.0 same put,
+    served.reports.1,
+    subst (λ (c : Closed D). IfSome (reads after) (λ known. Recovered known c.store.world)) served.reports.0 (back_gives model after back closed.store.world gives put),
   )
 
   -- a disk whose store was opened, and then put back
@@ -108,17 +108,17 @@ module _ {D : Type 0} (model : DiskModel D) where
       inl (inr (inr (refl, was.0, was.1)), kept)
 
   -- a server over it has ended, and its disk is put back
-  pub ended : (before after : Option Present) (old new : Option (List ℕ)) (store : Kept D) (told : ServerFault × Closed D) (back : D) → IsOpenedStore model before store → ServedWithOutput model (GivesSignal store.world) store old new (Err told)
-      → back ≡ told.1.store.disk → IfSome after (λ known. known_of model back ≡ Some known) → EndsServing model before after old new (fault_of_server told.0)
-  ended before after old new store told back is served disk put = inr (is_served before after old new store served.ended told.1 back is served.run served.tells.0 disk put, told.0, served.tells.1, refl)
+  pub ended : (before after : Option Present) (old new : Option (List ℕ)) (store : Kept D) (answered : ServerFault × Closed D) (back : D) → IsOpenedStore model before store → ServedWithOutput model (GivesSignal store.world) store old new (Err answered)
+      → back ≡ answered.1.store.disk → IfSome after (λ known. known_of model back ≡ Some known) → EndsServing model before after old new (fault_of_server answered.0)
+  ended before after old new store answered back is served disk put = inr (is_served before after old new store served.ended answered.1 back is served.run served.reports.0 disk put, answered.0, served.reports.1, refl)
 
   of_unopened : (before after : Option Present) (fault : StoreFault) → ((fault ≡ Device) × (after ≡ before)) ⊎ (IsOfOpening (reads before) (Store fault) × IsPutBack model (failed_in fault) before after) → IsOfServing (reads before) (Store fault)
   of_unopened before after fault (inl none) = inl none.0
   of_unopened before after fault (inr refuses) = refuses.0
 
   -- as far as the bytes tell
-  pub of_ending : (before after : Option Present) (old new : Option (List ℕ)) (told : Fault) → EndsServing model before after old new told → IsOfServing (reads before) told
-  of_ending before after old new told (inl (inl none, kept)) = subst (IsOfServing (reads before)) (sym none.named) (of_unopened before after none.fault none.why)
-  of_ending before after old new told (inl (inr (inl bound), kept)) = subst (IsOfServing (reads before)) (sym bound.0) bound.1
-  of_ending before after old new told (inl (inr (inr begun), kept)) = subst (IsOfServing (reads before)) (sym begun.0) begun.1
-  of_ending before after old new told (inr (is, fault, why, named)) = subst (IsOfServing (reads before)) (sym named) (of_serving (reads before) fault (gives_some (reads before) is.store.world is.opened.world))
+  pub of_ending : (before after : Option Present) (old new : Option (List ℕ)) (answered : Fault) → EndsServing model before after old new answered → IsOfServing (reads before) answered
+  of_ending before after old new answered (inl (inl none, kept)) = subst (IsOfServing (reads before)) (sym none.named) (of_unopened before after none.fault none.why)
+  of_ending before after old new answered (inl (inr (inl bound), kept)) = subst (IsOfServing (reads before)) (sym bound.0) bound.1
+  of_ending before after old new answered (inl (inr (inr begun), kept)) = subst (IsOfServing (reads before)) (sym begun.0) begun.1
+  of_ending before after old new answered (inr (is, fault, why, named)) = subst (IsOfServing (reads before)) (sym named) (of_serving (reads before) fault (gives_some (reads before) is.store.world is.opened.world))

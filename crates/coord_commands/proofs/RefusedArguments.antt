@@ -18,16 +18,16 @@ of_arguments arguments fault (inr why) = rw why.0 why.1
 pub refused_arguments : (arguments : List Text) (fault : Fault) (status : ℕ) (input output old new : Option (List ℕ)) (holds : List ℕ → Option Present) (says : List ℕ → Option (List ℕ))
     → (fault ≡ OutOfMemory) ⊎ ((fault ≡ Usage) × (takes resetd arguments ≡ true → task_of arguments ≡ None)) → status ≡ fault_status fault → WritesFirstPart old new (fault_line fault)
     → RefusesArguments arguments status (record { streams = record { input = input; output = output; errors = old }; holds = holds; says = says }) (record { streams = record { input = input; output = output; errors = new }; holds = holds; says = says })
-refused_arguments arguments fault status input output old new holds says why is told =
+refused_arguments arguments fault status input output old new holds says why is answered =
     record {
-      fails = record { fault = fault; possible = of_arguments arguments fault why; number = is; told = told; cut = inl (Keeps-refl output) };
+      fails = record { fault = fault; possible = of_arguments arguments fault why; number = is; answered = answered; cut = inl (Keeps-refl output) };
       unread = Keeps-refl input;
       untouched = λ name. refl;
     }
 
 -- arguments that could not be had
 pub lacks : (fault wanted : Fault) (status : ℕ) (input output old new : Option (List ℕ)) → fault ≡ wanted → status ≡ fault_status fault → WritesFirstPart old new (fault_line fault) → LacksArguments wanted status (files_around (record { input = input; output = output; errors = old })) (files_around (record { input = input; output = output; errors = new }))
-lacks fault wanted status input output old new is number told = record { fails = record { fault = fault; possible = is; number = number; told = told; cut = inl (Keeps-refl output) }; unread = Keeps-refl input }
+lacks fault wanted status input output old new is number answered = record { fails = record { fault = fault; possible = is; number = number; answered = answered; cut = inl (Keeps-refl output) }; unread = Keeps-refl input }
 
 pub on_ok : {A E : Type 0} (r : Result A E) (P Q : A → Type 0) → ((x : A) → P x → Q x) → IfOk r P → IfOk r Q
 on_ok (Ok x) P Q so is = so x is

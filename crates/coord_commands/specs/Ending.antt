@@ -32,7 +32,7 @@ pub record CommandFails (Q : Fault → Type 0) (P : List ℕ → Type 0) (status
   pub fault : Fault
   pub possible : Q fault
   pub number : status ≡ fault_status fault
-  pub told : WritesFirstPart old.errors new.errors (fault_line fault)
+  pub answered : WritesFirstPart old.errors new.errors (fault_line fault)
   pub cut : OutputCutShort P old.output new.output fault
 
 -- one of both

@@ -31,7 +31,7 @@ IsCheckedLine bytes line = IsLegalLine bytes line ⊎ IsViolatedLine bytes line
 pub record IsShown (bytes : Option (List ℕ)) (lines : List ℕ) : Type 0 where
   pub world : World
   pub given : IfSome bytes (λ known. Recovered known world)
-  pub told : lines ≡ shown world
+  pub answered : lines ≡ shown world
 
 -- output cannot be written, there is no memory, or a device of these bytes is refused so
 abbrev pub IsOfOpening : Option (List ℕ) → Fault → Type 0

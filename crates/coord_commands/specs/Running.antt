@@ -36,7 +36,7 @@ pub record HasDrilled (status : ℕ) (old new : Streams) : Type 0 where
 pub record FailsToDrill (status : ℕ) (old new : Streams) : Type 0 where
   pub fault : DrillFault
   pub number : status ≡ fault_status (fault_of_drill fault)
-  pub told : WritesFirstPart old.errors new.errors (fault_line (fault_of_drill fault))
+  pub answered : WritesFirstPart old.errors new.errors (fault_line (fault_of_drill fault))
   pub broke : FailsInMemory old.input new.input old.output new.output fault
 
 -- the drill
@@ -71,7 +71,7 @@ pub record RefusesArguments (arguments : List Text) (status : ℕ) (old new : Ar
 
 -- the arguments could not be had: nothing but this fault's line is printed, and nothing is read
 pub record LacksArguments (fault : Fault) (status : ℕ) (old new : Around) : Type 0 where
-  pub fails : CommandFails (λ told. told ≡ fault) (λ _. ⊥) status old.streams new.streams
+  pub fails : CommandFails (λ answered. answered ≡ fault) (λ _. ⊥) status old.streams new.streams
   pub unread : Keeps old.streams.input new.streams.input
 
 -- the arguments are refused, or the disk of this name is raised as they ask: a crash may have left nothing else of it at any moment

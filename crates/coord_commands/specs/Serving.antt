@@ -57,13 +57,13 @@ RunsWithOutput model gives store old new ended = HasServedUsual model (λ known.
 -- what is told of a server that ended so: what it left, beside the fault if there is one
 abbrev pub ReportedAtEnd : {D V W : Type 0} → ServerEnd D V W → Result (Closed D) (ServerFault × Closed D) → Type 0
 ReportedAtEnd ended (Ok closed) = (closed ≡ ended.closed) × (fault_of_end ended ≡ None)
-ReportedAtEnd ended (Err told) = (told.1 ≡ ended.closed) × (fault_of_end ended ≡ Some told.0)
+ReportedAtEnd ended (Err answered) = (answered.1 ≡ ended.closed) × (fault_of_end ended ≡ Some answered.0)
 
 -- a server ran so, and this is told
-pub record ServedWithOutput {D : Type 0} (model : DiskModel D) (gives : List Step → ℕ → ℕ → ℕ → Type 0) (store : Kept D) (old new : Option (List ℕ)) (told : Result (Closed D) (ServerFault × Closed D)) : Type 0 where
+pub record ServedWithOutput {D : Type 0} (model : DiskModel D) (gives : List Step → ℕ → ℕ → ℕ → Type 0) (store : Kept D) (old new : Option (List ℕ)) (answered : Result (Closed D) (ServerFault × Closed D)) : Type 0 where
   pub ended : ServerEnd D Timeouts (Option (List ℕ))
   pub run : RunsWithOutput model gives store old new ended
-  pub tells : ReportedAtEnd ended told
+  pub reports : ReportedAtEnd ended answered
 
 -- `model`: what the disks of a folder mean
 module _ {D : Type 0} (model : DiskModel D) where
@@ -77,9 +77,9 @@ module _ {D : Type 0} (model : DiskModel D) where
     pub reads : failed ≡ 0 → ReadsAsBefore before after
 
   -- no store was opened: the disk was not to be had; or it was taken, refused and put back
-  pub record IsNotOpened (before after : Option Present) (told : Fault) : Type 0 where
+  pub record IsNotOpened (before after : Option Present) (answered : Fault) : Type 0 where
     pub fault : StoreFault
-    pub named : told ≡ Store fault
+    pub named : answered ≡ Store fault
     pub why : ((fault ≡ Device) × (after ≡ before)) ⊎ (IsOfOpening (reads before) (Store fault) × IsPutBack (failed_in fault) before after)
 
   -- a store was opened on the disk of a name, which was taken: it has the world that the bytes give, and reads as before
@@ -94,7 +94,7 @@ module _ {D : Type 0} (model : DiskModel D) where
 
   -- no socket could be bound: the store of the disk was opened, and the disk put back
   abbrev pub IsNotBound : Option Present → Option Present → Fault → Type 0
-  IsNotBound before after told = (told ≡ Socket) × GivesWorld (reads before) × IsPutBack 0 before after
+  IsNotBound before after answered = (answered ≡ Socket) × GivesWorld (reads before) × IsPutBack 0 before after
 
   -- The store of a disk was opened, a server ran over it, and the disk was put back as the server left it.
   pub record IsServedDisk (before after : Option Present) (old new : Option (List ℕ)) : Type 0 where
@@ -106,16 +106,16 @@ module _ {D : Type 0} (model : DiskModel D) where
 
   -- there was no memory for a server to begin with: the store of the disk was opened, nobody was served, and the disk put back
   abbrev pub IsNotBegun : Option Present → Option Present → Fault → Type 0
-  IsNotBegun before after told = (told ≡ OutOfMemory) × GivesWorld (reads before) × IsPutBack 0 before after
+  IsNotBegun before after answered = (answered ≡ OutOfMemory) × GivesWorld (reads before) × IsPutBack 0 before after
 
   -- a server over the disk has ended, and tells this
   abbrev pub HasEnded : Option Present → Option Present → Option (List ℕ) → Option (List ℕ) → Fault → Type 0
-  HasEnded before after old new told = (is : IsServedDisk before after old new) × (fault : ServerFault) × (fault_of_end is.ended ≡ Some fault) × (told ≡ fault_of_server fault)
+  HasEnded before after old new answered = (is : IsServedDisk before after old new) × (fault : ServerFault) × (fault_of_end is.ended ≡ Some fault) × (answered ≡ fault_of_server fault)
 
   -- the faults of `serve` at an address, and what then became of its output: nothing was printed before a server began, over an open store and a bound socket
   abbrev pub EndsServing : Option Present → Option Present → Option (List ℕ) → Option (List ℕ) → Fault → Type 0
-  EndsServing before after old new told =
-      ((IsNotOpened before after told ⊎ (IsNotBound before after told ⊎ IsNotBegun before after told)) × Keeps old new) ⊎ HasEnded before after old new told
+  EndsServing before after old new answered =
+      ((IsNotOpened before after answered ⊎ (IsNotBound before after answered ⊎ IsNotBegun before after answered)) × Keeps old new) ⊎ HasEnded before after old new answered
 
 -- The store of a disk was served, and no fault is told: a line has closed it. The bytes that are put back give the world that it left.
 abbrev pub ServedWhole : {D : Type 0} → DiskModel D → Option Present → Option Present → Option (List ℕ) → Option (List ℕ) → Type 0
@@ -133,14 +133,14 @@ pub record ServesToEnd (argument : List ℕ) (bytes after : Option (List ℕ)) (
 module _ (of : Fault → Type 0) where
   -- the argument is judged first: it is no address, or it is one
   abbrev pub IsOfServingAt : List ℕ → Fault → Type 0
-  IsOfServingAt argument told = ((told ≡ Usage) × ¬ IsAddress argument) ⊎ (IsAddress argument × of told)
+  IsOfServingAt argument answered = ((answered ≡ Usage) × ¬ IsAddress argument) ⊎ (IsAddress argument × of answered)
 
   -- the command has ended with a fault
   pub record IsNotServed (argument : List ℕ) (status : ℕ) (old new : Option (List ℕ)) : Type 0 where
     pub fault : Fault
     pub possible : IsOfServingAt argument fault
     pub number : status ≡ fault_status fault
-    pub told : WritesFirstPart old new (fault_line fault)
+    pub answered : WritesFirstPart old new (fault_line fault)
 
   -- with this status, and on standard error
   abbrev pub ServesAt : List ℕ → Option (List ℕ) → Option (List ℕ) → ℕ → Option (List ℕ) → Option (List ℕ) → Type 0

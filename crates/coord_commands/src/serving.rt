@@ -142,18 +142,18 @@ fn serve_open<
     requires { has_stopped store ≡ false }
     ensures served { IfOk result (ServedWithOutput D.model (GivesSignal store.world) store
         (W.contents output.old) (W.contents output.new)) }
-    ensures going { IfOk result (λ told. IfOk told (λ closed. has_stopped closed.store ≡ false)) }
+    ensures going { IfOk result (λ answered. IfOk answered (λ closed. has_stopped closed.store ≡ false)) }
     ensures unserved { IfErr result (λ back. (back ≡ store) ×
         Keeps (W.contents output.old) (W.contents output.new)) }
 {
     let Ok(written) = MonotoneLog::new(alloc) else {
         return Err(store);
     };
-    serve_told::<D, S, A, W, Brand, R>(rt, alloc, store, listener, output, written)
+    serve_and_report::<D, S, A, W, Brand, R>(rt, alloc, store, listener, output, written)
 }
 
 /// Serves while signals are printed of the steps that are settled in a new history, which `O` names.
-fn serve_told<
+fn serve_and_report<
     'a,
     D: Disk + Send,
     S: Read + Write + OpenStream + Drop,
@@ -172,11 +172,11 @@ fn serve_told<
     requires going { has_stopped store ≡ false }
     requires here { written.0 ≡ O.history }
     requires new { written.1 ≡ record { history = O.history; steps = [] } }
-    requires tell { (earlier : List Step) → MayPrint O.history earlier (fold store.world earlier)
+    requires may_print { (earlier : List Step) → MayPrint O.history earlier (fold store.world earlier)
         (MaySignal O.history O.gives) }
     ensures served { IfOk result (ServedWithOutput D.model O.gives store
         (W.contents output.old) (W.contents output.new)) }
-    ensures going { IfOk result (λ told. IfOk told (λ closed. has_stopped closed.store ≡ false)) }
+    ensures going { IfOk result (λ answered. IfOk answered (λ closed. has_stopped closed.store ≡ false)) }
     ensures unserved { IfErr result (λ back. (back ≡ store) ×
         Keeps (W.contents output.old) (W.contents output.new)) }
 {

@@ -14,7 +14,7 @@ use std::io::Write;
 pub fn report<E: Write>(ended: Result<(), Fault>, errors: &mut E) -> u8
     ensures status { result ≡ status_of ended }
     ensures done { result ≡ 0 → IsOk ended }
-    ensures told { MatchResult ended (λ _. Keeps (E.contents errors.old) (E.contents errors.new))
+    ensures answered { MatchResult ended (λ _. Keeps (E.contents errors.old) (E.contents errors.new))
         (λ fault. WritesFirstPart (E.contents errors.old) (E.contents errors.new)
         (fault_line fault)) }
 {

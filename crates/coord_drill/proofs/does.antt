@@ -6,7 +6,7 @@ pub mod Settled
 pub mod Verdicts
 pub mod LineResponds
 pub mod Moments
-pub mod Tells
+pub mod Reports
 pub mod Cuts
 pub mod Crashes
 pub mod Raising

@@ -72,14 +72,14 @@ asked_lines s Version2 given = []
 
 -- With these answers to its events, the request may print this and leave this drill: the event machine allows it,
 -- and memory did not run out.
-pub record IsAnswered (s : DrillState) (a : Asked) (given : List Answer) (told : List ℕ) (t : DrillState) : Type 0 where
+pub record IsAnswered (s : DrillState) (a : Asked) (given : List Answer) (reported : List ℕ) (t : DrillState) : Type 0 where
   pub answered : Answered (machine_of s) (line_events s.holds a given) given
   pub with_memory : AllByRecursion (λ answer. answer ≢ Refused OutOfMemory) given
-  pub printed : told ≡ asked_lines s a given
+  pub printed : reported ≡ asked_lines s a given
   pub goes_on : t ≡ after_asked s a given
 
 -- the line with this number may, with these answers, print this and leave this drill; a bad line makes no
 -- request
 abbrev pub Responds : DrillState → ℕ → Option Request → List Answer → List ℕ → DrillState → Type 0
-Responds s n None given told t = (given ≡ []) × (told ≡ bad_line n) × (t ≡ s)
-Responds s n (Some r) given told t = IsAnswered s (asked (front_world s.log) r) given told t
+Responds s n None given reported t = (given ≡ []) × (reported ≡ bad_line n) × (t ≡ s)
+Responds s n (Some r) given reported t = IsAnswered s (asked (front_world s.log) r) given reported t

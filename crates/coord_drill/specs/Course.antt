@@ -32,7 +32,7 @@ use Rattle.coord_drill.specs.Asked.{asked}
 use Rattle.coord_drill.specs.Drill.{DrillState, drill_over, line_events}
 use Rattle.coord_drill.specs.Drilled.{LineResponds, asked_by, is_skipped}
 use Rattle.coord_drill.specs.Faults.{IsOfMemory, IsOfWriting, MayCutShort, failed_by, opens_disk, store_fault}
-use Rattle.coord_drill.specs.Told.{told_by}
+use Rattle.coord_drill.specs.Reported.{reported_by}
 use Rattle.coord_drill.specs.Written.{InOut, IsShortPart, Exchanges}
 use Rattle.coord_drill.specs.declared.asked.Asked.{Asked}
 use Rattle.coord_drill.specs.declared.asked.Asked.TheVariants.{Crash, Version2}
@@ -45,17 +45,17 @@ pub record Place (D : Type 0) : Type 0 where
   pub state : DrillState
   pub lines : ℕ  -- how many were carried out
   pub printed : List ℕ  -- all that they have printed
-  pub told : List ℕ  -- the steps of which that has told
+  pub reported : List ℕ  -- the steps of which that has reported
   pub machine : Machine  -- since the drill began, or since its line `version 2`
   pub disk : D
 
 -- the place where a drill begins, after its store was created on this disk
 abbrev pub start : {D : Type 0} → D → Place D
-start disk = record { state = drill_over (no_world 1); lines = 0; printed = []; told = []; machine = adopted (no_world 1); disk = disk }
+start disk = record { state = drill_over (no_world 1); lines = 0; printed = []; reported = []; machine = adopted (no_world 1); disk = disk }
 
 -- these steps are settled
 abbrev pub IsSettled : Machine → List ℕ → Type 0
-IsSettled s told = AllByRecursion (λ n. n ≤ settled_count s.log) told
+IsSettled s reported = AllByRecursion (λ n. n ≤ settled_count s.log) reported
 
 -- ---- requests
 
@@ -64,9 +64,9 @@ abbrev pub asked_in : DrillState → Line → Option Asked
 asked_in s None = None
 asked_in s (Some line) = if is_skipped line then None else option_map (asked (front_world s.log)) (asked_by s line)
 
-abbrev pub told_in : DrillState → Option Asked → List Answer → List ℕ
-told_in s None given = []
-told_in s (Some a) given = told_by s a given
+abbrev pub reported_in : DrillState → Option Asked → List Answer → List ℕ
+reported_in s None given = []
+reported_in s (Some a) given = reported_by s a given
 
 -- Events with answers that the machine may give are a run of it on a disk, from one state of the disk to another. The disk
 -- has failed exactly where a commit reports it.
@@ -103,8 +103,8 @@ pub record LineGoes {D : Type 0} (disk : DiskModel D) (crashes : D → D → Typ
   pub responds : LineResponds p.state (p.lines + 1) line given text q.state
   pub lines : q.lines ≡ p.lines + 1
   pub printed : q.printed ≡ p.printed ++ text
-  pub told : q.told ≡ p.told ++ told_in p.state (asked_in p.state line) given
-  pub settled : IsSettled q.machine q.told
+  pub reported : q.reported ≡ p.reported ++ reported_in p.state (asked_in p.state line) given
+  pub settled : IsSettled q.machine q.reported
   pub moves : Moves disk crashes (asked_in p.state line) given p q
 
 -- lines lead from one place to another, at which whatever a crash may leave survives
@@ -138,7 +138,7 @@ IsLeftBy disk crashes a s mid lost = lost ≡ mid
 -- The reason is the fault beside the disk, and the disk has failed if that fault says so.
 pub record CutShort {D : Type 0} (disk : DiskModel D) (crashes : D → D → Type 0) (p : Place D) (a : Asked) (refused : Fault × D) : Type 0 where
   pub cause : MayCutShort (opens_disk a) refused.0
-  pub none_told : a ≡ Version2 → IsSettled (adopted (no_world 2)) p.told  -- of no step, for the world is empty
+  pub none_reported : a ≡ Version2 → IsSettled (adopted (no_world 2)) p.reported  -- of no step, for the world is empty
   pub given : List Answer  -- so far
   pub mid : D
   pub runs : RunsOn disk crashes p.machine (take (length given) (line_events p.state.holds a given)) given p.disk mid

@@ -31,24 +31,24 @@ asked_by s line = parsed (version_of s) line >>= unless_late s
 
 -- a skipped line prints nothing and changes nothing
 abbrev pub UnlessSkipped : Bool → DrillState → List Answer → List ℕ → DrillState → Type 0 → Type 0
-UnlessSkipped true s given told t Otherwise = (given ≡ []) × (told ≡ []) × (t ≡ s)
-UnlessSkipped false s given told t Otherwise = Otherwise
+UnlessSkipped true s given reported t Otherwise = (given ≡ []) × (reported ≡ []) × (t ≡ s)
+UnlessSkipped false s given reported t Otherwise = Otherwise
 
 -- With these answers to its events, the line with this number may print this and leave this drill; a line over the limit
 -- is bad, even if it is a comment.
 abbrev pub LineResponds : DrillState → ℕ → Line → List Answer → List ℕ → DrillState → Type 0
-LineResponds s n None given told t = Responds s n None given told t
-LineResponds s n (Some line) given told t = UnlessSkipped (is_skipped line) s given told t (Responds s n (asked_by s line) given told t)
+LineResponds s n None given reported t = Responds s n None given reported t
+LineResponds s n (Some line) given reported t = UnlessSkipped (is_skipped line) s given reported t (Responds s n (asked_by s line) given reported t)
 
 -- a text that is the output of a line, followed by the output of the drill that it leaves
 pub record PrintsOn (Line : List Answer → List ℕ → DrillState → Type 0) (Behind : DrillState → List ℕ → Type 0) (text : List ℕ) : Type 0 where
   pub given : List Answer
-  pub told : List ℕ
+  pub reported : List ℕ
   pub after : DrillState
   pub rest : List ℕ
-  pub line : Line given told after
+  pub line : Line given reported after
   pub behind : Behind after rest
-  pub whole : text ≡ told ++ rest
+  pub whole : text ≡ reported ++ rest
 
 -- lines, the first of which has this number, may print this
 abbrev pub Prints : DrillState → ℕ → List Line → List ℕ → Type 0

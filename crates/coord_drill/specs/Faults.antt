@@ -65,5 +65,5 @@ MayCutShort true why = IsPassingFault why
 MayCutShort false why = IsOfMemory why
 
 -- the result of a write: the number of bytes taken; a fault takes no bytes, and a success may take none
-abbrev pub TellsOfWrite : {E : Type 0} → Result ℕ E → Result ℕ Fault → Type 0
-TellsOfWrite answer told = MatchResult told (λ count. (answer ≡ Ok count) ⊎ (IsErr answer × (count ≡ 0))) (λ _. (answer ≡ Ok 0) ⊎ IsErr answer)
+abbrev pub ReportsOfWrite : {E : Type 0} → Result ℕ E → Result ℕ Fault → Type 0
+ReportsOfWrite answer reported = MatchResult reported (λ count. (answer ≡ Ok count) ⊎ (IsErr answer × (count ≡ 0))) (λ _. (answer ≡ Ok 0) ⊎ IsErr answer)

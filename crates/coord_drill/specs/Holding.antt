@@ -75,8 +75,8 @@ flown_answers r b count = Begun b ∷ landed_answers r count
 -- ---- texts
 
 -- a text continues with one of these
-abbrev pub Tells : List ℕ → List ℕ → (List ℕ → Type 0) → Type 0
-Tells old new P = (told : List ℕ) × ((new ≡ old ++ told) × P told)
+abbrev pub Reports : List ℕ → List ℕ → (List ℕ → Type 0) → Type 0
+Reports old new P = (reported : List ℕ) × ((new ≡ old ++ reported) × P reported)
 
 -- the current release and those after it
 abbrev pub left : Option Release → List Release → List Release

@@ -29,5 +29,5 @@ BrokenIsDrilled {D} disk crashes =
 -- step with visible output.
 abbrev pub PrintedSurvives : Type 0
 PrintedSurvives =
-    (s : Machine) (events : List Event) (given : List Answer) (told bytes : List ℕ) → IsConsistent s → AllByRecursion EventInRange events → Answered s events given → IsSettled s told →
-    (survives : Survives (run s events given) bytes) → AllByRecursion (λ n. n ≤ (world_after (run s events given).log survives.steps).count) told
+    (s : Machine) (events : List Event) (given : List Answer) (reported bytes : List ℕ) → IsConsistent s → AllByRecursion EventInRange events → Answered s events given → IsSettled s reported →
+    (survives : Survives (run s events given) bytes) → AllByRecursion (λ n. n ≤ (world_after (run s events given).log survives.steps).count) reported

@@ -5,7 +5,7 @@ pub mod Asked
 pub mod Drill
 pub mod Printed
 pub mod Answered
-pub mod Told
+pub mod Reported
 pub mod Drilled
 pub mod Laws
 pub mod WorkedLines

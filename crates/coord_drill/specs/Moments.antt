@@ -104,9 +104,9 @@ LeadsBy disk crashes Version2 d given new = RaisesTo disk crashes d.driver new.d
 LeadsBy disk crashes a d given new = Leads disk crashes d.driver (line_events d.holds a given) given new.driver
 
 -- the request prints this and leaves this drill: text, state and disk depend on the same answers to its events
-pub record Carries {D : Type 0} (disk : DiskModel D) (crashes : D → D → Type 0) (d : Drill D) (a : Asked) (told : List ℕ) (new : Drill D) : Type 0 where
+pub record Carries {D : Type 0} (disk : DiskModel D) (crashes : D → D → Type 0) (d : Drill D) (a : Asked) (reported : List ℕ) (new : Drill D) : Type 0 where
   pub given : List Answer
-  pub answered : IsAnswered (state_of d) a given told (state_of new)
+  pub answered : IsAnswered (state_of d) a given reported (state_of new)
   pub moments : LeadsBy disk crashes a d given new
 
 -- A statement about a line's moments: on a disk that keeps the model, and for `version 2` before any step.
@@ -114,7 +114,7 @@ abbrev pub LineIsPromised : {D : Type 0} → DiskModel D → Drill D → Asked �
 LineIsPromised disk d a = (model_held disk d.driver ≡ Some true) × (a ≡ Version2 → IsEmptyLog d.driver.ledger.log)
 
 abbrev pub CarriesIf : {D : Type 0} → DiskModel D → (D → D → Type 0) → Drill D → Asked → List ℕ → Drill D → Type 0
-CarriesIf disk crashes d a told new = LineIsPromised disk d a → Carries disk crashes d a told new
+CarriesIf disk crashes d a reported new = LineIsPromised disk d a → Carries disk crashes d a reported new
 
 -- the disk was given up in a crash, after an image was chosen
 pub record GivesUpInCrash {D : Type 0} (disk : DiskModel D) (crashes : D → D → Type 0) (d : DriverState D) (refused : Fault × D) : Type 0 where
@@ -136,10 +136,10 @@ abbrev pub CutsIf : {D : Type 0} → DiskModel D → (D → D → Type 0) → As
 CutsIf disk crashes a d refused = LineIsPromised disk d a → Cuts disk crashes a d refused
 
 -- a flight prints this and leaves this drill, whatever tickets the machine has issued before it
-pub record Flies {D : Type 0} (disk : DiskModel D) (crashes : D → D → Type 0) (d : Drill D) (told : List ℕ) (new : Drill D) : Type 0 where
+pub record Flies {D : Type 0} (disk : DiskModel D) (crashes : D → D → Type 0) (d : Drill D) (reported : List ℕ) (new : Drill D) : Type 0 where
   pub given : List Answer
   pub with_memory : AllByRecursion (λ answer. answer ≢ Refused OutOfMemory) given
-  pub printed : told ≡ flight_lines (state_of d).log given
+  pub printed : reported ≡ flight_lines (state_of d).log given
   pub goes_on : (tickets : List (Option Reply)) → state_of new ≡ seen_as (run (record (machine_of (state_of d)) { tickets = tickets }) (flight_events given) given) d.holds d.has_begun
   pub moments : GoesBy disk crashes d.driver given new.driver
 
@@ -153,7 +153,7 @@ pub record Stands {D : Type 0} (disk : DiskModel D) (d : Drill D) (p : Place D) 
   pub keeps : disk.keeps_model p.disk ≡ true
   pub consistent : IsConsistent p.machine
   pub represents : Represents d.driver p.machine
-  pub settled : IsSettled p.machine p.told
+  pub settled : IsSettled p.machine p.reported
   pub empty : p.state.has_begun ≡ false → IsEmptyLog p.state.log
   pub survives : CrashPrefix p.machine true (disk.present p.disk)
 

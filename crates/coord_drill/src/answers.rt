@@ -4,7 +4,7 @@ ghost use Rattle.std.specs.Prelude.{◌≡◌, ◌≢◌, Ok, Err, IfOk, IfErr, 
 ghost use Rattle.std.specs.Io.{ReadsAtMost, WritesAtMost};
 ghost use Rattle.std.specs.Io.KnownBytes.{ReadConsumes, WriteAppends};
 ghost use Rattle.std.specs.IoError.{error_kind};
-ghost use Rattle.coord_drill.specs.Faults.{IsOfWriting, TellsOfWrite};
+ghost use Rattle.coord_drill.specs.Faults.{IsOfWriting, ReportsOfWrite};
 
 use crate::fault::Fault;
 use crate::writing::fault_of;
@@ -31,7 +31,7 @@ fn bytes_written(answer: io::Result<usize>) -> Result<usize, Fault>
         result ≡ Err Fault.OutOfMemory) }
     ensures other { IfErr answer (λ error. error_kind error ≢ ErrorKind.Interrupted →
         error_kind error ≢ ErrorKind.OutOfMemory → result ≡ Err Fault.Write) }
-    ensures bytes { TellsOfWrite answer result }
+    ensures bytes { ReportsOfWrite answer result }
     ensures fault { IfErr result IsOfWriting }
 {
     match answer {

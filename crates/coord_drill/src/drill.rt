@@ -8,15 +8,15 @@ ghost use Rattle.coord_drill.specs.Course.{NotMade};
 ghost use Rattle.coord_drill.specs.Drill.{drill_over};
 ghost use Rattle.coord_drill.specs.Drilled.{asked_by};
 ghost use Rattle.coord_drill.specs.Faults.{IsOfDisk, MayEnd};
-ghost use Rattle.coord_drill.specs.Holding.{IsReadyDrill, Tells, front_of, state_of};
+ghost use Rattle.coord_drill.specs.Holding.{IsReadyDrill, Reports, front_of, state_of};
 ghost use Rattle.coord_drill.specs.Moments.{CarriesIf, CutsIf, IsBegun, IsMade};
 ghost use Rattle.coord_drill.specs.declared.fault.Fault.TheVariants.{OutOfMemory};
 
 mod crashing;
 mod flying;
 mod raising;
+mod reporting;
 mod submitting;
-mod telling;
 
 use crate::asked::{Asked, wanted_by};
 use crate::fault::Fault;
@@ -80,8 +80,8 @@ impl<D: CrashDisk> Drill<D> {
     pub fn answer(self, request: &Request, text: &mut String) -> Result<Self, (Fault, D)>
         requires ready { IsReadyDrill self }
         ensures ready { IfOk result IsReadyDrill }
-        ensures told { IfOk result (λ drill. Tells (string_bytes text.old) (string_bytes text.new)
-            (λ told. CarriesIf D.model D.crashes self (asked (front_of self) request.now) told
+        ensures reported { IfOk result (λ drill. Reports (string_bytes text.old) (string_bytes text.new)
+            (λ reported. CarriesIf D.model D.crashes self (asked (front_of self) request.now) reported
             drill)) }
         ensures cut { IfErr result (CutsIf D.model D.crashes (asked (front_of self) request.now) self) }
         ensures fault { IfErr result (λ refused.
@@ -95,8 +95,8 @@ impl<D: CrashDisk> Drill<D> {
     fn carry_out(self, wanted: Asked, text: &mut String) -> Result<Self, (Fault, D)>
         requires ready { IsReadyDrill self }
         ensures ready { IfOk result IsReadyDrill }
-        ensures told { IfOk result (λ drill. Tells (string_bytes text.old) (string_bytes text.new)
-            (λ told. CarriesIf D.model D.crashes self wanted told drill)) }
+        ensures reported { IfOk result (λ drill. Reports (string_bytes text.old) (string_bytes text.new)
+            (λ reported. CarriesIf D.model D.crashes self wanted reported drill)) }
         ensures cut { IfErr result (CutsIf D.model D.crashes wanted self) }
         ensures fault { IfErr result (λ refused. MayEnd wanted refused.0) }
     {
@@ -107,7 +107,7 @@ impl<D: CrashDisk> Drill<D> {
             Asked::Version2 => self.begin_version_2(),
             Asked::Hold => Ok(self.hold()),
             Asked::Refuse(_) | Asked::Nothing | Asked::Resend | Asked::Check | Asked::Show => {
-                self.tell(wanted, text)
+                self.report(wanted, text)
             }
         }
     }

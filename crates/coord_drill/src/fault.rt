@@ -22,7 +22,7 @@ impl From<StoreFault> for Fault {
     ghost use Rattle.std.specs.Prelude.{◌≡◌};
     ghost use Rattle.coord_drill.specs.Faults.{store_fault};
 
-    ghost from_gives = { λ told fault. fault ≡ store_fault told };
+    ghost from_gives = { λ reported fault. fault ≡ store_fault reported };
 
     fn from(fault: StoreFault) -> Fault {
         match fault {

@@ -14,6 +14,6 @@ pub mod Releasing
 pub mod Showing
 pub mod Since
 pub mod Submitting
-pub mod Told
+pub mod Returned
 pub mod Tried
 pub mod Worked

@@ -153,7 +153,7 @@ no_signal (o ∷ os) (b ∷ bs) after step node epoch all is = no_signal os bs a
 
 -- a port may be asked for what flights release
 pub may_hand : (history : TableId) (earlier : List Step) (base : World) (may : Beginning → ℕ → ℕ → ℕ → Type 0) (released : List Release) → MayPrint history earlier base may → MayHand history earlier base may released
-may_hand history earlier base may released tell read is = λ before after step node epoch at. subst (λ r. may r step node epoch) (sym is.read_them) (tell is.settled step node epoch (is.given before after step node epoch at))
+may_hand history earlier base may released return_all read is = λ before after step node epoch at. subst (λ r. may r step node epoch) (sym is.read_them) (return_all is.settled step node epoch (is.given before after step node epoch at))
 
 -- no signal is sent again
 pub may_ask_again : (may : ℕ → ℕ → ℕ → Type 0) (w : World) → MayAskAll may (resent w)

@@ -18,27 +18,27 @@ module _ {D : Type 0} (g : GuardedState D) (seen later : ℕ) where
     pub unseen : OnErr answer (later ≡ seen)
 
   -- what is told at that moment
-  abbrev Told : Result Shown Refusal → Type 0
-  Told (Ok view) = Shows view seen later g
-  Told (Err why) = RefusesShow why seen g × (later ≡ seen)
+  abbrev Returned : Result Shown Refusal → Type 0
+  Returned (Ok view) = Shows view seen later g
+  Returned (Err why) = RefusesShow why seen g × (later ≡ seen)
 
-  told_shown : (answer : Result Shown Refusal) → OnErr answer (later ≡ seen) → is_some g.ledger.log.doubt ≡ false → seen ≤ settled_count g.ledger.log
-      → MatchResult answer (λ v. (v ≡ shown (accepted_count g.ledger.log) (settled_world g.ledger.log)) × (later ≡ settled_count g.ledger.log)) (λ why. why ≡ OutOfMemory) → Told answer
-  told_shown (Ok v) unseen going le is = (going, le, is.0, is.1)
-  told_shown (Err why) unseen going le is = (rw is tt, unseen)
+  returned_shown : (answer : Result Shown Refusal) → OnErr answer (later ≡ seen) → is_some g.ledger.log.doubt ≡ false → seen ≤ settled_count g.ledger.log
+      → MatchResult answer (λ v. (v ≡ shown (accepted_count g.ledger.log) (settled_world g.ledger.log)) × (later ≡ settled_count g.ledger.log)) (λ why. why ≡ OutOfMemory) → Returned answer
+  returned_shown (Ok v) unseen going le is = (going, le, is.0, is.1)
+  returned_shown (Err why) unseen going le is = (rw is tt, unseen)
 
-  told_by : (answer : Result Shown Refusal) → LedgerShows answer → (b c : Bool) → is_some g.ledger.log.doubt ≡ b → nat_lt (settled_count g.ledger.log) seen ≡ c → Told answer
-  told_by answer is true c b_is c_is = let why = is.stopped b_is in subst Told (sym why) (b_is, subst (λ r. OnErr r (later ≡ seen)) why is.unseen)
-  told_by answer is false true b_is c_is =
+  returned_by : (answer : Result Shown Refusal) → LedgerShows answer → (b c : Bool) → is_some g.ledger.log.doubt ≡ b → nat_lt (settled_count g.ledger.log) seen ≡ c → Returned answer
+  returned_by answer is true c b_is c_is = let why = is.stopped b_is in subst Returned (sym why) (b_is, subst (λ r. OnErr r (later ≡ seen)) why is.unseen)
+  returned_by answer is false true b_is c_is =
       let lt : settled_count g.ledger.log < seen = grind (arith, nat_tests) in
       let why = is.behind b_is lt in
-      subst Told (sym why) ((refl, lt), subst (λ r. OnErr r (later ≡ seen)) why is.unseen)
-  told_by answer is false false b_is c_is = let le : seen ≤ settled_count g.ledger.log = grind (arith, nat_tests) in told_shown answer is.unseen b_is le (is.view b_is le)
+      subst Returned (sym why) ((refl, lt), subst (λ r. OnErr r (later ≡ seen)) why is.unseen)
+  returned_by answer is false false b_is c_is = let le : seen ≤ settled_count g.ledger.log = grind (arith, nat_tests) in returned_shown answer is.unseen b_is le (is.view b_is le)
 
   module _ (b : Basis D) (is : CanHold b g) (history : TableId) (earlier : List Step) (read : Beginning) (reads : HasReadSettled history earlier (settled_steps g.ledger.log) read) where
-    told_at : (answer : Result Shown Refusal) → Told answer → AnswersShow b history earlier read answer seen later
-    told_at (Ok view) so = record { state = g; held = is; so = (so, reads) }
-    told_at (Err why) so = (record { state = g; held = is; so = (so.0, reads) }, so.1)
+    returned_at : (answer : Result Shown Refusal) → Returned answer → AnswersShow b history earlier read answer seen later
+    returned_at (Ok view) so = record { state = g; held = is; so = (so, reads) }
+    returned_at (Err why) so = (record { state = g; held = is; so = (so.0, reads) }, so.1)
 
-    pub told : (answer : Result Shown Refusal) → LedgerShows answer → AnswersShow b history earlier read answer seen later
-    told answer shows = told_at answer (told_by answer shows (is_some g.ledger.log.doubt) (nat_lt (settled_count g.ledger.log) seen) refl refl)
+    pub returned : (answer : Result Shown Refusal) → LedgerShows answer → AnswersShow b history earlier read answer seen later
+    returned answer shows = returned_at answer (returned_by answer shows (is_some g.ledger.log.doubt) (nat_lt (settled_count g.ledger.log) seen) refl refl)

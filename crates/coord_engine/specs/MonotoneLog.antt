@@ -17,12 +17,12 @@ pub record Beginning : Type 0 where
   pub steps : List Step
 
 abbrev pub knows : List Step → List Step → Known
-knows read told = record { read = read; told = told }
+knows read returned = record { read = read; returned = returned }
 
 -- what a token knows are beginnings of the history, and the first token has read all of it
 pub record Fits (history : List Step) (pass : ℕ) (v : Known) : Type 0 where
   pub read : StartsWith history v.read
-  pub told : StartsWith history v.told
+  pub returned : StartsWith history v.returned
   pub whole : pass ≡ 0 → v.read ≡ history
 
 -- all tokens know one history
@@ -31,15 +31,15 @@ KnowOneHistory views = (history : List Step) × ((pass : ℕ) (v : Known) → ge
 
 -- the first token has read these steps now
 abbrev pub IsWrittenOn : List Step → TableStep (Unit {0}) → Me (Unit {0}) Known → ℕ → Me (Unit {0}) Known → Type 0
-IsWrittenOn steps s before found after = after ≡ (knows steps before.0.told, before.1)
+IsWrittenOn steps s before found after = after ≡ (knows steps before.0.returned, before.1)
 
 -- what a token has read begins with what it was told of
 abbrev pub IsCompared : TableStep (Unit {0}) → Me (Unit {0}) Known → ℕ → Me (Unit {0}) Known → Type 0
-IsCompared s before found after = (after ≡ before) × StartsWith before.0.read before.0.told
+IsCompared s before found after = (after ≡ before) × StartsWith before.0.read before.0.returned
 
 -- what a token has read now begins with what it had read, and with what it was told of
 abbrev pub HasReadOn : TableStep (Unit {0}) → Me (Unit {0}) Known → ℕ → Me (Unit {0}) Known → Type 0
-HasReadOn s before found after = StartsWith after.0.read before.0.read × StartsWith after.0.read before.0.told × (after.1 ≡ before.1)
+HasReadOn s before found after = StartsWith after.0.read before.0.read × StartsWith after.0.read before.0.returned × (after.1 ≡ before.1)
 
 -- which history it is, where none is
 abbrev pub no_history : TableId

@@ -19,7 +19,7 @@ use std::sync::Arc;
 /// value of it is made.
 pub struct Known {
     pub read: LinkedList<Step>,
-    pub told: LinkedList<Step>,
+    pub returned: LinkedList<Step>,
 }
 
 /// The rule of all tokens: one history begins with what each of them knows, and the first one has
@@ -94,11 +94,11 @@ impl Split<Known> for ReadsAlong {
 }
 
 /// A token is told what another one has read, which these steps name.
-struct Tells<G: NamedSteps> {
+struct ComparesTokens<G: NamedSteps> {
     of: PhantomData<G>,
 }
 
-impl<G: NamedSteps> Join<Known> for Tells<G> {
+impl<G: NamedSteps> Join<Known> for ComparesTokens<G> {
     ghost use Rattle.std.specs.Prelude.{[]};
     ghost use Rattle.coord_engine.specs.MonotoneLog.{knows};
 
@@ -240,7 +240,7 @@ impl LogAuthority {
         history
             .table
             .shared
-            .join_seat::<Tells<G>>(&mut self.token, token);
+            .join_seat::<ComparesTokens<G>>(&mut self.token, token);
         history.table.shared.load::<Compares>(&mut self.token, 0);
     }
 }
@@ -287,7 +287,7 @@ impl LogPrefix {
         history
             .table
             .shared
-            .join_seat::<Tells<G>>(&mut self.token, token);
+            .join_seat::<ComparesTokens<G>>(&mut self.token, token);
         history.table.shared.load::<ReadsOn>(&mut self.token, 0);
     }
 }

@@ -23,7 +23,7 @@ pub use Rattle.coord_ledger.specs.machine.Machine.{FlightOut, Machine, adopted, 
 pub use Rattle.coord_ledger.specs.machine.Answers.{IsOneOf, answers, kept, kept_by, kept_with, next_size, cannot_flush, ticket, to_begin, to_collect, to_commit, to_finish, to_show, to_submit, with_flight}
 pub use Rattle.coord_ledger.specs.machine.After.{after, after_finish, after_submit, crashed, finished, log_back, marked, release_of, released_back, releases_of, resent, settling_releases, spent, with_ticket}
 pub use Rattle.coord_ledger.specs.machine.Runs.{Answered, run}
-pub use Rattle.coord_ledger.specs.machine.Consistent.{DoubtFits, EventInRange, FitsOut, FlightFits, IsConsistent, IsConsistentLog, IsTold, TicketFits}
+pub use Rattle.coord_ledger.specs.machine.Consistent.{DoubtFits, EventInRange, FitsOut, FlightFits, IsConsistent, IsConsistentLog, IsReturned, TicketFits}
 pub use Rattle.coord_ledger.specs.ledger.State.{Claim, FlightState, IsCollectable, IsGranted, IsInTrail, IsKeptBy, LedgerState, ledger_over, reply_of, started}
 pub use Rattle.coord_ledger.specs.ledger.Flights.{GivesOneOf, HoldsFlight, ImagesGiveOneOf, IsOut, flight_out}
 pub use Rattle.coord_ledger.specs.ledger.Calls.{FlightGives, GivesFlown, GivesSettled, HandedTo, LedgerGives, RefusesFlight, RefusesStep, claimed, keeps_store, next_flight, releases_in, taken_back, with_accepted, with_store_out}

@@ -56,14 +56,14 @@ pub record IsFree (c : ℕ) (base : World) (e : Exchange) : Type 0 where
   pub settled : settled_of c base e ≡ trail_of c base e
 
 -- what an answer with this meaning tells, if it is the one that is awaited
-abbrev pub IsTold : ℕ → World → Exchange → ℕ → Meaning → Type 0
-IsTold c base e serial SendAgain = Unit {0}
-IsTold c base e serial CountLost = (serial < e.sent) × (e.book.awaited ≡ Some serial → ⊥)
-IsTold c base e serial NotDone = (serial < e.sent) × (e.book.awaited ≡ Some serial → IsFree c base e)
-IsTold c base e serial (Done r) = (serial < e.sent) × (e.book.awaited ≡ Some serial → IsCarried c base e r × (settled_of c base e ≡ trail_of c base e))
+abbrev pub IsReturned : ℕ → World → Exchange → ℕ → Meaning → Type 0
+IsReturned c base e serial SendAgain = Unit {0}
+IsReturned c base e serial CountLost = (serial < e.sent) × (e.book.awaited ≡ Some serial → ⊥)
+IsReturned c base e serial NotDone = (serial < e.sent) × (e.book.awaited ≡ Some serial → IsFree c base e)
+IsReturned c base e serial (Done r) = (serial < e.sent) × (e.book.awaited ≡ Some serial → IsCarried c base e r × (settled_of c base e ≡ trail_of c base e))
 
 abbrev pub IsGiven : ℕ → World → Exchange → Given → Type 0
-IsGiven c base e g = IsTold c base e g.serial (meaning_of g.answer)
+IsGiven c base e g = IsReturned c base e g.serial (meaning_of g.answer)
 
 abbrev pub IsOwed : ℕ → World → Exchange → Owed → Type 0
 IsOwed c base e o = (o.serial < e.sent) × (e.book.awaited ≡ Some o.serial → IsCarried c base e o.reply)
@@ -111,20 +111,20 @@ carried_on c base e f r stays same is = record {
 free_on : (c : ℕ) (base : World) (e f : Exchange) → Stays c base e f → IsFree c base e → IsFree c base f
 free_on c base e f stays is = record { none = stays.none; trail = stays.trail is.settled ∙ is.trail ∙ sym stays.done; settled = stays.settled is.settled }
 
-told_on : (c : ℕ) (base : World) (e f : Exchange) → GoesOn c base e f → (serial : ℕ) (m : Meaning) → IsTold c base e serial m → IsTold c base f serial m
-told_on c base e f on serial SendAgain is = tt
-told_on c base e f on serial CountLost is = (let less = is.0 in let sent = on.sent in omega (arith, less, sent), λ a. is.1 (on.was serial is.0 a))
-told_on c base e f on serial NotDone is = (let less = is.0 in let sent = on.sent in omega (arith, less, sent), λ a. let free = is.1 (on.was serial is.0 a) in free_on c base e f (on.stays serial is.0 a free.none) free)
-told_on c base e f on serial (Done r) is = (
+returned_on : (c : ℕ) (base : World) (e f : Exchange) → GoesOn c base e f → (serial : ℕ) (m : Meaning) → IsReturned c base e serial m → IsReturned c base f serial m
+returned_on c base e f on serial SendAgain is = tt
+returned_on c base e f on serial CountLost is = (let less = is.0 in let sent = on.sent in omega (arith, less, sent), λ a. is.1 (on.was serial is.0 a))
+returned_on c base e f on serial NotDone is = (let less = is.0 in let sent = on.sent in omega (arith, less, sent), λ a. let free = is.1 (on.was serial is.0 a) in free_on c base e f (on.stays serial is.0 a free.none) free)
+returned_on c base e f on serial (Done r) is = (
   let less = is.0 in let sent = on.sent in omega (arith, less, sent),
   λ a.
-      let told = is.1 (on.was serial is.0 a) in
-      let stays = on.stays serial is.0 a told.0.none in
-      (carried_on c base e f r stays (stays.trail told.1) told.0, stays.settled told.1),
+      let returned = is.1 (on.was serial is.0 a) in
+      let stays = on.stays serial is.0 a returned.0.none in
+      (carried_on c base e f r stays (stays.trail returned.1) returned.0, stays.settled returned.1),
 )
 
 given_on : (c : ℕ) (base : World) (e f : Exchange) → GoesOn c base e f → AllByRecursion (IsGiven c base e) e.answers → AllByRecursion (IsGiven c base f) e.answers
-given_on c base e f on all = all_weaker (IsGiven c base e) (IsGiven c base f) e.answers (λ g is. told_on c base e f on g.serial (meaning_of g.answer) is) all
+given_on c base e f on all = all_weaker (IsGiven c base e) (IsGiven c base f) e.answers (λ g is. returned_on c base e f on g.serial (meaning_of g.answer) is) all
 
 -- where nothing but the next lines of the client changes its trail
 owed_on : (c : ℕ) (base : World) (e f : Exchange) → GoesOn c base e f → (e.under_way ≡ [] → trail_of c base f ≡ trail_of c base e) → AllByRecursion (IsOwed c base e) e.owed → AllByRecursion (IsOwed c base f) e.owed
@@ -160,7 +160,7 @@ one_more_given c base first e g is h =
       rising = h.rising;
       lines = h.lines;
       owed = owed_on c base e f on (λ _. refl) h.owed;
-      answers = all_more (IsGiven c base f) e.answers g (given_on c base e f on h.answers) (told_on c base e f on g.serial (meaning_of g.answer) is);
+      answers = all_more (IsGiven c base f) e.answers g (given_on c base e f on h.answers) (returned_on c base e f on g.serial (meaning_of g.answer) is);
     }
 
 -- ---- what is in hand
@@ -253,11 +253,11 @@ crashed c base first e h =
     }
 
 -- an answer that is heard
-heard_as : (c : ℕ) (base : World) (first : ℕ) (e : Exchange) (m : Meaning) (serial : ℕ) → e.book.awaited ≡ Some serial → IsTold c base e serial m → Holds c base first e →
+heard_as : (c : ℕ) (base : World) (first : ℕ) (e : Exchange) (m : Meaning) (serial : ℕ) → e.book.awaited ≡ Some serial → IsReturned c base e serial m → Holds c base first e →
     Holds c base first (record e { book = opened (kept_after e.book.kept m); done = e.done ++ noted e.book.kept m })
-heard_as c base first e (Done r) serial awaited told h =
-    let is : IsCarried c base e r = (told.1 awaited).0 in
-    let whole : settled_of c base e ≡ trail_of c base e = (told.1 awaited).1 in
+heard_as c base first e (Done r) serial awaited returned h =
+    let is : IsCarried c base e r = (returned.1 awaited).0 in
+    let whole : settled_of c base e ≡ trail_of c base e = (returned.1 awaited).1 in
     let s : Session = in_trail e.book.kept is.order r in
     let noted_is : noted e.book.kept (Done r) ≡ s ∷ [] = ap (λ o. noted_as e.book.kept.last o r) is.in_hand in
     let done_is : e.done ++ noted e.book.kept (Done r) ≡ e.done ++ (s ∷ []) = ap (λ l. e.done ++ l) noted_is in
@@ -277,8 +277,8 @@ heard_as c base first e (Done r) serial awaited told h =
       owed = owed_on c base e f on (λ _. refl) h.owed;
       answers = given_on c base e f on h.answers;
     }
-heard_as c base first e NotDone serial awaited told h =
-    let is : IsFree c base e = told.1 awaited in
+heard_as c base first e NotDone serial awaited returned h =
+    let is : IsFree c base e = returned.1 awaited in
     let f : Exchange = record e { book = opened (record { last = e.book.kept.last; in_hand = None }); done = e.done ++ [] } in
     let on : GoesOn c base e f = unheard c base e f (omega arith) refl in
     let same = append-nil e.done in
@@ -296,8 +296,8 @@ heard_as c base first e NotDone serial awaited told h =
       owed = owed_on c base e f on (λ _. refl) h.owed;
       answers = given_on c base e f on h.answers;
     }
-heard_as c base first e SendAgain serial awaited told h = subst (λ d. Holds c base first (record e { book = opened e.book.kept; done = d })) (sym (append-nil e.done)) (crashed c base first e h)
-heard_as c base first e CountLost serial awaited told h = absurd (told.1 awaited)
+heard_as c base first e SendAgain serial awaited returned h = subst (λ d. Holds c base first (record e { book = opened e.book.kept; done = d })) (sym (append-nil e.done)) (crashed c base first e h)
+heard_as c base first e CountLost serial awaited returned h = absurd (returned.1 awaited)
 
 awaits : (serial : ℕ) (o : Option ℕ) → is_at serial o ≡ true → o ≡ Some serial
 awaits serial None e = absurd (cc)
@@ -446,7 +446,7 @@ came_refused c base first e l ls refusal means free at h =
     let trail : trail_of c base e ≡ e.done = free ∙ append-nil e.done in
     let all : settled_of c base e ≡ trail_of c base e = squeezed (trail_of c base e) (settled_of c base e) h.safe (orders_of c (fold base (take e.settled e.trail)) (drop e.settled e.trail))
     (h.settled ∙ ap (λ z. z ++ h.safe) (sym trail)) (orders_cut c base e.settled e.trail) in
-    let told : IsTold c base f l.serial NotDone = (at.less, λ a. record { none = at.alone a; trail = trail; settled = all }) in
+    let returned : IsReturned c base f l.serial NotDone = (at.less, λ a. record { none = at.alone a; trail = trail; settled = all }) in
     record {
       more = h.more;
       orders = h.orders;
@@ -459,7 +459,7 @@ came_refused c base first e l ls refusal means free at h =
       rising = at.rising;
       lines = at.lines;
       owed = owed_on c base e f on (λ _. refl) h.owed;
-      answers = all_more (IsGiven c base f) e.answers g (given_on c base e f on h.answers) (subst (IsTold c base f l.serial) (sym means) told);
+      answers = all_more (IsGiven c base f) e.answers g (given_on c base e f on h.answers) (subst (IsReturned c base f l.serial) (sym means) returned);
     }
 
 came : (c : ℕ) (base : World) (first : ℕ) (e : Exchange) (l : Sent) (ls : List Sent) (more : List Session) → last_number (get base.sessions c) ≡ first → trail_of c base e ≡ e.done ++ more → IsInHand e.book.kept more → Oldest c base first e l ls → Holds c base first e →
@@ -494,7 +494,7 @@ turns_away : (c : ℕ) (base : World) (first : ℕ) (e : Exchange) (serial : ℕ
 turns_away c base first e serial refusal (Done r) means h = h
 turns_away c base first e serial refusal NotDone means h = h
 turns_away c base first e serial refusal CountLost means h = h
-turns_away c base first e serial refusal SendAgain means h = one_more_given c base first e (record { serial = serial; answer = Refused refusal }) (subst (IsTold c base e serial) (sym means) tt) h
+turns_away c base first e serial refusal SendAgain means h = one_more_given c base first e (record { serial = serial; answer = Refused refusal }) (subst (IsReturned c base e serial) (sym means) tt) h
 
 -- ---- the server's other events
 
@@ -571,8 +571,8 @@ releases c base first e k (Some o) is h =
     elim (nat_le o.reply.step (base.count + e.settled)) as (λ b. nat_le o.reply.step (base.count + e.settled) ≡ b → Holds c base first (if b then record e { answers = e.answers ++ (g ∷ []) } else e)) [
       | true ↦ λ yes.
           let le : o.reply.step ≤ base.count + e.settled = grind (arith, nat_tests, yes) in
-          let told : IsGiven c base e g = (owed.0, λ a. let carried = owed.1 a in (carried, all_within c base e.trail e.settled e.done (in_trail e.book.kept carried.order o.reply) carried.trail le h.within)) in
-          one_more_given c base first e g told h
+          let returned : IsGiven c base e g = (owed.0, λ a. let carried = owed.1 a in (carried, all_within c base e.trail e.settled e.done (in_trail e.book.kept carried.order o.reply) carried.trail le h.within)) in
+          one_more_given c base first e g returned h
       | false ↦ λ differs. h
     ] refl
 
@@ -641,7 +641,7 @@ at_first c base first = record {
 }
 
 no_lost_count : (c : ℕ) (base : World) (e : Exchange) (g : Given) → IsGiven c base e g → e.book.awaited ≡ Some g.serial → meaning_of g.answer ≢ CountLost
-no_lost_count c base e g is awaited lost_count = let told : IsTold c base e g.serial CountLost = subst (IsTold c base e g.serial) lost_count is in told.1 awaited
+no_lost_count c base e g is awaited lost_count = let returned : IsReturned c base e g.serial CountLost = subst (IsReturned c base e g.serial) lost_count is in returned.1 awaited
 
 once : (c : ℕ) (base : World) (first : ℕ) (e : Exchange) → Holds c base first e → IsOnce c base first e
 once c base first e h = record {

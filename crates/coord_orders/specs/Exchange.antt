@@ -53,7 +53,7 @@ pub data Event : Type 0 where
   Send : Event  -- it sends what it has in hand, first or again
   Lose : (k : ℕ) → Event  -- the k-th line under way is lost, or the server turns it away unread
   Arrive : Event  -- the oldest line under way comes to the server, which judges it
-  TurnAway : (serial : ℕ) → Refusal → Event  -- the server answers a line by a refusal that tells nothing, whatever became of the line
+  TurnAway : (serial : ℕ) → Refusal → Event  -- the server answers a line by a refusal that answers_up_to nothing, whatever became of the line
   Other : Step → Event  -- the server takes a step that is no order of the client
   Settle : (n : ℕ) → Event  -- the first n steps are settled, if fewer were
   Release : (k : ℕ) → Event  -- the k-th reply that waits is given, if its step is settled

@@ -44,8 +44,8 @@ one_history b desk shares left h1 h2 h3 h4 h5 = grind (arith, named_of)
 -- what an engine leaves in any case is what an instance leaves with its shares
 pub leaves_shares : {D V : Type 0} (b : Basis D) (shares : List (List Note)) (seen : ℕ) (served : InstanceEnd) (instance : Instance D V) (refused : Option CloseFault) → (refused ≡ None → instance.left ≡ served) → IfSome refused (λ why. instance.left ≡ Ended (Some (fault.NotClosed why)))
     → AtSomeMoment b (Retires {D = D} instance.closed.store instance.closed.base instance.closed.trail.items instance.closed.settled refused shares seen) → IfNone refused (IsSince b.base b.before shares instance.closed.base instance.closed.trail.items) → IfNone refused (seen ≤ instance.closed.settled) → LeavesShares b shares seen served instance
-leaves_shares b shares seen served instance None named told at since settled = inl (named refl, since, record { state = at.state; held = at.held; so = (at.so.1, at.so.0) }, settled)
-leaves_shares b shares seen served instance (Some why) named told at since settled = inr (why, told, record { state = at.state; held = at.held; so = (at.so.0, at.so.2) })
+leaves_shares b shares seen served instance None named returned at since settled = inl (named refl, since, record { state = at.state; held = at.held; so = (at.so.1, at.so.0) }, settled)
+leaves_shares b shares seen served instance (Some why) named returned at since settled = inr (why, returned, record { state = at.state; held = at.held; so = (at.so.0, at.so.2) })
 
 module _ {D : Type 0} (b : Basis D) {V : Type 0} (talked : V → List Talk → V → Type 0) (failed : V → V → Type 0) (most : ℕ) where
   -- an instance is left as its serving ended
@@ -76,7 +76,7 @@ module _ {D : Type 0} (b : Basis D) {V : Type 0} (talked : V → List Talk → V
         desk = is.desk;
         served = subst (LeavesInstance b talked failed most is.port v instance.callers is.desk) (sym left) (subst (λ w. LeavesInstance b talked failed most is.port v w is.desk ran) (sym same_w) (leaves_as is.port v u is.desk ran is.served));
         left = subst (λ e. IsLeftAs b is.desk instance.closed (end_fault e)) (sym left) (left_as is.port v u is.desk ran instance.closed is.served history);
-        told = begins_so here earlier is.desk.read _ reader instance.writer is.read written begins;
+        returned = begins_so here earlier is.desk.read _ reader instance.writer is.read written begins;
       }
   lived here earlier reader v u ran shares seen instance none is (inr (why, left, so)) same_w written begins =
       let refuses : AtSomeMoment b (λ g. IsLeftOf {D = D} instance.closed.store instance.closed.base instance.closed.trail.items instance.closed.settled g × RefusesClosing {D = D} g (is.desk.notes ∷ is.added.0) is.desk.seen why) =
@@ -89,7 +89,7 @@ module _ {D : Type 0} (b : Basis D) {V : Type 0} (talked : V → List Talk → V
         desk = is.desk;
         served = subst (LeavesInstance b talked failed most is.port v instance.callers is.desk) (sym left) (ran, subst (λ w. ServesInstance b talked failed most is.port v w is.desk ran) (sym same_w) is.served);
         left = subst (λ e. IsLeftAs b is.desk instance.closed (end_fault e)) (sym left) refused;
-        told = begins_so here earlier is.desk.read _ reader instance.writer is.read written begins;
+        returned = begins_so here earlier is.desk.read _ reader instance.writer is.read written begins;
       }
 
   -- an instance that did not begin. Its desk would have begun over this port
@@ -99,7 +99,7 @@ module _ {D : Type 0} (b : Basis D) {V : Type 0} (talked : V → List Talk → V
     desk = new_desk port;
     served = subst (LeavesInstance b talked failed most port v instance.callers (new_desk port)) (sym left) (subst (λ w. talked v [] w) (sym same) nobody, refl);
     left = subst (λ e. IsLeftAs b (new_desk port) instance.closed (end_fault e)) (sym left) so;
-    told = (first_settled instance.closed.base instance.closed.trail.items instance.closed.settled, refl);
+    returned = (first_settled instance.closed.base instance.closed.trail.items instance.closed.settled, refl);
   }
 
   -- the last instance: as it was left, or one that rests and that no other follows
@@ -109,7 +109,7 @@ module _ {D : Type 0} (b : Basis D) {V : Type 0} (talked : V → List Talk → V
     desk = is.desk;
     served = subst (LeavesInstance b talked failed most is.port v last.callers is.desk) (sym left) (subst (λ w. LeavesInstance b talked failed most is.port v w is.desk instance.left) (sym same_w) is.served);
     left = subst (λ e. IsLeftAs b is.desk last.closed (end_fault e)) (sym left) (subst (λ c. IsLeftAs b is.desk c (end_fault instance.left)) (sym same) is.left);
-    told = subst (λ (c : Closed D). StartsWith (first_settled c.base c.trail.items c.settled) is.desk.read) (sym same) is.told;
+    returned = subst (λ (c : Closed D). StartsWith (first_settled c.base c.trail.items c.settled) is.desk.read) (sym same) is.returned;
   }
   last_instance v instance last Why is same same_w (inr (left, rests)) = record {
     port = is.port;
@@ -117,7 +117,7 @@ module _ {D : Type 0} (b : Basis D) {V : Type 0} (talked : V → List Talk → V
     served = subst (LeavesInstance b talked failed most is.port v last.callers is.desk) (sym left)
         (subst (LeavesInstance b talked failed most is.port v last.callers is.desk) rests (subst (λ w. LeavesInstance b talked failed most is.port v w is.desk instance.left) (sym same_w) is.served));
     left = subst (λ e. IsLeftAs b is.desk last.closed (end_fault e)) (sym left) (subst (λ e. IsLeftAs b is.desk last.closed (end_fault e)) rests (subst (λ c. IsLeftAs b is.desk c (end_fault instance.left)) (sym same) is.left));
-    told = subst (λ (c : Closed D). StartsWith (first_settled c.base c.trail.items c.settled) is.desk.read) (sym same) is.told;
+    returned = subst (λ (c : Closed D). StartsWith (first_settled c.base c.trail.items c.settled) is.desk.read) (sym same) is.returned;
   }
 
   -- a last instance that ended so
@@ -125,9 +125,9 @@ module _ {D : Type 0} (b : Basis D) {V : Type 0} (talked : V → List Talk → V
   served_so port v w desk served h1 = grind arith
 
   -- the fault that is told of it has a cause. `on`: that a next instance may begin
-  told_for : (on : Type 0) (port : Local) (v w : V) (desk : DeskState Local) (left : InstanceEnd) (served : Option ServerFault) (is_broken : Bool) → LeavesInstance b talked failed most port v w desk left → IsLastInstance left served
+  returned_for : (on : Type 0) (port : Local) (v w : V) (desk : DeskState Local) (left : InstanceEnd) (served : Option ServerFault) (is_broken : Bool) → LeavesInstance b talked failed most port v w desk left → IsLastInstance left served
       → (left ≡ Unprinted → served ≡ Some fault.Write → is_broken ≡ true) → (left ≡ Resting → ¬ on) → (served ≡ Some fault.Write → is_broken ≡ true) × (served ≡ Some fault.Device → ¬ on)
-  told_for on port v w desk left served is_broken h1 h2 h3 h4 = grind arith
+  returned_for on port v w desk left served is_broken h1 h2 h3 h4 = grind arith
 
   pub served_at_last : (port : Local) (v w : V) (desk : DeskState Local) (left : InstanceEnd) (served : Option ServerFault) → LeavesInstance b talked failed most port v w desk left → IsLastInstance left served → Serves b talked failed most port v w desk served
   served_at_last port v w desk Resting served s over = subst (Serves b talked failed most port v w desk) (sym over) s
@@ -167,21 +167,21 @@ module _ {D : Type 0} (m : DiskModel D) {V : Type 0} (talked : V → List Talk �
       → Rests m talked most world v (run_of world v instance so)
   rests world v instance is so kept going all =
       let rested = subst (LeavesInstance (b world) talked failed most so.port v instance.callers so.desk) is so.served in
-      record { served = rested.0; old = kept; history = rested_history (b world) so.desk instance.closed instance.left is so.left; all_settled = all; going = going; told = so.told }
+      record { served = rested.0; old = kept; history = rested_history (b world) so.desk instance.closed instance.left is so.left; all_settled = all; going = going; returned = so.returned }
 
   -- why a fault is told of a server whose last instance was left so
   pub has_cause : {W : Type 0} (first : Kept D) (v : V) (instance : Instance D V) (ended : ServerEnd D V W) → HasLived m talked failed most first v instance → IsLastInstance instance.left ended.served → ended.closed ≡ instance.closed
       → (instance.left ≡ Unprinted → ended.served ≡ Some fault.Write → ended.printer.is_broken ≡ true) → (instance.left ≡ Resting → ¬ MayGoOn most instance.closed) → HasFaultForCause most ended
   has_cause first v instance ended lived over same write rests =
       let so = lived.instance in
-      let told = told_for (b lived.world) talked failed most (MayGoOn most instance.closed) so.port lived.callers instance.callers so.desk instance.left ended.served ended.printer.is_broken so.served over write rests in
-      (told.0, λ device. subst (λ (c : Closed D). ¬ MayGoOn most c) (sym same) (told.1 device))
+      let returned = returned_for (b lived.world) talked failed most (MayGoOn most instance.closed) so.port lived.callers instance.callers so.desk instance.left ended.served ended.printer.is_broken so.served over write rests in
+      (returned.0, λ device. subst (λ (c : Closed D). ¬ MayGoOn most c) (sym same) (returned.1 device))
 
   pub is_last : (world : World) (v : V) (instance : Instance D V) (served : Option ServerFault) → (so : IsInstance (b world) talked failed most v instance) → IsLastInstance instance.left served → IsLast m talked failed most world v (run_of world v instance so) served
   is_last world v instance served so over = record {
     served = served_at_last (b world) talked failed most so.port v instance.callers so.desk instance.left served so.served over;
     history = left_at_last (b world) so.desk instance.closed instance.left served so.left over;
-    told = so.told;
+    returned = so.returned;
   }
 
   -- one more instance after those that rested

@@ -31,29 +31,29 @@ use Rattle.coord_admin.specs.declared.request.Request.{Request}
 use Rattle.coord_admin.specs.declared.request.Request.TheVariants as request
 use Rattle.coord_admin.specs.declared.session.Ended.{Ended}
 use Rattle.coord_admin.specs.declared.session.Ended.TheVariants as ended
-use Rattle.coord_server.proofs.Told.{claim_of, noted}
+use Rattle.coord_server.proofs.Returned.{claim_of, noted}
 use Rattle.coord_server.specs.EngineDesk.{AnswersOrder, DeskAnswers, DeskKeeps, DeskState, ShowsTo}
 use Rattle.coord_server.specs.Ending.{new_desk}
-use Rattle.coord_server.specs.InOrder.{AllInOrder, BearOut, GoOn, IsBorneOut, IsOwnReply, Told, AnsweredInOrder, WritesInOrder}
+use Rattle.coord_server.specs.InOrder.{AllInOrder, BearOut, GoOn, IsBorneOut, IsOwnReply, Returned, AnsweredInOrder, WritesInOrder}
 
 -- ---- one answer after the other
 
-more_on : (first : List Step) (told : List Told) (now last : List Step) → GoOn first told now → StartsWith last now → GoOn first told last
+more_on : (first : List Step) (returned : List Returned) (now last : List Step) → GoOn first returned now → StartsWith last now → GoOn first returned last
 more_on first [] now last is on = first_of_first first now last is on
-more_on first (t ∷ told) now last is on = (is.0, more_on t.after told now last is.1 on)
+more_on first (t ∷ returned) now last is on = (is.0, more_on t.after returned now last is.1 on)
 
-and_one : (first : List Step) (told : List Told) (now last : List Step) (t : Told) → GoOn first told now → StartsWith t.after now → StartsWith last t.after → GoOn first (told ++ t ∷ []) last
+and_one : (first : List Step) (returned : List Returned) (now last : List Step) (t : Returned) → GoOn first returned now → StartsWith t.after now → StartsWith last t.after → GoOn first (returned ++ t ∷ []) last
 and_one first [] now last t is by on = (first_of_first first now t.after is by, on)
-and_one first (q ∷ told) now last t is by on = (is.0, and_one q.after told now last t is.1 by on)
+and_one first (q ∷ returned) now last t is by on = (is.0, and_one q.after returned now last t is.1 by on)
 
 both : {A : Type 0} (P : A → Type 0) (xs ys : List A) → AllByRecursion P xs → AllByRecursion P ys → AllByRecursion P (xs ++ ys)
 both P [] ys is also = also
 both P (x ∷ xs) ys is also = (is.0, both P xs ys is.1 also)
 
-abbrev line_of : Told → Line
+abbrev line_of : Returned → Line
 line_of t = t.line
 
-abbrev answer_of : Told → Answer
+abbrev answer_of : Returned → Answer
 answer_of t = t.answer
 
 -- ---- a desk whose answers are borne out by what it reads
@@ -79,20 +79,20 @@ module _ {D : Type 0} (answers : D → Request → Answer → D → Type 0) (bas
   gets_at_last d e line a (inr is) = (same d e is.1, subst (λ (x : Answer). BearOut base (reads e) (asked_by line) x) (sym is.0) tt)
 
   -- the answers to some lines
-  record Answered (d : D) (lines : List Line) (told : List Answer) (e : D) : Type 0 where
-    all : List Told
+  record Answered (d : D) (lines : List Line) (returned : List Answer) (e : D) : Type 0 where
+    all : List Returned
     lines_are : map line_of all ≡ lines
-    answers_are : map answer_of all ≡ told
+    answers_are : map answer_of all ≡ returned
     go_on : GoOn (reads d) all (reads e)
     borne_out : AllByRecursion (IsBorneOut base) all
 
-  all_get : (d e : D) (lines : List Line) (told : List Answer) → AllGet answers d lines told e → Answered d lines told e
+  all_get : (d e : D) (lines : List Line) (returned : List Answer) → AllGet answers d lines returned e → Answered d lines returned e
   all_get d e [] [] is = record { all = []; lines_are = refl; answers_are = refl; go_on = same d e is; borne_out = tt }
-  all_get d e [] (a ∷ told) is = absurd is
+  all_get d e [] (a ∷ returned) is = absurd is
   all_get d e (line ∷ lines) [] is = absurd is
-  all_get d e (line ∷ lines) (a ∷ told) is =
+  all_get d e (line ∷ lines) (a ∷ returned) is =
       let first = gets d is.0 line a is.1 in
-      let later = all_get is.0 e lines told is.3 in
+      let later = all_get is.0 e lines returned is.3 in
       record {
         all = record { line = line; answer = a; after = reads is.0 } ∷ later.all;
         lines_are = ap (λ l. line ∷ l) later.lines_are;
@@ -102,9 +102,9 @@ module _ {D : Type 0} (answers : D → Request → Answer → D → Type 0) (bas
       }
 
   -- whole lines, and the rest of what was read
-  whole : (d e : D) (read text : List ℕ) (done left : List Line) (told : List Answer) → lines_of read ≡ done ++ left → text ≡ reply_lines told → Answered d done told e → WritesInOrder base (reads d) (record { bytes_read = read; bytes_written = text }) (reads e)
-  whole d e read text done left told lines is by = record {
-    told = by.all;
+  whole : (d e : D) (read text : List ℕ) (done left : List Line) (returned : List Answer) → lines_of read ≡ done ++ left → text ≡ reply_lines returned → Answered d done returned e → WritesInOrder base (reads d) (record { bytes_read = read; bytes_written = text }) (reads e)
+  whole d e read text done left returned lines is by = record {
+    returned = by.all;
     torn = [];
     left = left;
     lines = lines ∙ ap (λ l. l ++ left) (sym by.lines_are ∙ ap (map line_of) (sym (append-nil by.all)));
@@ -116,9 +116,9 @@ module _ {D : Type 0} (answers : D → Request → Answer → D → Type 0) (bas
   }
 
   -- and one more answer
-  one_more : (d f e : D) (done : List Line) (told : List Answer) (line : Line) (a : Answer) → Answered d done told f → StartsWith (reads e) (reads f) → BearOut base (reads e) (asked_by line) a → Answered d (done ++ line ∷ []) (told ++ a ∷ []) e
-  one_more d f e done told line a by on bear =
-      let t : Told = record { line = line; answer = a; after = reads e } in
+  one_more : (d f e : D) (done : List Line) (returned : List Answer) (line : Line) (a : Answer) → Answered d done returned f → StartsWith (reads e) (reads f) → BearOut base (reads e) (asked_by line) a → Answered d (done ++ line ∷ []) (returned ++ a ∷ []) e
+  one_more d f e done returned line a by on bear =
+      let t : Returned = record { line = line; answer = a; after = reads e } in
       record {
         all = by.all ++ t ∷ [];
         lines_are = map-append line_of by.all (t ∷ []) ∙ ap (λ l. l ++ line ∷ []) by.lines_are;
@@ -127,31 +127,31 @@ module _ {D : Type 0} (answers : D → Request → Answer → D → Type 0) (bas
         borne_out = both (IsBorneOut base) by.all (t ∷ []) by.borne_out (bear, tt);
       }
 
-  finished : (d e : D) (read text : List ℕ) (done : List Line) (last : Line) (told : List Answer) → lines_of read ≡ done ++ last ∷ [] → text ≡ reply_lines told ++ reply_lines (last_answers last) → Answered d done told e → WritesInOrder base (reads d) (record { bytes_read = read; bytes_written = text }) (reads e)
-  finished d e read text done (Some []) told lines is by = whole d e read text done (Some [] ∷ []) told lines (is ∙ append-nil (reply_lines told)) by
-  finished d e read text done None told lines is by =
-      whole d e read text (done ++ None ∷ []) [] (told ++ answer.Faulted Unfinished ∷ []) (lines ∙ sym (append-nil (done ++ None ∷ []))) (is ∙ sym (flat_map-append reply_line told (answer.Faulted Unfinished ∷ []))) (one_more d e e done told None (answer.Faulted Unfinished) by (all_of (reads e)) tt)
-  finished d e read text done (Some (x ∷ xs)) told lines is by =
-      whole d e read text (done ++ Some (x ∷ xs) ∷ []) [] (told ++ answer.Faulted Unfinished ∷ []) (lines ∙ sym (append-nil (done ++ Some (x ∷ xs) ∷ []))) (is ∙ sym (flat_map-append reply_line told (answer.Faulted Unfinished ∷ []))) (one_more d e e done told (Some (x ∷ xs)) (answer.Faulted Unfinished) by (all_of (reads e)) tt)
+  finished : (d e : D) (read text : List ℕ) (done : List Line) (last : Line) (returned : List Answer) → lines_of read ≡ done ++ last ∷ [] → text ≡ reply_lines returned ++ reply_lines (last_answers last) → Answered d done returned e → WritesInOrder base (reads d) (record { bytes_read = read; bytes_written = text }) (reads e)
+  finished d e read text done (Some []) returned lines is by = whole d e read text done (Some [] ∷ []) returned lines (is ∙ append-nil (reply_lines returned)) by
+  finished d e read text done None returned lines is by =
+      whole d e read text (done ++ None ∷ []) [] (returned ++ answer.Faulted Unfinished ∷ []) (lines ∙ sym (append-nil (done ++ None ∷ []))) (is ∙ sym (flat_map-append reply_line returned (answer.Faulted Unfinished ∷ []))) (one_more d e e done returned None (answer.Faulted Unfinished) by (all_of (reads e)) tt)
+  finished d e read text done (Some (x ∷ xs)) returned lines is by =
+      whole d e read text (done ++ Some (x ∷ xs) ∷ []) [] (returned ++ answer.Faulted Unfinished ∷ []) (lines ∙ sym (append-nil (done ++ Some (x ∷ xs) ∷ []))) (is ∙ sym (flat_map-append reply_line returned (answer.Faulted Unfinished ∷ []))) (one_more d e e done returned (Some (x ∷ xs)) (answer.Faulted Unfinished) by (all_of (reads e)) tt)
 
   served : (d e : D) (read text : List ℕ) (how : Result Ended ServeFault) → Served answers d read text how e → WritesInOrder base (reads d) (record { bytes_read = read; bytes_written = text }) (reads e)
-  served d e read text (Ok ended.Input) (told, last, reaches, is) = finished d e read text reaches.0 last told reaches.1 is (all_get d e reaches.0 told reaches.2)
-  served d e read text (Ok ended.Closed) (told, line, after, left, f, reaches, last, is) =
+  served d e read text (Ok ended.Input) (returned, last, reaches, is) = finished d e read text reaches.0 last returned reaches.1 is (all_get d e reaches.0 returned reaches.2)
+  served d e read text (Ok ended.Closed) (returned, line, after, left, f, reaches, last, is) =
       let on = gets f e line answer.Closed last in
-      whole d e read text (reaches.0 ++ line ∷ []) (after ∷ left) (told ++ answer.Closed ∷ []) (reaches.1 ∙ sym (append_assoc reaches.0 (line ∷ []) (after ∷ left)))
-      (is ∙ ap (λ l. reply_lines told ++ l) (sym (append-nil (reply_line answer.Closed))) ∙ sym (flat_map-append reply_line told (answer.Closed ∷ [])))
-      (one_more d f e reaches.0 told line answer.Closed (all_get d f reaches.0 told reaches.2) on.0 tt)
-  served d e read text (Ok ended.Cut) (told, last, reaches, is) = whole d e read text reaches.0 (last ∷ []) told reaches.1 is (all_get d e reaches.0 told reaches.2)
-  served d e read text (Err serve.Read) (told, last, reaches, is) = whole d e read text reaches.0 (last ∷ []) told reaches.1 is (all_get d e reaches.0 told reaches.2)
-  served d e read text (Err serve.Turns) ((told, last, reaches, is), many) = whole d e read text reaches.0 (last ∷ []) told reaches.1 is (all_get d e reaches.0 told reaches.2)
-  served d e read text (Err serve.Write) (told, line, behind, left, f, g, a, untold, part, reaches, last, rest, posted, first, is) =
-      let by = all_get d f reaches.0 told reaches.2 in
+      whole d e read text (reaches.0 ++ line ∷ []) (after ∷ left) (returned ++ answer.Closed ∷ []) (reaches.1 ∙ sym (append_assoc reaches.0 (line ∷ []) (after ∷ left)))
+      (is ∙ ap (λ l. reply_lines returned ++ l) (sym (append-nil (reply_line answer.Closed))) ∙ sym (flat_map-append reply_line returned (answer.Closed ∷ [])))
+      (one_more d f e reaches.0 returned line answer.Closed (all_get d f reaches.0 returned reaches.2) on.0 tt)
+  served d e read text (Ok ended.Cut) (returned, last, reaches, is) = whole d e read text reaches.0 (last ∷ []) returned reaches.1 is (all_get d e reaches.0 returned reaches.2)
+  served d e read text (Err serve.Read) (returned, last, reaches, is) = whole d e read text reaches.0 (last ∷ []) returned reaches.1 is (all_get d e reaches.0 returned reaches.2)
+  served d e read text (Err serve.Turns) ((returned, last, reaches, is), many) = whole d e read text reaches.0 (last ∷ []) returned reaches.1 is (all_get d e reaches.0 returned reaches.2)
+  served d e read text (Err serve.Write) (returned, line, behind, left, f, g, a, unreturned, part, reaches, last, rest, posted, first, is) =
+      let by = all_get d f reaches.0 returned reaches.2 in
       let here = gets_at_last f g line a last in
-      let after = all_get g e behind untold rest in
-      let t : Told = record { line = line; answer = a; after = reads g } in
+      let after = all_get g e behind unreturned rest in
+      let t : Returned = record { line = line; answer = a; after = reads g } in
       let on : StartsWith (reads e) (reads g) = leads (reads g) after.all (reads e) after.go_on in
       record {
-        told = by.all;
+        returned = by.all;
         torn = t ∷ [];
         left = behind ++ left;
         lines = reaches.1 ∙ sym (ap (λ l. l ++ (behind ++ left)) (map-append line_of by.all (t ∷ []) ∙ ap (λ l. l ++ line ∷ []) by.lines_are) ∙ append_assoc reaches.0 (line ∷ []) (behind ++ left));
@@ -162,7 +162,7 @@ module _ {D : Type 0} (answers : D → Request → Answer → D → Type 0) (bas
         text_is = is ∙ ap (λ l. reply_lines l ++ part) (sym by.answers_are);
       }
     where
-      leads : (first : List Step) (told : List Told) (last : List Step) → GoOn first told last → StartsWith last first
+      leads : (first : List Step) (returned : List Returned) (last : List Step) → GoOn first returned last → StartsWith last first
       leads first [] last on = on
       leads first (q ∷ qs) last on = first_of_first first q.after last on.0 (leads q.after qs last on.1)
   served d e read text (Err serve.OutOfMemory) (nothing, none, is) =
@@ -173,12 +173,12 @@ module _ {D : Type 0} (answers : D → Request → Answer → D → Type 0) (bas
     all_served d e [] is = same d e is
     all_served d e (c ∷ cs) is = (reads is.0, served d is.0 c.talk.bytes_read c.talk.bytes_written c.ended is.1.1, all_served is.0 e cs is.3)
 
-pub earlier_on : (first now : List Step) (told : List Told) (last : List Step) → StartsWith now first → GoOn now told last → GoOn first told last
+pub earlier_on : (first now : List Step) (returned : List Returned) (last : List Step) → StartsWith now first → GoOn now returned last → GoOn first returned last
 earlier_on first now [] last by on = first_of_first first now last by on
-earlier_on first now (t ∷ told) last by on = (first_of_first first now t.after by on.0, on.1)
+earlier_on first now (t ∷ returned) last by on = (first_of_first first now t.after by on.0, on.1)
 
 pub from_earlier : (base : World) (first now : List Step) (talk : Talk) (last : List Step) → StartsWith now first → WritesInOrder base now talk last → WritesInOrder base first talk last
-from_earlier base first now talk last by w = record { told = w.told; torn = w.torn; left = w.left; lines = w.lines; go_on = earlier_on first now (w.told ++ w.torn) last by w.go_on; borne_out = w.borne_out; part = w.part; broken = w.broken; text_is = w.text_is }
+from_earlier base first now talk last by w = record { returned = w.returned; torn = w.torn; left = w.left; lines = w.lines; go_on = earlier_on first now (w.returned ++ w.torn) last by w.go_on; borne_out = w.borne_out; part = w.part; broken = w.broken; text_is = w.text_is }
 
 and_last : (base : World) (first : List Step) (cs : List Connection) (now last : List Step) (c : Connection) → AllInOrder base first cs now → WritesInOrder base now c.talk last → AllInOrder base first (cs ++ c ∷ []) last
 and_last base first [] now last c is also = (last, from_earlier base first now c.talk last is also, all_of last)
@@ -231,22 +231,22 @@ abbrev bearing : {D : Type 0} → Basis D → List Step → List Step → Result
 bearing b read now asked a = StartsWith now read × BearOut b.base now asked a
 
 order_bears : {D : Type 0} (b : Basis D) (client number : ℕ) (command : Command) (result : Result Reply Refusal) (before after : List Note) (read now : List Step) → AnswersOrder b (step.Order client number command) result before after read now → bearing b read now (Ok (request.Order client number command)) (order_answer result)
-order_bears b client number command (Ok r) before after read now (claim, accepted, told) =
+order_bears b client number command (Ok r) before after read now (claim, accepted, returned) =
     let s = step.Order client number command in
-    let at = told.at in
+    let at = returned.at in
     let note = noted s (engine_verdict accepted.state s) (record { ledger = accepted.state.ledger; notes = before }) (record { ledger = accepted.so.0; notes = after }) claim accepted.so.1 in
     let is = subst (λ (c : Claim). IsCollectable at.state.ledger.log c) (claim_of s r claim at.so.0.0 note.0) at.so.0.1 in
-    (told.begins, own_reply at.state.ledger.log b.base now s r at.held.grown.same_base at.so.1 is)
+    (returned.begins, own_reply at.state.ledger.log b.base now s r at.held.grown.same_base at.so.1 is)
 order_bears b client number command (Err why) before after read now (inl is) = (subst (λ l. StartsWith l read) (sym is.1) (all_of read), refused_is b.base now (Ok (request.Order client number command)) why)
 order_bears b client number command (Err why) before after read now (inr is) = (is.2.begins, refused_is b.base now (Ok (request.Order client number command)) why)
 
 show_bears : {D : Type 0} (b : Basis D) (result : Result Shown Refusal) (n m : ℕ) (read now : List Step) → ShowsTo b result n m read now → bearing b read now (Ok request.Show) (show_answer result)
-show_bears b (Ok view) n m read now told =
-    let at = told.at in
+show_bears b (Ok view) n m read now returned =
+    let at = returned.at in
     let log = at.state.ledger.log in
     let here : settled_world log ≡ fold b.base now = ap (λ (w : World). fold w (settled_steps log)) at.held.grown.same_base ∙ ap (fold b.base) at.so.1 in
-    (told.begins, (accepted_count log, at.so.0.2 ∙ ap (shown (accepted_count log)) here))
-show_bears b (Err why) n m read now told = (told.0.begins, refused_is b.base now (Ok request.Show) why)
+    (returned.begins, (accepted_count log, at.so.0.2 ∙ ap (shown (accepted_count log)) here))
+show_bears b (Err why) n m read now returned = (returned.0.begins, refused_is b.base now (Ok request.Show) why)
 
 resend_bears : (base : World) (steps : List Step) (result : Result ℕ Refusal) → BearOut base steps (Ok request.Resend) (resend_answer result)
 resend_bears base steps (Ok k) = tt

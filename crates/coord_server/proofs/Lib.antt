@@ -4,10 +4,10 @@ pub mod InOrder
 pub mod Moments
 pub mod OneHistory
 pub mod Reading
-pub mod RunTold
+pub mod RunReturned
 pub mod Settled
 pub mod Signals
 pub mod SignalsBetween
 pub mod Starts
-pub mod Told
-pub mod WorkedTold
+pub mod Returned
+pub mod WorkedReturned

@@ -19,7 +19,7 @@ use Rattle.coord_engine.specs.Facade.{Beginning, IsAfterSome, IsPastOf, MayPrint
 use Rattle.coord_engine.specs.State.{based_on}
 use Rattle.coord_engine.specs.declared.closed.Closed.{Closed}
 use Rattle.coord_server.proofs.Ends.{and_last, is_last, one_more, rested_history, rests, run_of}
-use Rattle.coord_server.proofs.OneHistory.{Tells, behind_rested, is_left, leaves_all, left_of, tells}
+use Rattle.coord_server.proofs.OneHistory.{SaysWhatIsLeft, behind_rested, is_left, leaves_all, left_of, says_what_is_left}
 use Rattle.coord_server.proofs.Starts.{on_more, printed_more}
 use Rattle.coord_server.specs.EngineDesk.{DeskState}
 use Rattle.coord_server.specs.Ending.{IsInstance, IsOneHistory, end_fault}
@@ -86,7 +86,7 @@ module _ {D : Type 0} (m : DiskModel D) where
   pub next_from : (first now : Kept D) (steps : List Step) (left : Closed D) {P : Type 0} (desk : DeskState P) → ComesFrom m first steps now → IsOneHistory (based_on m now.world []) desk left → KeepsAlong m now left.trail.items left.store
       → left.settled ≡ left.base.count + length left.trail.items → ComesFrom m first (steps ++ left.trail.items) left.store
   next_from first now steps left desk come history along all =
-      let t = tells (based_on m now.world []) left (left_of (based_on m now.world []) desk left history) in
+      let t = says_what_is_left (based_on m now.world []) left (left_of (based_on m now.world []) desk left history) in
       let world : left.store.world ≡ fold now.world left.trail.items = leaves_all now.world left t all in
       let path = path_of come left.trail.items t.steps in
       inr (record { trail = path.0; leads = path.1 ∙ sym world; along = after_instance first now steps left come along })
@@ -104,7 +104,7 @@ module _ {D : Type 0} (m : DiskModel D) where
   leads_of first now steps (inr come) = come.leads
 
   -- the settled steps of an instance after those before it
-  pub settled_behind : (first : World) (steps : List Step) (world : World) (left : Closed D) → fold first steps ≡ world → Tells world left → first_settled first (steps ++ left.trail.items) left.settled ≡ steps ++ first_settled left.base left.trail.items left.settled
+  pub settled_behind : (first : World) (steps : List Step) (world : World) (left : Closed D) → fold first steps ≡ world → SaysWhatIsLeft world left → first_settled first (steps ++ left.trail.items) left.settled ≡ steps ++ first_settled left.base left.trail.items left.settled
   settled_behind first steps world left leads t =
       let trail = left.trail.items in
       let count : world.count ≡ first.count + length steps = ap (λ (w : World). w.count) (sym leads) ∙ fold_counts first steps in
@@ -120,10 +120,10 @@ module _ {D : Type 0} (m : DiskModel D) where
       ap (λ k. take k left.trail.items) n ∙ take-length left.trail.items
 
 -- an instance may tell of signals by the history of the instances before it
-pub tells_on : {D : Type 0} (m : DiskModel D) (may : Beginning → ℕ → ℕ → ℕ → Type 0) (history own : TableId) (first now : Kept D) (steps written : List Step) → ((earlier : List Step) → MayPrint history earlier (fold first.world earlier) may) → own ≡ history → ComesFrom m first steps now → written ≡ steps
+pub may_print_on : {D : Type 0} (m : DiskModel D) (may : Beginning → ℕ → ℕ → ℕ → Type 0) (history own : TableId) (first now : Kept D) (steps written : List Step) → ((earlier : List Step) → MayPrint history earlier (fold first.world earlier) may) → own ≡ history → ComesFrom m first steps now → written ≡ steps
     → MayPrint own written now.world may
-tells_on m may history own first now steps written tell same come is =
-    subst (λ h. MayPrint h written now.world may) (sym same) (subst (λ w. MayPrint history written w may) (ap (fold first.world) is ∙ leads_of m first now steps come) (tell written))
+may_print_on m may history own first now steps written may_print same come is =
+    subst (λ h. MayPrint h written now.world may) (sym same) (subst (λ w. MayPrint history written w may) (ap (fold first.world) is ∙ leads_of m first now steps come) (may_print written))
 
 module _ {D : Type 0} (m : DiskModel D) {V : Type 0} (talked : V → List Talk → V → Type 0) (failed : V → V → Type 0) (most : ℕ) where
   -- one more instance has rested, and the next one begins with this
@@ -144,7 +144,7 @@ module _ {D : Type 0} (m : DiskModel D) {V : Type 0} (talked : V → List Talk �
   pub ends_along : (first now : Kept D) (v u : V) (instance : Instance D V) (written : List Step) → RestedTo m talked most first v now u written → instance.writer.steps ≡ written ++ first_settled instance.closed.base instance.closed.trail.items instance.closed.settled → IsInstance (based_on m now.world []) talked failed most u instance → KeepsAlong m now instance.closed.trail.items instance.closed.store → HasLived m talked failed most first v instance
   ends_along first now v u instance written rested adds so along =
       let instances = rested.0 in
-      let settled = settled_behind m first.world (all_steps instances) now.world instance.closed (leads_of m first now (all_steps instances) rested.2) (tells (based_on m now.world []) instance.closed (is_left (based_on m now.world []) so.desk instance.closed (end_fault instance.left) so.left)) in
+      let settled = settled_behind m first.world (all_steps instances) now.world instance.closed (leads_of m first now (all_steps instances) rested.2) (says_what_is_left (based_on m now.world []) instance.closed (is_left (based_on m now.world []) so.desk instance.closed (end_fault instance.left) so.left)) in
       record {
         rested = instances;
         world = now.world;

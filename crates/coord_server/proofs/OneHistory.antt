@@ -20,7 +20,7 @@ use Rattle.coord_server.specs.declared.fault.ServerFault.TheVariants as fault
 -- ---- one instance
 
 -- what an instance that began with a world and left this tells of its trail and its store
-pub record Tells {D : Type 0} (world : World) (left : Closed D) : Type 0 where
+pub record SaysWhatIsLeft {D : Type 0} (world : World) (left : Closed D) : Type 0 where
   pub from : left.base ≡ world
   pub steps : IsTrail world left.trail.items
   pub done : ℕ
@@ -43,11 +43,11 @@ is_left b desk left (Some fault.Write) is = left_of b desk left is
 is_left b desk left (Some (fault.NotClosed why)) is = record { state = is.so.state; held = is.so.held; so = is.so.so.0 }
 
 -- what is left tells so: the log under the lock was consistent, and its settled world is the store's
-pub tells : {D : Type 0} (b : Basis D) (left : Closed D) → LeavesLedger b left → Tells b.base left
-tells b left h1 = grind arith
+pub says_what_is_left : {D : Type 0} (b : Basis D) (left : Closed D) → LeavesLedger b left → SaysWhatIsLeft b.base left
+says_what_is_left b left h1 = grind arith
 
 -- an instance of which all is settled leaves the world after its trail
-pub leaves_all : {D : Type 0} (world : World) (left : Closed D) → Tells world left → left.settled ≡ left.base.count + length left.trail.items → left.store.world ≡ fold world left.trail.items
+pub leaves_all : {D : Type 0} (world : World) (left : Closed D) → SaysWhatIsLeft world left → left.settled ≡ left.base.count + length left.trail.items → left.store.world ≡ fold world left.trail.items
 leaves_all world left t all =
     let same : left.base.count ≡ world.count = ap (λ (w : World). w.count) t.from in
     let whole : t.done ≡ length left.trail.items = omega (arith, t.counted, all, same) in
@@ -119,7 +119,7 @@ numbers (s ∷ ss) w = ap (λ l. (w.count + 1) ∷ l) (numbers ss (next w s))
 -- ---- all instances
 
 -- instances, and the last one, are one history
-one_history : {D V : Type 0} (began world : World) (ls : List (InstanceRun D V)) (last : InstanceRun D V) → GoOn began ls world → Tells world last.left → AreOneHistory began (ls ++ last ∷ []) last.left.store last.left.settled
+one_history : {D V : Type 0} (began world : World) (ls : List (InstanceRun D V)) (last : InstanceRun D V) → GoOn began ls world → SaysWhatIsLeft world last.left → AreOneHistory began (ls ++ last ∷ []) last.left.store last.left.settled
 one_history {D} {V} began world ls last here t =
     let left = last.left in
     let trail = left.trail.items in
@@ -147,13 +147,13 @@ module _ {D : Type 0} (m : DiskModel D) {V : Type 0} (talked : V → List Talk �
   instances_go_on began next v w [] instances = instances.0
   instances_go_on began next v w (l ∷ ls) instances =
       let r = instances.0 in
-      let t = tells (based_on m began []) l.left (left_of (based_on m began []) l.desk l.left r.history) in
+      let t = says_what_is_left (based_on m began []) l.left (left_of (based_on m began []) l.desk l.left r.history) in
       (t.from, t.steps, subst (λ x. GoOn x ls next) (leaves_all began l.left t r.all_settled) (instances_go_on l.left.store.world next l.callers w ls instances.1))
 
 module _ {D : Type 0} (m : DiskModel D) {V : Type 0} (talked : V → List Talk → V → Type 0) (failed : V → V → Type 0) (most : ℕ) where
   -- those that rested, and the last one
   pub behind_rested : (began world : World) (v u : V) (ls : List (InstanceRun D V)) (l : InstanceRun D V) (why : Option ServerFault) → HaveRested m talked most began v ls world u → IsLast m talked failed most world u l why → AreOneHistory began (ls ++ l ∷ []) l.left.store l.left.settled
-  behind_rested began world v u ls l why rested last = one_history began world ls l (instances_go_on m talked most began world v u ls rested) (tells (based_on m world []) l.left (is_left (based_on m world []) l.desk l.left why last.history))
+  behind_rested began world v u ls l why rested last = one_history began world ls l (instances_go_on m talked most began world v u ls rested) (says_what_is_left (based_on m world []) l.left (is_left (based_on m world []) l.desk l.left why last.history))
 
   -- instances are some that rested, and a last one
   apart : (began : World) (v w : V) (instances : List (InstanceRun D V)) (why : Option ServerFault) (left : Closed D) → AreInstances m talked failed most began v instances why left w

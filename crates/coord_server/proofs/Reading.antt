@@ -40,8 +40,8 @@ begins_so history earlier first later before now was is begins =
 
 module _ {D : Type 0} (b : Basis D) (history : TableId) (earlier : List Step) (before now : Beginning) (P : GuardedState D → Type 0) where
   -- what is so at a moment of which the settled steps were read
-  pub told_at : IsReadIn history earlier before → StartsWith now.steps before.steps → AtMomentRead b history earlier now P → AtMomentAnswered b (read_in earlier before) (read_in earlier now) P
-  told_at was begins is = record {
+  pub returned_at : IsReadIn history earlier before → StartsWith now.steps before.steps → AtMomentRead b history earlier now P → AtMomentAnswered b (read_in earlier before) (read_in earlier now) P
+  returned_at was begins is = record {
     at = record { state = is.state; held = is.held; so = (is.so.0, sym (read_back history earlier (settled_steps is.state.ledger.log) now is.so.1)) };
     begins = begins_so history earlier (read_in earlier before) (read_in earlier now) before now was (is_read history earlier (settled_steps is.state.ledger.log) now is.so.1) begins;
   }
@@ -51,8 +51,8 @@ module _ {D : Type 0} (b : Basis D) (history : TableId) (earlier : List Step) (b
 
 -- what is shown to a desk that reads on
 pub shows_to : {D : Type 0} (b : Basis D) (history : TableId) (earlier : List Step) (before now : Beginning) (result : Result Shown Refusal) (seen later : ℕ) → IsReadIn history earlier before → StartsWith now.steps before.steps → AnswersShow b history earlier now result seen later → ShowsTo b result seen later (read_in earlier before) (read_in earlier now)
-shows_to b history earlier before now (Ok view) seen later was begins is = told_at b history earlier before now (Shows view seen later) was begins is
-shows_to b history earlier before now (Err why) seen later was begins is = (told_at b history earlier before now (RefusesShow why seen) was begins is.0, is.1)
+shows_to b history earlier before now (Ok view) seen later was begins is = returned_at b history earlier before now (Shows view seen later) was begins is
+shows_to b history earlier before now (Err why) seen later was begins is = (returned_at b history earlier before now (RefusesShow why seen) was begins is.0, is.1)
 
 pub read_shown : {D : Type 0} (b : Basis D) (history : TableId) (earlier : List Step) (now : Beginning) (result : Result Shown Refusal) (seen later : ℕ) → AnswersShow b history earlier now result seen later → IsReadIn history earlier now
 read_shown b history earlier now (Ok view) seen later is = read_at b history earlier now now (Shows view seen later) is

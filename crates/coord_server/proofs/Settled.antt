@@ -28,7 +28,7 @@ use Rattle.coord_admin.specs.declared.session.Ended.{Ended}
 use Rattle.coord_admin.specs.declared.session.Ended.TheVariants as ended
 use Rattle.coord_server.specs.EngineDesk.{DeskAnswers, DeskKeeps, DeskState, ShowsTo, seen_after}
 use Rattle.coord_server.specs.Ending.{new_desk}
-use Rattle.coord_server.specs.Told.{AllWriteUpTo, AnswersUpTo, ToldIsSettled, WritesUpTo}
+use Rattle.coord_server.specs.Returned.{AllWriteUpTo, AnswersUpTo, ReturnedIsSettled, WritesUpTo}
 
 -- ---- what an answer tells
 
@@ -40,35 +40,35 @@ further n m (answer.Resent k) le is = tt
 further n m answer.Closed le is = tt
 further n m (answer.Faulted f) le is = tt
 
-all_further : (n m : ℕ) (told : List Answer) → n ≤ m → AllByRecursion (AnswersUpTo n) told → AllByRecursion (AnswersUpTo m) told
+all_further : (n m : ℕ) (returned : List Answer) → n ≤ m → AllByRecursion (AnswersUpTo n) returned → AllByRecursion (AnswersUpTo m) returned
 all_further n m [] le is = tt
-all_further n m (a ∷ told) le is = (further n m a le is.0, all_further n m told le is.1)
+all_further n m (a ∷ returned) le is = (further n m a le is.0, all_further n m returned le is.1)
 
-all_both : (n : ℕ) (told more : List Answer) → AllByRecursion (AnswersUpTo n) told → AllByRecursion (AnswersUpTo n) more → AllByRecursion (AnswersUpTo n) (told ++ more)
+all_both : (n : ℕ) (returned more : List Answer) → AllByRecursion (AnswersUpTo n) returned → AllByRecursion (AnswersUpTo n) more → AllByRecursion (AnswersUpTo n) (returned ++ more)
 all_both n [] more is also = also
-all_both n (a ∷ told) more is also = (is.0, all_both n told more is.1 also)
+all_both n (a ∷ returned) more is also = (is.0, all_both n returned more is.1 also)
 
 -- ---- what a text tells
 
 text_further : (n m : ℕ) (text : List ℕ) → n ≤ m → WritesUpTo n text → WritesUpTo m text
-text_further n m text le is = record { told = is.told; up_to = all_further n m is.told le is.up_to; part = is.part; broken = broken is.part is.broken; text_is = is.text_is }
+text_further n m text le is = record { returned = is.returned; up_to = all_further n m is.returned le is.up_to; part = is.part; broken = broken is.part is.broken; text_is = is.text_is }
   where
     broken : (part : List ℕ) → (part ≡ []) ⊎ ((last : Answer) × AnswersUpTo n last × IsFirstPart part (reply_line last)) → (part ≡ []) ⊎ ((last : Answer) × AnswersUpTo m last × IsFirstPart part (reply_line last))
     broken part (inl none) = inl none
     broken part (inr at) = inr (at.0, further n m at.0 le at.1, at.2)
 
 -- whole lines
-lines_distinguish : (n : ℕ) (told : List Answer) (text : List ℕ) → AllByRecursion (AnswersUpTo n) told → text ≡ reply_lines told → WritesUpTo n text
-lines_distinguish n told text all is = record { told = told; up_to = all; part = []; broken = inl refl; text_is = is ∙ sym (append-nil (reply_lines told)) }
+lines_distinguish : (n : ℕ) (returned : List Answer) (text : List ℕ) → AllByRecursion (AnswersUpTo n) returned → text ≡ reply_lines returned → WritesUpTo n text
+lines_distinguish n returned text all is = record { returned = returned; up_to = all; part = []; broken = inl refl; text_is = is ∙ sym (append-nil (reply_lines returned)) }
 
 -- and those after them
-more_tell : (n : ℕ) (told more : List Answer) (text : List ℕ) → AllByRecursion (AnswersUpTo n) told → AllByRecursion (AnswersUpTo n) more → text ≡ reply_lines told ++ reply_lines more → WritesUpTo n text
-more_tell n told more text all also is = lines_distinguish n (told ++ more) text (all_both n told more all also) (is ∙ sym (flat_map-append reply_line told more))
+more_return_ : (n : ℕ) (returned more : List Answer) (text : List ℕ) → AllByRecursion (AnswersUpTo n) returned → AllByRecursion (AnswersUpTo n) more → text ≡ reply_lines returned ++ reply_lines more → WritesUpTo n text
+more_return_ n returned more text all also is = lines_distinguish n (returned ++ more) text (all_both n returned more all also) (is ∙ sym (flat_map-append reply_line returned more))
 
-last_tells : (n : ℕ) (line : Line) → AllByRecursion (AnswersUpTo n) (last_answers line)
-last_tells n None = (tt, tt)
-last_tells n (Some []) = tt
-last_tells n (Some (x ∷ xs)) = (tt, tt)
+says_last : (n : ℕ) (line : Line) → AllByRecursion (AnswersUpTo n) (last_answers line)
+says_last n None = (tt, tt)
+says_last n (Some []) = tt
+says_last n (Some (x ∷ xs)) = (tt, tt)
 
 -- a desk that had seen n answers so, and then has seen m
 abbrev Goes : ℕ → Answer → ℕ → Type 0
@@ -96,41 +96,41 @@ module _ {D : Type 0} (answers : D → Request → Answer → D → Type 0) (see
   gets_at_last d e line a (inl is) = gets d e line a is
   gets_at_last d e line a (inr is) = subst (λ (x : Answer). Goes (seen d) x (seen e)) (sym is.0) (same d e is.1, tt)
 
-  all_get : (d e : D) (lines : List Line) (told : List Answer) → AllGet answers d lines told e → (seen d ≤ seen e) × AllByRecursion (AnswersUpTo (seen e)) told
+  all_get : (d e : D) (lines : List Line) (returned : List Answer) → AllGet answers d lines returned e → (seen d ≤ seen e) × AllByRecursion (AnswersUpTo (seen e)) returned
   all_get d e [] [] is = (same d e is, tt)
-  all_get d e [] (a ∷ told) is = absurd is
+  all_get d e [] (a ∷ returned) is = absurd is
   all_get d e (line ∷ lines) [] is = absurd is
-  all_get d e (line ∷ lines) (a ∷ told) is =
+  all_get d e (line ∷ lines) (a ∷ returned) is =
       let first = gets d is.0 line a is.1 in
-      let later = all_get is.0 e lines told is.3 in
+      let later = all_get is.0 e lines returned is.3 in
       (omega (arith, first.0, later.0), (further (seen is.0) (seen e) a later.0 first.1, later.1))
 
   served : (d e : D) (read text : List ℕ) (how : Result Ended ServeFault) → Served answers d read text how e → (seen d ≤ seen e) × WritesUpTo (seen e) text
-  served d e read text (Ok ended.Input) (told, last, reaches, is) =
-      let all = all_get d e reaches.0 told reaches.2 in
-      (all.0, more_tell (seen e) told (last_answers last) text all.1 (last_tells (seen e) last) is)
-  served d e read text (Ok ended.Closed) (told, line, next, left, f, reaches, last, is) =
-      let all = all_get d f reaches.0 told reaches.2 in
+  served d e read text (Ok ended.Input) (returned, last, reaches, is) =
+      let all = all_get d e reaches.0 returned reaches.2 in
+      (all.0, more_return_ (seen e) returned (last_answers last) text all.1 (says_last (seen e) last) is)
+  served d e read text (Ok ended.Closed) (returned, line, next, left, f, reaches, last, is) =
+      let all = all_get d f reaches.0 returned reaches.2 in
       let on = (gets f e line answer.Closed last).0 in (
         omega (arith, all.0, on),
-        more_tell (seen e) told (answer.Closed ∷ []) text (all_further (seen f) (seen e) told on all.1) (tt, tt) (is ∙ ap (λ l. reply_lines told ++ l) (sym (append-nil (reply_line answer.Closed)))),
+        more_return_ (seen e) returned (answer.Closed ∷ []) text (all_further (seen f) (seen e) returned on all.1) (tt, tt) (is ∙ ap (λ l. reply_lines returned ++ l) (sym (append-nil (reply_line answer.Closed)))),
       )
-  served d e read text (Ok ended.Cut) (told, last, reaches, is) =
-      let all = all_get d e reaches.0 told reaches.2 in
-      (all.0, lines_distinguish (seen e) told text all.1 is)
-  served d e read text (Err serve.Read) (told, last, reaches, is) =
-      let all = all_get d e reaches.0 told reaches.2 in
-      (all.0, lines_distinguish (seen e) told text all.1 is)
-  served d e read text (Err serve.Turns) ((told, last, reaches, is), many) =
-      let all = all_get d e reaches.0 told reaches.2 in
-      (all.0, lines_distinguish (seen e) told text all.1 is)
-  served d e read text (Err serve.Write) (told, line, behind, left, f, g, a, untold, part, reaches, last, rest, posted, first, is) =
-      let all = all_get d f reaches.0 told reaches.2 in
+  served d e read text (Ok ended.Cut) (returned, last, reaches, is) =
+      let all = all_get d e reaches.0 returned reaches.2 in
+      (all.0, lines_distinguish (seen e) returned text all.1 is)
+  served d e read text (Err serve.Read) (returned, last, reaches, is) =
+      let all = all_get d e reaches.0 returned reaches.2 in
+      (all.0, lines_distinguish (seen e) returned text all.1 is)
+  served d e read text (Err serve.Turns) ((returned, last, reaches, is), many) =
+      let all = all_get d e reaches.0 returned reaches.2 in
+      (all.0, lines_distinguish (seen e) returned text all.1 is)
+  served d e read text (Err serve.Write) (returned, line, behind, left, f, g, a, unreturned, part, reaches, last, rest, posted, first, is) =
+      let all = all_get d f reaches.0 returned reaches.2 in
       let here = gets_at_last f g line a last in
-      let on = (all_get g e behind untold rest).0 in
+      let on = (all_get g e behind unreturned rest).0 in
       let le : seen f ≤ seen e = omega (arith, here.0, on) in (
         omega (arith, all.0, le),
-        record { told = told; up_to = all_further (seen f) (seen e) told le all.1; part = part; broken = inr (a, further (seen g) (seen e) a on here.1, first); text_is = is },
+        record { returned = returned; up_to = all_further (seen f) (seen e) returned le all.1; part = part; broken = inr (a, further (seen g) (seen e) a on here.1, first); text_is = is },
       )
   served d e read text (Err serve.OutOfMemory) (nothing, none, is) = (same d e is, lines_distinguish (seen e) [] text tt none)
 
@@ -185,8 +185,8 @@ world_counts : (log : Log) → log.settled ≤ length log.trail → (settled_wor
 world_counts log within = omega (arith, fold_counts log.base (take log.settled log.trail), length-take-le log.settled log.trail within)
 
 show_goes : {D : Type 0} (b : Basis D) (result : Result Shown Refusal) (n m : ℕ) (read now : List Step) → ShowsTo b result n m read now → Goes n (show_answer result) m
-show_goes b (Ok view) n m read now told =
-    let is = told.at in
+show_goes b (Ok view) n m read now returned =
+    let is = returned.at in
     let log = is.state.ledger.log in
     let counted : view.settled ≡ (settled_world log).count = ap (λ (v : Shown). v.settled) is.so.0.2 in
     (omega (arith, is.so.0.1, is.so.0.3), omega (arith, is.so.0.3, counted, world_counts log is.held.log.within))
@@ -202,8 +202,8 @@ desk_goes b d e request.Show a is = subst (λ (x : Answer). Goes d.seen x e.seen
 desk_goes b d e request.Resend a is = subst (λ (x : Answer). Goes d.seen x e.seen) (sym is.1) (omega (arith, is.4), resend_answers e.seen is.0)
 desk_goes {D} {P} b d e request.Close a is = subst (λ (x : Answer). Goes d.seen x e.seen) (sym is.0) (omega (arith, ap (λ (x : DeskState P). x.seen) is.1), tt)
 
-pub told_is_settled : (D P : Type 0) {V : Type 0} (talked : V → List Talk → V → Type 0) → ToldIsSettled D P talked
-told_is_settled D P talked b most port v w desk left history =
+pub returned_is_settled : (D P : Type 0) {V : Type 0} (talked : V → List Talk → V → Type 0) → ReturnedIsSettled D P talked
+returned_is_settled D P talked b most port v w desk left history =
     let sees = desk_goes {D = D} {P = P} b in
     let saw = λ (x : DeskState P). x.seen in (
       λ is. all_write_further desk.seen left.settled is.0 history.seen (all_served (DeskAnswers b) saw sees (DeskKeeps b) most (new_desk port) desk is.0 is.2).1,

@@ -8,5 +8,5 @@ use Rattle.coord_engine.specs.Facade.{GivesSignal, MayPrint}
 use Rattle.coord_server.specs.Signals.{MaySignal}
 
 -- a signal of a settled step of an instance that goes on in its history
-pub may_tell : (history : TableId) (began : World) (earlier : List Step) → MayPrint history earlier (fold began earlier) (MaySignal history (GivesSignal began))
-may_tell history began earlier settled step node epoch gives = (refl, gives_behind began earlier settled step node epoch gives)
+pub may_print_after : (history : TableId) (began : World) (earlier : List Step) → MayPrint history earlier (fold began earlier) (MaySignal history (GivesSignal began))
+may_print_after history began earlier settled step node epoch gives = (refl, gives_behind began earlier settled step node epoch gives)

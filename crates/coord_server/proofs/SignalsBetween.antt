@@ -130,9 +130,9 @@ printed_between model talked failed contents most store callers printer ended ru
     let bounds = bound_between base earlier between rest part trail again in
     record {
       most = λ v x inside linked.
-          let told = lines a b v base steps run.printed.signals printer.last ended.printer.last base.count (subst (λ l. IsPast a b v l base.count) (sym new) (inr (refl, inr refl))) run.printed.follow run.printed.may_be_printed in
+          let returned = lines a b v base steps run.printed.signals printer.last ended.printer.last base.count (subst (λ l. IsPast a b v l base.count) (sym new) (inr (refl, inr refl))) run.printed.follow run.printed.may_be_printed in
           let some = after_within a b v base.count (releases_of (outs base steps)) in
           let all = subst (λ l. count_within a b v (releases_of (outs base l)) ≤ signals_of v (outs (fold base earlier) between)) (sym is) (all_within a b v base earlier between rest refl refl) in
-          omega (arith, told, some, all, bounds.most v x inside linked);
+          omega (arith, returned, some, all, bounds.most v x inside linked);
       least = bounds.least;
     }

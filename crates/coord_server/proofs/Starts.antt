@@ -70,14 +70,14 @@ module _ {W : Type 0} (contents : W → Option (List ℕ)) where
       whole_more q torn (inl none) = inl none
       whole_more q torn (inr is) = inr (torn_more q torn is)
 
-      pub told_more : (p q : PrinterState W) → HasPrinted contents may p q → HasPrinted contents more p q
-      told_more p q told = record {
-        signals = told.signals;
-        torn = told.torn;
-        bytes = told.bytes;
-        may_be_printed = each_more told.signals told.may_be_printed;
-        follow = told.follow;
-        whole = whole_more q told.torn told.whole;
+      pub returned_more : (p q : PrinterState W) → HasPrinted contents may p q → HasPrinted contents more p q
+      returned_more p q returned = record {
+        signals = returned.signals;
+        torn = returned.torn;
+        bytes = returned.bytes;
+        may_be_printed = each_more returned.signals returned.may_be_printed;
+        follow = returned.follow;
+        whole = whole_more q returned.torn returned.whole;
       }
 
       opened_more : (q : PrinterState W) (first torn : List ℕ) (signals : List StepSignal) → ((first ≡ []) × (signals ≡ []) × ((torn ≡ []) ⊎ IsTornAddress q torn)) ⊎ ((address : SocketAddr) × (first ≡ listening_line address) × ((torn ≡ []) ⊎ IsTornSignal may q torn))
@@ -97,55 +97,55 @@ module _ {W : Type 0} (contents : W → Option (List ℕ)) where
       }
 
     -- nothing was told yet
-    pub told_none : (p : PrinterState W) → HasPrinted contents may p p
-    told_none p = record { signals = []; torn = []; bytes = appends_none (contents p.output); may_be_printed = tt; follow = refl; whole = inl refl }
+    pub returned_none : (p : PrinterState W) → HasPrinted contents may p p
+    returned_none p = record { signals = []; torn = []; bytes = appends_none (contents p.output); may_be_printed = tt; follow = refl; whole = inl refl }
 
     -- while the output works, each line was written whole
-    whole_lines : (p m : PrinterState W) (told : HasPrinted contents may p m) → m.is_broken ≡ false → Appends (contents p.output) (contents m.output) (signal_lines told.signals)
-    whole_lines p m told works =
-        let left : told.torn ≡ [] = none_torn told.torn works told.whole in
-        subst (Appends (contents p.output) (contents m.output)) (ap (λ l. signal_lines told.signals ++ l) left ∙ append-nil (signal_lines told.signals)) told.bytes
+    whole_lines : (p m : PrinterState W) (returned : HasPrinted contents may p m) → m.is_broken ≡ false → Appends (contents p.output) (contents m.output) (signal_lines returned.signals)
+    whole_lines p m returned works =
+        let left : returned.torn ≡ [] = none_torn returned.torn works returned.whole in
+        subst (Appends (contents p.output) (contents m.output)) (ap (λ l. signal_lines returned.signals ++ l) left ∙ append-nil (signal_lines returned.signals)) returned.bytes
       where
         none_torn : (torn : List ℕ) → m.is_broken ≡ false → (torn ≡ []) ⊎ IsTornSignal may m torn → torn ≡ []
         none_torn torn works (inl none) = none
         none_torn torn works (inr broken) = absurd (false≢true (sym works ∙ broken.broken))
 
     -- one more signal that may be told
-    pub told_next : (p m q : PrinterState W) (s : StepSignal) → HasPrinted contents may p m → m.is_broken ≡ false → may s.step s.node s.epoch → Prints contents m s q → HasPrinted contents may p q
-    told_next p m q s told works one (inl is) = record {
-      signals = told.signals ++ s ∷ [];
+    pub returned_next : (p m q : PrinterState W) (s : StepSignal) → HasPrinted contents may p m → m.is_broken ≡ false → may s.step s.node s.epoch → Prints contents m s q → HasPrinted contents may p q
+    returned_next p m q s returned works one (inl is) = record {
+      signals = returned.signals ++ s ∷ [];
       torn = [];
       bytes =
-          let lines : signal_lines (told.signals ++ s ∷ []) ≡ signal_lines told.signals ++ signal_line s.node s.epoch = flat_map-append (λ (x : StepSignal). signal_line x.node x.epoch) told.signals (s ∷ []) ∙ ap (λ l. signal_lines told.signals ++ l) (append-nil (signal_line s.node s.epoch)) in
-          subst (Appends (contents p.output) (contents q.output)) (sym (append-nil (signal_lines (told.signals ++ s ∷ [])) ∙ lines)) (appends_both (contents p.output) (contents m.output) (contents q.output) (signal_lines told.signals) (signal_line s.node s.epoch) (whole_lines p m told works) is.1);
-      may_be_printed = each_may told.signals s told.may_be_printed one;
-      follow = subst (Follow p.last (told.signals ++ s ∷ [])) (sym is.4) (follow_last p.last m.last told.signals s told.follow is.0);
+          let lines : signal_lines (returned.signals ++ s ∷ []) ≡ signal_lines returned.signals ++ signal_line s.node s.epoch = flat_map-append (λ (x : StepSignal). signal_line x.node x.epoch) returned.signals (s ∷ []) ∙ ap (λ l. signal_lines returned.signals ++ l) (append-nil (signal_line s.node s.epoch)) in
+          subst (Appends (contents p.output) (contents q.output)) (sym (append-nil (signal_lines (returned.signals ++ s ∷ [])) ∙ lines)) (appends_both (contents p.output) (contents m.output) (contents q.output) (signal_lines returned.signals) (signal_line s.node s.epoch) (whole_lines p m returned works) is.1);
+      may_be_printed = each_may returned.signals s returned.may_be_printed one;
+      follow = subst (Follow p.last (returned.signals ++ s ∷ [])) (sym is.4) (follow_last p.last m.last returned.signals s returned.follow is.0);
       whole = inl refl;
     }
-    told_next p m q s told works one (inr is) = record {
-      signals = told.signals;
+    returned_next p m q s returned works one (inr is) = record {
+      signals = returned.signals;
       torn = [];
-      bytes = subst (λ (x : PrinterState W). Appends (contents p.output) (contents x.output) (signal_lines told.signals ++ [])) (sym is) (subst (Appends (contents p.output) (contents m.output)) (sym (append-nil (signal_lines told.signals))) (whole_lines p m told works));
-      may_be_printed = told.may_be_printed;
-      follow = subst (λ (x : PrinterState W). Follow p.last told.signals x.last) (sym is) told.follow;
+      bytes = subst (λ (x : PrinterState W). Appends (contents p.output) (contents x.output) (signal_lines returned.signals ++ [])) (sym is) (subst (Appends (contents p.output) (contents m.output)) (sym (append-nil (signal_lines returned.signals))) (whole_lines p m returned works));
+      may_be_printed = returned.may_be_printed;
+      follow = subst (λ (x : PrinterState W). Follow p.last returned.signals x.last) (sym is) returned.follow;
       whole = inl refl;
     }
 
     -- the output failed in the line of a signal that may be told
-    told_torn : (p m q : PrinterState W) (s : StepSignal) → HasPrinted contents may p m → m.is_broken ≡ false → may s.step s.node s.epoch → is_next m.last s.step s.node ≡ true → BreaksIn contents m (signal_line s.node s.epoch) q → HasPrinted contents may p q
-    told_torn p m q s told works one next breaks = record {
-      signals = told.signals;
+    returned_torn : (p m q : PrinterState W) (s : StepSignal) → HasPrinted contents may p m → m.is_broken ≡ false → may s.step s.node s.epoch → is_next m.last s.step s.node ≡ true → BreaksIn contents m (signal_line s.node s.epoch) q → HasPrinted contents may p q
+    returned_torn p m q s returned works one next breaks = record {
+      signals = returned.signals;
       torn = breaks.0.0;
-      bytes = appends_both (contents p.output) (contents m.output) (contents q.output) (signal_lines told.signals) breaks.0.0 (whole_lines p m told works) breaks.0.1;
-      may_be_printed = told.may_be_printed;
-      follow = subst (Follow p.last told.signals) (sym breaks.3) told.follow;
+      bytes = appends_both (contents p.output) (contents m.output) (contents q.output) (signal_lines returned.signals) breaks.0.0 (whole_lines p m returned works) breaks.0.1;
+      may_be_printed = returned.may_be_printed;
+      follow = subst (Follow p.last returned.signals) (sym breaks.3) returned.follow;
       whole = inr (record { broken = breaks.1; signal = s; may_be_printed = one; next = subst (λ l. is_next l s.step s.node ≡ true) (sym breaks.3) next; part = breaks.0.2 });
     }
 
     -- the output had failed before, or failed in this line
-    pub told_last : (p m q : PrinterState W) (s : StepSignal) (is_broken : Bool) → m.is_broken ≡ is_broken → HasPrinted contents may p m → may s.step s.node s.epoch → q.is_broken ≡ true → (m.is_broken ≡ true → q ≡ m) → (m.is_broken ≡ false → q.is_broken ≡ true → (is_next m.last s.step s.node ≡ true) × BreaksIn contents m (signal_line s.node s.epoch) q) → HasPrinted contents may p q
-    told_last p m q s true was told one fails same torn = subst (HasPrinted contents may p) (sym (same was)) told
-    told_last p m q s false was told one fails same torn = told_torn p m q s told was one (torn was fails).0 (torn was fails).1
+    pub returned_last : (p m q : PrinterState W) (s : StepSignal) (is_broken : Bool) → m.is_broken ≡ is_broken → HasPrinted contents may p m → may s.step s.node s.epoch → q.is_broken ≡ true → (m.is_broken ≡ true → q ≡ m) → (m.is_broken ≡ false → q.is_broken ≡ true → (is_next m.last s.step s.node ≡ true) × BreaksIn contents m (signal_line s.node s.epoch) q) → HasPrinted contents may p q
+    returned_last p m q s true was returned one fails same torn = subst (HasPrinted contents may p) (sym (same was)) returned
+    returned_last p m q s false was returned one fails same torn = returned_torn p m q s returned was one (torn was fails).0 (torn was fails).1
 
     -- nothing was printed
     pub printed_none : (p q : PrinterState W) → q ≡ p → IsPrinted contents may p q
@@ -174,12 +174,12 @@ module _ {W : Type 0} (contents : W → Option (List ℕ)) where
 
     -- the first line, and then signals
     pub printed_all : (p m q : PrinterState W) → PrintsAddress contents p m → HasPrinted contents may m q → IsPrinted contents may p q
-    printed_all p m q opened told = record {
+    printed_all p m q opened returned = record {
       first = listening_line opened.0;
-      signals = told.signals;
-      torn = told.torn;
-      bytes = appends_both (contents p.output) (contents m.output) (contents q.output) (listening_line opened.0) (signal_lines told.signals ++ told.torn) opened.1 told.bytes;
-      opened = inr (opened.0, refl, told.whole);
-      may_be_printed = told.may_be_printed;
-      follow = subst (λ l. Follow l told.signals q.last) opened.3 told.follow;
+      signals = returned.signals;
+      torn = returned.torn;
+      bytes = appends_both (contents p.output) (contents m.output) (contents q.output) (listening_line opened.0) (signal_lines returned.signals ++ returned.torn) opened.1 returned.bytes;
+      opened = inr (opened.0, refl, returned.whole);
+      may_be_printed = returned.may_be_printed;
+      follow = subst (λ l. Follow l returned.signals q.last) opened.3 returned.follow;
     }

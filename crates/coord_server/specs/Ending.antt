@@ -112,7 +112,7 @@ module _ {D : Type 0} (b : Basis D) {V : Type 0} (talked : V → List Talk → V
       pub desk : DeskState Local
       pub served : LeavesInstance port v instance.callers desk instance.left
       pub left : IsLeftAs b desk instance.closed (end_fault instance.left)
-      pub told : StartsWith (first_settled instance.closed.base instance.closed.trail.items instance.closed.settled) desk.read
+      pub returned : StartsWith (first_settled instance.closed.base instance.closed.trail.items instance.closed.settled) desk.read
 
 -- An engine was taken apart into what an instance has left. Either with these shares, which noted all that was accepted: then the instance is left as its serving ended. Or it refused them, and the instance is left for that reason.
 abbrev pub LeavesShares : {D V : Type 0} → Basis D → List (List Note) → ℕ → InstanceEnd → Instance D V → Type 0

@@ -22,7 +22,7 @@ use Rattle.coord_server.specs.EngineDesk.{DeskState}
 use Rattle.coord_server.specs.Ending.{IsClosed, ServedWhileOpen}
 
 -- an answer to a line, and the settled steps of its instance by which it is given
-pub record Told : Type 0 where
+pub record Returned : Type 0 where
   pub line : Line
   pub answer : Answer
   pub after : List Step
@@ -52,25 +52,25 @@ BearOut base steps asked (answer.Resent n) = Unit {0}
 BearOut base steps asked answer.Closed = Unit {0}
 BearOut base steps asked (answer.Faulted f) = Unit {0}
 
-abbrev pub IsBorneOut : World → Told → Type 0
+abbrev pub IsBorneOut : World → Returned → Type 0
 IsBorneOut base t = BearOut base t.after (asked_by t.line) t.answer
 
 -- the steps by which these are given begin with those by which the one before was, from these on, and lead to those
-abbrev pub GoOn : List Step → List Told → List Step → Type 0
+abbrev pub GoOn : List Step → List Returned → List Step → Type 0
 GoOn first [] last = StartsWith last first
-GoOn first (t ∷ told) last = StartsWith t.after first × GoOn t.after told last
+GoOn first (t ∷ returned) last = StartsWith t.after first × GoOn t.after returned last
 
 -- What was written over a connection are the answers to its first lines, each borne out by settled steps, of which none goes back after these first ones, nor after those of an answer before. In one more line it may break off.
 pub record WritesInOrder (base : World) (first : List Step) (talk : Talk) (last : List Step) : Type 0 where
-  pub told : List Told
-  pub torn : List Told
+  pub returned : List Returned
+  pub torn : List Returned
   pub left : List Line
-  pub lines : lines_of talk.bytes_read ≡ map (λ t. t.line) (told ++ torn) ++ left
-  pub go_on : GoOn first (told ++ torn) last
-  pub borne_out : AllByRecursion (IsBorneOut base) (told ++ torn)
+  pub lines : lines_of talk.bytes_read ≡ map (λ t. t.line) (returned ++ torn) ++ left
+  pub go_on : GoOn first (returned ++ torn) last
+  pub borne_out : AllByRecursion (IsBorneOut base) (returned ++ torn)
   pub part : List ℕ
-  pub broken : ((torn ≡ []) × (part ≡ [])) ⊎ ((t : Told) × (torn ≡ t ∷ []) × IsFirstPart part (reply_line t.answer))
-  pub text_is : talk.bytes_written ≡ reply_lines (map (λ t. t.answer) told) ++ part
+  pub broken : ((torn ≡ []) × (part ≡ [])) ⊎ ((t : Returned) × (torn ≡ t ∷ []) × IsFirstPart part (reply_line t.answer))
+  pub text_is : talk.bytes_written ≡ reply_lines (map (λ t. t.answer) returned) ++ part
 
 -- over these connections, one after the other
 abbrev pub AllInOrder : World → List Step → List Connection → List Step → Type 0

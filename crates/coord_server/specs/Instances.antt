@@ -65,7 +65,7 @@ module _ {D : Type 0} (m : DiskModel D) {V : Type 0} (talked : V → List Talk �
     pub history : IsOneHistory (begun_over began) instance.desk instance.left
     pub all_settled : instance.left.settled ≡ instance.left.base.count + length instance.left.trail.items
     pub going : has_stopped instance.left.store ≡ false
-    pub told : StartsWith (first_settled instance.left.base instance.left.trail.items instance.left.settled) instance.desk.read
+    pub returned : StartsWith (first_settled instance.left.base instance.left.trail.items instance.left.settled) instance.desk.read
 
   -- instances that rest, each of which begins where the one before ended, and then this world is there, and those are who call
   abbrev pub HaveRested : World → V → List (InstanceRun D V) → World → V → Type 0
@@ -78,7 +78,7 @@ module _ {D : Type 0} (m : DiskModel D) {V : Type 0} (talked : V → List Talk �
   pub record IsLast (began : World) (v : V) (instance : InstanceRun D V) (why : Option ServerFault) : Type 0 where
     pub served : Serves (based_on m began []) talked failed most instance.port v instance.callers instance.desk why
     pub history : IsLeftAs (based_on m began []) instance.desk instance.left why
-    pub told : StartsWith (first_settled instance.left.base instance.left.trail.items instance.left.settled) instance.desk.read
+    pub returned : StartsWith (first_settled instance.left.base instance.left.trail.items instance.left.settled) instance.desk.read
 
   -- these are the instances of a server that ended for this, and left these: each but the last rests, and the next one begins where it ended
   abbrev pub AreInstances : World → V → List (InstanceRun D V) → Option ServerFault → Closed D → V → Type 0

@@ -6,10 +6,10 @@ pub mod Lines
 pub mod Instances
 pub mod Moments
 pub mod Printed
-pub mod RunTold
+pub mod RunReturned
 pub mod ServerRun
 pub mod Signals
 pub mod SignalsBetween
-pub mod Told
-pub mod WorkedTold
+pub mod Returned
+pub mod WorkedReturned
 pub mod Workers

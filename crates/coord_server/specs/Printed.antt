@@ -50,7 +50,7 @@ is_amiss p settled = p.is_broken || not (nat_le p.last.step settled)
 
 -- what is told of a line that was not printed
 abbrev pub IsOfPrinting : ServerFault → Type 0
-IsOfPrinting told = (told ≡ fault.OutOfMemory) ⊎ (told ≡ fault.Write)
+IsOfPrinting returned = (returned ≡ fault.OutOfMemory) ⊎ (returned ≡ fault.Write)
 
 -- what was written of the line of an address in which the output failed: a first part of it
 pub record IsTornAddress {W : Type 0} (q : PrinterState W) (torn : List ℕ) : Type 0 where

@@ -8,7 +8,7 @@
 -- first part of one more line.
 --
 -- `AreInstances` says how one instance follows another, how each was served and left. Two laws say what follows:
--- `InstancesAreOne`, that steps and signals are numbered as one history, and `RunTellsOneHistory`, that each reply and each
+-- `InstancesAreOne`, that steps and signals are numbered as one history, and `RunAnswersFromOneHistory`, that each reply and each
 -- view is that of a first part of it.
 --
 -- `model` is the meaning of the disk. `talked` and `failed` say what those who call may do, and `most` how many steps a

@@ -105,7 +105,7 @@ pub fn serve_instance<
 ) -> Instance<D, C>
     requires here { writer.history ≡ O.history }
     requires history { start.history ≡ O.history }
-    requires tell { MayPrint writer.history writer.steps start.over.value.world
+    requires may_print { MayPrint writer.history writer.steps start.over.value.world
         (MaySignal O.history O.gives) }
     ensures instance { IsInstance (based_on D.model start.over.value.world []) C.talked C.failed
         setting.now.instance_steps callers result }
@@ -148,7 +148,7 @@ fn serve_ledger<
     requires before { (ledger.log.trail ≡ L.before) × (L.before ≡ []) }
     requires disk { IfSome ledger.disk (IsPastOf D.model L.disk) }
     requires here { O.history ≡ L.history }
-    requires tell { MayPrint L.history L.earlier L.base (MaySignal O.history O.gives) }
+    requires may_print { MayPrint L.history L.earlier L.base (MaySignal O.history O.gives) }
     ensures instance { IsInstance (based_on D.model L.base L.before) C.talked C.failed
         setting.now.instance_steps callers result }
     ensures along { StaysAlong D.model L.disk L.base

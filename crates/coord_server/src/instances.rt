@@ -67,7 +67,7 @@ pub fn serve_instances<
     requires going { has_stopped store ≡ false }
     requires here { written.0 ≡ O.history }
     requires new { written.1 ≡ record { history = O.history; steps = [] } }
-    requires tell { (earlier : List Step) → MayPrint O.history earlier (fold store.world earlier)
+    requires may_print { (earlier : List Step) → MayPrint O.history earlier (fold store.world earlier)
         (MaySignal O.history O.gives) }
     ensures served { IfOk result (ServerRun D.model C.talked C.failed most W.contents O.gives
         store callers printer) }
@@ -114,7 +114,7 @@ fn serve_and_print<
 ) -> ServerEnd<D, C, W>
     requires history { start.history ≡ O.history }
     requires new { writer ≡ record { history = O.history; steps = [] } }
-    requires tell { (earlier : List Step) → MayPrint O.history earlier
+    requires may_print { (earlier : List Step) → MayPrint O.history earlier
         (fold start.over.value.world earlier) (MaySignal O.history O.gives) }
     ensures { ServerRun D.model C.talked C.failed setting.now.instance_steps W.contents O.gives
         start.over.value callers printing.printer result }
@@ -190,7 +190,7 @@ fn print_and_live<
 ) -> ServerEnd<D, C, W>
     requires history { start.history ≡ O.history }
     requires new { writer ≡ record { history = O.history; steps = [] } }
-    requires tell { (earlier : List Step) → MayPrint O.history earlier
+    requires may_print { (earlier : List Step) → MayPrint O.history earlier
         (fold start.over.value.world earlier) (MaySignal O.history O.gives) }
     ensures { ServerRun D.model C.talked C.failed setting.now.instance_steps W.contents O.gives
         start.over.value callers printing.promise.first.value result }
@@ -217,7 +217,7 @@ fn live<
 ) -> Instance<D, C>
     requires history { start.history ≡ O.history }
     requires new { writer ≡ record { history = O.history; steps = [] } }
-    requires tell { (earlier : List Step) → MayPrint O.history earlier
+    requires may_print { (earlier : List Step) → MayPrint O.history earlier
         (fold start.over.value.world earlier) (MaySignal O.history O.gives) }
     ensures lived { HasLived D.model C.talked C.failed setting.now.instance_steps
         start.over.value callers result }

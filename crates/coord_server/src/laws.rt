@@ -4,10 +4,10 @@
 ghost use Rattle.std.specs.Prelude.{ℕ};
 ghost use Rattle.coord_server.specs.InOrder.{AnsweredInOrder};
 ghost use Rattle.coord_server.specs.Instances.{InstancesAreOne};
-ghost use Rattle.coord_server.specs.RunTold.{RunTellsOneHistory};
+ghost use Rattle.coord_server.specs.RunReturned.{RunAnswersFromOneHistory};
 ghost use Rattle.coord_server.specs.SignalsBetween.{PrintedBetween};
-ghost use Rattle.coord_server.specs.Told.{InstancesLeaveSteps, NotesAreReplies, NotesEndALife, RepliesNameSteps, ToldIsSettled};
-ghost use Rattle.coord_server.specs.WorkedTold.{TellUpToThird};
+ghost use Rattle.coord_server.specs.Returned.{InstancesLeaveSteps, NotesAreReplies, NotesEndALife, RepliesNameSteps, ReturnedIsSettled};
+ghost use Rattle.coord_server.specs.WorkedReturned.{ReturnUpToThird};
 
 use crate::SignalSource;
 use coord_admin::Callers;
@@ -37,8 +37,8 @@ pub fn notes_are_replies<D: Disk, P: Port>()
 
 /// All that the desk of an instance told or showed, over each connection that ended, is settled in what is
 /// left: no reply has a greater number, and no world that was shown counts more steps as settled.
-pub fn told_is_settled<D: Disk, C: Callers, P: Port>()
-    ensures { ToldIsSettled D P C.talked }
+pub fn returned_is_settled<D: Disk, C: Callers, P: Port>()
+    ensures { ReturnedIsSettled D P C.talked }
 {}
 
 /// What the desk of an instance told or showed, over one connection after the other, is borne out by the
@@ -51,8 +51,8 @@ pub fn answered_in_order<D: Disk, C: Callers, P: Port>()
 /// All that a server told over the connections of its instances follows from the first n settled steps of its
 /// one history, and n never falls, from one connection or one instance to the next either. A view shows the
 /// world of the store after these n steps.
-pub fn run_tells_one_history<D: Disk, C: Callers, W: Write, O: SignalSource>()
-    ensures { RunTellsOneHistory D.model C.talked C.failed W.contents O.gives }
+pub fn run_answers_from_one_history<D: Disk, C: Callers, W: Write, O: SignalSource>()
+    ensures { RunAnswersFromOneHistory D.model C.talked C.failed W.contents O.gives }
 {}
 
 /// Between two moments of the settled steps at which every node of a part that no link leaves is Ready,
@@ -65,8 +65,8 @@ pub fn printed_between<D: Disk, C: Callers, W: Write>()
 
 /// The reply to the third step and a world with three settled steps tell of three steps, and not of
 /// two. So does the line of that reply, as a client reads it.
-pub fn tell_up_to_third()
-    ensures { TellUpToThird }
+pub fn return_up_to_third()
+    ensures { ReturnUpToThird }
 {}
 
 /// Whatever a crash may leave of an instance's disk gives the world after the settled steps; after a

@@ -30,7 +30,7 @@ pub struct Printed<W: Write> {
 /// Prints the signals that come, in their order, up to the last one or to a line that could not be
 /// written. A signal for whose line there is no memory is lost, and so is one that does not come after
 /// the last one.
-#[tactic(auto, using(crate::proofs::Starts::told_none))]
+#[tactic(auto, using(crate::proofs::Starts::returned_none))]
 pub fn print_signals<W: Write, O: SignalSource, I: Iterator<Item = Signal<O>>>(
     history: &MonotoneLog,
     signals: I,
@@ -43,7 +43,7 @@ pub fn print_signals<W: Write, O: SignalSource, I: Iterator<Item = Signal<O>>>(
     ensures each { (result.printer.is_broken ≡ true) ⊎
         ((came : List StepSignal) × Drains I.next_gives signals came ×
         PrintsEach W.contents printer came result.printer) }
-    ensures told { HasPrinted W.contents (O.gives result.reader.steps) printer result.printer }
+    ensures returned { HasPrinted W.contents (O.gives result.reader.steps) printer result.printer }
     ensures own { result.reader.history ≡ O.history }
     ensures opened { result.unprinted ≡ None }
 {

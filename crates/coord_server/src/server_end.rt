@@ -56,9 +56,9 @@ impl<D: Disk, C: Callers + Drop, W: Write + Drop> ServerEnd<D, C, W> {
         ensures closed { IfOk result.0 (λ closed. (closed ≡ self.closed) ×
             (fault_at_end (has_stopped self.closed.store) self.served
             (is_amiss self.printer self.closed.settled) ≡ None)) }
-        ensures fault { IfErr result.0 (λ told. (told.1 ≡ self.closed) ×
+        ensures fault { IfErr result.0 (λ returned. (returned.1 ≡ self.closed) ×
             (fault_at_end (has_stopped self.closed.store) self.served
-            (is_amiss self.printer self.closed.settled) ≡ Some told.0)) }
+            (is_amiss self.printer self.closed.settled) ≡ Some returned.0)) }
         ensures going { IfOk result.0 (λ closed. has_stopped closed.store ≡ false) }
         ensures whole { IfOk result.0 (λ closed. (self.printer.is_broken ≡ false) ×
             (self.printer.last.step ≤ closed.settled)) }

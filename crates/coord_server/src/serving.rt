@@ -54,7 +54,7 @@ pub fn serve_store<
     requires going { has_stopped store ≡ false }
     requires here { written.0 ≡ O.history }
     requires new { written.1 ≡ record { history = O.history; steps = [] } }
-    requires tell { (earlier : List Step) → MayPrint O.history earlier (fold store.world earlier)
+    requires may_print { (earlier : List Step) → MayPrint O.history earlier (fold store.world earlier)
         (MaySignal O.history O.gives) }
     ensures served { IfOk result (HasServedUsual D.model W.contents O.gives store printer) }
     ensures unserved { IfErr result (λ back. (back.0 ≡ store) × (back.1 ≡ printer)) }
@@ -90,7 +90,7 @@ fn serve_accepted<
     requires timeouts { IsUsual callers }
     requires here { written.0 ≡ O.history }
     requires new { written.1 ≡ record { history = O.history; steps = [] } }
-    requires tell { (earlier : List Step) → MayPrint O.history earlier (fold store.world earlier)
+    requires may_print { (earlier : List Step) → MayPrint O.history earlier (fold store.world earlier)
         (MaySignal O.history O.gives) }
     ensures served { IfOk result (HasServedUsual D.model W.contents O.gives store printer) }
     ensures unserved { IfErr result (λ back. (back.0 ≡ store) × (back.1 ≡ printer)) }
@@ -118,7 +118,7 @@ pub fn serve_callers<
     requires going { has_stopped store ≡ false }
     requires here { written.0 ≡ O.history }
     requires new { written.1 ≡ record { history = O.history; steps = [] } }
-    requires tell { (earlier : List Step) → MayPrint O.history earlier (fold store.world earlier)
+    requires may_print { (earlier : List Step) → MayPrint O.history earlier (fold store.world earlier)
         (MaySignal O.history O.gives) }
     ensures served { IfOk result
         (HasServed D.model C.talked C.failed W.contents O.gives store callers printer) }

@@ -186,7 +186,7 @@ fn start<
     packets: Vec<Receiver<Vec<Packet>>>,
 ) -> Option<Crew<L>>
     requires eight { vec_len packets ≡ 8 }
-    requires tell { MayPrint L.history L.earlier L.base (MaySignal O.history O.gives) }
+    requires may_print { MayPrint L.history L.earlier L.base (MaySignal O.history O.gives) }
 {
     let flushing = start_flusher(scope, setting, engine, flusher_share)?;
     let workers = start_workers(scope, setting, engine, packets)?;
@@ -329,7 +329,7 @@ fn serve_clients<D: Disk, L: Origin, C: Callers, P: Port, O: SignalSource, R: Wa
 ) -> InstanceEnd
     requires start { IfErr opened (EndsUnopened C.failed callers.old) }
     requires new { desk.old ≡ new_desk desk.old.port }
-    ensures told { IfErr opened (λ end. result ≡ end) }
+    ensures returned { IfErr opened (λ end. result ≡ end) }
     ensures resent { IfOk opened (λ _.
         (result ≡ InstanceEnd.Ended (Some ServerFault.OutOfMemory)) ⊎ ((count : ℕ) × (later : P) ×
         HandsAgain (based_on D.model L.base L.before) P.carried P.signalled

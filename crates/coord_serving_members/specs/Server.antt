@@ -14,17 +14,17 @@ use Rattle.coord_look.specs.Reading.{IsReadOf, is_of}
 use Rattle.coord_admin.specs.Connections.{Connection, Talk}
 use Rattle.coord_admin.specs.declared.answer.Answer.TheVariants as answer
 use Rattle.coord_engine.specs.Facade.{first_settled}
-use Rattle.coord_server.specs.InOrder.{AllInOrder, Told}
+use Rattle.coord_server.specs.InOrder.{AllInOrder, Returned}
 use Rattle.coord_server.specs.Lives.{all_steps}
 use Rattle.coord_server.specs.Printed.{PrinterState}
-use Rattle.coord_server.specs.RunTold.{TellsOneHistory}
+use Rattle.coord_server.specs.RunReturned.{AnswersFromOneHistory}
 use Rattle.coord_server.specs.ServerRun.{ServerRun}
 use Rattle.coord_server.specs.declared.server_end.ServerEnd.{ServerEnd}
 
 -- all that was told over some connections, in the order in which it was written
-abbrev pub told_over : (world : World) (first : List Step) (connections : List Connection) (last : List Step) → AllInOrder world first connections last → List Told
-told_over world first [] last is = []
-told_over world first (c ∷ connections) last is = (is.1.told ++ is.1.torn) ++ told_over world is.0 connections last is.2
+abbrev pub returned_over : (world : World) (first : List Step) (connections : List Connection) (last : List Step) → AllInOrder world first connections last → List Returned
+returned_over world first [] last is = []
+returned_over world first (c ∷ connections) last is = (is.1.returned ++ is.1.torn) ++ returned_over world is.0 connections last is.2
 
 -- the member of a node reads this in a view: the node's row, and who is connected with it
 pub record IsLookAt (view : Shown) (node : ℕ) (row : Row) (party : List Entry) : Type 0 where
@@ -33,16 +33,16 @@ pub record IsLookAt (view : Shown) (node : ℕ) (row : Row) (party : List Entry)
   pub read : IsReadOf view node own row party
 
 -- Each look is read in a view among these answers, which stands at no place before that of the same member's look before. All else happens as it likes: files are lost, messages come late, again or never
-abbrev pub AreReadIn : List Told → (ℕ → ℕ) → List member.Event → Type 0
-AreReadIn told last [] = Unit {0}
-AreReadIn told last (member.Look i row now ∷ looks) =
-    (place : ℕ) × ((last i ≤ place) × ((t : Told) × ((slice_get told place ≡ Some t) × ((view : Shown) × ((t.answer ≡ answer.Shown view) × (IsLookAt view i row now × AreReadIn told (λ j. if j == i then place else last j) looks))))))
-AreReadIn told last (_ ∷ looks) = AreReadIn told last looks
+abbrev pub AreReadIn : List Returned → (ℕ → ℕ) → List member.Event → Type 0
+AreReadIn returned last [] = Unit {0}
+AreReadIn returned last (member.Look i row now ∷ looks) =
+    (place : ℕ) × ((last i ≤ place) × ((t : Returned) × ((slice_get returned place ≡ Some t) × ((view : Shown) × ((t.answer ≡ answer.Shown view) × (IsLookAt view i row now × AreReadIn returned (λ j. if j == i then place else last j) looks))))))
+AreReadIn returned last (_ ∷ looks) = AreReadIn returned last looks
 
 -- A server ran: members that read the views which it showed over all its connections, begin with nothing and follow the rule mix no runs, wherever they lose their files.
 abbrev pub NoMixOverAServer : {D V W : Type 0} → DiskModel D → (V → List Talk → V → Type 0) → (V → V → Type 0) → (W → Option (List ℕ)) → (List Step → ℕ → ℕ → ℕ → Type 0) → Type 0
 NoMixOverAServer {D} {V} {W} model talked failed contents gives =
     (most : ℕ) (store : Kept D) (v : V) (printer : PrinterState W) (ended : ServerEnd D V W) → (run : ServerRun model talked failed most contents gives store v printer ended)
     → let settled = first_settled store.world (all_steps run.lives) ended.closed.settled in
-    (is : TellsOneHistory talked failed store.world settled v run.lives)
-    × ((looks : List member.Event) → AreReadIn (told_over store.world [] is.connections settled is.told) (λ i. 0) looks → IsUnmixed (member.run member.new_world looks))
+    (is : AnswersFromOneHistory talked failed store.world settled v run.lives)
+    × ((looks : List member.Event) → AreReadIn (returned_over store.world [] is.connections settled is.returned) (λ i. 0) looks → IsUnmixed (member.run member.new_world looks))

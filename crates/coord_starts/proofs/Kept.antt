@@ -15,7 +15,7 @@ use Rattle.coord_world.specs.laws.Raised.{raised}
 use Rattle.coord_world.proofs.Facade.{kept_reply_law}
 use Rattle.coord_ledger.specs.machine.Answers.{IsOneOf}
 use Rattle.coord_following.specs.Histories.{Raises, Takes, Turn, turned}
-use Rattle.coord_starts.specs.Told.{IsLastKeptOrder, KeepsLast, led, outcomes}
+use Rattle.coord_starts.specs.Returned.{IsLastKeptOrder, KeepsLast, led, outcomes}
 use Rattle.coord_starts.proofs.Turns.{one_behind, outcome_of, outcomes-append}
 
 -- ---- one step

@@ -30,7 +30,7 @@ use Rattle.coord_ledger.proofs.machine.SettledStays.{settled_stays}
 use Rattle.coord_following.specs.Histories.{IsHistory, Takes, Turn}
 use Rattle.coord_starts.specs.OneHistory.{StartsAreOne}
 use Rattle.coord_starts.specs.Starts.{AreStarts, IsStart, MayServe, Raises, Serves, Start, at_end, left_by, released_in, released_of, replied_in, replied_of, turns_in, turns_of}
-use Rattle.coord_starts.specs.Told.{IsReplyTo, led, outcomes}
+use Rattle.coord_starts.specs.Returned.{IsReplyTo, led, outcomes}
 use Rattle.coord_starts.proofs.Kept.{IsReplyIn, keeps_last, kept_is_given, replies}
 use Rattle.coord_starts.proofs.Turns.{counted, history-append, history-steps, led-append, led-steps, numbered, one_behind, one_more, outcomes-append, outcomes-steps, reply_to}
 
@@ -93,11 +93,11 @@ module _ (w : World) (sound : IsSound w) (events : List Event) (given : List Ans
   served_replies : AllByRecursion (IsReplyIn w (map Takes steps)) end.replied
   served_replies =
       weaker (IsReplyOf w (take end.log.settled end.log.trail)) (IsReplyIn w (map Takes steps)) end.replied reply_in
-      (subst (λ v. AllByRecursion (IsReplyOf v (take end.log.settled end.log.trail)) end.replied) base consistent.told.truly)
+      (subst (λ v. AllByRecursion (IsReplyOf v (take end.log.settled end.log.trail)) end.replied) base consistent.returned.truly)
 
   served_releases : IsPartOf (released_first end.released) (releases_of (outcomes w (map Takes steps)))
   served_releases =
-      let once = subst (λ v. IsPartOf (released_first end.released) (releases_of (outs v (take end.log.settled end.log.trail)))) base consistent.told.once in
+      let once = subst (λ v. IsPartOf (released_first end.released) (releases_of (outs v (take end.log.settled end.log.trail)))) base consistent.returned.once in
       subst (λ os. IsPartOf (released_first end.released) (releases_of os)) (sym given_by)
       (subst (IsPartOf (released_first end.released)) (sym (flat_map-append (λ (r : StepOutcome). map (release_of r.reply.step) r.outputs) (outs w (take end.log.settled end.log.trail)) others))
       (part_before (released_first end.released) (releases_of (outs w (take end.log.settled end.log.trail))) (releases_of others) once))

@@ -27,9 +27,9 @@ use Rattle.coord_ledger.specs.machine.Machine.{adopted}
 use Rattle.coord_ledger.specs.promises.Broken.{HasCauseToEnd}
 use Rattle.coord_ledger.specs.promises.Headline.{Completed, Promised}
 use Rattle.coord_ledger.proofs.machine.Consistent.{adopted_is_consistent}
-use Rattle.coord_starts.specs.Runs.{AreOf, HasRun, IsOf, ServesOnce, StartsOnce, idle_start, told_as}
+use Rattle.coord_starts.specs.Runs.{AreOf, HasRun, IsOf, ServesOnce, StartsOnce, idle_start, reported_as}
 use Rattle.coord_starts.specs.Starts.{AreStarts, IsStart, MayServe, Raises, Serves, Start, at_end, left_by, turns_in}
-use Rattle.coord_starts.specs.Told.{led}
+use Rattle.coord_starts.specs.Returned.{led}
 use Rattle.coord_starts.specs.declared.starts.Outcome.{Outcome}
 use Rattle.coord_starts.specs.declared.starts.Outcome.TheVariants.{Served, Raised, Refused}
 use Rattle.coord_starts.specs.declared.starts.Task.{Task}
@@ -91,7 +91,7 @@ starts_serving w v task events items trace bytes same is listed once =
     subst (λ t. StartsOnce w t (Served trace) bytes) (sym is) (record { start = Serves events.items trace.answers.items at.kept; is_of = (at.kept, refl, at.all); may = at.may; left = at.left })
 
 -- a run ends early for lack of memory, or since the device fails
-pub passing_kind : (keeps : Bool) (events : List Event) (at : ℕ) (released : List Release) (why : RunFaultKind) → HasCauseToEnd keeps events at released why → keeps ≡ true → IsPassing (told_as why)
+pub passing_kind : (keeps : Bool) (events : List Event) (at : ℕ) (released : List Release) (why : RunFaultKind) → HasCauseToEnd keeps events at released why → keeps ≡ true → IsPassing (reported_as why)
 passing_kind keeps events at released kind.OutOfMemory cause k = inl refl
 passing_kind keeps events at released (kind.Store fault) cause k = cause.2 k
 

@@ -7,7 +7,7 @@ use Rattle.coord_world.specs.laws.Raised.{raised}
 use Rattle.coord_world.proofs.Facade.{EachFresh}
 use Rattle.coord_ledger.specs.machine.Answers.{IsOneOf}
 use Rattle.coord_following.specs.Histories.{IsHistory, Raises, Takes, Turn, turned}
-use Rattle.coord_starts.specs.Told.{IsReplyTo, led, outcomes, steps_of}
+use Rattle.coord_starts.specs.Returned.{IsReplyTo, led, outcomes, steps_of}
 
 abbrev pub outcome_of : World → Step → StepOutcome
 outcome_of w s = record { reply = reply w s; outputs = outputs w s }

@@ -1,4 +1,4 @@
-pub mod Told
+pub mod Returned
 pub mod Starts
 pub mod OneHistory
 pub mod Runs

@@ -8,7 +8,7 @@ use Rattle.coord_ledger.specs.machine.After.{releases_of}
 use Rattle.coord_ledger.specs.promises.Parts.{IsPartOf, released_first}
 use Rattle.coord_following.specs.Histories.{IsHistory}
 use Rattle.coord_starts.specs.Starts.{AreStarts, Start, left_by, released_of, replied_of, turns_of}
-use Rattle.coord_starts.specs.Told.{IsReplyTo, KeepsLast, led, outcomes, steps_of}
+use Rattle.coord_starts.specs.Returned.{IsReplyTo, KeepsLast, led, outcomes, steps_of}
 
 -- What the starts of a store have made of an empty world.
 pub record IsHistoryOfStarts (w : World) (starts : List Start) : Type 0 where

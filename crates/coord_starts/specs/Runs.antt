@@ -11,16 +11,16 @@ use Rattle.coord_ledger.specs.declared.trace.RunFaultKind.{RunFaultKind}
 use Rattle.coord_ledger.specs.declared.trace.RunFaultKind.TheVariants as kind
 use Rattle.coord_starts.specs.OneHistory.{IsHistoryOfStarts}
 use Rattle.coord_starts.specs.Starts.{AreStarts, IsStart, MayServe, Raises, Serves, Start, at_end, left_by, turns_in}
-use Rattle.coord_starts.specs.Told.{led}
+use Rattle.coord_starts.specs.Returned.{led}
 use Rattle.coord_starts.specs.declared.starts.Outcome.{Outcome}
 use Rattle.coord_starts.specs.declared.starts.Outcome.TheVariants.{Served, Raised, Refused}
 use Rattle.coord_starts.specs.declared.starts.Task.{Task}
 use Rattle.coord_starts.specs.declared.starts.Task.TheVariants.{Serve, Migrate}
 
 -- why a run of events ended early, as a store tells it
-abbrev pub told_as : RunFaultKind → StoreFault
-told_as kind.OutOfMemory = OutOfMemory
-told_as (kind.Store fault) = fault
+abbrev pub reported_as : RunFaultKind → StoreFault
+reported_as kind.OutOfMemory = OutOfMemory
+reported_as (kind.Store fault) = fault
 
 -- nothing is asked, and nothing is kept
 abbrev pub idle_start : Start

@@ -16,7 +16,7 @@ use Rattle.coord_ledger.specs.machine.Consistent.{EventInRange}
 use Rattle.coord_ledger.specs.machine.Machine.{Machine, adopted}
 use Rattle.coord_ledger.specs.machine.Runs.{Answered, run}
 use Rattle.coord_following.specs.Histories.{Turn, Takes, IsTurn, Raises as raising}
-use Rattle.coord_starts.specs.Told.{led}
+use Rattle.coord_starts.specs.Returned.{led}
 
 pub data Start : Type 0 where
   -- a ledger is asked these events and answers so, and then so many steps of its trail are kept

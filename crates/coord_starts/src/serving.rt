@@ -3,7 +3,7 @@
 ghost use Rattle.std.specs.Prelude.{◌≡◌, true, IfErr, IfOk, None, Some};
 ghost use Rattle.coord_disk.specs.Model.Calls.{Crashes};
 ghost use Rattle.coord_disk.specs.Model.Present.{whole};
-ghost use Rattle.coord_starts.specs.Runs.{ServesOnce, told_as};
+ghost use Rattle.coord_starts.specs.Runs.{ServesOnce, reported_as};
 ghost use Rattle.coord_store.specs.Refused.{IsPassing};
 
 use crate::named::lemma_all_named;
@@ -14,7 +14,7 @@ use std::alloc::Global;
 
 /// Why a run of events ended early, as a store tells it.
 fn fault_of(kind: RunFaultKind) -> StoreFault
-    ensures { result ≡ told_as kind }
+    ensures { result ≡ reported_as kind }
 {
     match kind {
         RunFaultKind::OutOfMemory => StoreFault::OutOfMemory,

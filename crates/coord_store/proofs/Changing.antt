@@ -74,11 +74,11 @@ module _ {D : Type 0} (m : DiskModel D) where
       (rw (sym (as_long w fits.body body steps fits.spells takes.spells)) room.0, room.1)
 
   -- the same change, told with the faults of another type
-  pub retold : {T U E F : Type 0} (s n : Kept D) (next : World) (a : E) (b : F) (x : T) (y : U) → Changes m next a s n (Ok x) → Changes m next b s n (Ok y)
-  retold s n next a b x y changes = record { any_moment = changes.any_moment; any_moment_refused = λ k none. tt; world = changes.world; going = changes.going; torn = λ e. ok_not y b e; same_world = tt; halves = changes.halves }
+  pub returned_again : {T U E F : Type 0} (s n : Kept D) (next : World) (a : E) (b : F) (x : T) (y : U) → Changes m next a s n (Ok x) → Changes m next b s n (Ok y)
+  returned_again s n next a b x y changes = record { any_moment = changes.any_moment; any_moment_refused = λ k none. tt; world = changes.world; going = changes.going; torn = λ e. ok_not y b e; same_world = tt; halves = changes.halves }
 
-  pub retold_refused : {T U E F : Type 0} (s n : Kept D) (next : World) (a : E) (b : F) (e : E) (f : F) → (f ≡ b → e ≡ a) → (f ≢ b → e ≢ a) → Changes {T = T} m next a s n (Err e) → Changes {T = U} m next b s n (Err f)
-  retold_refused s n next a b e f device other changes = grind (arith, err_is)
+  pub returned_again_refused : {T U E F : Type 0} (s n : Kept D) (next : World) (a : E) (b : F) (e : E) (f : F) → (f ≡ b → e ≡ a) → (f ≢ b → e ≢ a) → Changes {T = T} m next a s n (Err e) → Changes {T = U} m next b s n (Err f)
+  returned_again_refused s n next a b e f device other changes = grind (arith, err_is)
 
 -- What comes of writing another world in place of a store's, by its answer: `v` and `now` are what the store keeps then.
 module _ {D T : Type 0} (m : DiskModel D) (old new : Journal D) (w next v : World) (torn now : Option World) (none : torn ≡ None) (holds : m.keeps_model (disk_of old) ≡ true → torn ≡ None → Holds m old w) where

@@ -36,7 +36,7 @@ never_begun begun x given h1 = grind arith
 
 -- ---- a line
 
-module _ (s t : DrillState) (given : List Answer) (told : List ℕ) (empty : s.has_begun ≡ false → IsEmptyLog s.log) (begun : t.has_begun ≡ false) where
+module _ (s t : DrillState) (given : List Answer) (reported : List ℕ) (empty : s.has_begun ≡ false → IsEmptyLog s.log) (begun : t.has_begun ≡ false) where
   -- an event that leaves the log
   same_log : t.log ≡ s.log → s.has_begun ≡ false → IsEmptyLog t.log
   same_log same before = subst IsEmptyLog (sym same) (empty before)
@@ -45,7 +45,7 @@ module _ (s t : DrillState) (given : List Answer) (told : List ℕ) (empty : s.h
   by_world : (f : Log → Log) → t.log ≡ f s.log → s.has_begun ≡ false → ((w : World) → s.log ≡ log_over w → f (log_over w) ≡ log_over w) → IsEmptyLog t.log
   by_world f is before stays = grind arith
 
-  pub stays_empty : (a : Asked) → IsAnswered s a given told t → IsEmptyLog t.log
+  pub stays_empty : (a : Asked) → IsAnswered s a given reported t → IsEmptyLog t.log
   unfolding after_asked
   stays_empty (ask.Submit x) answered =
       let before : begun_after s.has_begun (ask.Submit x) given ≡ false = sym (ap (λ (r : DrillState). r.has_begun) answered.goes_on) ∙ begun in

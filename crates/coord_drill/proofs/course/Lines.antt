@@ -7,9 +7,9 @@ use Rattle.coord_ledger.specs.declared.events.Event.{Event}
 use Rattle.coord_ledger.specs.Facade.{CrashPrefix, Machine, adopted, disk_held, run, front_world}
 use Rattle.coord_drill.specs.Drill.{DrillState, line_events}
 use Rattle.coord_drill.specs.declared.asked.Asked.TheVariants.{Crash, Version2}
-use Rattle.coord_drill.specs.Facade.{Asked, CutShort, Cuts, Drill, Fault, IsEmptyLog, IsLeftBy, IsOfDisk, IsOfMemory, LineIsPromised, IsSettled, LacksMemory, LineResponds, MayCutShort, MayEndBy, Place, RaisesPart, RunsOn, Stands, failed_by, opens_disk, CarriesIf, CarriesLine, CutsIf, FirstCutShort, Goes, LineGoes, Moves, Prints, Refusal, Request, Responds, Step, Tells, UnlessSkipped, asked_in, bad_line, front_of, state_of, told_in}
+use Rattle.coord_drill.specs.Facade.{Asked, CutShort, Cuts, Drill, Fault, IsEmptyLog, IsLeftBy, IsOfDisk, IsOfMemory, LineIsPromised, IsSettled, LacksMemory, LineResponds, MayCutShort, MayEndBy, Place, RaisesPart, RunsOn, Stands, failed_by, opens_disk, CarriesIf, CarriesLine, CutsIf, FirstCutShort, Goes, LineGoes, Moves, Prints, Refusal, Request, Responds, Step, Reports, UnlessSkipped, asked_in, bad_line, front_of, state_of, reported_in}
 use Rattle.coord_drill.proofs.does.Moments.{is_version}
-use Rattle.coord_drill.proofs.course.Standing.{none_told, raises, reached_by, runs_on}
+use Rattle.coord_drill.proofs.course.Standing.{none_reported, raises, reached_by, runs_on}
 use Rattle.coord_lines.specs.Lines.{Line}
 use Rattle.coord_types.specs.declared.packets.DataPacket.{DataPacket}
 use Rattle.coord_world.specs.Facade.{World, no_world}
@@ -46,7 +46,7 @@ module _ {D : Type 0} (disk : DiskModel D) (crashes : D → D → Type 0) (d : D
       let none : failed_by refused.0 ≡ 0 = ap failed_by memory in
       record {
         cause = of_memory (opens_disk a) refused.0 memory;
-        none_told = λ version. absurd (false≢true (sym other ∙ ap is_version version));
+        none_reported = λ version. absurd (false≢true (sym other ∙ ap is_version version));
         given = given;
         mid = there.0;
         runs = subst (λ (s : DrillState). RunsOn disk crashes p.machine (es s) given p.disk there.0) (sym at.state) there.3;
@@ -55,14 +55,14 @@ module _ {D : Type 0} (disk : DiskModel D) (crashes : D → D → Type 0) (d : D
       }
 
   -- after no event
-  cut_before_events : (a : Asked) (refused : Fault × D) → (a ≡ Version2 → IsSettled (adopted (no_world 2)) p.told) → MayCutShort (opens_disk a) refused.0 → IsLeftBy disk crashes a p.machine p.disk refused.1 → disk.failures refused.1 ≡ disk.failures p.disk + failed_by refused.0 → CutShort disk crashes p a refused
-  cut_before_events a refused none cause left failed = record { cause = cause; none_told = none; given = []; mid = p.disk; runs = record { in_range = tt; answered = tt; moments = (refl, at.survives); failed = omega arith }; left = left; failed = failed }
+  cut_before_events : (a : Asked) (refused : Fault × D) → (a ≡ Version2 → IsSettled (adopted (no_world 2)) p.reported) → MayCutShort (opens_disk a) refused.0 → IsLeftBy disk crashes a p.machine p.disk refused.1 → disk.failures refused.1 ≡ disk.failures p.disk + failed_by refused.0 → CutShort disk crashes p a refused
+  cut_before_events a refused none cause left failed = record { cause = cause; none_reported = none; given = []; mid = p.disk; runs = record { in_range = tt; answered = tt; moments = (refl, at.survives); failed = omega arith }; left = left; failed = failed }
 
   -- in `version 2`
   cut_raising : (refused : Fault × D) → IsEmptyLog d.driver.ledger.log → RaisesPart disk d.driver refused → CutShort disk crashes p Version2 refused
   cut_raising refused empty part =
       let same : part.old ≡ p.disk = cc (part.there, at.holds) in
-      cut_before_events Version2 refused (λ _. none_told disk crashes d d p at empty) (part.cause empty) (raises disk crashes d d p at empty part.old refused.1 part.there part.moments) (part.failed ∙ ap (λ x. disk.failures x + failed_by refused.0) same)
+      cut_before_events Version2 refused (λ _. none_reported disk crashes d d p at empty) (part.cause empty) (raises disk crashes d d p at empty part.old refused.1 part.there part.moments) (part.failed ∙ ap (λ x. disk.failures x + failed_by refused.0) same)
 
   pub cut_by : (a : Asked) (refused : Fault × D) → LineIsPromised disk d a → Cuts disk crashes a d refused → CutShort disk crashes p a refused
   cut_by Version2 refused promised part = cut_raising refused (promised.1 refl) part
@@ -111,7 +111,7 @@ module _ {D : Type 0} (disk : DiskModel D) (crashes : D → D → Type 0) where
         responds = responds;
         lines = refl;
         printed = refl;
-        told = rw none (sym (append-nil p.told));
+        reported = rw none (sym (append-nil p.reported));
         settled = at.settled;
         moves = rw none (refl, record { in_range = tt; answered = tt; moments = (refl, at.survives); failed = omega arith });
       },
@@ -162,7 +162,7 @@ module _ {D : Type 0} (disk : DiskModel D) (crashes : D → D → Type 0) where
                   (subst (λ o. Responds p.state (p.lines + 1) o one.given text to.place.state) (sym own) answered);
               lines = to.lines;
               printed = to.printed;
-              told = subst (λ o. to.place.told ≡ p.told ++ told_in p.state o one.given) (sym asks) to.told;
+              reported = subst (λ o. to.place.reported ≡ p.reported ++ reported_in p.state o one.given) (sym asks) to.reported;
               settled = to.stands.settled;
               moves = subst (λ o. Moves disk crashes o one.given p to.place) (sym asks) to.moves;
             },
@@ -174,14 +174,14 @@ module _ {D : Type 0} (disk : DiskModel D) (crashes : D → D → Type 0) where
           rw asks (cut_by disk crashes d p at (asked (front_of d) r) refused on (cuts on))
 
   -- a line that is told as bad
-  pub tells_bad : (d : Drill D) (n : ℕ) (old text : List ℕ) (r : Result (Drill D) (Fault × D)) (line : Line) → IfOk r (λ x. x ≡ d) → OnOk r (text ≡ old ++ bad_line n) → CarriesLine disk crashes d n line (bad_line n) d →
-      IfOk r (λ x. Tells old text (λ told. CarriesLine disk crashes d n line told x))
-  tells_bad d n old text (Ok x) line same told goes = (bad_line n, (told, rw same goes))
-  tells_bad d n old text (Err e) line same told goes = tt
+  pub reports_bad : (d : Drill D) (n : ℕ) (old text : List ℕ) (r : Result (Drill D) (Fault × D)) (line : Line) → IfOk r (λ x. x ≡ d) → OnOk r (text ≡ old ++ bad_line n) → CarriesLine disk crashes d n line (bad_line n) d →
+      IfOk r (λ x. Reports old text (λ reported. CarriesLine disk crashes d n line reported x))
+  reports_bad d n old text (Ok x) line same reported goes = (bad_line n, (reported, rw same goes))
+  reports_bad d n old text (Err e) line same reported goes = tt
 
   -- it could not be told
-  pub told_lost : (d : Drill D) (p : Place D) → Stands disk d p → (line : Line) (refused : Fault × D) → asked_in p.state line ≡ None → IsOfMemory refused.0 → disk_held d.driver ≡ Some refused.1 → FirstCutShort disk crashes p (line ∷ []) refused
-  told_lost d p at line refused none memory there = rw none (memory, cc (there, at.holds))
+  pub reported_lost : (d : Drill D) (p : Place D) → Stands disk d p → (line : Line) (refused : Fault × D) → asked_in p.state line ≡ None → IsOfMemory refused.0 → disk_held d.driver ≡ Some refused.1 → FirstCutShort disk crashes p (line ∷ []) refused
+  reported_lost d p at line refused none memory there = rw none (memory, cc (there, at.holds))
 
   -- ---- lines in turn
 
@@ -202,7 +202,7 @@ module _ {D : Type 0} (disk : DiskModel D) (crashes : D → D → Type 0) where
         rest.1 ∙ ap (λ x. x ++ rest.0) one.printed ∙ append_assoc p.printed one.text rest.0,
         record {
           given = one.given;
-          told = one.text;
+          reported = one.text;
           after = first.0.state;
           rest = rest.0 ++ u;
           line = one.responds;

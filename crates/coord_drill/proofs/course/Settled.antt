@@ -15,7 +15,7 @@ use Rattle.coord_ledger.proofs.machine.SettledStays.{settled_stays}
 use Rattle.coord_drill.specs.Answered.{IsAnswered}
 use Rattle.coord_drill.specs.Drill.{DrillState, after_asked, flight_events, machine_of, step_events}
 use Rattle.coord_drill.specs.Laws.{PrintedSurvives}
-use Rattle.coord_drill.specs.Told.{flight_answered, repeat_answered, step_answered, told_by}
+use Rattle.coord_drill.specs.Reported.{flight_answered, repeat_answered, step_answered, reported_by}
 use Rattle.coord_drill.specs.declared.asked.Asked.TheVariants as ask
 use Rattle.coord_drill.specs.Facade.{Accepted, Answer, Asked, Begun, Committed, Refusal, Refused, Repeated, Step, Verdict}
 use Rattle.coord_drill.proofs.does.FlownTo.{begun_size}
@@ -76,12 +76,12 @@ module _ (s : DrillState) (x : Step) where
 
 -- ---- a line
 
-pub told_settled : (s t : DrillState) (a : Asked) (given : List Answer) (told : List ℕ) → IsAnswered s a given told t → AllByRecursion (λ k. k ≤ settled_count t.log) (told_by s a given)
-unfolding told_by after_asked
-told_settled s t (ask.Submit x) given told answered = rw answered.goes_on (step_settled s x s.holds given refl answered.answered answered.with_memory)
-told_settled s t ask.Flush given told answered = rw answered.goes_on (flight_settled (machine_of s) given answered.answered answered.with_memory)
-told_settled s t ask.Resend given told answered = (omega (arith, ap (λ (r : DrillState). settled_count r.log) answered.goes_on), tt)
-told_settled s t a given told answered = tt
+pub reported_settled : (s t : DrillState) (a : Asked) (given : List Answer) (reported : List ℕ) → IsAnswered s a given reported t → AllByRecursion (λ k. k ≤ settled_count t.log) (reported_by s a given)
+unfolding reported_by after_asked
+reported_settled s t (ask.Submit x) given reported answered = rw answered.goes_on (step_settled s x s.holds given refl answered.answered answered.with_memory)
+reported_settled s t ask.Flush given reported answered = rw answered.goes_on (flight_settled (machine_of s) given answered.answered answered.with_memory)
+reported_settled s t ask.Resend given reported answered = (omega (arith, ap (λ (r : DrillState). settled_count r.log) answered.goes_on), tt)
+reported_settled s t a given reported answered = tt
 
 -- ---- events
 
@@ -96,9 +96,9 @@ settled_grows s (e ∷ es) (a ∷ gs) named is answered =
 
 -- what was printed survives
 pub printed_survives : PrintedSurvives
-printed_survives s es gs told bytes is named answered settled survives =
+printed_survives s es gs reported bytes is named answered settled survives =
     let t = run s es gs in
     let n = survives.steps in
     let keeps = kept_more t n (run_is_consistent s es gs named is answered) survives.allowed in
     let le : n ≤ length t.log.trail = omega (arith, keeps.is, keeps.within) in
-    all_raised (λ k. k) (settled_count s.log) (world_after t.log n).count told (omega (arith, count_after t.log n le, keeps.is, settled_grows s es gs named is answered)) settled
+    all_raised (λ k. k) (settled_count s.log) (world_after t.log n).count reported (omega (arith, count_after t.log n le, keeps.is, settled_grows s es gs named is answered)) settled

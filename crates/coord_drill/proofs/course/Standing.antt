@@ -16,12 +16,12 @@ use Rattle.coord_ledger.proofs.follows.Follows.{count_is}
 use Rattle.coord_ledger.proofs.machine.Lists.{all_both, all_raised}
 use Rattle.coord_drill.specs.Answered.{IsAnswered, asked_lines}
 use Rattle.coord_drill.specs.Drill.{DrillState, after_asked, line_events}
-use Rattle.coord_drill.specs.Told.{told_by}
+use Rattle.coord_drill.specs.Reported.{reported_by}
 use Rattle.coord_drill.specs.declared.asked.Asked.TheVariants.{Version2}
 use Rattle.coord_drill.specs.Facade.{Answer, Asked, Carries, Drill, GivesEmpty, GivesRaised, IsEmptyLog, IsSettled, Leads, Led, LineIsPromised, Moves, Place, RaisesEmpty, RaisesTo, RunsOn, RunsTo, Stands, start, state_of}
 use Rattle.coord_drill.proofs.does.Moments.{is_version}
 use Rattle.coord_drill.proofs.course.Empty.{risen_empty, stays_empty}
-use Rattle.coord_drill.proofs.course.Settled.{settled_grows, told_settled}
+use Rattle.coord_drill.proofs.course.Settled.{settled_grows, reported_settled}
 
 -- ---- a store that was just made
 
@@ -75,7 +75,7 @@ module _ {D : Type 0} (disk : DiskModel D) (crashes : D → D → Type 0) where
     pub state : place.state ≡ state_of new
     pub lines : place.lines ≡ p.lines + 1
     pub printed : place.printed ≡ p.printed ++ text
-    pub told : place.told ≡ p.told ++ told_by p.state a given
+    pub reported : place.reported ≡ p.reported ++ reported_by p.state a given
     pub moves : Moves disk crashes (Some a) given p place
     pub stands : Stands disk new place
 
@@ -113,17 +113,17 @@ module _ {D : Type 0} (disk : DiskModel D) (crashes : D → D → Type 0) where
         let led = leads p.machine at.consistent at.represents in
         let there = runs_on d.driver new.driver p.machine es given p.disk at.holds at.keeps led in
         let s = run p.machine es given in
-        let told = told_by p.state a given in
-        let before = all_raised (λ k. k) (settled_count p.machine.log) (settled_count s.log) p.told (settled_grows p.machine es given led.in_range at.consistent led.answered) at.settled in
-        let later : IsSettled s told = subst (λ (t : DrillState). IsSettled s (told_by t a given)) (sym at.state)
-        (subst (λ n. AllByRecursion (λ k. k ≤ n) (told_by (state_of d) a given)) (count_is new.driver s led.consistent led.represents) (told_settled (state_of d) (state_of new) a given text answered)) in
-        let q : Place D = record { state = state_of new; lines = p.lines + 1; printed = p.printed ++ text; told = p.told ++ told; machine = s; disk = there.0 } in
+        let reported = reported_by p.state a given in
+        let before = all_raised (λ k. k) (settled_count p.machine.log) (settled_count s.log) p.reported (settled_grows p.machine es given led.in_range at.consistent led.answered) at.settled in
+        let later : IsSettled s reported = subst (λ (t : DrillState). IsSettled s (reported_by t a given)) (sym at.state)
+        (subst (λ n. AllByRecursion (λ k. k ≤ n) (reported_by (state_of d) a given)) (count_is new.driver s led.consistent led.represents) (reported_settled (state_of d) (state_of new) a given text answered)) in
+        let q : Place D = record { state = state_of new; lines = p.lines + 1; printed = p.printed ++ text; reported = p.reported ++ reported; machine = s; disk = there.0 } in
         record {
           place = q;
           state = refl;
           lines = refl;
           printed = refl;
-          told = refl;
+          reported = refl;
           moves = by_events a given q other (subst (λ (t : DrillState). RunsTo disk crashes (line_events t.holds a given) given p q) (sym at.state) (refl, there.3));
           stands = record {
             state = refl;
@@ -131,7 +131,7 @@ module _ {D : Type 0} (disk : DiskModel D) (crashes : D → D → Type 0) where
             keeps = there.2;
             consistent = led.consistent;
             represents = led.represents;
-            settled = all_both (λ k. k ≤ settled_count s.log) p.told told before later;
+            settled = all_both (λ k. k ≤ settled_count s.log) p.reported reported before later;
             empty = λ none. stays_empty (state_of d) (state_of new) given text (subst (λ (t : DrillState). t.has_begun ≡ false → IsEmptyLog t.log) at.state at.empty) none a answered;
             survives = survives_behind p.machine es given p.disk there.0 there.3.moments;
           };
@@ -145,25 +145,25 @@ module _ {D : Type 0} (disk : DiskModel D) (crashes : D → D → Type 0) where
         rw (sym same) (weaker disk old lost (GivesRaised d.driver) (λ bytes. GivesEmpty 1 bytes ⊎ GivesEmpty 2 bytes) leaves (gives_empty d.driver.ledger.log empty))
 
     -- no step was told of
-    pub none_told : IsEmptyLog d.driver.ledger.log → IsSettled (adopted (no_world 2)) p.told
-    none_told empty =
+    pub none_reported : IsEmptyLog d.driver.ledger.log → IsSettled (adopted (no_world 2)) p.reported
+    none_reported empty =
         let count : settled_count p.machine.log ≡ 0 = sym (count_is d.driver p.machine at.consistent at.represents) ∙ none_settled d.driver.ledger.log empty in
-        all_raised (λ k. k) (settled_count p.machine.log) (settled_count (adopted (no_world 2)).log) p.told (omega (arith, count)) at.settled
+        all_raised (λ k. k) (settled_count p.machine.log) (settled_count (adopted (no_world 2)).log) p.reported (omega (arith, count)) at.settled
 
     -- so is the line `version 2`
     pub reached_raised : (given : List Answer) (text : List ℕ) → IsEmptyLog d.driver.ledger.log → RaisesTo disk crashes d.driver new.driver → Reached d new p Version2 given text
-    unfolding told_by
+    unfolding reported_by
     reached_raised given text empty to =
         let log_is : new.driver.ledger.log ≡ log_over (no_world 2) = ap (λ (l : LedgerState D). l.log) to.is ∙ ap log_over (raised_to d.driver.ledger.log empty) in
         let same : started new.driver.ledger ≡ adopted (no_world 2) = ap machine_over log_is in
         let old : to.old ≡ p.disk = cc (to.there, at.holds) in
         let on = to.keeps (ap disk.keeps_model old ∙ at.keeps) in
         record {
-          place = record { state = state_of new; lines = p.lines + 1; printed = p.printed ++ text; told = p.told; machine = adopted (no_world 2); disk = to.raised };
+          place = record { state = state_of new; lines = p.lines + 1; printed = p.printed ++ text; reported = p.reported; machine = adopted (no_world 2); disk = to.raised };
           state = refl;
           lines = refl;
           printed = refl;
-          told = sym (append-nil p.told);
+          reported = sym (append-nil p.reported);
           moves = (refl, raises empty to.old to.raised to.there to.moments, to.failed ∙ ap disk.failures old);
           stands = record {
             state = refl;
@@ -171,7 +171,7 @@ module _ {D : Type 0} (disk : DiskModel D) (crashes : D → D → Type 0) where
             keeps = on;
             consistent = subst IsConsistent same to.begins.so_far.consistent;
             represents = subst (Represents new.driver) same to.begins.so_far.represents;
-            settled = none_told empty;
+            settled = none_reported empty;
             empty = λ _. inr log_is;
             survives = prefix_of new.driver to.raised to.begins to.now on (adopted (no_world 2)) same;
           };

@@ -9,19 +9,19 @@ use Rattle.coord_ledger.specs.declared.trace.RunFaultKind.TheVariants as of_run
 use Rattle.coord_ledger.specs.Facade.{IsEventFault, failed_in_run}
 use Rattle.coord_drill.specs.Facade.{IsPassingFault, failed_by, reopen_fault, store_fault}
 
-pub told_failures : (why : StoreFault) → failed_by (store_fault why) ≡ failed_in_store why
-told_failures store.OutOfMemory = refl
-told_failures why = refl
+pub reported_failures : (why : StoreFault) → failed_by (store_fault why) ≡ failed_in_store why
+reported_failures store.OutOfMemory = refl
+reported_failures why = refl
 
 -- out of memory, or a failure of the device
-pub told_passing : (why : StoreFault) → IsStorePassing why → IsPassingFault (store_fault why)
-told_passing why (inl memory) = inl (ap store_fault memory)
-told_passing why (inr device) = inr (ap store_fault device)
+pub reported_passing : (why : StoreFault) → IsStorePassing why → IsPassingFault (store_fault why)
+reported_passing why (inl memory) = inl (ap store_fault memory)
+reported_passing why (inr device) = inr (ap store_fault device)
 
 pub crash_failed : (kind : RunFaultKind) → failed_by (reopen_fault kind) ≡ failed_in_run kind
 crash_failed of_run.OutOfMemory = refl
-crash_failed (of_run.Store why) = told_failures why
+crash_failed (of_run.Store why) = reported_failures why
 
 pub crash_cause : (model : Option Bool) (kind : RunFaultKind) → IsEventFault model Crash kind → model ≡ Some true → IsPassingFault (reopen_fault kind)
 crash_cause model of_run.OutOfMemory cause on = inl refl
-crash_cause model (of_run.Store why) cause on = told_passing why (cause.2 on)
+crash_cause model (of_run.Store why) cause on = reported_passing why (cause.2 on)

@@ -144,9 +144,9 @@ module _ {D : Type 0} (disk : DiskModel D) (crashes : D → D → Type 0) (v w :
   pub flown_ready : (r : Flown) (left : List Claim) → Runs r → FlownTo log r w.ledger.log → left ≡ left_by (settled_world w.ledger.log) r claims → IsReadyWith w left
   flown_ready r left run to same = (home r run, same ∙ held_by r run to)
 
-  pub flown_told : (r : Flown) → Runs r → FlownTo log r w.ledger.log → flown_lines (settled_world w.ledger.log) r claims ≡ flight_lines log (flown_answers r b count)
-  flown_told (flown.Settled rs) run to = lines rs run to
-  flown_told r run to = refl
+  pub flown_reported : (r : Flown) → Runs r → FlownTo log r w.ledger.log → flown_lines (settled_world w.ledger.log) r claims ≡ flight_lines log (flown_answers r b count)
+  flown_reported (flown.Settled rs) run to = lines rs run to
+  flown_reported r run to = refl
 
   pub flown_leaves : (holds begun : Bool) (tickets : List (Option Reply)) (r : Flown) → Runs r → FlownTo log r w.ledger.log →
       drill_of w.ledger holds begun ≡ seen_as (after_run (record (machine_of (drill_of v.ledger holds begun)) { tickets = tickets }) (flight_events (flown_answers r b count)) (flown_answers r b count)) holds begun
@@ -166,7 +166,7 @@ flies disk crashes d new r holds begun all begins to by =
     record {
       given = given;
       with_memory = flown_memory r (next_size v.ledger.log) count;
-      printed = flown_told disk crashes v w d.tickets.items all count r run to;
+      printed = flown_reported disk crashes v w d.tickets.items all count r run to;
       goes_on = λ tickets. (λ i. drill_of w.ledger (holds i) (begun i)) ∙ flown_leaves disk crashes v w d.tickets.items all count d.holds d.has_begun tickets r run to;
       moments = by;
     }

@@ -8,14 +8,14 @@ use Rattle.coord_drill.specs.declared.asked.Asked.TheVariants.{Flush}
 use Rattle.coord_drill.specs.Facade.{Begins, Carries, Drill, Flies, count_line, state_of}
 use Rattle.coord_drill.proofs.does.Moments.{carries}
 
-module _ {D : Type 0} (disk : DiskModel D) (crashes : D → D → Type 0) (d new : Drill D) (told : List ℕ) (flown : Flies disk crashes d told new) where
+module _ {D : Type 0} (disk : DiskModel D) (crashes : D → D → Type 0) (d new : Drill D) (reported : List ℕ) (flown : Flies disk crashes d reported new) where
   flushed : state_of new ≡ after_asked (state_of d) Flush flown.given
   unfolding after_asked
   flushed = flown.goes_on []
 
-  flush_line : told ++ count_line (settled_world (state_of new).log).count ≡ asked_lines (state_of d) Flush flown.given
+  flush_line : reported ++ count_line (settled_world (state_of new).log).count ≡ asked_lines (state_of d) Flush flown.given
   unfolding asked_lines
   flush_line = grind (arith, flushed)
 
-  pub flushes : Begins d.driver → Carries disk crashes d Flush (told ++ count_line (settled_world (state_of new).log).count) new
-  flushes begins = carries disk crashes d new Flush flown.given (told ++ count_line (settled_world (state_of new).log).count) refl begins flown.moments flown.with_memory flush_line flushed
+  pub flushes : Begins d.driver → Carries disk crashes d Flush (reported ++ count_line (settled_world (state_of new).log).count) new
+  flushes begins = carries disk crashes d new Flush flown.given (reported ++ count_line (settled_world (state_of new).log).count) refl begins flown.moments flown.with_memory flush_line flushed

@@ -62,10 +62,10 @@ module _ {D : Type 0} (disk : DiskModel D) (crashes : D → D → Type 0) (d : D
 
     -- a step that is held, a repeat, and a step that is refused
     module _ (now : new.driver ≡ w) (holds : new.holds ≡ d.holds) where
-      carried : (given : List Answer) (told : List ℕ) → Leads disk crashes v (line_events d.holds (Submit x) given) given w → AllByRecursion (λ a. a ≢ answer.Refused OutOfMemory) given → told ≡ asked_lines s (Submit x) given →
-          drill_of w.ledger new.holds new.has_begun ≡ after_asked s (Submit x) given → Carries disk crashes d (Submit x) told new
-      carried given told leads memory printed on =
-          carries disk crashes d new (Submit x) given told refl begins (subst (Leads disk crashes v (line_events d.holds (Submit x) given) given) (sym now) leads) memory printed
+      carried : (given : List Answer) (reported : List ℕ) → Leads disk crashes v (line_events d.holds (Submit x) given) given w → AllByRecursion (λ a. a ≢ answer.Refused OutOfMemory) given → reported ≡ asked_lines s (Submit x) given →
+          drill_of w.ledger new.holds new.has_begun ≡ after_asked s (Submit x) given → Carries disk crashes d (Submit x) reported new
+      carried given reported leads memory printed on =
+          carries disk crashes d new (Submit x) given reported refl begins (subst (Leads disk crashes v (line_events d.holds (Submit x) given) given) (sym now) leads) memory printed
           (ap (λ (y : DriverState D). drill_of y.ledger new.holds new.has_begun) now ∙ on)
 
       pub carries_pending : (t : Claim) → Hands disk crashes v x (Ok (Accepted t)) w → new.has_begun ≡ true → d.holds ≡ true → Carries disk crashes d (Submit x) (pending_line t.step) new
@@ -90,15 +90,15 @@ module _ {D : Type 0} (disk : DiskModel D) (crashes : D → D → Type 0) (d : D
           ((λ i. drill_of (to.now i) (holds i) (begun i)) ∙ sym (refused_after s x e (refused_said e (verdict v.ledger.log x) to.why other)))
 
     -- a step that is settled at once, by the drill that holds its ticket: the machine has given that before its flight
-    pub carries_flight : (mid : Drill D) (t : Claim) (told : List ℕ) → mid.driver ≡ w → mid.holds ≡ d.holds → mid.has_begun ≡ true → d.holds ≡ false → Hands disk crashes v x (Ok (Accepted t)) w → Flies disk crashes mid told new → Carries disk crashes d (Submit x) told new
-    carries_flight mid t told there holds begun free hands flown =
+    pub carries_flight : (mid : Drill D) (t : Claim) (reported : List ℕ) → mid.driver ≡ w → mid.holds ≡ d.holds → mid.has_begun ≡ true → d.holds ≡ false → Hands disk crashes v x (Ok (Accepted t)) w → Flies disk crashes mid reported new → Carries disk crashes d (Submit x) reported new
+    carries_flight mid t reported there holds begun free hands flown =
         let to = hands.handed in
         let given = flown.given in
         let tickets : List (Option Reply) = Some (record { step = t.step; kind = to.kind }) ∷ [] in
         let mid_is : state_of mid ≡ drill_of (with_accepted v.ledger x) d.holds true = ap (λ (y : DriverState D). drill_of y.ledger mid.holds mid.has_begun) there ∙ (λ i. drill_of (to.now i) (holds i) (begun i)) in
         let hand : Leads disk crashes v (event.Submit x ∷ []) (answer.Accepted t.step ∷ []) mid.driver = subst (Leads disk crashes v (event.Submit x ∷ []) (answer.Accepted t.step ∷ [])) (sym there) hands.moments in
         let all = leads_then disk crashes v mid.driver new.driver (event.Submit x ∷ []) (flight_events given) (answer.Accepted t.step ∷ []) given hand flown.moments in
-        carries disk crashes d new (Submit x) (answer.Accepted t.step ∷ given) told refl begins
+        carries disk crashes d new (Submit x) (answer.Accepted t.step ∷ given) reported refl begins
         (rw free all) (no_refusal _ refl, flown.with_memory)
         (flown.printed ∙ ap (λ (r : DrillState). flight_lines r.log given) mid_is ∙ sym (flown_line s x t.step given free))
         (flown.goes_on tickets ∙ (λ i. seen_as (run (record (machine_of (mid_is i)) { tickets = tickets }) (flight_events given) given) (holds i) (begun i))

@@ -85,7 +85,7 @@ may_line s other = none s
 -- ---- lines
 
 abbrev pub Somehow : (List Answer → List ℕ → DrillState → Type 0) → Type 0
-Somehow P = (given : List Answer) × (told : List ℕ) × (t : DrillState) × P given told t
+Somehow P = (given : List Answer) × (reported : List ℕ) × (t : DrillState) × P given reported t
 
 responds_somehow : (s : DrillState) (n : ℕ) (r : Option Request) → Somehow (Responds s n r)
 responds_somehow s n None = ([], bad_line n, s, (refl, refl, refl))
@@ -98,7 +98,7 @@ pub line_somehow : (s : DrillState) (n : ℕ) (line : Line) → Somehow (LineRes
 line_somehow s n None = responds_somehow s n None
 line_somehow s n (Some line) = unless (is_skipped line)
   where
-    unless : (b : Bool) → Somehow (λ given told t. UnlessSkipped b s given told t (Responds s n (asked_by s line) given told t))
+    unless : (b : Bool) → Somehow (λ given reported t. UnlessSkipped b s given reported t (Responds s n (asked_by s line) given reported t))
     unless true = ([], [], s, (refl, refl, refl))
     unless false = responds_somehow s n (asked_by s line)
 
@@ -107,4 +107,4 @@ prints_somehow s n [] = ([], refl)
 prints_somehow s n (l ∷ ls) =
     let one = line_somehow s n l in
     let rest = prints_somehow one.2 (n + 1) ls in
-    (one.1 ++ rest.0, record { given = one.0; told = one.1; after = one.2; rest = rest.0; line = one.3; behind = rest.1; whole = refl })
+    (one.1 ++ rest.0, record { given = one.0; reported = one.1; after = one.2; rest = rest.0; line = one.3; behind = rest.1; whole = refl })

@@ -176,7 +176,7 @@ module _ {D : Type 0} (disk : DiskModel D) (crashes : D → D → Type 0) where
   by_asked d new given b other leads = leads
 
   -- text, state and disk of a line go by the same answers
-  module _ (d new : Drill D) (a : Asked) (given : List Answer) (told : List ℕ) where
+  module _ (d new : Drill D) (a : Asked) (given : List Answer) (reported : List ℕ) where
     pub carries : is_version a ≡ false → Begins d.driver → Leads disk crashes d.driver (line_events d.holds a given) given new.driver → AllByRecursion (λ x. x ≢ Refused OutOfMemory) given →
-        told ≡ asked_lines (state_of d) a given → state_of new ≡ after_asked (state_of d) a given → Carries disk crashes d a told new
+        reported ≡ asked_lines (state_of d) a given → state_of new ≡ after_asked (state_of d) a given → Carries disk crashes d a reported new
     carries other begins leads memory printed on = grind (arith, run_of, by_asked)

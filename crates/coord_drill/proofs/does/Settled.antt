@@ -78,8 +78,8 @@ collected_are version w (suc b) (s ∷ ss) =
     let count = (fold v (take b ss)).count in
     let own = own_lines version n (outputs w s) rest (none_later version v (take b ss) n (omega arith)) in
     let later = own_behind n (outputs w s) rest (all_later v (take b ss) n (omega arith)) in
-    let told = reply_line (reply w s) ++ (released_lines version n (map (release_of n) (outputs w s) ++ rest) ++ collected_lines version count (claims_of v ss) (behind n (map (release_of n) (outputs w s) ++ rest))) in
-    ap (λ t. cond t told []) (after_first w b s ss)
+    let reported = reply_line (reply w s) ++ (released_lines version n (map (release_of n) (outputs w s) ++ rest) ++ collected_lines version count (claims_of v ss) (behind n (map (release_of n) (outputs w s) ++ rest))) in
+    ap (λ t. cond t reported []) (after_first w b s ss)
     ∙ ap (λ l. reply_line (reply w s) ++ (l ++ collected_lines version count (claims_of v ss) (behind n (map (release_of n) (outputs w s) ++ rest)))) own
     ∙ ap (λ l. reply_line (reply w s) ++ (output_lines version (outputs w s) ++ collected_lines version count (claims_of v ss) l)) later
     ∙ ap (λ l. reply_line (reply w s) ++ (output_lines version (outputs w s) ++ l)) (collected_are version v b ss)

@@ -6,7 +6,7 @@ ghost use Rattle.coord_ledger.specs.Facade.{disk_held};
 ghost use Rattle.coord_lines.specs.Lines.{lines_on, IsWithin};
 ghost use Rattle.coord_drill.specs.Drilled.{is_skipped};
 ghost use Rattle.coord_drill.specs.Faults.{IsOfDisk, IsOfWork};
-ghost use Rattle.coord_drill.specs.Holding.{IsReadyDrill, Tells};
+ghost use Rattle.coord_drill.specs.Holding.{IsReadyDrill, Reports};
 ghost use Rattle.coord_drill.specs.Printed.{bad_line};
 ghost use Rattle.coord_drill.specs.declared.fault.Fault.TheVariants.{OutOfMemory};
 ghost use Rattle.coord_drill.specs.Lines.{CarriesLine, CarriesOut, CutsLine, LinesBreakOff, TakesPiece};
@@ -109,32 +109,32 @@ fn respond<D: CrashDisk>(
 ) -> Result<Drill<D>, (Fault, D)>
     requires ready { IsReadyDrill drill }
     ensures ready { IfOk result IsReadyDrill }
-    ensures carried { IfOk result (λ new. Tells (string_bytes text.old) (string_bytes text.new)
-        (λ told. CarriesLine D.model D.crashes drill number (option_copied line.entry) told
+    ensures carried { IfOk result (λ new. Reports (string_bytes text.old) (string_bytes text.new)
+        (λ reported. CarriesLine D.model D.crashes drill number (option_copied line.entry) reported
         new)) }
     ensures cut { IfErr result (CutsLine D.model D.crashes drill (option_copied line.entry)) }
     ensures fault { IfErr result (λ refused. IsOfDisk refused.0) }
 {
     let Some(line) = line else {
-        return tell_bad(drill, number, text);
+        return report_bad(drill, number, text);
     };
     if is_skipped(line) {
         return Ok(drill);
     }
     match drill.read(line) {
         Some(request) => drill.answer(&request, text),
-        None => tell_bad(drill, number, text),
+        None => report_bad(drill, number, text),
     }
 }
 
 /// Appends the answer to a bad line.
-fn tell_bad<D: CrashDisk>(
+fn report_bad<D: CrashDisk>(
     drill: Drill<D>,
     number: u64,
     text: &mut String,
 ) -> Result<Drill<D>, (Fault, D)>
     ensures same { IfOk result (λ new. new ≡ drill) }
-    ensures told { OnOk result (string_bytes text.new ≡
+    ensures reported { OnOk result (string_bytes text.new ≡
         string_bytes text.old ++ bad_line number) }
     ensures lost { IfErr result (λ refused. disk_held drill.driver ≡ Some refused.1) }
     ensures fault { IfErr result (λ refused. refused.0 ≡ OutOfMemory) }

@@ -2,7 +2,7 @@
 
 ghost use Rattle.std.specs.Prelude.{◌≡◌, IfErr, IfOk, string_bytes};
 ghost use Rattle.coord_drill.specs.Faults.{IsOfDisk, reopen_fault};
-ghost use Rattle.coord_drill.specs.Holding.{IsReadyDrill, Tells};
+ghost use Rattle.coord_drill.specs.Holding.{IsReadyDrill, Reports};
 ghost use Rattle.coord_drill.specs.Moments.{CarriesIf, CutsIf};
 ghost use Rattle.coord_drill.specs.declared.asked.Asked.TheVariants as ask;
 
@@ -17,8 +17,8 @@ impl<D: CrashDisk> Drill<D> {
     pub(super) fn crash(self, text: &mut String) -> Result<Self, (Fault, D)>
         requires ready { IsReadyDrill self }
         ensures ready { IfOk result IsReadyDrill }
-        ensures told { IfOk result (λ drill. Tells (string_bytes text.old) (string_bytes text.new)
-            (λ told. CarriesIf D.model D.crashes self ask.Crash told drill)) }
+        ensures reported { IfOk result (λ drill. Reports (string_bytes text.old) (string_bytes text.new)
+            (λ reported. CarriesIf D.model D.crashes self ask.Crash reported drill)) }
         ensures cut { IfErr result (CutsIf D.model D.crashes ask.Crash self) }
         ensures fault { IfErr result (λ refused. IsOfDisk refused.0) }
     {
@@ -56,7 +56,7 @@ impl<D: CrashDisk> Drill<D> {
 
 /// Returns the fault of a crash after which the disk could not be opened.
 fn fault_of(kind: RunFaultKind) -> Fault
-    ensures told { result ≡ reopen_fault kind }
+    ensures reported { result ≡ reopen_fault kind }
     ensures fault { IsOfDisk result }
 {
     match kind {

@@ -8,7 +8,7 @@ ghost use Rattle.coord_ledger.specs.declared.release.Release.{Release as Row};
 ghost use Rattle.coord_ledger.specs.Facade.{IsGranted, disk_held, next_size, reply_of, settled_count, settled_world, settling_releases};
 ghost use Rattle.coord_drill.specs.Drill.{flight_events, landing_events};
 ghost use Rattle.coord_drill.specs.Faults.{IsOfMemory};
-ghost use Rattle.coord_drill.specs.Holding.{AreGranted, FlownTo, IsReadyDrill, Lands, Tells, behind, collected_lines, flown_answers, flown_lines, landed_answers, left, left_by, released_lines, waiting};
+ghost use Rattle.coord_drill.specs.Holding.{AreGranted, FlownTo, IsReadyDrill, Lands, Reports, behind, collected_lines, flown_answers, flown_lines, landed_answers, left, left_by, released_lines, waiting};
 ghost use Rattle.coord_drill.specs.Moments.{CarriesIf, CutsIf, Flies, GoesBy, Leads, LeadsPart};
 ghost use Rattle.coord_drill.specs.declared.asked.Asked.TheVariants as ask;
 ghost use Rattle.coord_drill.specs.declared.fault.Fault.TheVariants.{OutOfMemory};
@@ -44,8 +44,8 @@ impl<D: CrashDisk> Drill<D> {
     pub(super) fn flush(self, text: &mut String) -> Result<Self, (Fault, D)>
         requires ready { IsReadyDrill self }
         ensures ready { IfOk result IsReadyDrill }
-        ensures told { IfOk result (λ drill. Tells (string_bytes text.old) (string_bytes text.new)
-            (λ told. CarriesIf D.model D.crashes self ask.Flush told drill)) }
+        ensures reported { IfOk result (λ drill. Reports (string_bytes text.old) (string_bytes text.new)
+            (λ reported. CarriesIf D.model D.crashes self ask.Flush reported drill)) }
         ensures cut { IfErr result (CutsIf D.model D.crashes ask.Flush self) }
         ensures fault { IfErr result (λ refused. IsOfMemory refused.0) }
     {
@@ -62,8 +62,8 @@ impl<D: CrashDisk> Drill<D> {
     pub(super) fn fly(self, text: &mut String) -> Result<Self, (Fault, D)>
         requires ready { IsReadyDrill self }
         ensures ready { IfOk result IsReadyDrill }
-        ensures told { IfOk result (λ drill. Tells (string_bytes text.old) (string_bytes text.new)
-            (λ told. Flies D.model D.crashes self told drill)) }
+        ensures reported { IfOk result (λ drill. Reports (string_bytes text.old) (string_bytes text.new)
+            (λ reported. Flies D.model D.crashes self reported drill)) }
         ensures cut { IfErr result (λ refused.
             LeadsPart D.model D.crashes self.driver flight_events refused.1) }
         ensures fault { IfErr result (λ refused. IsOfMemory refused.0) }

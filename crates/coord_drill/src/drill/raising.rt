@@ -19,7 +19,7 @@ impl<D: CrashDisk> Drill<D> {
     pub(super) fn begin_version_2(self) -> Result<Self, (Fault, D)>
         requires ready { IsReadyDrill self }
         ensures ready { IfOk result IsReadyDrill }
-        ensures told { IfOk result (λ drill.
+        ensures reported { IfOk result (λ drill.
             CarriesIf D.model D.crashes self ask.Version2 [] drill) }
         ensures cut { IfErr result (CutsIf D.model D.crashes ask.Version2 self) }
         ensures fault { IfErr result (λ refused. IsOfDisk refused.0) }

@@ -4,7 +4,7 @@ ghost use Rattle.std.specs.Prelude.{◌≡◌, ◌++◌, OnOk, IfOk, IfErr, stri
 ghost use Rattle.coord_ledger.specs.Facade.{IsGranted, reply_of, settled_count};
 ghost use Rattle.coord_drill.specs.Answered.{kept_line};
 ghost use Rattle.coord_drill.specs.Faults.{IsOfMemory};
-ghost use Rattle.coord_drill.specs.Holding.{IsReadyDrill, Tells};
+ghost use Rattle.coord_drill.specs.Holding.{IsReadyDrill, Reports};
 ghost use Rattle.coord_drill.specs.Moments.{CarriesIf, CutsIf, Hands};
 ghost use Rattle.coord_drill.specs.declared.asked.Asked.TheVariants as ask;
 
@@ -21,8 +21,8 @@ impl<D: CrashDisk> Drill<D> {
     pub(super) fn submit(self, step: Step, text: &mut String) -> Result<Self, (Fault, D)>
         requires ready { IsReadyDrill self }
         ensures ready { IfOk result IsReadyDrill }
-        ensures told { IfOk result (λ drill. Tells (string_bytes text.old) (string_bytes text.new)
-            (λ told. CarriesIf D.model D.crashes self (ask.Submit step) told drill)) }
+        ensures reported { IfOk result (λ drill. Reports (string_bytes text.old) (string_bytes text.new)
+            (λ reported. CarriesIf D.model D.crashes self (ask.Submit step) reported drill)) }
         ensures cut { IfErr result (CutsIf D.model D.crashes (ask.Submit step) self) }
         ensures fault { IfErr result (λ refused. IsOfMemory refused.0) }
     {

@@ -43,7 +43,7 @@ adopted_is_consistent w sound =
       doubt = tt;
       seen = omega arith;
       tickets = tt;
-      told = record { released_settled = tt; once = tt; again = tt; replied_settled = tt; truly = tt };
+      returned = record { released_settled = tt; once = tt; again = tt; replied_settled = tt; truly = tt };
     }
   where
     none : InTurn w []

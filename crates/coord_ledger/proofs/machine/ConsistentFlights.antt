@@ -7,12 +7,12 @@ use Rattle.coord_world.proofs.Facade.{by_test}
 use Rattle.coord_ledger.specs.Facade.{Begin, Commit, Crash, DoubtFits, Finish, FlightFits, FlightOut, Good, IsConsistent, IsOneOf, Log, Machine, Mark, New, Opened, Torn, after, after_finish, crashed, cut_to, finished, kept, kept_by, settled_count, to_begin, to_commit, to_finish, with_flight, with_settled}
 use Rattle.coord_ledger.proofs.machine.Lists.{each_one}
 use Rattle.coord_ledger.proofs.machine.Logs.{doubted_stays, log_stays}
-use Rattle.coord_ledger.proofs.machine.ConsistentSteps.{told_releasing, told_same, told_settled}
+use Rattle.coord_ledger.proofs.machine.ConsistentSteps.{returned_releasing, returned_same, returned_settled}
 
 -- ---- flights
 
 stays_flight : (s : Machine) (f : Option FlightOut) → IsConsistent s → FlightFits s.log f → DoubtFits s.log f s.log.doubt → IsConsistent (record s { flight = f })
-stays_flight s f is fits doubt = record { log = is.log; flight = fits; doubt = doubt; seen = is.seen; tickets = is.tickets; told = is.told }
+stays_flight s f is fits doubt = record { log = is.log; flight = fits; doubt = doubt; seen = is.seen; tickets = is.tickets; returned = is.returned }
 
 pub all_begin : (s : Machine) → IsConsistent s → AllByRecursion (λ a. IsConsistent (after s Begin a)) (to_begin s)
 all_begin s is = grind (arith, nat_tests, by_test, length-drop, stays_flight)
@@ -34,11 +34,11 @@ stays_settled s b is le none =
       doubt = subst (DoubtFits (with_settled s.log b) None) (sym none) tt;
       seen = omega (arith, is.seen);
       tickets = is.tickets;
-      told = told_releasing s.log b s.released s.replied le is.told;
+      returned = returned_releasing s.log b s.released s.replied le is.returned;
     }
 
 stays_torn : (s : Machine) (b : ℕ) → IsConsistent s → s.log.settled + b ≤ length s.log.trail → IsConsistent (after_finish s b Torn)
-stays_torn s b is le = grind (arith, nat_tests, doubted_stays, told_same)
+stays_torn s b is le = grind (arith, nat_tests, doubted_stays, returned_same)
 
 pub all_finish : (s : Machine) (f : Option FlightOut) → IsConsistent s → s.flight ≡ f → AllByRecursion (λ a. IsConsistent (after s Finish a)) (with_flight f (λ g. to_finish (settled_count s.log) g.size g.mark))
 all_finish s None is out = (is, tt)
@@ -81,7 +81,7 @@ stays_crashed s k is le =
       doubt = tt;
       seen = omega arith;
       tickets = tt;
-      told = told_same (with_settled s.log k) (cut_to s.log n) s.released s.replied refl refl (take-take n n s.log.trail (omega arith)) (told_settled s.log k s.released s.replied is.told);
+      returned = returned_same (with_settled s.log k) (cut_to s.log n) s.released s.replied refl refl (take-take n n s.log.trail (omega arith)) (returned_settled s.log k s.released s.replied is.returned);
     }
 
 crash_stays : (s : Machine) (n : ℕ) → IsConsistent s → KeepsMore s n → IsConsistent (after s Crash (Opened (s.log.base.count + n)))

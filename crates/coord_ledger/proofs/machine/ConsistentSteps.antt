@@ -5,7 +5,7 @@ use Rattle.std.proofs.Math.Seq.{take-add}
 use Rattle.std.proofs.lemmas.List.{append-nil, length-drop, length-take-le, length-append, take-append-le}
 use Rattle.std.proofs.lemmas.List.Elements.{All-head, All-tail, filter-append}
 use Rattle.std.proofs.lemmas.Bool.Decides.{nat_tests}
-use Rattle.coord_ledger.specs.Facade.{IsConsistentLog, IsPartOf, IsReplyOf, IsTold, IsTrulyAgain, Log, Output, Release, Reply, Step, pending, release_of, released_first, releases_of, resent, settled_count, settled_steps, settled_world, settling_releases, with_settled, Collect, Collected, DoubtFits, FlightFits, FlightOut, Fresh, IsConsistent, Kind, Machine, Refusal, Repeat, Show, TicketFits, Verdict, Waiting, accepted_count, after, after_submit, front_world, spent, ticket, to_collect, to_show, to_submit, verdict, with_step, with_ticket}
+use Rattle.coord_ledger.specs.Facade.{IsConsistentLog, IsPartOf, IsReplyOf, IsReturned, IsTrulyAgain, Log, Output, Release, Reply, Step, pending, release_of, released_first, releases_of, resent, settled_count, settled_steps, settled_world, settling_releases, with_settled, Collect, Collected, DoubtFits, FlightFits, FlightOut, Fresh, IsConsistent, Kind, Machine, Refusal, Repeat, Show, TicketFits, Verdict, Waiting, accepted_count, after, after_submit, front_world, spent, ticket, to_collect, to_show, to_submit, verdict, with_step, with_ticket}
 use Rattle.coord_world.proofs.Facade.{released_grows, resend_law, by_test, verdict_fresh, verdict_kind}
 use Rattle.coord_world.specs.laws.Release.{IsReleased}
 use Rattle.coord_world.specs.Facade.{World, again, fold, next, outputs, outs, StepInRange, reply}
@@ -63,66 +63,66 @@ truly_later w trail d b [] all = tt
 truly_later w trail d b (r ∷ rs) all = (rw (take-add d b trail) (reply_later w (take d trail) (take b (drop d trail)) r all.0), truly_later w trail d b rs all.1)
 
 -- what was told of a log is true of a longer one with the same settled steps
-pub told_same : (log new : Log) (released : List Release) (replied : List Reply) → new.base ≡ log.base → new.settled ≡ log.settled → settled_steps new ≡ settled_steps log → IsTold log released replied → IsTold new released replied
-told_same log new released replied base settled steps told =
+pub returned_same : (log new : Log) (released : List Release) (replied : List Reply) → new.base ≡ log.base → new.settled ≡ log.settled → settled_steps new ≡ settled_steps log → IsReturned log released replied → IsReturned new released replied
+returned_same log new released replied base settled steps returned =
     let count : settled_count new ≡ settled_count log = λ i. (base i).count + settled i in
     record {
-      released_settled = subst (λ n. AllByRecursion (λ (r : Release). r.step ≤ n) released) (sym count) told.released_settled;
-      once = subst (λ (p : World × List Step). IsPartOf (released_first released) (releases_of (outs p.0 p.1))) (sym (λ i. (base i, steps i))) told.once;
-      again = subst (λ (p : World × List Step). AllByRecursion (λ (r : Release). r.step ≡ 0 → IsReleased p.0 p.1 r.output) released) (sym (λ i. (base i, steps i))) told.again;
-      replied_settled = subst (λ n. AllByRecursion (λ (r : Reply). r.step ≤ n) replied) (sym count) told.replied_settled;
-      truly = subst (λ (p : World × List Step). AllByRecursion (IsReplyOf p.0 p.1) replied) (sym (λ i. (base i, steps i))) told.truly;
+      released_settled = subst (λ n. AllByRecursion (λ (r : Release). r.step ≤ n) released) (sym count) returned.released_settled;
+      once = subst (λ (p : World × List Step). IsPartOf (released_first released) (releases_of (outs p.0 p.1))) (sym (λ i. (base i, steps i))) returned.once;
+      again = subst (λ (p : World × List Step). AllByRecursion (λ (r : Release). r.step ≡ 0 → IsReleased p.0 p.1 r.output) released) (sym (λ i. (base i, steps i))) returned.again;
+      replied_settled = subst (λ n. AllByRecursion (λ (r : Reply). r.step ≤ n) replied) (sym count) returned.replied_settled;
+      truly = subst (λ (p : World × List Step). AllByRecursion (IsReplyOf p.0 p.1) replied) (sym (λ i. (base i, steps i))) returned.truly;
     }
 
 -- what was told of a log is true once b more steps are settled
-pub told_settled : (log : Log) (b : ℕ) (released : List Release) (replied : List Reply) → IsTold log released replied → IsTold (with_settled log b) released replied
-told_settled log b released replied told =
+pub returned_settled : (log : Log) (b : ℕ) (released : List Release) (replied : List Reply) → IsReturned log released replied → IsReturned (with_settled log b) released replied
+returned_settled log b released replied returned =
     let le : settled_count log ≤ settled_count (with_settled log b) = omega arith in
     record {
-      released_settled = all_raised (λ (r : Release). r.step) (settled_count log) (settled_count (with_settled log b)) released le told.released_settled;
-      once = once_later log.base log.trail log.settled b released told.once;
-      again = again_later log.base log.trail log.settled (log.settled + b) released (omega arith) told.again;
-      replied_settled = all_raised (λ (r : Reply). r.step) (settled_count log) (settled_count (with_settled log b)) replied le told.replied_settled;
-      truly = truly_later log.base log.trail log.settled b replied told.truly;
+      released_settled = all_raised (λ (r : Release). r.step) (settled_count log) (settled_count (with_settled log b)) released le returned.released_settled;
+      once = once_later log.base log.trail log.settled b released returned.once;
+      again = again_later log.base log.trail log.settled (log.settled + b) released (omega arith) returned.again;
+      replied_settled = all_raised (λ (r : Reply). r.step) (settled_count log) (settled_count (with_settled log b)) replied le returned.replied_settled;
+      truly = truly_later log.base log.trail log.settled b replied returned.truly;
     }
 
 -- what was told of a log is true once b more steps are settled and what they give out is released
-pub told_releasing : (log : Log) (b : ℕ) (released : List Release) (replied : List Reply) → log.settled + b ≤ length log.trail → IsTold log released replied → IsTold (with_settled log b) (released ++ settling_releases log b) replied
-told_releasing log b released replied le told =
-    let later = told_settled log b released replied told in
+pub returned_releasing : (log : Log) (b : ℕ) (released : List Release) (replied : List Reply) → log.settled + b ≤ length log.trail → IsReturned log released replied → IsReturned (with_settled log b) (released ++ settling_releases log b) replied
+returned_releasing log b released replied le returned =
+    let later = returned_settled log b released replied returned in
     let more = settling_releases log b in
     let now = settled_count (with_settled log b) in
     let taken : length (take b (pending log)) ≡ b = length-take-le b (pending log) (omega (arith, le, length-drop log.settled log.trail)) in
     let count : (settled_world log).count ≡ settled_count log = count_after log log.settled (omega (arith, le)) in
     record {
       released_settled = all_both (λ (r : Release). r.step ≤ now) released more later.released_settled (none_above (settled_world log) (take b (pending log)) now (omega (arith, taken, count)));
-      once = once_settled log.base log.trail log.settled b released told.once;
+      once = once_settled log.base log.trail log.settled b released returned.once;
       again = all_both (IsTrulyAgain (with_settled log b)) released more later.again (never_settling (settled_world log) (take b (pending log)) (IsReleased log.base (settled_steps (with_settled log b))));
       replied_settled = later.replied_settled;
       truly = later.truly;
     }
 
 -- packets are sent again
-pub told_resent : (log : Log) (released : List Release) (replied : List Reply) → IsConsistentLog log → IsTold log released replied → IsTold log (released ++ resent (settled_world log)) replied
-told_resent log released replied is told =
+pub returned_resent : (log : Log) (released : List Release) (replied : List Reply) → IsConsistentLog log → IsReturned log released replied → IsReturned log (released ++ resent (settled_world log)) replied
+returned_resent log released replied is returned =
     let packets = again (settled_world log) in
     record {
-      released_settled = all_both (λ (r : Release). r.step ≤ settled_count log) released (resent (settled_world log)) told.released_settled (again_bound (settled_count log) packets);
-      once = once_again released (resent (settled_world log)) (releases_of (outs log.base (settled_steps log))) (again_is_new packets) told.once;
-      again = all_both (IsTrulyAgain log) released (resent (settled_world log)) told.again (again_all (IsReleased log.base (settled_steps log)) packets (resend_law log.base log.trail log.settled is.trail));
-      replied_settled = told.replied_settled;
-      truly = told.truly;
+      released_settled = all_both (λ (r : Release). r.step ≤ settled_count log) released (resent (settled_world log)) returned.released_settled (again_bound (settled_count log) packets);
+      once = once_again released (resent (settled_world log)) (releases_of (outs log.base (settled_steps log))) (again_is_new packets) returned.once;
+      again = all_both (IsTrulyAgain log) released (resent (settled_world log)) returned.again (again_all (IsReleased log.base (settled_steps log)) packets (resend_law log.base log.trail log.settled is.trail));
+      replied_settled = returned.replied_settled;
+      truly = returned.truly;
     }
 
 -- a reply is collected
-pub told_replied : (log : Log) (released : List Release) (replied : List Reply) (r : Reply) → r.step ≤ settled_count log → IsReplyOf log.base log.trail r → IsTold log released replied → IsTold log released (replied ++ r ∷ [])
-told_replied log released replied r le fits told =
+pub returned_replied : (log : Log) (released : List Release) (replied : List Reply) (r : Reply) → r.step ≤ settled_count log → IsReplyOf log.base log.trail r → IsReturned log released replied → IsReturned log released (replied ++ r ∷ [])
+returned_replied log released replied r le fits returned =
     record {
-      released_settled = told.released_settled;
-      once = told.once;
-      again = told.again;
-      replied_settled = all_both (λ (q : Reply). q.step ≤ settled_count log) replied (r ∷ []) told.replied_settled (le, tt);
-      truly = all_both (IsReplyOf log.base (settled_steps log)) replied (r ∷ []) told.truly (reply_first log.base log.settled log.trail r le fits, tt);
+      released_settled = returned.released_settled;
+      once = returned.once;
+      again = returned.again;
+      replied_settled = all_both (λ (q : Reply). q.step ≤ settled_count log) replied (r ∷ []) returned.replied_settled (le, tt);
+      truly = all_both (IsReplyOf log.base (settled_steps log)) replied (r ∷ []) returned.truly (reply_first log.base log.settled log.trail r le fits, tt);
     }
 
 -- ---- the tickets of steps
@@ -146,7 +146,7 @@ ticket_fits w steps (t ∷ ts) (suc i) all = ticket_fits w steps ts i all.1
 
 stays_ticket : (s : Machine) (r : Reply) → IsConsistent s → IsReplyOf s.log.base s.log.trail r → IsConsistent (with_ticket s r)
 stays_ticket s r is fits =
-    record { log = is.log; flight = is.flight; doubt = is.doubt; seen = is.seen; told = is.told; tickets = all_both (TicketFits s.log.base s.log.trail) s.tickets (Some r ∷ []) is.tickets (fits, tt) }
+    record { log = is.log; flight = is.flight; doubt = is.doubt; seen = is.seen; returned = is.returned; tickets = all_both (TicketFits s.log.base s.log.trail) s.tickets (Some r ∷ []) is.tickets (fits, tt) }
 
 -- a longer trail
 flight_later : (log new : Log) (f : Option FlightOut) → new.settled ≡ log.settled → length log.trail ≤ length new.trail → FlightFits log f → FlightFits new f
@@ -165,7 +165,7 @@ stays_step s x is log =
       doubt = doubt_later s.log (with_step s.log x) s.flight s.log.doubt refl longer is.doubt;
       seen = is.seen;
       tickets = tickets_later s.log.base s.log.trail (x ∷ []) s.tickets is.tickets;
-      told = told_same s.log (with_step s.log x) s.released s.replied refl refl (take-append-le s.log.settled s.log.trail (x ∷ []) is.log.within) is.told;
+      returned = returned_same s.log (with_step s.log x) s.released s.replied refl refl (take-append-le s.log.settled s.log.trail (x ∷ []) is.log.within) is.returned;
     }
 
 -- the reply to the step that is accepted
@@ -206,14 +206,14 @@ all_collect s i (Some r) is fits =
         doubt = is.doubt;
         seen = is.seen;
         tickets = spent_fits s.log.base s.log.trail s.tickets i is.tickets;
-        told = told_replied s.log s.released s.replied r (grind (arith, nat_tests, le)) fits is.told;
+        returned = returned_replied s.log s.released s.replied r (grind (arith, nat_tests, le)) fits is.returned;
       },
       tt,
     ))
     (λ _. (is, tt))
 
 pub stays_again : (s : Machine) → IsConsistent s → IsConsistent (record s { released = s.released ++ resent (settled_world s.log) })
-stays_again s is = record { log = is.log; flight = is.flight; doubt = is.doubt; seen = is.seen; tickets = is.tickets; told = told_resent s.log s.released s.replied is.log is.told }
+stays_again s is = record { log = is.log; flight = is.flight; doubt = is.doubt; seen = is.seen; tickets = is.tickets; returned = returned_resent s.log s.released s.replied is.log is.returned }
 
 pub all_show : (s : Machine) → IsConsistent s → AllByRecursion (λ a. IsConsistent (after s Show a)) (to_show s)
 all_show s is = grind (arith, nat_tests, by_test)

@@ -20,9 +20,9 @@ kept_is_safe s n is one =
     let least : settled_count s.log ≤ w.count = omega (arith, count, keeps.is) in
     record {
       legal = (trail_keeps_worlds s.log.base s.log.trail n is.log.trail).legal;
-      released = all_raised (λ (r : Release). r.step) (settled_count s.log) w.count s.released least is.told.released_settled;
-      again = again_later s.log.base s.log.trail s.log.settled n s.released (omega (arith, keeps.is)) is.told.again;
-      replied = all_raised (λ (r : Reply). r.step) (settled_count s.log) w.count s.replied least is.told.replied_settled;
+      released = all_raised (λ (r : Release). r.step) (settled_count s.log) w.count s.released least is.returned.released_settled;
+      again = again_later s.log.base s.log.trail s.log.settled n s.released (omega (arith, keeps.is)) is.returned.again;
+      replied = all_raised (λ (r : Reply). r.step) (settled_count s.log) w.count s.replied least is.returned.replied_settled;
       accepted = omega (arith, count, le);
     }
 

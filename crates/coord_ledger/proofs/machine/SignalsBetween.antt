@@ -86,7 +86,7 @@ released_between s earlier between rest part is steps again =
     let bounds = bound_between base earlier between rest part trail again in
     record {
       most = λ v x inside linked.
-          let once = in_part (is_signal_within a b v) (released_first s.released) (releases_of (outs base (settled_steps s.log))) is.told.once in
+          let once = in_part (is_signal_within a b v) (released_first s.released) (releases_of (outs base (settled_steps s.log))) is.returned.once in
           let all = subst (λ l. count_within a b v (releases_of (outs base l)) ≤ signals_of v (outs (fold base earlier) between)) (sym steps) (all_within a b v base earlier between rest refl refl) in
           omega (arith, of_first a b v s.released, once, all, bounds.most v x inside linked);
       least = bounds.least;

@@ -146,4 +146,4 @@ of_first n u (r ∷ rs) le =
 pub signals_once : NoSignalTwice
 signals_once s is n u le =
     let first = (trail_is_cut s.log.base s.log.trail s.log.settled is.log.trail).first in
-    omega (arith, of_first n u s.released le, in_part (is_signal n u) (released_first s.released) (releases_of (outs s.log.base (settled_steps s.log))) is.told.once, all_signals n u s.log.base (settled_steps s.log) (trail_each_fresh s.log.base (settled_steps s.log) first))
+    omega (arith, of_first n u s.released le, in_part (is_signal n u) (released_first s.released) (releases_of (outs s.log.base (settled_steps s.log))) is.returned.once, all_signals n u s.log.base (settled_steps s.log) (trail_each_fresh s.log.base (settled_steps s.log) first))

@@ -48,7 +48,7 @@ module _ {D : Type 0} (model : DiskModel D) (crashes : D → D → Type 0) where
       Completed model crashes (started start) events given released l (model.keeps_model disk) first disk
   completed_home start first events given h l released disk so_far follows home given_out gives there =
       let s = run (started start) events given in
-      let told = so_far.consistent.told in
+      let returned = so_far.consistent.returned in
       let back : Represents (at_home l) (ended s) = subst (λ (m : LedgerState D). Represents (at_home m) (ended s)) (sym home) (is_back h.driver s so_far.consistent so_far.represents) in
       let images = ledger_images l disk (model.keeps_model disk) model.present (subst (λ o. IfSome o (λ d. model.keeps_model d ≡ true → LedgerGives model.present l d)) there gives) in
       let its : Some so_far.disk ≡ Some disk = sym so_far.holds ∙ sym (home_disk h.driver.ledger h.driver.flight) ∙ sym (ap (λ (m : LedgerState D). m.disk) home) ∙ there in
@@ -58,10 +58,10 @@ module _ {D : Type 0} (model : DiskModel D) (crashes : D → D → Type 0) where
         released_is = given_out ∙ follows.released;
         prefix = prefix_from_images s (model.keeps_model disk) (model.present disk) so_far.consistent (home_images l s (model.keeps_model disk) (model.present disk) so_far.consistent back images);
         moments = subst (EachMoment model crashes (model.keeps_model disk) (started start) events given first) same so_far.moments;
-        once = told.once;
-        again = told.again;
+        once = returned.once;
+        again = returned.again;
         signalled = signals_once s so_far.consistent;
-        replied = told.truly;
+        replied = returned.truly;
         ledger = is_left l (ended s) back;
       }
 

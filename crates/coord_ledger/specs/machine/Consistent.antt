@@ -47,7 +47,7 @@ TicketFits base steps None = Unit {0}
 TicketFits base steps (Some reply) = IsReplyOf base steps reply
 
 -- what was released and collected is true of the settled steps
-pub record IsTold (log : Log) (released : List Release) (replied : List Reply) : Type 0 where
+pub record IsReturned (log : Log) (released : List Release) (replied : List Reply) : Type 0 where
   pub released_settled : AllByRecursion (λ r. r.step ≤ settled_count log) released
   pub once : IsPartOf (released_first released) (releases_of (outs log.base (settled_steps log)))
   pub again : AllByRecursion (IsTrulyAgain log) released
@@ -60,7 +60,7 @@ pub record IsConsistent (s : Machine) : Type 0 where
   pub doubt : DoubtFits s.log s.flight s.log.doubt
   pub seen : s.seen ≤ settled_count s.log
   pub tickets : AllByRecursion (TicketFits s.log.base s.log.trail) s.tickets
-  pub told : IsTold s.log s.released s.replied
+  pub returned : IsReturned s.log s.released s.replied
 
 -- the numbers that an event names are in the ranges of their types
 abbrev pub EventInRange : Event → Type 0

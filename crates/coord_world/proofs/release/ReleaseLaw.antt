@@ -142,8 +142,8 @@ module _ (settled : World) (ss : List Step) (sound : IsSound settled) (each : Ea
     receipt_has_receipted receipt = ap (λ o. has_receipted o p.number) (lane_numbered settled p.from p.to p.inc p.number receipt.at) ∙ grind (arith, nat_tests, receipt.at.number, receipt.got)
 
 -- where the front world is the settled one after more steps, the settled one tells what is released
-settled_tells : (base : World) (first others : List Step) → IsSound base → EachFresh base first → EachFresh (fold base first) others → HoldsReleased (fold (fold base first) others) (fold base first) (IsReleased base first)
-settled_tells base first others sound each on = record {
+settled_says : (base : World) (first others : List Step) → IsSound base → EachFresh base first → EachFresh (fold base first) others → HoldsReleased (fold (fold base first) others) (fold base first) (IsReleased base first)
+settled_says base first others sound each on = record {
   packets = λ p is.
       let next = takeable_is_next (fold settled others) p is in (
         λ h. front_released base first sound each p (has_sent_front settled others kept on p next h),
@@ -172,4 +172,4 @@ settled_tells base first others sound each on = record {
 pub release_law : ReleaseLaw
 release_law base trail d is =
     let each = trail_each_fresh base trail is in
-    rw (sym (fold-take_drop d trail base)) (settled_tells base (take d trail) (drop d trail) is.sound (each_fresh-take d trail base each) (each_fresh-drop d trail base each))
+    rw (sym (fold-take_drop d trail base)) (settled_says base (take d trail) (drop d trail) is.sound (each_fresh-take d trail base each) (each_fresh-drop d trail base each))

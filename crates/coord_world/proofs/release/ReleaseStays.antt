@@ -107,9 +107,9 @@ release_stays base trail d e s is le h = verdict_stays (fold base trail) (fold b
     all = rw (sym (fold-take_drop e trail base)) (rw (sym (take-take d e trail le)) (rw (sym upto) over))
 
 -- a fresh step is let through where the packet that it names is told as released
-fresh_where_told : (front settled : World) (HasGone : Output → Type 0) (s : Step) → HoldsReleased front settled HasGone → IsFresh front front s → IsFresh front settled s ↔ NamesReleased HasGone s
-fresh_where_told front settled HasGone (Order c n x) tells fresh = (λ _. tt, λ _. fresh)
-fresh_where_told front settled HasGone (Take p) tells fresh = of_lane (lane front p.from p.to p.inc) refl fresh
+fresh_where_owed : (front settled : World) (HasGone : Output → Type 0) (s : Step) → HoldsReleased front settled HasGone → IsFresh front front s → IsFresh front settled s ↔ NamesReleased HasGone s
+fresh_where_owed front settled HasGone (Order c n x) says_so fresh = (λ _. tt, λ _. fresh)
+fresh_where_owed front settled HasGone (Take p) says_so fresh = of_lane (lane front p.from p.to p.inc) refl fresh
   where
     tests : Option Lane → Option Lane → Tests
     tests o k = (is_exhausted front, Exhausted) ∷ against_data o k p
@@ -119,11 +119,11 @@ fresh_where_told front settled HasGone (Take p) tells fresh = of_lane (lane fron
     of_lane None is e = absurd (let none = refused_or_none_holds (Fresh Taken) (Fresh Taken) (tests None (lane front p.from p.to p.inc)) e in let bad = none.1.0 in cc bad)
     of_lane (Some l) is e =
         let none = refused_or_none_holds (Fresh Taken) (Fresh Taken) (tests (Some l) (lane front p.from p.to p.inc)) e in
-        let tell = tells.packets p (l, (is, none_holds_passes tt (against_take l p.number p.msg) (none.1.0, (none.1.1.0, (none.1.1.1.0, tt))))) in (
-          λ taken. tell.0 (let all = refused_or_none_holds (Fresh Taken) (Fresh Taken) (tests (Some l) (lane settled p.from p.to p.inc)) taken in grind (arith, nat_tests, all.1.1.1.1.0)),
-          λ gone. none_holds_passes (Fresh Taken) (tests (Some l) (lane settled p.from p.to p.inc)) (none.0, (none.1.0, (none.1.1.0, (none.1.1.1.0, (ap not (tell.1 gone), tt))))),
+        let says = says_so.packets p (l, (is, none_holds_passes tt (against_take l p.number p.msg) (none.1.0, (none.1.1.0, (none.1.1.1.0, tt))))) in (
+          λ taken. says.0 (let all = refused_or_none_holds (Fresh Taken) (Fresh Taken) (tests (Some l) (lane settled p.from p.to p.inc)) taken in grind (arith, nat_tests, all.1.1.1.1.0)),
+          λ gone. none_holds_passes (Fresh Taken) (tests (Some l) (lane settled p.from p.to p.inc)) (none.0, (none.1.0, (none.1.1.0, (none.1.1.1.0, (ap not (says.1 gone), tt))))),
         )
-fresh_where_told front settled HasGone (Clear p) tells fresh = of_lane (lane front p.from p.to p.inc) refl fresh
+fresh_where_owed front settled HasGone (Clear p) says_so fresh = of_lane (lane front p.from p.to p.inc) refl fresh
   where
     tests : Option Lane → Option Lane → Tests
     tests o k = (is_exhausted front, Exhausted) ∷ against_receipt o k p
@@ -133,14 +133,14 @@ fresh_where_told front settled HasGone (Clear p) tells fresh = of_lane (lane fro
     of_lane None is e = absurd (let none = refused_or_none_holds (Fresh Cleared) (Fresh Cleared) (tests None (lane front p.from p.to p.inc)) e in let bad = none.1.0 in cc bad)
     of_lane (Some l) is e =
         let none = refused_or_none_holds (Fresh Cleared) (Fresh Cleared) (tests (Some l) (lane front p.from p.to p.inc)) e in
-        let tell = tells.receipts p (l, (is, none_holds_passes tt (against_clear l p.number) (none.1.0, (none.1.1.0, tt)))) in (
-          λ taken. tell.0 (let all = refused_or_none_holds (Fresh Cleared) (Fresh Cleared) (tests (Some l) (lane settled p.from p.to p.inc)) taken in grind (arith, nat_tests, all.1.1.1.0)),
-          λ gone. none_holds_passes (Fresh Cleared) (tests (Some l) (lane settled p.from p.to p.inc)) (none.0, (none.1.0, (none.1.1.0, (ap not (tell.1 gone), tt)))),
+        let says = says_so.receipts p (l, (is, none_holds_passes tt (against_clear l p.number) (none.1.0, (none.1.1.0, tt)))) in (
+          λ taken. says.0 (let all = refused_or_none_holds (Fresh Cleared) (Fresh Cleared) (tests (Some l) (lane settled p.from p.to p.inc)) taken in grind (arith, nat_tests, all.1.1.1.0)),
+          λ gone. none_holds_passes (Fresh Cleared) (tests (Some l) (lane settled p.from p.to p.inc)) (none.0, (none.1.0, (none.1.1.0, (ap not (says.1 gone), tt)))),
         )
 
 -- over a trail, a packet is fresh where it was released
 pub fresh_where_released : FreshWhereReleased
-fresh_where_released base trail d s is fresh = fresh_where_told (fold base trail) (fold base (take d trail)) (IsReleased base (take d trail)) s (release_law base trail d is) fresh
+fresh_where_released base trail d s is fresh = fresh_where_owed (fold base trail) (fold base (take d trail)) (IsReleased base (take d trail)) s (release_law base trail d is) fresh
 
 -- ---- other bases
 

@@ -37,10 +37,10 @@ IsOwed d = (is_ready d.state.mode ≡ false) ⊎ (d.finished ≡ true)
 
 -- each rule does so with a node in a reset
 module _ (version : ℕ) (r : NodeState) (busy : is_ready r.mode ≡ false) where
-  told : (m : Msg) (v : ℕ) → IsOwed (transition version m r v)
-  told (msg.Abort n) v = abort_cases version r v IsOwed n (λ _ _. inl refl) (λ _ _. inl refl) (λ _. inl busy)
-  told msg.Ack v = ack_cases r v IsOwed (λ _. inl busy) (λ _. inl busy) (λ _ _. inr refl) (λ _ p _. inl refl)
-  told msg.Ready v = ready_cases r v IsOwed (λ _. inl busy) (λ _ _. inr refl)
+  owed_after : (m : Msg) (v : ℕ) → IsOwed (transition version m r v)
+  owed_after (msg.Abort n) v = abort_cases version r v IsOwed n (λ _ _. inl refl) (λ _ _. inl refl) (λ _. inl busy)
+  owed_after msg.Ack v = ack_cases r v IsOwed (λ _. inl busy) (λ _. inl busy) (λ _ _. inr refl) (λ _ p _. inl refl)
+  owed_after msg.Ready v = ready_cases r v IsOwed (λ _. inl busy) (λ _ _. inr refl)
 
   cut : (v : ℕ) → IsOwed (lost r v)
   cut v = lost_cases r v IsOwed (λ _. inl busy) (λ _ _. inl busy) (λ _ _. inl busy) (λ _ _. inr refl) (λ _ _ _. inr refl) (λ _ _ p _. inl refl)
@@ -133,7 +133,7 @@ ideal_owed w settled (Order c n (Drop a b)) sound fresh =
 ideal_owed w settled (Order c n (Reset u)) sound fresh = all_owed (view w) u (request w.version (state w u)) (λ _. asked_for w.version (state w u))
 ideal_owed w settled (Order c n (Confirm u e)) sound fresh = λ x busy. inl (grind (arith, nat_tests, busy))
 ideal_owed w settled (Take p) sound fresh =
-    all_owed (headed (view w) p.from p.to) p.to (transition w.version p.msg (state w p.to) p.from) (λ busy. told w.version (state w p.to) busy p.msg p.from)
+    all_owed (headed (view w) p.from p.to) p.to (transition w.version p.msg (state w p.to) p.from) (λ busy. owed_after w.version (state w p.to) busy p.msg p.from)
 ideal_owed w settled (Clear p) sound fresh = λ x busy. inl busy
 
 module _ (w settled : World) (s : Step) (sound : Sound (view w)) (counts : AllCount w) (fresh : IsFresh w settled s) where

@@ -31,10 +31,10 @@ abbrev IsCounted : NodeState → Transition → Type 0
 IsCounted r d = d.state.epoch ≡ r.epoch + one d.finished
 
 module _ (version : ℕ) (r : NodeState) where
-  told : (m : Msg) (v : ℕ) → IsCounted r (transition version m r v)
-  told (msg.Abort n) v = abort_cases version r v (IsCounted r) n (λ _ _. omega arith) (λ _ _. omega arith) (λ _. omega arith)
-  told msg.Ack v = ack_cases r v (IsCounted r) (λ _. omega arith) (λ _. omega arith) (λ _ _. omega arith) (λ _ p _. omega arith)
-  told msg.Ready v = ready_cases r v (IsCounted r) (λ _. omega arith) (λ _ _. omega arith)
+  owed_after : (m : Msg) (v : ℕ) → IsCounted r (transition version m r v)
+  owed_after (msg.Abort n) v = abort_cases version r v (IsCounted r) n (λ _ _. omega arith) (λ _ _. omega arith) (λ _. omega arith)
+  owed_after msg.Ack v = ack_cases r v (IsCounted r) (λ _. omega arith) (λ _. omega arith) (λ _ _. omega arith) (λ _ p _. omega arith)
+  owed_after msg.Ready v = ready_cases r v (IsCounted r) (λ _. omega arith) (λ _ _. omega arith)
 
   asked_for : IsCounted r (request version r)
   asked_for = request_cases version r (λ d k. IsCounted r d) (λ _ _. omega arith) (λ _ _. omega arith) (omega arith)
@@ -56,7 +56,7 @@ ideal_counts w (Order c n (Join a b)) stays x = cc
 ideal_counts w (Order c n (Drop a b)) stays x = cc
 ideal_counts w (Order c n (Reset u)) stays x = applied (view w) u (request w.version (state w u)) (asked_for w.version (state w u)) x
 ideal_counts w (Order c n (Confirm u e)) stays x = grind (arith, nat_tests)
-ideal_counts w (Take p) stays x = applied (headed (view w) p.from p.to) p.to (transition w.version p.msg (state w p.to) p.from) (told w.version (state w p.to) p.msg p.from) x
+ideal_counts w (Take p) stays x = applied (headed (view w) p.from p.to) p.to (transition w.version p.msg (state w p.to) p.from) (owed_after w.version (state w p.to) p.msg p.from) x
 ideal_counts w (Clear p) stays x = omega arith
 
 -- ---- the laws

@@ -2,8 +2,8 @@ use Rattle.std.proofs.Common.{◌≡◌, ◌++◌, [], ◌∷◌, Ok, sym, ◌�
 use Rattle.std.proofs.lemmas.Result.{err_from_is_err_and}
 use Rattle.std.specs.Option.{option_copied}
 use Rattle.coord_admin.specs.Requests.{asked_by}
-use Rattle.coord_admin.proofs.Pieces.{goes-posted, goes-told, line-broken, line-closed}
-use Rattle.coord_admin.proofs.Stream.{gets-asked, told-one, told-part, told-whole}
+use Rattle.coord_admin.proofs.Pieces.{goes-posted, goes-returned, line-broken, line-closed}
+use Rattle.coord_admin.proofs.Stream.{gets-asked, returned-one, returned-part, returned-whole}
 use Rattle.coord_admin.proofs.session.end_line.Goals as goal
 
 pub returns-in_err-answer_unless_more-in-Some-clause-failed : goal.returns-in_err-answer_unless_more-in-Some-clause-failed
@@ -24,7 +24,7 @@ pub returns-in_err-write_answer-in-None-clause-failed : goal.returns-in_err-writ
 returns-in_err-write_answer-in-None-clause-failed g c =
     let line = option_copied c.args.line in
     let gets = gets-asked g.D.Desk.answers _ _ line c.read_line-asked.result c.answer_to-answer.result c.read_line-asked.ensures.value c.read_line-asked.ensures.memory c.answer_to-answer.ensures in
-    let part = told-part g.D.Desk.answers g.C.Duplex.exchanged _ _ line c.answer_to-answer.result _ _ gets c.in_err-write_answer-in-None.ensures.err in
+    let part = returned-part g.D.Desk.answers g.C.Duplex.exchanged _ _ line c.answer_to-answer.result _ _ gets c.in_err-write_answer-in-None.ensures.err in
     let failed = err_from_is_err_and c.from_residual-in_err-write_answer-in-None.result c.from_residual-in_err-write_answer-in-None.ensures.1 in
     rw failed.1 (λ d waiting await.
     let now = c.in_ok-answer_all-in-None.ensures.whole d waiting await in
@@ -45,19 +45,19 @@ pub returns-in_ok-write_answer-in-None-clause-open : goal.returns-in_ok-write_an
 returns-in_ok-write_answer-in-None-clause-open g c =
     let line = option_copied c.args.line in
     let gets = gets-asked g.D.Desk.answers _ _ line c.read_line-asked.result c.answer_to-answer.result c.read_line-asked.ensures.value c.read_line-asked.ensures.memory c.answer_to-answer.ensures in
-    let whole = told-whole g.D.Desk.answers g.C.Duplex.exchanged _ _ line c.answer_to-answer.result _ _ c.is_closed.result c.is_closed.ensures gets c.in_ok-write_answer-in-None.ensures.ok in
+    let whole = returned-whole g.D.Desk.answers g.C.Duplex.exchanged _ _ line c.answer_to-answer.result _ _ c.is_closed.result c.is_closed.ensures gets c.in_ok-write_answer-in-None.ensures.ok in
     λ goes_on d waiting await.
     let now = c.in_ok-answer_all-in-None.ensures.whole d waiting await in (
       now.0 ++ whole.0 ∷ [],
-      goes-told g.D.Desk.answers g.D.Desk.posts d _ _ waiting line now.0 whole.0 _ now.1 whole.2 (sym whole.1 ∙ goes_on) c.answer_all.ensures.empty,
-      told-one g.C.Duplex.exchanged g.met.C.Duplex.in_turn _ _ _ now.0 whole.0 now.2 whole.3,
+      goes-returned g.D.Desk.answers g.D.Desk.posts d _ _ waiting line now.0 whole.0 _ now.1 whole.2 (sym whole.1 ∙ goes_on) c.answer_all.ensures.empty,
+      returned-one g.C.Duplex.exchanged g.met.C.Duplex.in_turn _ _ _ now.0 whole.0 now.2 whole.3,
     )
 
 pub returns-in_ok-write_answer-in-None-clause-closed : goal.returns-in_ok-write_answer-in-None-clause-closed
 returns-in_ok-write_answer-in-None-clause-closed g c =
     let line = option_copied c.args.line in
     let gets = gets-asked g.D.Desk.answers _ _ line c.read_line-asked.result c.answer_to-answer.result c.read_line-asked.ensures.value c.read_line-asked.ensures.memory c.answer_to-answer.ensures in
-    let whole = told-whole g.D.Desk.answers g.C.Duplex.exchanged _ _ line c.answer_to-answer.result _ _ c.is_closed.result c.is_closed.ensures gets c.in_ok-write_answer-in-None.ensures.ok in
+    let whole = returned-whole g.D.Desk.answers g.C.Duplex.exchanged _ _ line c.answer_to-answer.result _ _ c.is_closed.result c.is_closed.ensures gets c.in_ok-write_answer-in-None.ensures.ok in
     λ closed d waiting await.
     let now = c.in_ok-answer_all-in-None.ensures.whole d waiting await in
     let last = line-closed g.D.Desk.answers g.D.Desk.posts g.C.Duplex.exchanged g.met.C.Duplex.in_turn _ _ _ _ _ line now.0 whole.0 (sym whole.1 ∙ closed) whole.2 now.2 whole.3 in

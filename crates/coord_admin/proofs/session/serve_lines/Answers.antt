@@ -4,7 +4,7 @@ use Rattle.coord_admin.specs.Replies.{reply_lines}
 use Rattle.coord_admin.specs.Stream.{last_answers}
 use Rattle.coord_admin.proofs.Pieces.{goes-none}
 use Rattle.coord_admin.proofs.SoFar.{served-in-part, so-far-all, so-far-broken, so-far-closed, so-far-cut, so-far-more, so-far-no-more, so-far-some, so-far-still}
-use Rattle.coord_admin.proofs.Stream.{broken-end, finishes-at, stops-at, told-on}
+use Rattle.coord_admin.proofs.Stream.{broken-end, finishes-at, stops-at, returned-on}
 use Rattle.coord_admin.proofs.session.serve_lines.Goals as goal
 
 -- nothing was read yet
@@ -45,7 +45,7 @@ returns-in-Ok-eq0-clause-served g c =
     let all = so-far-all g.D.Desk.answers g.D.Desk.posts g.C.Duplex.exchanged g.met.C.Duplex.in_turn c.args.desk.now _ _ c.args.connection.now _ _ inv.1.0 c.loop.line _ read c.in_ok-answer_all-in-Ok-eq0.ensures.whole in (
       inv.1.0,
       reply_lines all.1 ++ reply_lines (last_answers c.loop.line),
-      told-on g.C.Duplex.exchanged g.met.C.Duplex.in_turn c.args.connection.now _ _ inv.1.0 (reply_lines all.1) (reply_lines (last_answers c.loop.line)) all.3 c.in_ok-finish-in-Ok-eq0.ensures.printed,
+      returned-on g.C.Duplex.exchanged g.met.C.Duplex.in_turn c.args.connection.now _ _ inv.1.0 (reply_lines all.1) (reply_lines (last_answers c.loop.line)) all.3 c.in_ok-finish-in-Ok-eq0.ensures.printed,
       finishes-at g.D.Desk.answers c.args.desk.now _ inv.1.0 c.loop.line all.0 all.1 c.finish.ensures.within all.2 all.4,
     )
 

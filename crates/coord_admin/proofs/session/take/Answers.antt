@@ -4,7 +4,7 @@ use Rattle.std.specs.Option.{option_copied}
 use Rattle.coord_lines.specs.Lines.{lines_on}
 use Rattle.coord_lines.proofs.LinesOn.{lines_on-unended}
 use Rattle.coord_admin.proofs.Pieces.{goes-further, goes-waiting, piece-broken, piece-closed}
-use Rattle.coord_admin.proofs.Stream.{line_ended, told-all}
+use Rattle.coord_admin.proofs.Stream.{line_ended, returned-all}
 use Rattle.coord_admin.proofs.session.take.Goals as goal
 
 pub loop-behind-init : goal.loop-behind-init
@@ -50,7 +50,7 @@ loop-behind-preserved g c = λ d waiting await.
       inv.0 ++ line ∷ [],
       inv.1 ++ now.0,
       goes-further g.D.Desk.answers g.D.Desk.posts _ _ _ inv.0 line inv.1 now.0 _ _ goes now.1,
-      told-all g.C.Duplex.exchanged g.met.C.Duplex.in_turn _ _ _ [] inv.1 now.0 inv.3 now.2,
+      returned-all g.C.Duplex.exchanged g.met.C.Duplex.in_turn _ _ _ [] inv.1 now.0 inv.3 now.2,
       λ more. rw c.clear.ensures (
           inv.4 more
           ∙ ap (λ l. inv.0 ++ l) (line_ended g.D.Desk.answers c.loop-behind.line c.loop-behind.rest.now more behind line c.in-Some.ensures.behind (c.get.ensures.line ∙ c.take.ensures.line))

@@ -1,7 +1,7 @@
 use Rattle.std.proofs.Common.{◌≡◌, cond, false, [], ◌++◌, sym, ap, ◌∙◌, append_assoc, append-nil}
 use Rattle.std.specs.Result.{is_ok}
 use Rattle.std.proofs.lemmas.Result.{on_err_weaker, on_ok_weaker}
-use Rattle.coord_admin.proofs.Stream.{told-on}
+use Rattle.coord_admin.proofs.Stream.{returned-on}
 use Rattle.coord_admin.proofs.writing.add_line.Goals as goal
 
 pub returns-clause-added : goal.returns-clause-added
@@ -12,7 +12,7 @@ returns-clause-added g c =
     let same : text ≡ c.args.text.now.items = c.deref.ensures.value ∙ c.extend_from_slice.ensures.items ∙ ap (λ b. cond b (c.args.text.now.items ++ line) c.args.text.now.items) full in
     on_ok_weaker c.reply-2.result (λ second. (
       text ++ line,
-      told-on g.C.Duplex.exchanged g.met.C.Duplex.in_turn _ _ _ [] text line c.in_ok-reply.ensures.whole second,
+      returned-on g.C.Duplex.exchanged g.met.C.Duplex.in_turn _ _ _ [] text line c.in_ok-reply.ensures.whole second,
       ap (λ l. l ++ line) (sym same) ∙ sym (append-nil (text ++ line)) ∙ ap (λ l. (text ++ line) ++ l) (sym c.clear.ensures.items),
     )) c.reply-2.ensures.whole
 
@@ -24,6 +24,6 @@ returns-clause-part g c =
     let same : text ≡ c.args.text.now.items = c.deref.ensures.value ∙ c.extend_from_slice.ensures.items ∙ ap (λ b. cond b (c.args.text.now.items ++ line) c.args.text.now.items) full in
     on_err_weaker c.reply-2.result (λ second. (
       text ++ second.0,
-      told-on g.C.Duplex.exchanged g.met.C.Duplex.in_turn _ _ _ [] text second.0 c.in_ok-reply.ensures.whole second.1,
+      returned-on g.C.Duplex.exchanged g.met.C.Duplex.in_turn _ _ _ [] text second.0 c.in_ok-reply.ensures.whole second.1,
       (second.2.0, ap (λ l. l ++ line) (sym same) ∙ ap (λ l. text ++ l) second.2.1 ∙ sym (append_assoc text second.0 second.2.0)),
     )) c.reply-2.ensures.part

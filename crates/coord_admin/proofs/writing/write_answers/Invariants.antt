@@ -7,9 +7,9 @@ use Rattle.coord_admin.proofs.writing.write_answers.Given as goal
 -- what was written so far, and the text after it, are the lines of the answers so far
 abbrev pub invariant-loop-answer : goal.invariant-loop-answer
 invariant-loop-answer g l =
-    (out : List ℕ) × (told : List Answer)
-    × AreWritten (take l.answer-index l.answers) told
+    (out : List ℕ) × (returned : List Answer)
+    × AreWritten (take l.answer-index l.answers) returned
     × g.C.Duplex.exchanged l.fn.connection [] out l.connection
-    × (reply_lines told ≡ out ++ l.text.items)
+    × (reply_lines returned ≡ out ++ l.text.items)
     × (g.C.Duplex.has_ended l.fn.connection → g.C.Duplex.has_ended l.connection)
     × (g.C.Duplex.has_failed l.fn.connection → g.C.Duplex.has_failed l.connection)

@@ -20,7 +20,7 @@ returns-in_err-submit-clause-refused c =
     let P : Fault → Type 0 = λ fault. (fault ≡ OutOfMemory) ⊎ ((reason : Refusal) × (fault ≡ Refused reason) × (accepts f.world (no_world 2) (Order founder (length f.steps.items + 1) x) ≡ Err reason)) in
     let Q : Fault → Type 0 = λ fault. (fault ≡ OutOfMemory) ⊎ ((reason : Refusal) × (fault ≡ Refused reason) × RefusesToBegin (numbered 1 commands) reason) in
     let refused : P c.in_err-submit.field-0.0 = subst (λ r. IfErr r P) c.in_err-submit.was c.submit.ensures.refused in
-    let told : Q c.in_err-submit.field-0.0 = elim refused [
+    let answered : Q c.in_err-submit.field-0.0 = elim refused [
       | inl memory ↦ inl memory
       | inr why ↦ inr (
         why.0,
@@ -30,7 +30,7 @@ returns-in_err-submit-clause-refused c =
       )
     ] in
     let returned : c.from_residual.result ≡ Err c.in_err-submit.field-0.0 = search rules in
-    subst (λ r. IfErr r Q) (sym returned) told
+    subst (λ r. IfErr r Q) (sym returned) answered
 
 pub loop-command-preserved : goal.loop-command-preserved
 loop-command-preserved c = (

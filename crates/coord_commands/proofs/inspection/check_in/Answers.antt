@@ -11,4 +11,4 @@ returns-in-Ok-false-clause-ended g c = rw (← c.streams.view_is) (inr (inl (rec
 pub returns-in-Err-clause-ended : goal.returns-in-Err-clause-ended
 returns-in-Err-clause-ended g c =
     rw (← c.streams.view_is)
-    (inr (inr (record { fault = c.in-Err.fault; possible = c.in-Err.ensures.fault; number = c.report.ensures.status; told = c.report.ensures.told; cut = c.in-Err.ensures.cut })))
+    (inr (inr (record { fault = c.in-Err.fault; possible = c.in-Err.ensures.fault; number = c.report.ensures.status; answered = c.report.ensures.answered; cut = c.in-Err.ensures.cut })))

@@ -8,13 +8,13 @@ pub returns-in_ok-text-in-Ok-clause-shown : goal.returns-in_ok-text-in-Ok-clause
 returns-in_ok-text-in-Ok-clause-shown g c =
     let w = c.in-Ok.store.world in
     let text : c.deref.result.now ≡ shown w = search rules in
-    printed_last _ c.print.result _ _ c.deref.result.now (record { world = w; given = if_keeps _ _ _ c.in-Ok.ensures.world; told = text }) c.print.ensures.ok
+    printed_last _ c.print.result _ _ c.deref.result.now (record { world = w; given = if_keeps _ _ _ c.in-Ok.ensures.world; answered = text }) c.print.ensures.ok
 
 pub returns-in_ok-text-in-Ok-clause-cut : goal.returns-in_ok-text-in-Ok-clause-cut
 returns-in_ok-text-in-Ok-clause-cut g c =
     let w = c.in-Ok.store.world in
     let text : c.deref.result.now ≡ shown w = search rules in
-    cut_last _ c.print.result _ _ c.deref.result.now (record { world = w; given = if_keeps _ _ _ c.in-Ok.ensures.world; told = text }) c.print.ensures.err c.print.ensures.fault
+    cut_last _ c.print.result _ _ c.deref.result.now (record { world = w; given = if_keeps _ _ _ c.in-Ok.ensures.world; answered = text }) c.print.ensures.err c.print.ensures.fault
 
 pub returns-in-Err-clause-fault : goal.returns-in-Err-clause-fault
 returns-in-Err-clause-fault g c = inr (c.in-Err.ensures.named, if_keeps _ _ _ c.in-Err.ensures.fault)

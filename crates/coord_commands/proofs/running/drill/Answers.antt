@@ -15,6 +15,6 @@ returns-in-Err g c =
     (record {
       fault = c.in-Err.fault;
       number = subst (λ (f : Fault). c.report.result ≡ fault_status f) c.from.ensures c.report.ensures.status;
-      told = subst (λ (f : Fault). WritesFirstPart (g.E.Write.contents c.streams.inside.errors) (g.E.Write.contents c.report.new.errors) (fault_line f)) c.from.ensures c.report.ensures.told;
+      answered = subst (λ (f : Fault). WritesFirstPart (g.E.Write.contents c.streams.inside.errors) (g.E.Write.contents c.report.new.errors) (fault_line f)) c.from.ensures c.report.ensures.answered;
       broke = c.in-Err.ensures.broke;
     }))

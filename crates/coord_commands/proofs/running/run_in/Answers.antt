@@ -9,7 +9,7 @@ pub returns-in-Err-clause-done : goal.returns-in-Err-clause-done
 returns-in-Err-clause-done g c =
     rw (← c.streams.view_is)
     (inl (refused_arguments (map string_bytes c.args.arguments.now) c.in-Err.fault c.report.result (g.R.Read.remaining c.streams.inside.input) (g.W.Write.contents c.streams.inside.output) (g.E.Write.contents c.streams.inside.errors)
-    (g.E.Write.contents c.report.new.errors) (g.F.Folder.holds c.args.folder.now) (g.F.Folder.says c.args.folder.now) c.in-Err.ensures.err c.report.ensures.status c.report.ensures.told))
+    (g.E.Write.contents c.report.new.errors) (g.F.Folder.holds c.args.folder.now) (g.F.Folder.says c.args.folder.now) c.in-Err.ensures.err c.report.ensures.status c.report.ensures.answered))
 
 pub returns-in-Ok-Migrate-clause-done : goal.returns-in-Ok-Migrate-clause-done
 returns-in-Ok-Migrate-clause-done g c =
@@ -20,7 +20,7 @@ pub returns-in-Err-clause-moments : goal.returns-in-Err-clause-moments
 returns-in-Err-clause-moments g c = λ file asks.
     rw (← c.streams.view_is)
     (inl (refused_arguments (map string_bytes c.args.arguments.now) c.in-Err.fault c.report.result (g.R.Read.remaining c.streams.inside.input) (g.W.Write.contents c.streams.inside.output) (g.E.Write.contents c.streams.inside.errors)
-    (g.E.Write.contents c.report.new.errors) (g.F.Folder.holds c.args.folder.now) (g.F.Folder.says c.args.folder.now) c.in-Err.ensures.err c.report.ensures.status c.report.ensures.told))
+    (g.E.Write.contents c.report.new.errors) (g.F.Folder.holds c.args.folder.now) (g.F.Folder.says c.args.folder.now) c.in-Err.ensures.err c.report.ensures.status c.report.ensures.answered))
 
 pub returns-in-Ok-Migrate-clause-moments : goal.returns-in-Ok-Migrate-clause-moments
 returns-in-Ok-Migrate-clause-moments g c = λ file asks.

@@ -13,8 +13,8 @@ pub returns-in_err-disk-clause-fault : goal.returns-in_err-disk-clause-fault
 returns-in_err-disk-clause-fault g c =
     let before = g.F.Folder.holds c.args.folder.now c.args.file.now in
     let after = g.F.Folder.holds c.«open».new.self c.args.file.now in
-    let told : c.from_residual.result ≡ Err (Store Device) = search rules in
-    err_last (IsNotOpened g.F.Disk.Disk.model before after) c.from_residual.result (Store Device) told (record { fault = Device; named = refl; why = inl (refl, c.in_err-disk.ensures.refused) })
+    let answered : c.from_residual.result ≡ Err (Store Device) = search rules in
+    err_last (IsNotOpened g.F.Disk.Disk.model before after) c.from_residual.result (Store Device) answered (record { fault = Device; named = refl; why = inl (refl, c.in_err-disk.ensures.refused) })
 
 pub returns-in-Ok-clause-opened : goal.returns-in-Ok-clause-opened
 returns-in-Ok-clause-opened g c =

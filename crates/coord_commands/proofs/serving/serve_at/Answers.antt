@@ -21,8 +21,8 @@ returns-in_err-store-clause-fault g c =
     let after = g.F.Folder.holds c.opened.new.folder c.args.file.now in
     let old = g.W.Write.contents c.args.output.now in
     let fault = c.in_err-store.field-0.0 in
-    let told : c.from_residual.result ≡ Err fault = search rules in
-    err_last (EndsServing g.F.Disk.Disk.model before after old old) c.from_residual.result fault told (inl (inl c.in_err-store.ensures.fault, Keeps-refl old))
+    let answered : c.from_residual.result ≡ Err fault = search rules in
+    err_last (EndsServing g.F.Disk.Disk.model before after old old) c.from_residual.result fault answered (inl (inl c.in_err-store.ensures.fault, Keeps-refl old))
 
 pub returns-in-Err-clause-fault : goal.returns-in-Err-clause-fault
 returns-in-Err-clause-fault g c =
@@ -35,10 +35,10 @@ returns-in-Ok-Ok-clause-served g c =
     let store = c.in_ok-store.store in
     let old = g.W.Write.contents c.args.output.now in
     let new = g.W.Write.contents c.serve_open-served.new.output in
-    let told = c.serve_open-served.ensures in
+    let answered = c.serve_open-served.ensures in
     let is = c.in-Ok-Ok.is ∙ ap (λ v. Ok v) c.in-Ok-Ok.field-0-is in
-    served_whole m (g.F.Folder.holds c.args.folder.now c.args.file.now) (g.F.Folder.holds c.close.new.self c.args.file.now) old new store c.in-Ok-Ok.closed c.left.result c.in_ok-store.ensures.opened (subst (λ r. IfOk r (ServedWithOutput m (GivesSignal store.world) store old new)) is told.served)
-    (c.left.ensures.bytes (subst (λ r. IfOk r (λ told. IfOk told (λ closed. has_stopped closed.store ≡ false))) is told.going)) c.left.ensures.disk c.close.ensures
+    served_whole m (g.F.Folder.holds c.args.folder.now c.args.file.now) (g.F.Folder.holds c.close.new.self c.args.file.now) old new store c.in-Ok-Ok.closed c.left.result c.in_ok-store.ensures.opened (subst (λ r. IfOk r (ServedWithOutput m (GivesSignal store.world) store old new)) is answered.served)
+    (c.left.ensures.bytes (subst (λ r. IfOk r (λ answered. IfOk answered (λ closed. has_stopped closed.store ≡ false))) is answered.going)) c.left.ensures.disk c.close.ensures
 
 -- a server that has ended with a fault
 pub returns-in-Ok-Err-clause-fault : goal.returns-in-Ok-Err-clause-fault
@@ -51,6 +51,6 @@ returns-in-Ok-Err-clause-fault g c =
     let new = g.W.Write.contents c.serve_open-served.new.output in
     let fault = c.in-Ok-Err.fault in
     let left = c.left-in-Ok-Err in
-    let told : c.into.result ≡ fault_of_server fault = search rules in
-    subst (EndsServing m before after old new) (sym told)
+    let answered : c.into.result ≡ fault_of_server fault = search rules in
+    subst (EndsServing m before after old new) (sym answered)
     (ended m before after old new store (fault, c.in-Ok-Err.closed) left.result c.in_ok-store.ensures.opened (subst (λ r. IfOk r (ServedWithOutput m (GivesSignal store.world) store old new)) (c.in-Ok-Err.is ∙ ap (λ v. Ok v) c.in-Ok-Err.field-0-is) c.serve_open-served.ensures.served) left.ensures.disk c.close-in-Ok-Err.ensures)

@@ -3,7 +3,7 @@ use Rattle.std.proofs.lemmas.Result.{IfErr-weaker, IfOk-weaker}
 use Rattle.coord_store.specs.declared.faults.StoreFault.TheVariants.{OutOfMemory}
 use Rattle.coord_ledger.specs.Facade.{ledger_over}
 use Rattle.coord_drill.specs.Facade.{NotMade, failed_by}
-use Rattle.coord_drill.proofs.does.Crashes.{told_failures}
+use Rattle.coord_drill.proofs.does.Crashes.{reported_failures}
 use Rattle.coord_drill.proofs.drill.new_ledger.Goals as goal
 
 pub returns-in-Ok-clause-made : goal.returns-in-Ok-clause-made
@@ -18,4 +18,4 @@ returns-in-Ok-clause-not_made g c on =
 
 pub returns-in-Err-clause-not_made : goal.returns-in-Err-clause-not_made
 returns-in-Err-clause-not_made g c on =
-    record { why = c.in-Err.fault; fault_is = c.into.ensures; refusal = c.in-Err.ensures.fault on; untouched = λ taken. c.in-Err.ensures.unchanged on (inl taken); failed = c.in-Err.ensures.runs.failures ∙ ap (λ n. g.D.Disk.model.failures c.args.disk + n) (sym (ap failed_by c.into.ensures ∙ told_failures c.in-Err.fault)) }
+    record { why = c.in-Err.fault; fault_is = c.into.ensures; refusal = c.in-Err.ensures.fault on; untouched = λ taken. c.in-Err.ensures.unchanged on (inl taken); failed = c.in-Err.ensures.runs.failures ∙ ap (λ n. g.D.Disk.model.failures c.args.disk + n) (sym (ap failed_by c.into.ensures ∙ reported_failures c.in-Err.fault)) }

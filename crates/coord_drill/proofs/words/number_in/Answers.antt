@@ -24,11 +24,11 @@ number_read word (Err e) h = grind (arith, common_steps, h)
 
 pub returns-then-starts_with : goal.returns-then-starts_with
 returns-then-starts_with c =
-    let tells = starts_char 43 c.args.word.now c.starts_with.result c.starts_with.ensures.cases (omega arith) (omega arith) in
-    sym (plus_refused c.args.word.now (tells.0 c.if-starts_with.true))
+    let reports = starts_char 43 c.args.word.now c.starts_with.result c.starts_with.ensures.cases (omega arith) (omega arith) in
+    sym (plus_refused c.args.word.now (reports.0 c.if-starts_with.true))
 
 pub returns : goal.returns
 returns c =
-    let tells = starts_char 43 c.args.word.now c.starts_with.result c.starts_with.ensures.cases (omega arith) (omega arith) in
-    let no_plus : get_or c.args.word.now 0 0 ≢ 43 = λ e. absurd (false≢true (sym c.if-starts_with.false ∙ tells.1 e)) in
+    let reports = starts_char 43 c.args.word.now c.starts_with.result c.starts_with.ensures.cases (omega arith) (omega arith) in
+    let no_plus : get_or c.args.word.now 0 0 ≢ 43 = λ e. absurd (false≢true (sym c.if-starts_with.false ∙ reports.1 e)) in
     c.ok.ensures.value ∙ number_read c.args.word.now c.parse.result (parse_plain (numerals_by_value _ recognizes_all_ascii_digits) 64 c.args.word.now c.parse.result c.parse.ensures.value.0 no_plus)

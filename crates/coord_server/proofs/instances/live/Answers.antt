@@ -6,7 +6,7 @@ use Rattle.coord_server.specs.Moments.{KeepsAlong}
 use Rattle.coord_server.specs.Signals.{MaySignal}
 use Rattle.coord_server.specs.Instances.{MayGoOn}
 use Rattle.coord_server.proofs.Ends.{cause_at_last, last_instance}
-use Rattle.coord_server.proofs.Moments.{ends_along, rested_on, tells_on}
+use Rattle.coord_server.proofs.Moments.{ends_along, rested_on, may_print_on}
 use Rattle.coord_server.proofs.instances.live.Goals as goal
 
 pub loop-init : goal.loop-init
@@ -36,12 +36,12 @@ returns-in-Err-clause-lived g c =
 pub returns-in-Err-clause-same : goal.returns-in-Err-clause-same
 returns-in-Err-clause-same g c = ap (λ (b : Beginning). b.history) (c.in-Err.ensures.last.1 ∙ c.serve_instance-instance.ensures.written) ∙ c.loop.invariant.3
 
-pub serve_instance-instance-requires-clause-tell : goal.serve_instance-instance-requires-clause-tell
-serve_instance-instance-requires-clause-tell g c =
+pub serve_instance-instance-requires-clause-may_print : goal.serve_instance-instance-requires-clause-may_print
+serve_instance-instance-requires-clause-may_print g c =
     let history = g.O.SignalSource.history in
     let rested = c.loop.invariant.4 in
-    let tell = tells_on g.D.Disk.model (MaySignal history g.O.SignalSource.gives) history c.loop.writer.history c.args.start.over.value c.loop.start.over.value _ c.loop.writer.steps c.requires.tell c.loop.invariant.3 rested.2 rested.3 in
-    λ _ _. tell
+    let may_print = may_print_on g.D.Disk.model (MaySignal history g.O.SignalSource.gives) history c.loop.writer.history c.args.start.over.value c.loop.start.over.value _ c.loop.writer.steps c.requires.may_print c.loop.invariant.3 rested.2 rested.3 in
+    λ _ _. may_print
 
 pub returns-in-Err-clause-last : goal.returns-in-Err-clause-last
 returns-in-Err-clause-last g c =

@@ -1,4 +1,4 @@
-use Rattle.coord_server.proofs.Told.{instances_leave_steps}
+use Rattle.coord_server.proofs.Returned.{instances_leave_steps}
 use Rattle.coord_server.proofs.laws.instances_leave_steps.Goals as goal
 
 pub returns : goal.returns

@@ -1,4 +1,4 @@
-use Rattle.coord_server.proofs.Told.{notes_are_replies}
+use Rattle.coord_server.proofs.Returned.{notes_are_replies}
 use Rattle.coord_server.proofs.laws.notes_are_replies.Goals as goal
 
 pub returns : goal.returns

@@ -1,4 +1,4 @@
-use Rattle.coord_server.proofs.Told.{notes_end_an_instance}
+use Rattle.coord_server.proofs.Returned.{notes_end_an_instance}
 use Rattle.coord_server.proofs.laws.notes_end_an_instance.Goals as goal
 
 pub returns : goal.returns

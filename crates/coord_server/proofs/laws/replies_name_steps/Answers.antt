@@ -1,4 +1,4 @@
-use Rattle.coord_server.proofs.Told.{replies_name_steps}
+use Rattle.coord_server.proofs.Returned.{replies_name_steps}
 use Rattle.coord_server.proofs.laws.replies_name_steps.Goals as goal
 
 pub returns : goal.returns

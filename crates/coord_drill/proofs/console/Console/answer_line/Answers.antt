@@ -14,6 +14,6 @@ pub returns-clause-carried : goal.returns-clause-carried
 returns-clause-carried g c =
     let d = c.args.self in
     let line : option_copied c.get.result ≡ d.line = search rules in
-    let tells = c.in_ok-drill.ensures.carried in
-    let text : string_bytes c.respond.new.text ≡ tells.0 = tells.1.0 ∙ ap (λ old. old ++ tells.0) c.clear.ensures.bytes in
-    rw text (rw (sym line) tells.1.1)
+    let reports = c.in_ok-drill.ensures.carried in
+    let text : string_bytes c.respond.new.text ≡ reports.0 = reports.1.0 ∙ ap (λ old. old ++ reports.0) c.clear.ensures.bytes in
+    rw text (rw (sym line) reports.1.1)

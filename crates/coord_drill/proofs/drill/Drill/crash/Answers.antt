@@ -13,15 +13,15 @@ use Rattle.coord_drill.proofs.drill.Drill.crash.Goals as goal
 
 pub returns-in-Err-clause-cut : goal.returns-in-Err-clause-cut
 returns-in-Err-clause-cut g c promised =
-    let told = c.fault_of.ensures.told in
+    let reported = c.fault_of.ensures.reported in
     inr (record {
       moments = λ s is represents old there keeps. (c.in-Err.ensures.disk s is represents old there keeps).reopens;
-      cause = λ on. subst IsPassingFault (sym told) (crash_cause _ c.in-Err.kind c.in-Err.ensures.cause on);
-      failed = λ n has. c.in-Err.ensures.failures n has ∙ ap (λ k. n + k) (sym (ap failed_by told ∙ crash_failed c.in-Err.kind));
+      cause = λ on. subst IsPassingFault (sym reported) (crash_cause _ c.in-Err.kind c.in-Err.ensures.cause on);
+      failed = λ n has. c.in-Err.ensures.failures n has ∙ ap (λ k. n + k) (sym (ap failed_by reported ∙ crash_failed c.in-Err.kind));
     })
 
-pub returns-in-Ok-print_opened-clause-told : goal.returns-in-Ok-print_opened-clause-told
-returns-in-Ok-print_opened-clause-told g c =
+pub returns-in-Ok-print_opened-clause-reported : goal.returns-in-Ok-print_opened-clause-reported
+returns-in-Ok-print_opened-clause-reported g c =
     let d = c.args.self in
     let w = c.in-Ok.opened.1 in
     let count = c.in-Ok.opened.0 in

@@ -22,8 +22,8 @@ returns-in-Ok-printed-clause-ready g c =
     let rest = c.in-Ok-printed.ensures.left ∙ ap (λ (l : LedgerState g.row.D.Denot). left_by (settled_world l.log) r.flown d.tickets.items) c.ledger.ensures in
     flown_ready g.D.Disk.model g.D.CrashDisk.crashes d.driver r.driver d.tickets.items c.requires.ready.1 (settled_count r.driver.ledger.log) r.flown c.print_flown-printed.new.tickets.items run c.in-Ok.ensures.flown rest
 
-pub returns-in-Ok-printed-clause-told : goal.returns-in-Ok-printed-clause-told
-returns-in-Ok-printed-clause-told g c =
+pub returns-in-Ok-printed-clause-reported : goal.returns-in-Ok-printed-clause-reported
+returns-in-Ok-printed-clause-reported g c =
     let d = c.args.self in
     let r = c.in-Ok.landing in
     let text = c.in-Ok-printed.ensures.printed ∙ ap (λ (l : LedgerState g.row.D.Denot). string_bytes c.args.text.now ++ flown_lines (settled_world l.log) r.flown d.tickets.items) c.ledger.ensures in

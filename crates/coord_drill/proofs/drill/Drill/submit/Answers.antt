@@ -21,8 +21,8 @@ fly-requires g c =
     let hands = subst (λ r. Hands g.D.Disk.model g.D.CrashDisk.crashes d.driver c.args.step r w) (c.in-Ok-Accepted.is ∙ ap Ok c.in-Ok-Accepted.field-0-is) c.hand_in.ensures in
     record { ready = accepted_ready g.D.Disk.model g.D.CrashDisk.crashes d w c.args.step c.requires.ready t c.push_back_reserved.new.self.items begins hands (search rules) }
 
-pub returns-then-not-drill-clause-told : goal.returns-then-not-drill-clause-told
-returns-then-not-drill-clause-told g c =
+pub returns-then-not-drill-clause-reported : goal.returns-then-not-drill-clause-reported
+returns-then-not-drill-clause-reported g c =
     let d = c.args.self in
     let w = c.hand_in.new.driver in
     let t = c.in-Ok-Accepted.ticket in
@@ -31,7 +31,7 @@ returns-then-not-drill-clause-told g c =
     let free : d.holds ≡ false = search rules in
     IfOk-weaker c.fly.result _ _
     (λ new flown. (flown.0, (flown.1.0, λ promised. carries_flight g.D.Disk.model g.D.CrashDisk.crashes d w c.args.step c.requires.ready new begins _ t flown.0 refl refl refl free hands flown.1.1)))
-    c.fly.ensures.told
+    c.fly.ensures.reported
 
 pub returns-then-not-drill-clause-cut : goal.returns-then-not-drill-clause-cut
 returns-then-not-drill-clause-cut g c =
@@ -53,8 +53,8 @@ returns-in-Ok-clause-ready g c =
     let hands = subst (λ r. Hands g.D.Disk.model g.D.CrashDisk.crashes d.driver c.args.step r w) (c.in-Ok-Accepted.is ∙ ap Ok c.in-Ok-Accepted.field-0-is) c.hand_in.ensures in
     accepted_ready g.D.Disk.model g.D.CrashDisk.crashes d w c.args.step c.requires.ready t c.push_back_reserved.new.self.items begins hands (search rules)
 
-pub returns-in-Ok-clause-told : goal.returns-in-Ok-clause-told
-returns-in-Ok-clause-told g c =
+pub returns-in-Ok-clause-reported : goal.returns-in-Ok-clause-reported
+returns-in-Ok-clause-reported g c =
     let d = c.args.self in
     let w = c.hand_in.new.driver in
     let t = c.in-Ok-Accepted.ticket in
@@ -83,8 +83,8 @@ print_kept-requires g c =
     let hands = subst (λ r. Hands g.D.Disk.model g.D.CrashDisk.crashes d.driver c.args.step r w) (c.in-Ok-Repeated.is ∙ ap Ok c.in-Ok-Repeated.field-0-is) c.hand_in.ensures in
     rw c.ledger.ensures (repeated_granted d.driver.ledger w.ledger c.args.step t hands.handed)
 
-pub returns-in-Ok-print_kept-clause-told : goal.returns-in-Ok-print_kept-clause-told
-returns-in-Ok-print_kept-clause-told g c =
+pub returns-in-Ok-print_kept-clause-reported : goal.returns-in-Ok-print_kept-clause-reported
+returns-in-Ok-print_kept-clause-reported g c =
     let d = c.args.self in
     let w = c.hand_in.new.driver in
     let t = c.in-Ok-Repeated.ticket in
@@ -118,8 +118,8 @@ returns-in-Ok-print_refusal-clause-ready g c =
     let hands = subst (λ r. Hands g.D.Disk.model g.D.CrashDisk.crashes d.driver c.args.step r w) c.in-Err.is c.hand_in.ensures in
     kept_ready g.D.Disk.model g.D.CrashDisk.crashes d w c.args.step c.requires.ready c.reserve.new.self.items hands.flight hands.handed.now (search rules)
 
-pub returns-in-Ok-print_refusal-clause-told : goal.returns-in-Ok-print_refusal-clause-told
-returns-in-Ok-print_refusal-clause-told g c =
+pub returns-in-Ok-print_refusal-clause-reported : goal.returns-in-Ok-print_refusal-clause-reported
+returns-in-Ok-print_refusal-clause-reported g c =
     let d = c.args.self in
     let w = c.hand_in.new.driver in
     let e = c.in-Err.refusal in

@@ -5,7 +5,7 @@ use Rattle.coord_store.specs.Refused.{failed_in}
 use Rattle.coord_ledger.specs.Facade.{DriverState, LedgerState, disk_held, has_stopped, ledger_over, settled_world}
 use Rattle.coord_drill.specs.Facade.{GivesRaised, IsPassingFault, RaisesPart, failed_by}
 use Rattle.coord_drill.proofs.course.Standing.{none_stopped}
-use Rattle.coord_drill.proofs.does.Crashes.{told_failures}
+use Rattle.coord_drill.proofs.does.Crashes.{reported_failures}
 use Rattle.coord_drill.proofs.does.Moments.{passed_on}
 use Rattle.coord_drill.proofs.does.Raising.{never_stopped, none_torn, raising_cause}
 use Rattle.coord_drill.proofs.drill.raising.raise.Goals as goal
@@ -20,15 +20,15 @@ returns-in-Err-clause-cut g c =
     let moments : has_stopped d.ledger.log ≡ false → g.D.Disk.model.keeps_model store.disk ≡ true → LeavesOnly g.D.Disk.model store.disk now.disk (GivesRaised d) =
     λ on keeps. rw (sym taken.world) (c.migrate.ensures.changes.any_moment keeps (going on)) in
     let fault = c.in-Err.fault in
-    let told = c.into.ensures in
+    let reported = c.into.ensures in
     let lost = c.into_disk.ensures.disk in
     let failed : g.D.Disk.model.failures now.disk ≡ g.D.Disk.model.failures store.disk + failed_in fault = c.in-Err.ensures.runs.failures in
     record {
       old = store.disk;
       there = taken.disk;
       moments = λ on keeps. rw lost (moments on keeps);
-      cause = λ empty. subst IsPassingFault (sym told) (raising_cause d.ledger.log store.world fault taken.world empty c.in-Err.ensures.fault (λ stopped. never_stopped store.torn (going (none_stopped g.D.Disk.model g.D.CrashDisk.crashes d.ledger.log empty)) fault stopped c.in-Err.ensures.stopped.0));
-      failed = ap g.D.Disk.model.failures lost ∙ failed ∙ ap (λ n. g.D.Disk.model.failures store.disk + n) (sym (ap failed_by told ∙ told_failures fault));
+      cause = λ empty. subst IsPassingFault (sym reported) (raising_cause d.ledger.log store.world fault taken.world empty c.in-Err.ensures.fault (λ stopped. never_stopped store.torn (going (none_stopped g.D.Disk.model g.D.CrashDisk.crashes d.ledger.log empty)) fault stopped c.in-Err.ensures.stopped.0));
+      failed = ap g.D.Disk.model.failures lost ∙ failed ∙ ap (λ n. g.D.Disk.model.failures store.disk + n) (sym (ap failed_by reported ∙ reported_failures fault));
     }
 
 pub returns-in_err-adopt-clause-cut : goal.returns-in_err-adopt-clause-cut

@@ -1,7 +1,7 @@
 use Rattle.std.proofs.Common.{◌≡◌, sym, subst, ◌∙◌}
 use Rattle.coord_engine.specs.Facade.{CanHold, GuardedState, HasReadSettled, based_on}
 use Rattle.coord_ledger.specs.Facade.{settled_steps}
-use Rattle.coord_engine.proofs.Showing.{LedgerShows, told}
+use Rattle.coord_engine.proofs.Showing.{LedgerShows, returned}
 use Rattle.coord_engine.proofs.engine.Engine.show.Goals as goal
 
 pub returns-clause-answered : goal.returns-clause-answered
@@ -17,4 +17,4 @@ returns-clause-answered g c =
       unseen = c.show.ensures.unseen;
     } in
     let reads = subst (λ (x : GuardedState g.row.D.Denot). HasReadSettled g.L.Origin.history g.L.Origin.earlier (settled_steps x.ledger.log) c.read_on.new.reader) (sym same) c.read_on.ensures.read in
-    told locked c.args.seen.now c.show.new.seen b is g.L.Origin.history g.L.Origin.earlier c.read_on.new.reader reads c.show.result by
+    returned locked c.args.seen.now c.show.new.seen b is g.L.Origin.history g.L.Origin.earlier c.read_on.new.reader reads c.show.result by

@@ -5,7 +5,7 @@ use Rattle.coord_store.specs.declared.faults.CommitFault.TheVariants as commit
 use Rattle.coord_store.specs.declared.faults.StoreFault.TheVariants as fault
 use Rattle.coord_world.specs.laws.Raised.{raised}
 use Rattle.coord_world.specs.protocol.NumberedWorld.{World}
-use Rattle.coord_store.proofs.Changing.{ok_not, refused, retold, retold_refused}
+use Rattle.coord_store.proofs.Changing.{ok_not, refused, returned_again, returned_again_refused}
 use Rattle.coord_store.proofs.Holding.{only_is_either}
 use Rattle.coord_store.proofs.store.Store.migrate.Goals as goal
 
@@ -40,7 +40,7 @@ returns-in-Ok-put-clause-changes g c =
     let w = c.args.self.now.world in
     let first : w.version ≡ 1 = grind (arith, nat_tests, c.lemma_in_range.ensures.first, c.lemma_in_range.ensures.last, c.if-number-eq2.false, c.number.ensures.value, c.version.ensures, c.world-world.ensures) in
     let same : c.in-Ok.next ≡ risen w = c.in-Ok.ensures.value ∙ ap raised c.world-world.ensures ∙ rises w first in
-    rw (sym same) (retold g.D.Disk.model c.args.self.now c.put.new.self c.in-Ok.next commit.Device fault.Device _ _ c.in-Ok-put.ensures.changes)
+    rw (sym same) (returned_again g.D.Disk.model c.args.self.now c.put.new.self c.in-Ok.next commit.Device fault.Device _ _ c.in-Ok-put.ensures.changes)
 
 pub returns-in-Err-Device-clause-changes : goal.returns-in-Err-Device-clause-changes
 returns-in-Err-Device-clause-changes g c =
@@ -48,7 +48,7 @@ returns-in-Err-Device-clause-changes g c =
     let first : w.version ≡ 1 = grind (arith, nat_tests, c.lemma_in_range.ensures.first, c.lemma_in_range.ensures.last, c.if-number-eq2.false, c.number.ensures.value, c.version.ensures, c.world-world.ensures) in
     let same : c.in-Ok.next ≡ risen w = c.in-Ok.ensures.value ∙ ap raised c.world-world.ensures ∙ rises w first in
     let device : c.in-Err-Device.field-0 ≡ commit.Device = search rules in
-    rw (sym same) (retold_refused g.D.Disk.model c.args.self.now c.put.new.self c.in-Ok.next commit.Device fault.Device c.in-Err-Device.field-0 fault.Device (λ _. device) (λ unlike. absurd (unlike refl)) c.in-Err-Device.ensures.changes)
+    rw (sym same) (returned_again_refused g.D.Disk.model c.args.self.now c.put.new.self c.in-Ok.next commit.Device fault.Device c.in-Err-Device.field-0 fault.Device (λ _. device) (λ unlike. absurd (unlike refl)) c.in-Err-Device.ensures.changes)
 
 pub returns-in-Err-put-clause-changes : goal.returns-in-Err-put-clause-changes
 returns-in-Err-put-clause-changes g c =
@@ -57,4 +57,4 @@ returns-in-Err-put-clause-changes g c =
     let same : c.in-Ok.next ≡ risen w = c.in-Ok.ensures.value ∙ ap raised c.world-world.ensures ∙ rises w first in
     let why = c.in-Err-put.field-0 in
     let other : why ≢ commit.Device = search rules in
-    rw (sym same) (retold_refused g.D.Disk.model c.args.self.now c.put.new.self c.in-Ok.next commit.Device fault.Device why fault.OutOfMemory (λ e. absurd cc) (λ _. other) c.in-Err-put.ensures.changes)
+    rw (sym same) (returned_again_refused g.D.Disk.model c.args.self.now c.put.new.self c.in-Ok.next commit.Device fault.Device why fault.OutOfMemory (λ e. absurd cc) (λ _. other) c.in-Err-put.ensures.changes)

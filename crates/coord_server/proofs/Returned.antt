@@ -13,7 +13,7 @@ use Rattle.coord_ledger.specs.declared.ticket.Note.{Note}
 use Rattle.coord_ledger.specs.Facade.{Claim, IsCollectable, LedgerGives, Log, GivesSettled as LogGives, kinds_of, reply_of, settled_steps, settled_world}
 use Rattle.coord_engine.specs.declared.closed.Closed.{Closed}
 use Rattle.coord_engine.specs.Facade.{AnswersStep, AtSomeMoment, Basis, LedgerAndNotes, all_notes, engine_verdict, note_of, notes_of}
-use Rattle.coord_server.specs.Told.{InstanceGives, InstancesLeaveSteps, NamesItsStep, NotesAreReplies, NotesEndALife, RepliesNameSteps}
+use Rattle.coord_server.specs.Returned.{InstanceGives, InstancesLeaveSteps, NamesItsStep, NotesAreReplies, NotesEndALife, RepliesNameSteps}
 
 -- the note's step stands at this place after a world, with that reply
 record IsRepliedIn (w : World) (steps : List Step) (note : Note) (place : ℕ) : Type 0 where
@@ -46,8 +46,8 @@ names b s reply before after now claim is note settled = record {
 }
 
 pub replies_name_steps : (D : Type 0) → RepliesNameSteps D
-replies_name_steps D b s reply before after read now (claim, accepted, told) =
-    let collected = told.at in
+replies_name_steps D b s reply before after read now (claim, accepted, returned) =
+    let collected = returned.at in
     let note = noted s (engine_verdict accepted.state s) (record { ledger = accepted.state.ledger; notes = before }) (record { ledger = accepted.so.0; notes = after }) claim accepted.so.1 in
     names b s reply before after now claim (claim_of s reply claim collected.so.0.0 note.0) note.1 (record { state = collected.state; held = collected.held; so = (collected.so.0.1, collected.so.1) })
 

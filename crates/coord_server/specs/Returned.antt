@@ -55,19 +55,19 @@ AnswersUpTo step (Faulted f) = Unit {0}
 
 -- what was written is lines, each of which tells of no step after this one; in the last of them it may break off
 pub record WritesUpTo (step : ℕ) (text : List ℕ) : Type 0 where
-  pub told : List Answer
-  pub up_to : AllByRecursion (AnswersUpTo step) told
+  pub returned : List Answer
+  pub up_to : AllByRecursion (AnswersUpTo step) returned
   pub part : List ℕ
   pub broken : (part ≡ []) ⊎ ((last : Answer) × AnswersUpTo step last × IsFirstPart part (reply_line last))
-  pub text_is : text ≡ reply_lines told ++ part
+  pub text_is : text ≡ reply_lines returned ++ part
 
 -- over each of these connections
 abbrev pub AllWriteUpTo : ℕ → List Connection → Type 0
 AllWriteUpTo step cs = AllByRecursion (λ c. WritesUpTo step c.talk.bytes_written) cs
 
 -- all that the desk of an instance told or showed is settled in what is left of it, whether or not a line closed it
-abbrev pub ToldIsSettled : Type 0 → Type 0 → {V : Type 0} → (V → List Talk → V → Type 0) → Type 0
-ToldIsSettled D P {V} talked =
+abbrev pub ReturnedIsSettled : Type 0 → Type 0 → {V : Type 0} → (V → List Talk → V → Type 0) → Type 0
+ReturnedIsSettled D P {V} talked =
     (b : Basis D) (most : ℕ) (port : P) (v w : V) (desk : DeskState P) (left : Closed D) → IsOneHistory b desk left
     → ((served : ServedWhileOpen b talked most port v w desk) → AllWriteUpTo left.settled served.0)
     × ((served : IsClosed b talked most port v w desk) → AllWriteUpTo left.settled (served.0 ++ served.1 ∷ []))

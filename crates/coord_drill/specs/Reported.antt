@@ -29,8 +29,8 @@ step_answered s x (Repeated n ∷ given) = repeat_answered (settled_count s.log)
 step_answered s x given = []
 
 -- The steps that the answer to a request shows. Resent packets come from settled steps, and count for the last of them.
-unfoldable pub told_by : DrillState → Asked → List Answer → List ℕ
-told_by s (Submit x) given = step_answered s x given
-told_by s Flush given = flight_answered s.log given
-told_by s Resend given = settled_count s.log ∷ []
-told_by s asked given = []
+unfoldable pub reported_by : DrillState → Asked → List Answer → List ℕ
+reported_by s (Submit x) given = step_answered s x given
+reported_by s Flush given = flight_answered s.log given
+reported_by s Resend given = settled_count s.log ∷ []
+reported_by s asked given = []

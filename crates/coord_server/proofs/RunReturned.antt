@@ -26,12 +26,12 @@ use Rattle.coord_engine.specs.Facade.{Basis, StartsWith, based_on, first_settled
 use Rattle.coord_engine.specs.declared.closed.Closed.{Closed}
 use Rattle.coord_server.proofs.InOrder.{from_earlier, answered_in_order}
 use Rattle.coord_server.proofs.Moments.{all_of_settled, settled_behind}
-use Rattle.coord_server.proofs.OneHistory.{is_left, leaves_all, left_of, tells}
+use Rattle.coord_server.proofs.OneHistory.{is_left, leaves_all, left_of, says_what_is_left}
 use Rattle.coord_server.specs.EngineDesk.{DeskState}
 use Rattle.coord_server.specs.Ending.{IsClosed, Local, ServedWhileOpen, Serves, ServesInstance}
-use Rattle.coord_server.specs.InOrder.{AllInOrder, BearOut, GoOn, IsBorneOut, IsOwnReply, Told, WritesInOrder}
+use Rattle.coord_server.specs.InOrder.{AllInOrder, BearOut, GoOn, IsBorneOut, IsOwnReply, Returned, WritesInOrder}
 use Rattle.coord_server.specs.Instances.{AreInstances, InstanceRun, all_steps}
-use Rattle.coord_server.specs.RunTold.{AreConnectionsOf, EachReads, HadConnections, RunTellsOneHistory}
+use Rattle.coord_server.specs.RunReturned.{AreConnectionsOf, EachReads, HadConnections, RunAnswersFromOneHistory}
 use Rattle.coord_server.specs.declared.fault.ServerFault.{ServerFault}
 use Rattle.coord_server.specs.declared.fault.ServerFault.TheVariants as fault
 use Rattle.coord_server.specs.declared.instance_end.InstanceEnd.{InstanceEnd}
@@ -40,9 +40,9 @@ use Rattle.coord_server.specs.declared.instance_end.InstanceEnd.TheVariants as e
 -- ---- connections, one after the other
 
 -- what is read later begins with what was told of
-pub leads : (first : List Step) (told : List Told) (last : List Step) → GoOn first told last → StartsWith last first
+pub leads : (first : List Step) (returned : List Returned) (last : List Step) → GoOn first returned last → StartsWith last first
 leads first [] last on = on
-leads first (t ∷ told) last on = first_of_first first t.after last on.0 (leads t.after told last on.1)
+leads first (t ∷ returned) last on = first_of_first first t.after last on.0 (leads t.after returned last on.1)
 
 to_later : (base : World) (first now last : List Step) (cs : List Connection) → AllInOrder base first cs now → StartsWith last now → AllInOrder base first cs last
 to_later base first now last [] is on = first_of_first first now last is on
@@ -59,7 +59,7 @@ and_later base first now last (c ∷ cs) ds is later = (is.0, is.1, and_later ba
 
 all_lead : (base : World) (first last : List Step) (cs : List Connection) → AllInOrder base first cs last → StartsWith last first
 all_lead base first last [] is = is
-all_lead base first last (c ∷ cs) is = first_of_first first is.0 last (leads first (is.1.told ++ is.1.torn) is.0 is.1.go_on) (all_lead base is.0 last cs is.2)
+all_lead base first last (c ∷ cs) is = first_of_first first is.0 last (leads first (is.1.returned ++ is.1.torn) is.0 is.1.go_on) (all_lead base is.0 last cs is.2)
 
 -- ---- an instance, after the steps of those before it
 
@@ -109,20 +109,20 @@ module _ (began : World) (before : List Step) where
   abbrev base : World
   base = fold began before
 
-  abbrev lift : Told → Told
+  abbrev lift : Returned → Returned
   lift t = record { line = t.line; answer = t.answer; after = before ++ t.after }
 
-  lines_same : (told : List Told) → map (λ (t : Told). t.line) (map lift told) ≡ map (λ (t : Told). t.line) told
+  lines_same : (returned : List Returned) → map (λ (t : Returned). t.line) (map lift returned) ≡ map (λ (t : Returned). t.line) returned
   lines_same [] = refl
-  lines_same (t ∷ told) = ap (λ l. t.line ∷ l) (lines_same told)
+  lines_same (t ∷ returned) = ap (λ l. t.line ∷ l) (lines_same returned)
 
-  answers_same : (told : List Told) → map (λ (t : Told). t.answer) (map lift told) ≡ map (λ (t : Told). t.answer) told
+  answers_same : (returned : List Returned) → map (λ (t : Returned). t.answer) (map lift returned) ≡ map (λ (t : Returned). t.answer) returned
   answers_same [] = refl
-  answers_same (t ∷ told) = ap (λ l. t.answer ∷ l) (answers_same told)
+  answers_same (t ∷ returned) = ap (λ l. t.answer ∷ l) (answers_same returned)
 
-  go_on : (first : List Step) (told : List Told) (last : List Step) → GoOn first told last → GoOn (before ++ first) (map lift told) (before ++ last)
+  go_on : (first : List Step) (returned : List Returned) (last : List Step) → GoOn first returned last → GoOn (before ++ first) (map lift returned) (before ++ last)
   go_on first [] last on = behind_these before last first on
-  go_on first (t ∷ told) last on = (behind_these before t.after first on.0, go_on t.after told last on.1)
+  go_on first (t ∷ returned) last on = (behind_these before t.after first on.0, go_on t.after returned last on.1)
 
   -- the reply that the world of an instance keeps was given by an earlier instance, or the first world keeps it
   kept_reply : (steps : List Step) (s : Step) (r : Reply) → IsKeptBy base (record { step = r.step; what = s; kind = r.kind }) → IsOwnReply began (before ++ steps) s r
@@ -171,27 +171,27 @@ module _ (began : World) (before : List Step) where
   bear_out steps asked answer.Closed is = tt
   bear_out steps asked (answer.Faulted f) is = tt
 
-  all_borne_out : (told : List Told) → AllByRecursion (IsBorneOut base) told → AllByRecursion (IsBorneOut began) (map lift told)
+  all_borne_out : (returned : List Returned) → AllByRecursion (IsBorneOut base) returned → AllByRecursion (IsBorneOut began) (map lift returned)
   all_borne_out [] is = tt
-  all_borne_out (t ∷ told) is = (bear_out t.after (asked_by t.line) t.answer is.0, all_borne_out told is.1)
+  all_borne_out (t ∷ returned) is = (bear_out t.after (asked_by t.line) t.answer is.0, all_borne_out returned is.1)
 
-  broken : (torn : List Told) (part : List ℕ) → ((torn ≡ []) × (part ≡ [])) ⊎ ((t : Told) × (torn ≡ t ∷ []) × IsFirstPart part (reply_line t.answer)) → ((map lift torn ≡ []) × (part ≡ [])) ⊎ ((t : Told) × (map lift torn ≡ t ∷ []) × IsFirstPart part (reply_line t.answer))
+  broken : (torn : List Returned) (part : List ℕ) → ((torn ≡ []) × (part ≡ [])) ⊎ ((t : Returned) × (torn ≡ t ∷ []) × IsFirstPart part (reply_line t.answer)) → ((map lift torn ≡ []) × (part ≡ [])) ⊎ ((t : Returned) × (map lift torn ≡ t ∷ []) × IsFirstPart part (reply_line t.answer))
   broken torn part (inl is) = inl (ap (map lift) is.0, is.1)
   broken torn part (inr is) = inr (lift is.0, ap (map lift) is.1, is.2)
 
   writes : (first : List Step) (talk : Talk) (last : List Step) → WritesInOrder base first talk last → WritesInOrder began (before ++ first) talk (before ++ last)
   writes first talk last w =
-      let both = map-append lift w.told w.torn in
+      let both = map-append lift w.returned w.torn in
       record {
-        told = map lift w.told;
+        returned = map lift w.returned;
         torn = map lift w.torn;
         left = w.left;
-        lines = w.lines ∙ ap (λ l. l ++ w.left) (sym (lines_same (w.told ++ w.torn)) ∙ ap (map (λ (t : Told). t.line)) both);
-        go_on = subst (λ l. GoOn (before ++ first) l (before ++ last)) both (go_on first (w.told ++ w.torn) last w.go_on);
-        borne_out = subst (AllByRecursion (IsBorneOut began)) both (all_borne_out (w.told ++ w.torn) w.borne_out);
+        lines = w.lines ∙ ap (λ l. l ++ w.left) (sym (lines_same (w.returned ++ w.torn)) ∙ ap (map (λ (t : Returned). t.line)) both);
+        go_on = subst (λ l. GoOn (before ++ first) l (before ++ last)) both (go_on first (w.returned ++ w.torn) last w.go_on);
+        borne_out = subst (AllByRecursion (IsBorneOut began)) both (all_borne_out (w.returned ++ w.torn) w.borne_out);
         part = w.part;
         broken = broken w.torn w.part w.broken;
-        text_is = w.text_is ∙ ap (λ l. reply_lines l ++ w.part) (sym (answers_same w.told));
+        text_is = w.text_is ∙ ap (λ l. reply_lines l ++ w.part) (sym (answers_same w.returned));
       }
 
   all_in_order : (first : List Step) (cs : List Connection) (last : List Step) → AllInOrder base first cs last → AllInOrder began (before ++ first) cs (before ++ last)
@@ -205,20 +205,20 @@ module _ {D : Type 0} (b : Basis D) {V : Type 0} (talked : V → List Talk → V
   record HasPrinted (v w : V) (read : List Step) : Type 0 where
     connections : List Connection
     had : HadConnections talked failed v connections w
-    told : AllInOrder b.base [] connections read
+    returned : AllInOrder b.base [] connections read
 
   module _ (port : Local) (v w : V) (desk : DeskState Local) where
     in_order : ((served : ServedWhileOpen b talked most port v w desk) → AllInOrder b.base [] served.0 desk.read) × ((served : IsClosed b talked most port v w desk) → AllInOrder b.base [] (served.0 ++ served.1 ∷ []) desk.read)
     in_order = answered_in_order D Local talked b most port v w desk
 
     while_open : ServedWhileOpen b talked most port v w desk → HasPrinted v w desk.read
-    while_open is = record { connections = is.0; had = record { last = w; talks = is.1; ended = inl refl }; told = in_order.0 is }
+    while_open is = record { connections = is.0; had = record { last = w; talks = is.1; ended = inl refl }; returned = in_order.0 is }
 
     to_close : IsClosed b talked most port v w desk → HasPrinted v w desk.read
-    to_close is = record { connections = is.0 ++ is.1 ∷ []; had = record { last = w; talks = is.3; ended = inl refl }; told = in_order.1 is }
+    to_close is = record { connections = is.0 ++ is.1 ∷ []; had = record { last = w; talks = is.3; ended = inl refl }; returned = in_order.1 is }
 
     nobody : talked v [] w → HasPrinted v w desk.read
-    nobody is = record { connections = []; had = record { last = w; talks = is; ended = inl refl }; told = none_of desk.read }
+    nobody is = record { connections = []; had = record { last = w; talks = is; ended = inl refl }; returned = none_of desk.read }
 
   serves_instance : (port : Local) (v w : V) (desk : DeskState Local) (left : InstanceEnd) → ServesInstance b talked failed most port v w desk left → HasPrinted v w desk.read
   serves_instance port v w desk end.Resting is = while_open port v w desk is.0
@@ -226,7 +226,7 @@ module _ {D : Type 0} (b : Basis D) {V : Type 0} (talked : V → List Talk → V
   serves_instance port v w desk end.Unprinted is = nobody port v w desk is.0
   serves_instance port v w desk (end.Ended None) is = to_close port v w desk is
   serves_instance port v w desk (end.Ended (Some fault.OutOfMemory)) is = nobody port v w desk is.0
-  serves_instance port v w desk (end.Ended (Some fault.Socket)) is = record { connections = is.1.0; had = record { last = is.0; talks = is.1.1; ended = inr is.2 }; told = (in_order port v is.0 desk).0 is.1 }
+  serves_instance port v w desk (end.Ended (Some fault.Socket)) is = record { connections = is.1.0; had = record { last = is.0; talks = is.1.1; ended = inr is.2 }; returned = (in_order port v is.0 desk).0 is.1 }
   serves_instance port v w desk (end.Ended (Some fault.NotBegun)) is = absurd is
   serves_instance port v w desk (end.Ended (Some fault.Device)) is = absurd is
   serves_instance port v w desk (end.Ended (Some fault.Write)) is = absurd is
@@ -248,14 +248,14 @@ module _ {D : Type 0} (m : DiskModel D) {V : Type 0} (talked : V → List Talk �
   record Gone (settled before : List Step) (v : V) (instances : List (InstanceRun D V)) : Type 0 where
     connections : List Connection
     had : AreConnectionsOf talked failed v instances connections
-    told : AllInOrder began before connections settled
+    returned : AllInOrder began before connections settled
     reads : EachReads began settled before instances
 
   -- what was told over the connections of an instance, after the steps of the instances before
   lifted : (before read : List Step) (world : World) (cs : List Connection) → world ≡ fold began before → AllInOrder world [] cs read → AllInOrder began before cs (before ++ read)
-  lifted before read world cs is told =
+  lifted before read world cs is returned =
       subst (λ first. AllInOrder began first cs (before ++ read)) (append-nil before)
-      (all_in_order began before [] cs read (subst (λ w. AllInOrder w [] cs read) is told))
+      (all_in_order began before [] cs read (subst (λ w. AllInOrder w [] cs read) is returned))
 
   gone : (settled before : List Step) (world : World) (v w : V) (instances : List (InstanceRun D V)) (why : Option ServerFault) (left : Closed D) → world ≡ fold began before → settled ≡ first_settled began (before ++ all_steps instances) left.settled → AreInstances m talked failed most world v instances why left w → Gone settled before v instances
   gone settled before world v w [] why left from all is = absurd is
@@ -263,17 +263,17 @@ module _ {D : Type 0} (m : DiskModel D) {V : Type 0} (talked : V → List Talk �
       let last = is.0 in
       let b = based_on m world [] in
       let own = serves b talked failed most instance.port v instance.callers instance.desk why last.served in
-      let t = tells b instance.left (is_left b instance.desk instance.left why last.history) in
+      let t = says_what_is_left b instance.left (is_left b instance.desk instance.left why last.history) in
       let here : settled ≡ before ++ first_settled instance.left.base instance.left.trail.items instance.left.settled =
       all ∙ ap (λ l. first_settled began (before ++ l) left.settled) (append-nil instance.left.trail.items)
       ∙ ap (λ (c : Closed D). first_settled began (before ++ instance.left.trail.items) c.settled) (sym is.1)
       ∙ settled_behind m began before world instance.left (sym from) t
       in
-      let on : StartsWith settled (before ++ instance.desk.read) = subst (λ l. StartsWith l (before ++ instance.desk.read)) (sym here) (behind_these before _ instance.desk.read last.told) in
+      let on : StartsWith settled (before ++ instance.desk.read) = subst (λ l. StartsWith l (before ++ instance.desk.read)) (sym here) (behind_these before _ instance.desk.read last.returned) in
       record {
         connections = own.connections;
         had = (own.connections, [], sym (append-nil own.connections), own.had, refl);
-        told = to_later began before (before ++ instance.desk.read) settled own.connections (lifted before instance.desk.read world own.connections from own.told) on;
+        returned = to_later began before (before ++ instance.desk.read) settled own.connections (lifted before instance.desk.read world own.connections from own.returned) on;
         reads = (t.from ∙ from, on, tt);
       }
   gone settled before world v w (instance ∷ next ∷ later) why left from all is =
@@ -281,20 +281,20 @@ module _ {D : Type 0} (m : DiskModel D) {V : Type 0} (talked : V → List Talk �
       let b = based_on m world [] in
       let trail = instance.left.trail.items in
       let own = while_open b talked failed most instance.port v instance.callers instance.desk rests.served in
-      let t = tells b instance.left (left_of b instance.desk instance.left rests.history) in
+      let t = says_what_is_left b instance.left (left_of b instance.desk instance.left rests.history) in
       let from_next : instance.left.store.world ≡ fold began (before ++ trail) = leaves_all world instance.left t rests.all_settled ∙ ap (λ (x : World). fold x trail) from ∙ sym (fold-append before trail began) in
       let rest = gone settled (before ++ trail) instance.left.store.world instance.callers w (next ∷ later) why left from_next (all ∙ ap (λ l. first_settled began l left.settled) (sym (append_assoc before trail (all_steps (next ∷ later))))) is.1 in
-      let on : StartsWith (before ++ trail) (before ++ instance.desk.read) = behind_these before trail instance.desk.read (subst (λ l. StartsWith l instance.desk.read) (all_of_settled m instance.left rests.all_settled) rests.told) in
-      let mine : AllInOrder began before own.connections (before ++ trail) = to_later began before (before ++ instance.desk.read) (before ++ trail) own.connections (lifted before instance.desk.read world own.connections from own.told) on in
-      let behind : StartsWith settled (before ++ trail) = all_lead began (before ++ trail) settled rest.connections rest.told in
+      let on : StartsWith (before ++ trail) (before ++ instance.desk.read) = behind_these before trail instance.desk.read (subst (λ l. StartsWith l instance.desk.read) (all_of_settled m instance.left rests.all_settled) rests.returned) in
+      let mine : AllInOrder began before own.connections (before ++ trail) = to_later began before (before ++ instance.desk.read) (before ++ trail) own.connections (lifted before instance.desk.read world own.connections from own.returned) on in
+      let behind : StartsWith settled (before ++ trail) = all_lead began (before ++ trail) settled rest.connections rest.returned in
       record {
         connections = own.connections ++ rest.connections;
         had = (own.connections, rest.connections, refl, own.had, rest.had);
-        told = and_later began before (before ++ trail) settled own.connections rest.connections mine rest.told;
+        returned = and_later began before (before ++ trail) settled own.connections rest.connections mine rest.returned;
         reads = (t.from ∙ from, first_of_first (before ++ instance.desk.read) (before ++ trail) settled on behind, rest.reads);
       }
 
-pub run_tells_one_history : {D V W : Type 0} (m : DiskModel D) (talked : V → List Talk → V → Type 0) (failed : V → V → Type 0) (contents : W → Option (List ℕ)) (gives : List Step → ℕ → ℕ → ℕ → Type 0) → RunTellsOneHistory m talked failed contents gives
-run_tells_one_history m talked failed contents gives most store v printer ended run =
+pub run_answers_from_one_history : {D V W : Type 0} (m : DiskModel D) (talked : V → List Talk → V → Type 0) (failed : V → V → Type 0) (contents : W → Option (List ℕ)) (gives : List Step → ℕ → ℕ → ℕ → Type 0) → RunAnswersFromOneHistory m talked failed contents gives
+run_answers_from_one_history m talked failed contents gives most store v printer ended run =
     let is = gone m talked failed most store.world (first_settled store.world (all_steps run.instances) ended.closed.settled) [] store.world v ended.callers run.instances ended.served ended.closed refl refl run.served in
-    record { connections = is.connections; had = is.had; told = is.told; reads = is.reads }
+    record { connections = is.connections; had = is.had; returned = is.returned; reads = is.reads }

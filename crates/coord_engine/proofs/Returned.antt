@@ -23,14 +23,14 @@ module _ {D : Type 0} (b : Basis D) where
   flown left back released leaves is comes (Err Stopped) tried = absurd tried
   flown left back released leaves is comes (Err Again) tried = absurd tried
 
-  answered : (committed : Result (Unit {0}) CommitFault) (released : List Release) (told : Result (Option (List Release)) CommitFault)
-      → MatchResult committed (λ _. told ≡ Ok (Some released)) (λ fault. told ≡ Err fault) → Flown committed released → AnswersFlush b told
-  answered (Ok done) released told is so = subst (AnswersFlush b) (sym is) so
-  answered (Err fault) released told is so = subst (AnswersFlush b) (sym is) so
+  answered : (committed : Result (Unit {0}) CommitFault) (released : List Release) (returned : Result (Option (List Release)) CommitFault)
+      → MatchResult committed (λ _. returned ≡ Ok (Some released)) (λ fault. returned ≡ Err fault) → Flown committed released → AnswersFlush b returned
+  answered (Ok done) released returned is so = subst (AnswersFlush b) (sym is) so
+  answered (Err fault) released returned is so = subst (AnswersFlush b) (sym is) so
 
   -- what a flush answers, once its flight is back
-  pub told_back : (left back : FlightState D) (released : List Release) → AtSomeMoment b (Leaves left) → (committed : Result (Unit {0}) CommitFault) → (left.mark ≡ New → CommitsFlight b.failures left committed back)
-      → released ≡ releases_in back back.mark → AtSomeMoment b (ComesBack back) → (told : Result (Option (List Release)) CommitFault)
-      → MatchResult committed (λ _. told ≡ Ok (Some released)) (λ fault. told ≡ Err fault) → AnswersFlush b told
-  told_back left back released leaves committed tried is comes told same =
-      answered committed released told same (flown left back released leaves is comes committed (tried (ap (λ (f : FlightState D). f.mark) leaves.so.1)))
+  pub returned_back : (left back : FlightState D) (released : List Release) → AtSomeMoment b (Leaves left) → (committed : Result (Unit {0}) CommitFault) → (left.mark ≡ New → CommitsFlight b.failures left committed back)
+      → released ≡ releases_in back back.mark → AtSomeMoment b (ComesBack back) → (returned : Result (Option (List Release)) CommitFault)
+      → MatchResult committed (λ _. returned ≡ Ok (Some released)) (λ fault. returned ≡ Err fault) → AnswersFlush b returned
+  returned_back left back released leaves committed tried is comes returned same =
+      answered committed released returned same (flown left back released leaves is comes committed (tried (ap (λ (f : FlightState D). f.mark) leaves.so.1)))

@@ -6,7 +6,7 @@ ghost use Rattle.coord_ledger.specs.Facade.{settled_world};
 ghost use Rattle.coord_drill.specs.Answered.{asked_lines, shown_lines};
 ghost use Rattle.coord_drill.specs.Drill.{changes_nothing};
 ghost use Rattle.coord_drill.specs.Faults.{IsOfMemory};
-ghost use Rattle.coord_drill.specs.Holding.{IsReadyDrill, Tells, drill_of};
+ghost use Rattle.coord_drill.specs.Holding.{IsReadyDrill, Reports, drill_of};
 ghost use Rattle.coord_drill.specs.Moments.{CarriesIf, CutsIf};
 ghost use Rattle.coord_drill.specs.Printed.{output_lines};
 ghost use Rattle.coord_drill.specs.declared.asked.Asked.TheVariants as ask;
@@ -25,12 +25,12 @@ use std::alloc::AllocError;
 
 impl<D: CrashDisk> Drill<D> {
     /// Prints an answer that changes nothing.
-    pub(super) fn tell(self, wanted: Asked, text: &mut String) -> Result<Self, (Fault, D)>
+    pub(super) fn report(self, wanted: Asked, text: &mut String) -> Result<Self, (Fault, D)>
         requires ready { IsReadyDrill self }
         requires nothing { changes_nothing wanted ≡ true }
         ensures ready { IfOk result IsReadyDrill }
-        ensures told { IfOk result (λ drill. Tells (string_bytes text.old) (string_bytes text.new)
-            (λ told. CarriesIf D.model D.crashes self wanted told drill)) }
+        ensures reported { IfOk result (λ drill. Reports (string_bytes text.old) (string_bytes text.new)
+            (λ reported. CarriesIf D.model D.crashes self wanted reported drill)) }
         ensures cut { IfErr result (CutsIf D.model D.crashes wanted self) }
         ensures fault { IfErr result (λ refused. IsOfMemory refused.0) }
     {
@@ -46,7 +46,7 @@ impl<D: CrashDisk> Drill<D> {
     pub(super) fn hold(self) -> Self
         requires ready { IsReadyDrill self }
         ensures ready { IsReadyDrill result }
-        ensures told { CarriesIf D.model D.crashes self ask.Hold [] result }
+        ensures reported { CarriesIf D.model D.crashes self ask.Hold [] result }
     {
         let mut drill = self;
         drill.driver.lemma_survives();

@@ -36,14 +36,14 @@ EachReads world settled before [] = Unit {0}
 EachReads world settled before (instance ∷ later) = (instance.left.base ≡ fold world before) × StartsWith settled (before ++ instance.desk.read) × EachReads world settled (before ++ instance.left.trail.items) later
 
 -- all that instances from a world told over their connections follows from these settled steps
-pub record TellsOneHistory {D V : Type 0} (talked : V → List Talk → V → Type 0) (failed : V → V → Type 0) (world : World) (settled : List Step) (v : V) (instances : List (InstanceRun D V)) : Type 0 where
+pub record AnswersFromOneHistory {D V : Type 0} (talked : V → List Talk → V → Type 0) (failed : V → V → Type 0) (world : World) (settled : List Step) (v : V) (instances : List (InstanceRun D V)) : Type 0 where
   pub connections : List Connection
   pub had : AreConnectionsOf talked failed v instances connections
-  pub told : AllInOrder world [] connections settled
+  pub returned : AllInOrder world [] connections settled
   pub reads : EachReads world settled [] instances
 
 -- and so it is for each run of a server, with the settled steps of all its instances
-abbrev pub RunTellsOneHistory : {D V W : Type 0} → DiskModel D → (V → List Talk → V → Type 0) → (V → V → Type 0) → (W → Option (List ℕ)) → (List Step → ℕ → ℕ → ℕ → Type 0) → Type 0
-RunTellsOneHistory {D} {V} {W} model talked failed contents gives =
+abbrev pub RunAnswersFromOneHistory : {D V W : Type 0} → DiskModel D → (V → List Talk → V → Type 0) → (V → V → Type 0) → (W → Option (List ℕ)) → (List Step → ℕ → ℕ → ℕ → Type 0) → Type 0
+RunAnswersFromOneHistory {D} {V} {W} model talked failed contents gives =
     (most : ℕ) (store : Kept D) (v : V) (printer : PrinterState W) (ended : ServerEnd D V W) → (run : ServerRun model talked failed most contents gives store v printer ended)
-    → TellsOneHistory talked failed store.world (first_settled store.world (all_steps run.instances) ended.closed.settled) v run.instances
+    → AnswersFromOneHistory talked failed store.world (first_settled store.world (all_steps run.instances) ended.closed.settled) v run.instances

@@ -4,7 +4,7 @@ use Rattle.std.specs.Prelude.{ℕ, List, [], ◌∷◌, codes}
 use Rattle.coord_types.specs.declared.steps.Kind.TheVariants.{Started}
 use Rattle.coord_admin.specs.declared.answer.Answer.{Answer}
 use Rattle.coord_admin.specs.declared.answer.Answer.TheVariants.{Closed, Replied, Shown}
-use Rattle.coord_server.specs.Told.{AnswersUpTo, WritesUpTo}
+use Rattle.coord_server.specs.Returned.{AnswersUpTo, WritesUpTo}
 
 -- the reply to the third step, its line, and a world with three settled steps of five that were accepted
 abbrev pub third_reply : Answer
@@ -17,8 +17,8 @@ abbrev pub third_world : Answer
 third_world = Shown (record { accepted = 5; settled = 3; nodes = []; links = [] })
 
 -- they tell of no step after the third, and not of the first two alone; whoever reads the line alone knows it too
-pub record TellUpToThird : Type 0 where
-  pub told : AllByRecursion (AnswersUpTo 3) (third_reply ∷ third_world ∷ Closed ∷ [])
+pub record ReturnUpToThird : Type 0 where
+  pub returned : AllByRecursion (AnswersUpTo 3) (third_reply ∷ third_world ∷ Closed ∷ [])
   pub written : WritesUpTo 3 third_line
   pub replied_third : ¬ AnswersUpTo 2 third_reply
   pub shown_third : ¬ AnswersUpTo 2 third_world

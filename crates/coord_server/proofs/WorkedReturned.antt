@@ -9,8 +9,8 @@ use Rattle.coord_lines.specs.Written.{IsFirstPart}
 use Rattle.coord_admin.specs.Replies.{reply_line, reply_lines}
 use Rattle.coord_admin.specs.declared.answer.Answer.{Answer}
 use Rattle.coord_admin.specs.declared.answer.Answer.TheVariants as answer
-use Rattle.coord_server.specs.Told.{AnswersUpTo}
-use Rattle.coord_server.specs.WorkedTold.{TellUpToThird, third_line, third_reply}
+use Rattle.coord_server.specs.Returned.{AnswersUpTo}
+use Rattle.coord_server.specs.WorkedReturned.{ReturnUpToThird, third_line, third_reply}
 
 line_is : third_line ≡ reply_lines (third_reply ∷ []) ++ []
 unfolding serde_json_on_literals digits
@@ -38,16 +38,16 @@ other_line (answer.Resent n) up more rest same = let at : 99 ≡ 107 = ap (λ l.
 other_line answer.Closed up more rest same = let at : 99 ≡ 115 = ap (λ l. get_or l 9 0) same in omega (arith, at)
 other_line (answer.Faulted f) up more rest same = let at : 102 ≡ 107 = ap (λ l. get_or l 2 0) same in omega (arith, at)
 
-other_text : (told : List Answer) (part : List ℕ) → AllByRecursion (AnswersUpTo 2) told → (part ≡ []) ⊎ ((last : Answer) × AnswersUpTo 2 last × IsFirstPart part (reply_line last)) → third_line ≡ reply_lines told ++ part → ⊥
+other_text : (returned : List Answer) (part : List ℕ) → AllByRecursion (AnswersUpTo 2) returned → (part ≡ []) ⊎ ((last : Answer) × AnswersUpTo 2 last × IsFirstPart part (reply_line last)) → third_line ≡ reply_lines returned ++ part → ⊥
 other_text [] part up (inl none) is = cc
 other_text [] part up (inr at) is = other_line at.0 at.1 [] at.2.0 (append-nil (reply_line at.0) ∙ at.2.1 ∙ ap (λ p. p ++ at.2.0) (sym is))
-other_text (a ∷ told) part up broken is = other_line a up.0 (reply_lines told ++ part) [] (sym (append_assoc (reply_line a) (reply_lines told) part) ∙ sym is ∙ sym (append-nil third_line))
+other_text (a ∷ returned) part up broken is = other_line a up.0 (reply_lines returned ++ part) [] (sym (append_assoc (reply_line a) (reply_lines returned) part) ∙ sym is ∙ sym (append-nil third_line))
 
-pub tell_up_to_third : TellUpToThird
-tell_up_to_third = record {
-  told = (omega arith, (omega arith, (tt, tt)));
-  written = record { told = third_reply ∷ []; up_to = (omega arith, tt); part = []; broken = inl refl; text_is = line_is };
+pub return_up_to_third : ReturnUpToThird
+return_up_to_third = record {
+  returned = (omega arith, (omega arith, (tt, tt)));
+  written = record { returned = third_reply ∷ []; up_to = (omega arith, tt); part = []; broken = inl refl; text_is = line_is };
   replied_third = λ le. omega (arith, le);
   shown_third = λ le. omega (arith, le);
-  written_third = λ is. other_text is.told is.part is.up_to is.broken is.text_is;
+  written_third = λ is. other_text is.returned is.part is.up_to is.broken is.text_is;
 }

@@ -1,5 +1,0 @@
-use Rattle.coord_server.proofs.RunTold as law
-use Rattle.coord_server.proofs.laws.run_tells_one_history.Goals as goal
-
-pub returns : goal.returns
-returns g c = law.run_tells_one_history g.D.Disk.model g.C.Callers.talked g.C.Callers.failed g.W.Write.contents g.O.SignalSource.gives

@@ -1,5 +1,0 @@
-use Rattle.coord_server.proofs.Settled.{told_is_settled}
-use Rattle.coord_server.proofs.laws.told_is_settled.Goals as goal
-
-pub returns : goal.returns
-returns g c = told_is_settled g.row.D.Denot g.row.P.Denot g.C.Callers.talked
