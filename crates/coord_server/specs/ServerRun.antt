@@ -11,7 +11,7 @@
 -- `InstancesAreOne`, that steps and signals are numbered as one history, and `RunAnswersFromOneHistory`, that each reply and each
 -- view is that of a first part of it.
 --
--- `model` is the meaning of the disk. `talked` and `failed` say what those who call may do, and `most` how many steps a
+-- `model` is the meaning of the disk. `talked` and `failed` say what those who call may do, and `most` how many steps an
 -- instance has. `contents` are the bytes of an output, where they are known. `gives` says which signals a list of steps gives
 -- out, by step, node and epoch.
 use Rattle.std.specs.Prelude.{◌≡◌, ⊤, ℕ, ◌+◌, ◌≤◌, List, Option, length}

@@ -5,7 +5,7 @@
 //! it needs no more memory the longer it serves, it does so in instances, each over an engine of its own
 //! that is taken apart once it keeps many steps ([`serve_instances`]).
 //! `specs/EngineDesk.antt` says what that desk may answer, by what the engine's calls say,
-//! `specs/Printed.antt` the lines that are printed, `specs/Ending.antt` what is left at the end of a
+//! `specs/Printed.antt` the lines that are printed, `specs/Ending.antt` what is left at the end of an
 //! instance: one history, and a store that has not stopped; and `specs/Instances.antt` how instances follow one
 //! another. The main theorem is `specs/ServerRun.antt`, which `serve_store` ensures, with what an `EngineDesk` is proved to
 //! answer as a `Desk`. Nothing of this says that a thread runs, that a packet comes or that anyone is
