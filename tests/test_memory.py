@@ -279,9 +279,9 @@ class SentAgain(Case):
 
     def first_of_sending(self, content: bytes) -> int:
         """Of the first thread's allocations the first one without which a server listens, but can't send again: it ends."""
-        with Serving(self.write("store", content), env=self.refusing.environment(threads=FIRST_THREAD)):
-            count = unchanged(self.refusing.count)
-        listens, fails = count + 1, 0
+        with Serving(self.write("store", content), env=self.refusing.environment(threads=FIRST_THREAD)) as server:
+            server.await_rest()
+            listens, fails = self.refusing.count() + 1, 0
         while listens - fails > 1:
             middle = (listens + fails) // 2
             if self.listens_without(content, middle):
@@ -306,13 +306,15 @@ class SentAgain(Case):
         content = stores.store(stores.longest_world(), version=2)
         first = self.first_of_sending(content)
         with Serving(self.write("store", content), env=self.refusing.environment(threads=FIRST_THREAD)) as server:
-            at_start = unchanged(self.refusing.count) - first + 1
+            server.await_rest()
             before = self.refusing.count()
+            at_start = before - first + 1
             self.assertEqual(server.ask(b"{\n"), {"fault": "BadJson"})
-            usual = unchanged(self.refusing.count) - before
-            before = self.refusing.count()
+            server.await_rest()
+            between = self.refusing.count()
             self.assertEqual(server.ask({"op": "resend"}), {"count": 512, "kind": "resent"})
-            by_client = unchanged(self.refusing.count) - before - usual
+            server.await_rest()
+            by_client = self.refusing.count() - between - (between - before)
         self.assertGreater(by_client, 32)
         self.assertLess(abs(at_start - by_client), by_client // 3, (at_start, by_client))
 
@@ -323,8 +325,7 @@ class SentAgain(Case):
             server = Serving(self.write("store", content), env=self.refusing.environment(refused, ALL, threads=FIRST_THREAD))
             self.addCleanup(server.kill)
             server.__enter__()
-            unchanged(self.refusing.count)
-            if server.process.poll() is None:
+            if server.await_rest():
                 self.refusing.refuse(0, 0)
                 if server.show()["settled"] < wanted:
                     return server
