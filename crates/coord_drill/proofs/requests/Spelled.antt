@@ -10,7 +10,7 @@ use Rattle.std.proofs.lemmas.Bool.{ne_eqb}
 use Rattle.std.proofs.lemmas.Bool.Decides.{nat_tests}
 use Rattle.std.proofs.lemmas.Fmt.{decimal_is_IsNumeral}
 use Rattle.std.proofs.lemmas.Grind.{common_steps}
-use Rattle.std.proofs.lemmas.Str.Parse.{numerals_by_value, recognizes_all_ascii_digits}
+use Rattle.std.proofs.lemmas.Str.Parse.{numerals_by_value, tells_all_ascii_digits}
 use Rattle.std.proofs.lemmas.Option.{none-some}
 use Rattle.coord_drill.specs.Grammar.{is_space, words_of, next_row, distance, number_of, up_to, number, number_to, node, group, client, commands, messages, order_fields, data_fields, receipt_fields, version_fields, other_requests, requests, request_of, spelled, all_read}
 use Rattle.coord_drill.specs.Drilled.{parsed}
@@ -57,7 +57,7 @@ read_by_next (row ∷ rows) verb ws = by_verb (λ p. Next p.0) (bytes_eq verb ro
 digits_plain : (w : Word) → all_ascii_digits w ≡ true → IsPlain w
 digits_plain [] e = refl
 digits_plain (c ∷ cs) e =
-    let k = recognizes_all_ascii_digits.parts c cs e in
+    let k = tells_all_ascii_digits.parts c cs e in
     let other : is_space c ≡ false = ne_eqb c 32 (λ f. omega (arith, k.0)) in
     ap (λ b. cond (not b) (1 + position_or_len is_space cs) 0) other ∙ omega (arith, digits_plain cs k.1)
 
@@ -70,7 +70,7 @@ number_is d n digits some value below = grind (arith, common_steps)
 decimal_is : (n : ℕ) → n < 2 ^ 64 → (number_of (decimal n) ≡ Some n) × IsPlain (decimal n)
 decimal_is n below =
     let numeral = decimal_is_IsNumeral n below in
-    let digits : all_ascii_digits (decimal n) ≡ true = (numerals_by_value _ recognizes_all_ascii_digits).from (decimal n) numeral.0.1 in
+    let digits : all_ascii_digits (decimal n) ≡ true = (numerals_by_value _ tells_all_ascii_digits).from (decimal n) numeral.0.1 in
     (number_is (decimal n) n digits numeral.0.0 numeral.1 below, digits_plain (decimal n) digits)
 
 -- a number of 64 bits
