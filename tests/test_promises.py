@@ -218,7 +218,7 @@ class Names(Copied):
 
     def test_a_name_of_a_crate_below(self) -> None:
         copy = self.copy()
-        self.define(copy, "crates/coord_commands/specs/Words.antt", "next_size")
+        self.define(copy, "crates/coord_commands/specs/Arguments.antt", "next_size")
         status, said = self.compare(copy, "names")
         self.assertEqual(status, 1, said)
         self.assertIn("next_size is defined in coord_commands.specs.Words and coord_ledger.specs.machine.Answers", said)

@@ -58,7 +58,7 @@ def again(trial: Trial) -> None:
 
 
 def plain(trial: Trial) -> None:
-    """A member in plain bash beside two after a gateway: they begin together, and come to one tag."""
+    """A member in plain bash beside two behind a gateway: they begin together, and come to one tag."""
     def up() -> None:
         trial.run("gateway", "1-2", 1, trial.server.address, f"{trial.folder}/gateway", "--signals",
                   trial.server.signals, "--look", 0.3, name="gateway")
