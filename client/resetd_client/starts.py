@@ -22,7 +22,7 @@ STEPS_BITS = 40  # a store has fewer steps than 2 to this
 @dataclass(frozen=True)
 class Fence:
     """Lets a database, or another resource of one group, refuse a member that was paused while its group went on
-    (docs/SERVICES.md, "A database behind a fence"): a count that is greater for each later run, the name of the run, which all
+    (docs/QUEUES.md, "A database behind a fence"): a count that is greater for each later run, the name of the run, which all
     members of the run share, and the nodes of the run. It stays the same as long as the start lives."""
 
     count: int

@@ -26,7 +26,7 @@ done
 """
 
 # The file is written over itself before it is opened to be served, so that what is read of it is not one brick's
-# alone (docs/TAKEOVER.md, "Why the unit writes the file over itself"). No other host comes in between: it is not its turn.
+# alone (docs/TAKEOVER.md, "Why the unit rewrites the file"). No other host comes in between: it is not its turn.
 TAKE_TURN = ["flock", "--no-fork", "--nonblock", "--conflict-exit-code", "3", TURN]
 REWRITE_AND_SERVE = r"""
 flock --nonblock "$1" dd if="$1" of="$1" bs=1M conv=notrunc,fsync status=none || exit 3
