@@ -9,7 +9,7 @@ ghost use Rattle.coord_disk.specs.Disks.Left.{IsLeft};
 use crate::Choice;
 use crate::history::{Entry, History};
 
-// Whether so many bytes from `at` on cover the place.
+// Whether this many bytes from `at` on cover the place.
 fn covers(at: u64, len: u64, place: u64) -> bool
     ensures { result ≡ (nat_le at place && nat_lt place (at + len)) }
 {

@@ -1,4 +1,4 @@
-//! A disk that fails calls of its own, and leaves the disk inside untouched then.
+//! A disk that fails some calls itself, and then leaves the disk inside untouched.
 
 ghost use Rattle.std.specs.Prelude.{◌≡◌, ◌+◌, ◌<◌, ◌^◌, Bool, ℕ, Option, None, length};
 ghost use Rattle.coord_disk.specs.Model.Calls.{Crashes, HasBytes, HasCause, Measures, Reads, Syncs, Writes};
@@ -20,11 +20,11 @@ pub enum Call {
 pub trait Rule: Drop {
     ghost use Rattle.coord_disk.specs.declared.failing.Call.{Call};
 
-    /// What it may say of a call, whether it is to fail, and the rule for the calls after it.
+    /// Decides whether a call fails, and returns the rule for the calls after it.
     ghost says: { Self → Call → Bool → Self → Type 0 };
 
-    /// How many bytes are written of a write that is to fail. Where there is none, that write does
-    /// not touch the disk inside.
+    /// How many bytes of a failing write are written. None: the write does not touch the disk
+    /// inside.
     ghost torn: { Self → Option ℕ } = { λ _. None };
 
     /// Whether the disk is to fail this call.

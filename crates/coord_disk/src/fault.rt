@@ -11,7 +11,7 @@ use std::fmt;
 #[derive(Clone, Copy, Debug, PartialEq, Eq, Hash)]
 pub struct DiskFault;
 
-/// The answer of a call that is counted where it failed.
+/// The answer of a call that is counted if it failed.
 pub(crate) fn counted<T, E: Drop>(
     failed: &mut Log<u8, u8>,
     answer: Result<T, E>,

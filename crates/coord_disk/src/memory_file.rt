@@ -20,8 +20,8 @@ pub struct Syncs {
     pub folder: u64,
 }
 
-/// A raw file in memory. It syncs no more than it has to, counts its syncs, and fails a call where
-/// it finds no memory.
+/// A raw file in memory. It syncs only what it has to, counts its syncs, and fails a call if it
+/// runs out of memory.
 #[derive(Drop)]
 pub struct MemFile {
     disk: MemDisk,
@@ -35,7 +35,8 @@ impl MemFile {
     ghost use Rattle.coord_disk.specs.Disks.MemoryFile.{disk_of, has_entry, syncs_of};
     ghost use Rattle.coord_disk.specs.declared.choice.Choice.TheVariants.{Lost};
 
-    /// A new file with nothing in it, which its folder may lack, and which loses what is not synced.
+    /// An empty new file, whose folder may lack its entry, and which loses unsynced bytes in a
+    /// crash.
     pub fn new(alloc: Global) -> Self
         ensures present { present_of (disk_of result) ≡ whole [] }
         ensures choice { choice_of (disk_of result) ≡ Lost }
@@ -135,7 +136,7 @@ impl RawFile for MemFile {
         io_answer(self.disk.write_at(at, bytes))
     }
 
-    /// Does nothing where the length is not the one that is synced.
+    /// Does nothing if the length is not synced.
     fn sync_data(&mut self) -> io::Result<()> {
         self.syncs.bytes = self.syncs.bytes.saturating_add(1);
         if !self.entered || !self.disk.is_level() {
@@ -144,7 +145,7 @@ impl RawFile for MemFile {
         io_answer(self.disk.sync())
     }
 
-    /// Does nothing where the folder may lack the file.
+    /// Does nothing if the folder may lack the file.
     fn sync_all(&mut self) -> io::Result<()> {
         self.syncs.all = self.syncs.all.saturating_add(1);
         if !self.entered {

@@ -13,13 +13,13 @@ use std::io;
 /// One past the last place that a file can have.
 const END: u64 = 1 << 63;
 
-/// A raw file as a disk. It keeps the model where the file does.
+/// A raw file as a disk. It keeps the model if the file does.
 ///
 /// After a failed sync each later one fails, since the system may call bytes synced that it has lost.
 #[derive(Drop)]
 pub struct RawDisk<F: RawFile> {
     file: F,
-    /// The file has at least so many bytes.
+    /// The file has at least this many bytes.
     size: u64,
     /// Whether the length may be another one than at the last sync.
     grown: bool,
@@ -77,7 +77,7 @@ fn opened<F: RawFile>(file: &mut F) -> io::Result<u64>
     file.len()
 }
 
-/// The place after so many bytes from a place on, which a file has to have.
+/// The position this many bytes after another one, which a file has to have.
 fn end_of(at: u64, len: usize) -> io::Result<u64>
     ensures ok { IfOk result (λ end. (end ≡ at + len) × (end < 2 ^ 63)) }
     ensures within { at + len < 2 ^ 63 → IsOk result }
@@ -145,8 +145,8 @@ impl<F: RawFile> Disk for RawDisk<F> {
         Ok(())
     }
 
-    /// Syncs the length too where it may have changed. After a failure each later call fails, and makes
-    /// no call of the file.
+    /// Syncs the length too if it may have changed. After a failure each later call fails, and
+    /// makes no call of the file.
     fn sync(&mut self) -> Result<(), DiskFault>
         ensures ok { OnOk result ((has_lost self.old ≡ false) × (has_lost self.new ≡ false)) }
         ensures err { OnErr result (has_lost self.new ≡ true) }

@@ -1,4 +1,4 @@
-//! A file as the system has it, and what it may keep of what was written and synced.
+//! A file of the system, and what it may keep of written and synced bytes.
 
 ghost use Rattle.std.specs.Prelude.{◌≡◌, ◌+◌, ◌<◌, ◌^◌, true, false, Bool, [], length, is_ok};
 ghost use Rattle.coord_disk.specs.Model.Calls.{HasBytes, Measures, Reads, Syncs, Writes};
@@ -8,7 +8,7 @@ ghost use Rattle.coord_disk.specs.Model.RawCalls.RawCall.{Len, Read, Write, Sync
 
 use std::io;
 
-/// A file, and its entry in a folder. Where the file does not keep the model, only the clauses on
+/// A file, and its entry in a folder. If the file does not keep the model, only the clauses on
 /// which call was made hold.
 ///
 /// A sync counts only once the folder has the file: before that a crash may leave no file, which is
@@ -36,17 +36,16 @@ pub trait RawFile: Drop {
         ensures entered { StaysEntered model is_entered self.old self.new }
         ensures made { made self.old (Read at (length buf.old)) (is_ok result) self.new };
 
-    /// Writes over what is there, and past the end, with zeros between.
+    /// Writes over the present bytes, and past the end, filling a gap with zeros.
     ///
-    /// Until a sync a crash may leave any bytes in the range, also where the write failed.
+    /// Until a sync a crash may leave any bytes in the range, also if the write failed.
     fn write_at(&mut self, at: u64, bytes: &[u8]) -> io::Result<()>
         requires { at + length bytes.now < 2 ^ 64 }
         ensures call { Writes model at bytes.now self.old self.new result }
         ensures entered { StaysEntered model is_entered self.old self.new }
         ensures made { made self.old (Write at bytes.now) (is_ok result) self.new };
 
-    /// Syncs the bytes. After it a crash leaves what a read gives, where the length is the one that
-    /// is synced.
+    /// Syncs the bytes. After it a crash leaves what a read gives, if the length is synced.
     fn sync_data(&mut self) -> io::Result<()>
         ensures call { SyncsBytes model ((is_entered self.old ≡ true) ×
             (length (model.present self.old).synced ≡ length (model.present self.old).read))

@@ -65,7 +65,8 @@ pub fn tag_of(
     Ok(tag)
 }
 
-/// The tag of a start's fence, where it first talked with these, and its fence has this count.
+/// Returns the tag of the fence of a start that first talked with these and whose fence has this
+/// count.
 pub fn fence_tag(
     alloc: Global,
     word: &str,

@@ -87,7 +87,7 @@ fn is_among(history: &[u8], line: &[u8], count: usize) -> bool
     is
 }
 
-/// Whether a history has this line, and where the next one goes. None: it is no history.
+/// Whether a history has this line, and where the next one goes. None: it is not a history.
 pub fn look_up(history: &[u8], line: &[u8]) -> Option<Found>
     ensures { result ≡ looked_up history.now line.now }
 {

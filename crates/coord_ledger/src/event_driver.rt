@@ -16,10 +16,10 @@ use coord_disk::{CrashDisk, Disk};
 use run::Run;
 use std::alloc::Global;
 
-/// Runs events on a ledger in one thread, and gives an answer to each, all that was released, and
-/// the ledger. Tickets are numbered from 0 as they are given. A crash forgets the tickets, the
-/// flight and what was shown, crashes the disk and opens it again. At the end a flight that is out
-/// comes back, and what it releases is lost.
+/// Runs events on a ledger in one thread, and returns an answer to each, all releases, and the
+/// ledger. Tickets are numbered from 0 in the order of their submits. A crash forgets the tickets,
+/// the flight and the views, crashes the disk and opens it again. At the end a flight that is out
+/// comes back, and its releases are lost.
 ///
 /// The main theorem: wherever the run is stopped, before, within or after any write, opening
 /// whatever the disk may then hold gives the world after a prefix of the accepted steps, none
@@ -31,9 +31,9 @@ use std::alloc::Global;
 /// one before it left, and the last one leaves the disk of the ledger that is given back.
 ///
 /// A fault names the event at which the run ended, and has the answers to the events before it and
-/// all that was released until then. The ledger, its flight and its tickets are given up. The disk
-/// is given back: as those events have left it, or, where the run ended in a crash, as the opening
-/// after the crash has left it (`EndedEarly`).
+/// all releases until then. The ledger, its flight and its tickets are dropped. The disk is
+/// returned: as those events have left it, or, if the run ended in a crash, as the opening after
+/// the crash has left it (`EndedEarly`).
 pub fn run_events<D: CrashDisk>(
     alloc: Global,
     ledger: Ledger<D>,

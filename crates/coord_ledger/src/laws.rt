@@ -57,15 +57,15 @@ pub fn run_goes_on()
     ensures { RunGoesOn }
 {}
 
-/// Whatever a crash may keep is a legal world, with every step of which anything was told, and with
-/// no step that was not accepted.
+/// Whatever a crash may keep is a legal world, with every step of which anything was released or
+/// returned, and only accepted steps.
 #[tactic(auto, using(crate::proofs::machine::Safe::kept_is_safe))]
 pub fn kept_is_safe()
     ensures { KeptIsSafe }
 {}
 
-/// While a flight is committed, the worlds from before its steps and from after them are both legal,
-/// each with every step of which anything was told, and with no step that was not accepted.
+/// While a flight is committed, the worlds before its steps and after them are both legal, each
+/// with every step of which anything was released or returned, and only accepted steps.
 pub fn commit_is_safe()
     ensures { CommitIsSafe }
 {}
@@ -99,7 +99,7 @@ pub fn rebased_is_consistent()
     ensures { RebasedIsConsistent }
 {}
 
-/// A ledger whose base is moved along the settled steps, as it is after a crash, gives the same
+/// A ledger whose base is moved along the settled steps, like after a crash, gives the same
 /// answers.
 #[tactic(auto, using(crate::proofs::machine::Rebased::rebased_answers_alike))]
 pub fn rebased_answers_alike()

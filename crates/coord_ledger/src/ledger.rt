@@ -22,14 +22,14 @@ use std::alloc::{AllocError, Global};
 use std::collections::VecDeque;
 use std::marker::Model;
 
-/// For so many steps a ledger takes room when it is made. A trail that stays within it never moves.
-/// The room is more than 32 MiB, so that the C library takes it from the system by itself and gives
-/// it back when the ledger ends: smaller blocks stay with the thread that took them.
+/// A ledger allocates room for this many steps when it is made. A trail that stays within it never
+/// moves. The room is more than 32 MiB, so that the C library maps it separately and returns it to
+/// the system when the ledger ends: smaller blocks stay with the thread that allocated them.
 const TRAIL_ROOM: usize = 700_000;
 
-/// What was accepted since a base world, and how much of that is settled on the disk. Contracts see
-/// `LedgerState` (`specs/ledger/State.antt`): the log, with the steps in doubt once the ledger has
-/// stopped; how many steps are out; and the disk, while the store is at home.
+/// The steps accepted since a base world, and how many of them are settled on the disk. Contracts
+/// see `LedgerState` (`specs/ledger/State.antt`): the log, with the steps in doubt once the ledger
+/// has stopped; how many steps are out; and the disk, while the store is at home.
 ///
 /// It keeps every step since it was made of a store. At most 1,024 of them may be unsettled. Beside
 /// them it keeps the world after all steps (front), the world after the settled ones, and what each
@@ -80,7 +80,7 @@ impl<D: Disk> Model for Ledger<D> {
     }) l.kinds.items (listed l.given.items) l.front l.settled l.out l.store };
 }
 
-/// Three copies of a world: what is the base, the front and the settled world at first.
+/// Three copies of a world: initially the base, the front and the settled world.
 fn copies(world: &World) -> Result<(World, World, World), AllocError>
     ensures base { IfOk result (λ r. r.0 ≡ world.now) }
     ensures front { IfOk result (λ r. r.1 ≡ world.now) }

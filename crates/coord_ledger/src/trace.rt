@@ -37,9 +37,9 @@ impl RunFaultKind {
     }
 }
 
-/// A run that ended early: at the event with this index, or, where the last flight could not be
-/// taken back, after the last one, so that the index is the number of events. It has what was
-/// answered and released before. The ledger is gone.
+/// A run that ended early: at the event with this index, or, if the last flight could not be taken
+/// back, after the last one, so that the index is the number of events. It has the answers and
+/// releases until then. The ledger is gone.
 #[derive(Drop)]
 pub struct RunFault {
     pub at: usize,

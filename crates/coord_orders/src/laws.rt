@@ -4,8 +4,8 @@ ghost use Rattle.coord_orders.specs.ExactlyOnce.{ExactlyOnce};
 ghost use Rattle.coord_orders.specs.FoundCount.{CountIsFound};
 ghost use Rattle.coord_orders.specs.WorkedExchange.{WorkedExchange};
 
-/// Over any world, and whatever is lost, late, heard again or cut off by a crash, of the client to
-/// what it keeps, of the server to some of its steps with all that are settled: the client's orders
+/// Over any world, and whatever is lost, late, heard again or cut off by a crash (of the client to
+/// its stored book, of the server to some of its steps with all settled ones): the client's orders
 /// in the trail are those that it noted as done, in turn, and at most the one in hand after them.
 pub fn exactly_once()
     ensures { ExactlyOnce }

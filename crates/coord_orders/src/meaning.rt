@@ -23,12 +23,12 @@ pub enum Meaning {
     /// Nothing: the same line has to be sent again.
     SendAgain,
     /// The number is neither the client's last one nor the next, or it is the last one with another
-    /// order: this client's numbers are not those of the server.
+    /// order: the client and the server disagree on the client's numbers.
     CountLost,
 }
 
 impl Answer {
-    /// What it means.
+    /// Returns the meaning of an answer.
     pub fn meaning(self) -> Meaning
         ensures { result ≡ meaning_of self }
     {

@@ -24,7 +24,7 @@ pub enum Task {
     Migrate,
 }
 
-/// What came of a start.
+/// The result of a start.
 #[derive(Drop)]
 pub enum Outcome {
     /// The answers to the events, and all that was released.

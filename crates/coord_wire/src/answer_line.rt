@@ -16,7 +16,7 @@ use std::alloc::Global;
 pub enum ReadFault {
     /// There was no memory to read it.
     OutOfMemory,
-    /// The line is neither a reply to an order nor a refusal of one: a fault, or no line of the
+    /// The line is neither a reply to an order nor a refusal of one: a fault, or not a line of the
     /// server.
     NoAnswer,
 }

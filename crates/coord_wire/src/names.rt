@@ -1,4 +1,4 @@
-//! What the names in an answer's line stand for.
+//! The meanings of the names in an answer's line.
 
 ghost use Rattle.std.specs.Prelude.{◌≡◌};
 ghost use Rattle.coord_wire.specs.AnswerLine.{kind_named, refusal_named};

@@ -12,7 +12,7 @@ use coord_view::{LinkView, NodeView, View};
 use serde_json::Value;
 use std::alloc::{AllocError, Global};
 
-/// What a mode's name stands for.
+/// The mode of a name.
 fn mode_named(name: &str) -> Option<Mode>
     ensures { result ≡ mode_named name.now }
 {
@@ -131,7 +131,7 @@ fn links_of(alloc: Global, rows: &[Value]) -> Result<Option<Vec<LinkView>>, Allo
     Ok(Some(links))
 }
 
-/// The rows at a name; None where there is no array.
+/// The rows at a name; None if there is no array.
 fn rows_at<'a>(value: &'a Value, name: &str) -> Option<&'a [Value]>
     ensures { option_map (λ rows. items_view rows.now) result ≡ rows_at name.now (view value.now) }
 {
@@ -165,7 +165,7 @@ fn count_at(value: &Value, name: &str) -> Option<u64>
     value.get(name).and_then(Value::as_u64)
 }
 
-/// What a line's value shows; None where it is no answer to `show`.
+/// The view that a line's value shows; None if it is not an answer to `show`.
 fn shown_of(alloc: Global, value: &Value) -> Result<Option<View>, AllocError>
     ensures { IfOk result (λ shown. shown ≡ shown_of (view value.now)) }
 {

@@ -124,7 +124,8 @@ pub extern "C" fn resetd_fence(
     }
 }
 
-/// The tag of a start that is due to talk. Its file is as it was put down; `word` is the group's.
+/// Returns the tag of a start that is due to talk. `start` is its file as it was stored; `word` is
+/// the group's.
 #[unsafe(no_mangle)]
 pub extern "C" fn resetd_tag(
     alloc: Global,

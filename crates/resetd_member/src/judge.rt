@@ -24,13 +24,13 @@ pub struct Sight {
     pub settled: u64,
 }
 
-/// What a view asks of a member, and what has to be on the disk before it is done.
+/// The due action for a view, and what must be on disk before it.
 #[derive(Drop, Debug)]
 pub struct Judgement {
     pub due: Due,
     /// The epoch that is shown.
     pub epoch: u64,
-    /// What the file of the start has to hold; empty: it stays as it is.
+    /// The required text of the file of the start; empty: it stays unchanged.
     pub start: String,
     /// The line that the history gets before that; empty: it gets none.
     pub line: String,
@@ -38,8 +38,8 @@ pub struct Judgement {
     pub history_size: usize,
 }
 
-/// What C hears of a judgement. Its texts stand in the room that it gave: first what the file of the
-/// start has to hold, then the line that the history gets.
+/// A judgement for C. Its texts are in the caller's buffer: first the required text of the file of
+/// the start, then the line for the history.
 #[repr(C)]
 #[derive(Clone, Copy, Debug, PartialEq, Eq)]
 pub struct Judged {
@@ -74,7 +74,7 @@ pub(crate) fn look_at(alloc: Global, show: &str, node: NodeId) -> Result<Sight, 
     }
 }
 
-/// The epoch of the work in hand, where it is the one that is kept as begun.
+/// The epoch of the present work, if it is the one that is stored as begun.
 fn begun_at(kept: Option<u64>, work: Option<u64>) -> Option<u64>
     ensures { result ≡ begun_at kept work }
 {
@@ -84,7 +84,7 @@ fn begun_at(kept: Option<u64>, work: Option<u64>) -> Option<u64>
     }
 }
 
-/// What is due.
+/// The due action.
 fn due_at(
     alloc: Global,
     begun: Option<u64>,
@@ -152,7 +152,7 @@ fn read(alloc: Global, node: u8, file: &str) -> Result<Start, Fault>
     }
 }
 
-/// What is due by what is kept, and what changes.
+/// The due action for the stored values, and the change.
 fn judged_by(
     alloc: Global,
     node: u8,
@@ -239,7 +239,7 @@ pub(crate) fn judge(
     judged
 }
 
-/// The tag of the start that a file keeps, where a line shows these to it; empty: it has none.
+/// The tag of the start in a file, if a line shows these to it; empty: it has none.
 pub(crate) fn tag(
     alloc: Global,
     show: &str,

@@ -11,7 +11,7 @@ use coord_types::Client;
 use coord_wire::{ReadFault, print_order, read_answer};
 use std::alloc::Global;
 
-/// What is kept after an answer, and what the answer meant.
+/// The book after an answer, and the answer's meaning.
 #[derive(Clone, Copy, Debug, PartialEq, Eq)]
 pub struct Heard {
     pub orders: Orders,
@@ -67,8 +67,8 @@ fn meaning_number(meaning: Meaning) -> u32
     }
 }
 
-/// Hears the answer to the line that was sent last. Each line has a connection of its own, or no line
-/// goes out before the one in front of it is answered: so no other answer comes.
+/// Hears the answer to the line that was sent last. Each line has its own connection, or no line is
+/// sent before the previous one is answered: so no other answer comes.
 pub(crate) fn hear(alloc: Global, orders: Orders, line: &str) -> Result<Heard, Fault>
     ensures { result ≢ Err OutOfMemory → result ≡ heard_in orders line.now }
 {

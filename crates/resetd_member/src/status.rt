@@ -54,7 +54,7 @@ pub(crate) fn status_of(fault: Fault) -> u32
     }
 }
 
-/// The number of what is due.
+/// The number of a due action.
 pub(crate) fn due_number(due: Due) -> u32
     ensures { result ≡ due_number due }
 {

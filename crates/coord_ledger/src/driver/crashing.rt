@@ -12,7 +12,7 @@ use coord_disk::{CrashDisk, Disk};
 use coord_store::Store;
 use std::alloc::Global;
 
-/// Crashes a disk, and makes a ledger of what it then holds. A refusal gives the disk back.
+/// Crashes a disk, and makes a ledger over what it then holds. A refusal returns the disk.
 fn reopen<D: CrashDisk>(alloc: Global, disk: D) -> Result<Ledger<D>, (RunFaultKind, D)>
     ensures opened { IfOk result (IsReopened D.model D.crashes
         disk) }

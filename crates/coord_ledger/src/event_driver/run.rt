@@ -9,8 +9,8 @@ use coord_disk::{CrashDisk, Disk};
 use coord_types::{Refusal, Step};
 use std::alloc::AllocError;
 
-/// The driver of a ledger, the tickets as they were given, what was shown last, and what was
-/// released: where the event machine is (`Follows`, specs/ledger/Follows.antt).
+/// The driver of a ledger, the tickets, the last view, and the releases. They agree with the event
+/// machine (`Follows`, specs/ledger/Follows.antt).
 pub struct Run<D: CrashDisk> {
     pub driver: Driver<D>,
     pub tickets: Vec<Option<Ticket>>,
@@ -51,7 +51,7 @@ impl<D: CrashDisk> Run<D> {
         self.driver.begin()
     }
 
-    /// The flight that is out comes back, and what it releases is kept.
+    /// Takes back the flight that is out, and keeps its releases.
     pub fn finish(&mut self) -> Result<Answer, AllocError>
         ensures answered { (s : Machine) → IsConsistent s → Follows self.old s →
             IfOk result (λ answer. FollowsTo s Finish answer self.new) }

@@ -198,12 +198,12 @@ impl<D: Disk> Ledger<D> {
         }
     }
 
-    /// Takes back the flight that is out, and its store with it. A good flight settles its steps,
-    /// and gives what they release. One that was not committed settles nothing. A torn one settles
-    /// nothing either, and the ledger stops.
+    /// Takes back the flight that is out, with its store. A good flight settles its steps and
+    /// returns their releases. An uncommitted one settles nothing. A torn one settles nothing
+    /// either, and the ledger stops.
     ///
-    /// A flight is refused as `Stranger` where it is not the one that went out: its first number,
-    /// its steps and the world before them are compared. A refusal gives the flight back.
+    /// A flight is refused as `Stranger` if it is not the one that left: its first number, its
+    /// steps and the world before them are compared. A refusal returns the flight.
     pub fn end_flush(&mut self, flight: Flight<D>) -> Result<Releases, (Refusal, Flight<D>)>
         ensures own { OnOk result (IsOut self.old flight) }
         ensures taken { OnOk result (self.new ≡
