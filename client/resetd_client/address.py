@@ -1,4 +1,4 @@
-"""Where a coordinator, or the front before it, is reached, and the connections to it.
+"""The addresses of a coordinator, or of the front before it, and the connections to it.
 
 | Written | Is |
 |---|---|
@@ -29,12 +29,12 @@ CREDENTIALS: Mapping[str, str] = {
 
 
 class Address(Protocol):
-    """One place that answers. Its text is as it was written."""
+    """One address. Its text is unchanged."""
 
-    is_front: bool  # whether a front is there, which also tells of changes
+    is_front: bool  # whether it is a front, which also reports changes
 
     def connect(self, seconds: float) -> socket.socket:
-        """A connection, each answer of which may take so many seconds. Raises Away and Untrusted."""
+        """Opens a connection, each answer of which may take this many seconds. Raises Away and Untrusted."""
 
     def refusal(self) -> Untrusted | None:
         """Why a front ends each connection without an answer, if it is this client's certificate."""
@@ -141,19 +141,19 @@ class Credentials:
 
     @staticmethod
     def found(environment: Mapping[str, str] = os.environ) -> Credentials:
-        """Those that RESETD_CERTIFICATE, RESETD_KEY and RESETD_AUTHORITY name; what they leave out, the TOML file that
-        RESETD_TLS names says with the keys `certificate`, `key` and `authority`. Raises Unreadable."""
+        """The files named by RESETD_CERTIFICATE, RESETD_KEY and RESETD_AUTHORITY; for missing ones, the TOML file that RESETD_TLS
+        names has the keys `certificate`, `key` and `authority`. Raises Unreadable."""
         path = environment.get("RESETD_TLS", "")
         in_file = read_credentials(path) if path else {}
         return Credentials(**{
             name: environment.get(f"RESETD_{name.upper()}", "") or in_file.get(name, "") for name in CREDENTIALS})
 
     def over(self, **given: str | None) -> Credentials:
-        """These, but for what is given."""
+        """A copy with the given values in place of these."""
         return replace(self, **{name: path for name, path in given.items() if path})
 
     def context(self) -> ssl.SSLContext:
-        """The TLS context. Raises Untrusted where a file is missing or is not what it should be."""
+        """The TLS context. Raises Untrusted if a file is missing or invalid."""
         missing = [name for name in CREDENTIALS if not getattr(self, name)]
         if missing:
             raise Untrusted(f"no {' and no '.join(missing)} given: tls: takes the PEM files of all three "

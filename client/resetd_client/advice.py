@@ -1,4 +1,4 @@
-"""What a person is told of an order that was not taken: what was found, and what to do."""
+"""Explanations of rejected orders for a person: the cause that was found, and what to do."""
 
 from __future__ import annotations
 

@@ -98,7 +98,7 @@ class Faulted(NotTaken):
 
 
 class Garbled(NotTaken):
-    """What came is no answer of a coordinator: something else listens at the address. Needs a person."""
+    """The answer is not one of a coordinator: something else listens at the address. Needs a person."""
 
     name = "Garbled"
 
@@ -115,7 +115,7 @@ class Reply:
     step: int
 
 
-CARRIED_OUT = Reply("carried out", 0)  # where the reply itself was lost with a connection
+CARRIED_OUT = Reply("carried out", 0)  # if the reply itself was lost with a connection
 Outcome = Reply | NotTaken
 
 

@@ -38,7 +38,7 @@ class Bounds:
 
 @dataclass(frozen=True)
 class Health:
-    """What was found. `is_stopped`: the server answers Stopped, so it has to be closed and started again."""
+    """The findings. `is_stopped`: the server answers Stopped, so it has to be closed and started again."""
 
     level: Level
     findings: tuple[str, ...]
@@ -47,8 +47,8 @@ class Health:
 
 def check(port: Port, since: Since, bounds: Bounds, patience: float = 0.0, signals: Signals | None = None,
           store: str | None = None) -> Health:
-    """Looks, and says what is wrong. If there is no view for so many seconds, what has lasted so far is kept. `store` is the
-    file that the coordinator is to have. Raises NotTaken."""
+    """Queries the server and returns the findings. If no view arrives within this many seconds, findings that were already active
+    stay active. `store` is the coordinator's expected file. Raises NotTaken."""
     comparison = Comparison(store)
     try:
         view = patiently(port.show, patience)
@@ -73,7 +73,7 @@ class Comparison:
         try:
             self._before = reading(path) if path else self._before
         except NotCompared:
-            pass  # the reading behind the view says so
+            pass  # the reading after the view says so
 
     def differs(self, view: View) -> bool | None:
         """Whether the store is another one; None where that is not known."""
@@ -94,7 +94,7 @@ class Comparison:
 
 
 def findings(view: View, since: Since, bounds: Bounds) -> list[str]:
-    """What has lasted for longer than its bound."""
+    """The conditions that have lasted longer than their bounds."""
     found: list[str] = []
     if view.accepted > view.settled and (lasted := oldest_wait(view, since)) >= bounds.steps:
         found.append(f"{view.accepted - view.settled} steps have waited for the disk for {lasted:.0f} s")
@@ -115,9 +115,9 @@ def oldest_wait(view: View, since: Since) -> float:
 
 
 def still_waves(view: View, since: Since, bounds: Bounds) -> list[str]:
-    """The waves that wait for nothing that is on its way. A wave moves if a row of one of its nodes changes. While steps
-    wait for the disk it may wait with them. So it stands still if for long no look found such steps, or if so many were
-    settled meanwhile that its own are among them."""
+    """The waves that wait although no packet is in transit. A wave moves if a row of one of its nodes changes. While steps wait
+    for the disk it may wait with them. So it stands still if for long no look found such steps, or if that many were settled
+    meanwhile that its own are among them."""
     found: list[str] = []
     seen: set[int] = set()
     for node in view.nodes:

@@ -65,8 +65,8 @@ class Order:
 
 
 def read_topology(text: bytes) -> Network:
-    """The network of a topology file. It judges keys before values, and values before what is made of them, as `resetd
-    init` does. Raises BadTopology."""
+    """The network of a topology file. It checks keys before values, and values before the rows, like `resetd init`. Raises
+    BadTopology."""
     if len(text) > MOST_BYTES:
         raise BadTopology("NotToml", f"over {MOST_BYTES} bytes")
     try:
@@ -110,7 +110,7 @@ def add_link(network: Network, a: int, b: int) -> None:
 
 
 def tables(top: dict[str, Any], key: str) -> Iterator[dict[str, Any]]:
-    """The tables directly in an array; what is none is left out."""
+    """The tables directly in an array; other items are skipped."""
     rows = top.get(key, [])
     return (row for row in (rows if isinstance(rows, list) else []) if isinstance(row, dict))
 

@@ -1,4 +1,4 @@
-"""What is after a fault of `resetd`, as Device or NoMagic, at a store's file: it looks from outside, and locks, writes and
+"""The cause of a fault of `resetd`, such as Device or NoMagic, at a store's file: it looks from outside, and locks, writes and
 keeps open nothing."""
 
 from __future__ import annotations
@@ -20,8 +20,7 @@ KINDS = {stat.S_IFREG: "file", stat.S_IFDIR: "folder", stat.S_IFIFO: "FIFO", sta
 
 
 def of_file(path: str, account: Account | None = None) -> Iterator[Finding]:
-    """What there is to know of a store's file, from its folder to its bytes. It judges for a user, by default the one who
-    owns the folder."""
+    """The findings about a store's file, from its folder to its bytes, for a user, by default the owner of the folder."""
     folder = os.path.dirname(os.path.abspath(os.path.realpath(path)))
     yield from of_folder(folder)
     try:
@@ -49,7 +48,7 @@ def of_file(path: str, account: Account | None = None) -> Iterator[Finding]:
 
 
 def of_absence(path: str, fault: OSError) -> Finding:
-    """Nothing stands there, or what stands there can't be seen."""
+    """There is no file, or this user can't see it."""
     if fault.errno != errno.ENOENT:
         return Finding("file", f"{fault.strerror}", "Device")
     if os.path.islink(path):

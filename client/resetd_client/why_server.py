@@ -1,4 +1,4 @@
-"""What is after a fault of a server at an address: what listens there, who has its one connection, and what it does."""
+"""The cause of a fault of a server at an address: what listens there, who has its one connection, and what it is doing."""
 
 from __future__ import annotations
 
@@ -49,7 +49,7 @@ def of_address(text: str, seconds: float, path: str, audit: str = AUDIT) -> Iter
 
 
 def of_network(path: str) -> Iterator[Finding]:
-    """A server whose unit has PrivateNetwork= is in a network of its own: what follows is then looked at in there."""
+    """A server whose unit has PrivateNetwork= is in a private network: the following checks then run inside it."""
     for process in filter(has_other_network, holders_of(path)):
         try:
             join_network(process)

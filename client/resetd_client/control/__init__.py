@@ -61,7 +61,7 @@ def is_within(path: str, folder: str) -> bool:
 
 
 def default_state() -> str:
-    """Where the numbers of a person's client are kept."""
+    """The folder for the numbers of a person's client."""
     if given := os.environ.get("STATE_DIRECTORY"):  # by systemd
         return given.split(":")[0]
     return os.path.join(os.environ.get("XDG_STATE_HOME") or os.path.expanduser("~/.local/state"), "resetctl")
@@ -98,7 +98,7 @@ def main(arguments: list[str] | None = None) -> int:
     except ResetdError as fault:
         complain(str(fault))
         return REFUSED
-    except BrokenPipeError:  # who read what is printed has left
+    except BrokenPipeError:  # the reader of the output has left
         os.dup2(os.open(os.devnull, os.O_WRONLY), sys.stdout.fileno())
         return LEFT
     except OSError as fault:

@@ -17,7 +17,7 @@ from .base import DONE, Command, Control, add_json, print_json
 
 
 def health(control: Control) -> int:
-    """Prints what is wrong, or `well`."""
+    """Prints the findings, or `well`."""
     words = control.words
     try:
         os.makedirs(control.folder, exist_ok=True)

@@ -1,4 +1,4 @@
-"""A file for whoever looks into a fault: what the commands for a person on call find, and what the server stands on."""
+"""A file for an investigation: the results of the commands for a person on call, and the server's environment."""
 
 from __future__ import annotations
 
@@ -28,7 +28,7 @@ PACKAGE = os.path.dirname(os.path.dirname(os.path.abspath(__file__)))
 
 @dataclass(frozen=True)
 class Part:
-    """A file of the report: its name, what it is, and how it is found."""
+    """A file of the report: its name, its description, and how to get its content."""
 
     name: str
     about: str
@@ -113,7 +113,7 @@ def process_text(path: str) -> str:
 
 
 def found(part: Part) -> bytes:
-    """What a part holds; where it can't be found, the reason."""
+    """The content of a part; if it can't be found, the reason."""
     try:
         content = part.find()
     except (Away, NotTaken, NoStore, Restless, OSError, ValueError) as fault:
@@ -122,7 +122,7 @@ def found(part: Part) -> bytes:
 
 
 def report(control: Control) -> int:
-    """Writes the report into a new file, which its owner alone may read, and prints what is in it."""
+    """Writes the report into a new file, readable by its owner only, and prints its contents."""
     out = control.words.out
     descriptor = os.open(out, os.O_WRONLY | os.O_CREAT | os.O_EXCL | os.O_CLOEXEC, 0o600)
     try:

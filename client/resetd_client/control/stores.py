@@ -21,7 +21,7 @@ from .base import DONE, REFUSED, WRONG_WORDS, Command, Control, add_json, compla
 
 
 def why(control: Control) -> int:
-    """Prints what is after a fault of a start, of a store's file and of an address."""
+    """Prints the causes of a fault at the start, for a store's file and an address."""
     words = control.words
     findings = []
     for finding in looked_at(words.file, words.user, words.at, control.seconds, words.audit):
@@ -38,14 +38,14 @@ def why(control: Control) -> int:
 
 
 def looked_at(path: str, user: Account | None, address: str | None, seconds: float, audit: str = AUDIT) -> Iterator[Finding]:
-    """What there is to say of a store's file, and of the server at an address, where one is given."""
+    """The findings about a store's file, and about the server at an address, if one is given."""
     yield from of_file(path, user)
     if address:
         yield from of_address(address, seconds, path, audit)
 
 
 def told_start(findings: list[Finding]) -> str:
-    """With which fault a start of the server would end now, and what a running server will meet; empty if neither."""
+    """With which fault a start of the server would end now, and which a running server will meet; empty if there is none."""
     faults = sorted((finding for finding in findings if finding.fault), key=lambda finding: finding.fault != "Usage")
     told = [f"a start now would end with {finding.fault}: {finding.about}: {finding.text}" for finding in faults[:1]]
     told += [f"a server that runs meets {finding.later}: {finding.about}: {finding.text}" for finding in findings if finding.later]
@@ -84,7 +84,7 @@ def store_rows(store: Store) -> Iterator[str]:
 
 
 def backup(control: Control) -> int:
-    """Copies a store that may be served meanwhile. If the copy's name is a link, the copy goes where it leads."""
+    """Copies a store that may be served meanwhile. If the copy's name is a link, the copy is written to its target."""
     words = control.words
     out = os.path.realpath(words.out)
     descriptor = open_store(words.file)
@@ -101,7 +101,7 @@ def backup(control: Control) -> int:
 
 
 def why_not(out: str, source: os.stat_result) -> str:
-    """Why a copy may not be put here: only what is absent, empty or another copy is replaced."""
+    """The reason why a copy may not be put here: only an absent or empty file or another copy is replaced."""
     try:
         descriptor = open_store(out)
     except FileNotFoundError:
@@ -120,8 +120,8 @@ def why_not(out: str, source: os.stat_result) -> str:
 
 
 def put(path: str, data: bytes, like: os.stat_result) -> None:
-    """Puts a file in place as a whole, and on the disk, with the mode and, if this user may, the owner of another file.
-    If it can't, nothing new stands there."""
+    """Replaces a file as a whole, synced, with the mode and, if this user may, the owner of another file. If it fails, no new
+    file is left."""
     descriptor, new = tempfile.mkstemp(prefix=f".{os.path.basename(path)}-", dir=os.path.dirname(path))
     try:
         with open(descriptor, "wb") as file:
