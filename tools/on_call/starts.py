@@ -1,4 +1,4 @@
-"""The rows of what is seen at a start, or at a command."""
+"""The rows about a start, or a command."""
 
 import os
 import resource
