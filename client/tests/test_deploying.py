@@ -83,7 +83,7 @@ class Manifest(unittest.TestCase):
         self.assertEqual([each["targetPort"] for each in service["ports"]], [each["name"] for each in front["ports"]])
 
     def test_the_container_understands_its_arguments(self) -> None:
-        """The script of the container begins the front with arguments of its own."""
+        """The container's script adds its own arguments for the front."""
         script = text_of("tools/container")
         for container in self.pod["containers"]:
             command, *rest = container["args"]

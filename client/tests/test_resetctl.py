@@ -209,7 +209,7 @@ class Controls(Case):
         with open(path, "w", encoding="utf-8") as file:
             file.write("".join(f"[[node]]\nid = {n}\ngroup = 1\n" for n in (1, 2, 3, 4)))
         self.run_words("reset", "1")
-        for before in (1, 2):  # show; what had no answer, and show
+        for before in (1, 2):  # show; the order without an answer, and show
             self.server.faults = [*[""] * before, "mute"]
             self.assertEqual(self.run_words("apply", path)[0], 3)
         status, _, told = self.run_words("apply", path)

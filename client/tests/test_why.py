@@ -1,4 +1,4 @@
-"""`resetctl why`: what stands after one word of a start."""
+"""`resetctl why`: the cause of each fault at a start."""
 
 from __future__ import annotations
 
@@ -98,7 +98,7 @@ class Files(Case):
 
     @unittest.skipUnless(os.geteuid() == 0, "needs root: it acts as another user")
     def test_the_user_of_the_server(self) -> None:
-        """Root sees what that user meets: by default the one who owns the folder."""
+        """Root sees the faults of that user: by default the owner of the folder."""
         self.move_to_all()
         store = self.put(FRESH)
         os.chmod(store, 0o600)
@@ -118,7 +118,7 @@ class Files(Case):
 
     @unittest.skipUnless(os.geteuid() == 0, "needs root: it acts as another user")
     def test_a_folder_of_a_lost_machine(self) -> None:
-        """Its owner has no name here, and is told so; who may open the file as that number, may."""
+        """Its owner has no name here, which is reported; whoever may open the file as that number, may."""
         self.move_to_all()
         store = self.put(FRESH)
         for path in (store, self.folder):
@@ -129,7 +129,7 @@ class Files(Case):
         self.assertEqual(self.why("--user", "nobody", store)[0], 1)
 
     def test_who_can_not_try(self) -> None:
-        """Only root can act as another user. What was not tried is not told as if it were well."""
+        """Only root can act as another user. An untried check is not reported as passed."""
         store = self.put(FRESH)
         with mock.patch("resetd_client.access.os.geteuid", return_value=12_345):
             status, lines = self.why("--user", "54321", store)
@@ -249,7 +249,7 @@ class Connections(unittest.TestCase):
 @unittest.skipUnless(PROGRAM, "RESETD names no program to compare with")
 @unittest.skipUnless(PROGRAM and os.getuid() == 0 and shutil.which("unshare") and shutil.which("ip"), "it needs root, unshare and ip")
 class Networks(unittest.TestCase):
-    """A server in a network of its own, as its unit has it."""
+    """A server in a private network, as its unit has it."""
 
     def test_it_is_looked_at_in_there(self) -> None:
         with tempfile.TemporaryDirectory() as folder:
@@ -279,7 +279,7 @@ class BesideTheProgram(Case):
         return told[0].split()[6].rstrip(":") if told else ""
 
     def ended(self, path: str, address: str) -> str:
-        """The word with which a start ends; nothing where it listens."""
+        """The fault with which a start ends; nothing if it listens."""
         with subprocess.Popen([PROGRAM, "serve", path, address], stdout=subprocess.PIPE, stderr=subprocess.PIPE,
                               encoding="utf-8") as process:
             assert process.stdout and process.stderr
@@ -318,7 +318,7 @@ class BesideTheProgram(Case):
         self.assertNotIn("that is not the store on this file", out)
 
     def test_which_program_it_runs(self) -> None:
-        """One that was replaced under a server is told."""
+        """One that was replaced under a server is reported."""
         assert isinstance(self.server, Real)
         program = f"{self.folder}/resetd"
         shutil.copy(PROGRAM, program)
@@ -362,7 +362,7 @@ class BesideTheProgram(Case):
         self.expect_the_reader_told(reader, os.open(f"{self.folder}/fifo", os.O_WRONLY))
 
     def expect_the_reader_told(self, reader: int, writer: int) -> None:
-        """The one who has the pipe is named, and once it is full that is the word of a server that runs."""
+        """The process that has the pipe is named, and once it is full that is the finding for a running server."""
         self.addCleanup(os.close, reader)
         fcntl.fcntl(writer, fcntl.F_SETPIPE_SZ, 4_096)
         assert isinstance(self.server, Real)
