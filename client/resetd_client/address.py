@@ -202,7 +202,7 @@ def address_of(text: str, credentials: Credentials | None = None) -> Address:
     kind, colon, rest = text.partition(":")
     if kind == "unix" and not rest.isdigit():
         if not rest.startswith("/") or len(os.fsencode(rest)) > 107:
-            raise BadWords(f"{text!r} is no address: behind unix: stands an absolute path of at most 107 bytes")
+            raise BadWords(f"{text!r} is not an address: unix: needs an absolute path of at most 107 bytes")
         return Unix(rest)
     if kind == "tls" and ":" in rest:
         host, port = host_and_port(rest)
@@ -214,7 +214,7 @@ def host_and_port(text: str) -> tuple[str, int]:
     """The host and the port of `HOST:PORT`. Raises BadWords."""
     host, colon, port = text.rpartition(":")
     if not host or not port.isascii() or not port.isdigit() or len(port) > 5 or not 0 < int(port) < 65536:
-        raise BadWords(f"{text!r} is no address: HOST:PORT, unix:PATH or tls:HOST:PORT is meant")
+        raise BadWords(f"{text!r} is not an address: use HOST:PORT, unix:PATH or tls:HOST:PORT")
     return host, int(port)
 
 
@@ -242,7 +242,7 @@ def away(address: Address, fault: OSError) -> Away:
 def untrusted(address: Address, fault: OSError) -> Untrusted | None:
     """What a fault of a TLS connection says of certificates, if it does."""
     if isinstance(fault, ssl.SSLCertVerificationError):
-        return Untrusted(f"{address}: its certificate is not taken: {fault.verify_message}")
+        return Untrusted(f"{address}: its certificate is not accepted: {fault.verify_message}")
     reason = getattr(fault, "reason", None) if isinstance(fault, ssl.SSLError) else None
     words = set(reason.split("_")) if reason else set()
     if reason and "ALERT" in words and words & {"CERTIFICATE", "CA", "DENIED", "DECRYPT"}:

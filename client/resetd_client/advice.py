@@ -91,7 +91,7 @@ def of_ends(refusal: Refusal, a: Node, b: Node, view: View) -> str:
     if refusal is Refusal.DEGREE_FULL and (full := [node for node in near if len(near[node]) >= MOST_AT_NODE]):
         return f"node {full[0]} has {MOST_AT_NODE} links: drop one first"
     if refusal is Refusal.LINKS_FULL and len(view.links) >= MOST_LINKS:
-        return f"{MOST_LINKS} links stand: drop one first"
+        return f"{MOST_LINKS} links exist: drop one first"
     return ""
 
 

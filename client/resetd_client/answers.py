@@ -103,7 +103,7 @@ class Garbled(NotTaken):
     name = "Garbled"
 
     def __init__(self, line: str, where: str = "what answers") -> None:
-        super().__init__(f"{where} is no coordinator: it said {line.strip()[:MOST_SHOWN]!r}")
+        super().__init__(f"{where} is not a coordinator: it said {line.strip()[:MOST_SHOWN]!r}")
         self.line = line
 
 

@@ -59,7 +59,7 @@ def kernel_lines(path: str) -> str:
     """What the kernel has said of a file's device since the start of the machine, and of nothing else."""
     names = devices_of(path)
     if not names:
-        return "the file stands on no block device of this machine\n"
+        return "the file is not on a block device of this machine\n"
     wanted = re.compile(r"\b(?:" + "|".join(map(re.escape, names)) + r")\b")
     told = said("journalctl", "--dmesg", "--no-pager", "--quiet", "--output", "short-iso").splitlines()
     if len(told) < 2:  # no journal, or none that this user may read

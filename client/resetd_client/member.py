@@ -233,7 +233,7 @@ class Member(Following):
         if due is Due.BEGIN:
             self._begin_anew(view, row)
         elif is_parted:
-            self._ask_reset(self.node, "a member that is connected talks in another run, and the same is shown to it", row.epoch)
+            self._ask_reset(self.node, "a connected member talks in another run, and sees the same view", row.epoch)
         elif is_overtaken:
             self._ask_reset(self.node, "a start of its group, in another run, has taken what they share", row.epoch)
         elif due is Due.RESET:

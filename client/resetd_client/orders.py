@@ -83,7 +83,7 @@ class Orders:
         receives messages for a person, by default the logger `resetd_client`. Raises BadWords, Held, and Unreadable if the
         folder's file does not read."""
         if client not in CLIENTS:
-            raise BadWords(f"{client} is no client: clients are 1 to {CLIENTS[-1]}")
+            raise BadWords(f"{client} is not a client: clients are 1 to {CLIENTS[-1]}")
         self.port, self.client, self.recovers, self.told = port, client, recovers, told
         self.folder = folder
         self._lock = files.hold(folder, held_seconds)

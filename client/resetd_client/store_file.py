@@ -99,7 +99,7 @@ def store_of(half: Half) -> Store:
         try:
             batch = batch_of(body, half.version)
         except NotSpelled as fault:
-            raise NoStore("BadBatch", place + fault.place, f"batch {len(batches)} is no batch ({fault.kind})") from None
+            raise NoStore("BadBatch", place + fault.place, f"batch {len(batches)} is not a batch ({fault.kind})") from None
         if batch.first != count + 1:
             raise NoStore("BadBatch", place, f"batch {len(batches)} begins with step {batch.first}, and {count + 1} is due")
         batches.append(batch)
@@ -194,7 +194,7 @@ def open_store(path: str) -> int:
     descriptor = os.open(path, os.O_RDONLY | os.O_NONBLOCK | os.O_CLOEXEC)
     if not stat.S_ISREG(os.fstat(descriptor).st_mode):
         os.close(descriptor)
-        raise OSError(errno.EINVAL, "it is no file, as a store is", path)
+        raise OSError(errno.EINVAL, "it is not a regular file", path)
     return descriptor
 
 

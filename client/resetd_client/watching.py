@@ -129,7 +129,7 @@ class Watched:
         self._newest = port.newest
         self._fronts = [address for address in port.addresses if address.is_front]
         if not self._fronts:
-            raise BadWords("no address of a front (unix:PATH, tls:HOST:PORT) to be told by")
+            raise BadWords("no address of a front (unix:PATH, tls:HOST:PORT) to watch")
         self._pushed: Pushed | None = None
         self._seconds, self._turn = seconds, 0
         self._pause, self._not_before = FIRST_PAUSE, 0.0
@@ -290,7 +290,7 @@ def views(port: Port, seconds: float = 5.0) -> Iterator[View]:
     of the addresses is a front's."""
     fronts = [address for address in port.addresses if address.is_front]
     if not fronts:
-        raise BadWords("no address of a front (unix:PATH, tls:HOST:PORT) to be told by")
+        raise BadWords("no address of a front (unix:PATH, tls:HOST:PORT) to watch")
     pushed = Pushed(fronts[0], seconds)
     try:
         seen: View | None = None

@@ -107,7 +107,7 @@ def of_program(process: int) -> Iterator[Finding]:
     """Which program a process runs: what tells one build of the server from another."""
     if program := program_of(process):
         yield Finding("program", f"process {process} runs {program.path}, SHA-256 {program.checksum}" + (
-            "" if program.is_there else "; that is not what stands there now: it runs on with the old one until it is started again"))
+            "" if program.is_there else "; its path has another one now: it runs the old one until it is restarted"))
 
 
 def of_output(process: int) -> Iterator[Finding]:
@@ -129,7 +129,7 @@ def of_store(store: Store) -> Iterator[Finding]:
     half = store.half
     behind = store.count - store.world.count
     yield Finding("store", f"version {half.version}, {store.count:,} steps: {store.world.count:,} in the snapshot, {behind:,} in "
-                           f"{len(store.batches):,} batches behind it")
+                           f"{len(store.batches):,} batches after it")
     yield Finding("store", f"half {half.index} is read; {half.used:,} of its {half.size:,} bytes are in use")
     nodes = [node for node, mode in store.world.modes.items() if mode != "ready"]
     if nodes:

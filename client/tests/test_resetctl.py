@@ -174,9 +174,9 @@ class Controls(Case):
         self.server.faults = ["<!DOCTYPE HTML>"] * 3
         for words in (["show"], ["reset", "1"]):
             status, _, told = self.run_words(*words)
-            self.assertEqual((status, told), (1, f"resetctl: {self.server.address} is no coordinator: it said "
+            self.assertEqual((status, told), (1, f"resetctl: {self.server.address} is not a coordinator: it said "
                                                  "'<!DOCTYPE HTML>'\n"))
-        self.assertEqual(self.run_words("health")[:2], (3, f"resetd UNKNOWN: {self.server.address} is no coordinator: it said "
+        self.assertEqual(self.run_words("health")[:2], (3, f"resetd UNKNOWN: {self.server.address} is not a coordinator: it said "
                                                            "'<!DOCTYPE HTML>'\n"))
 
     def test_files_that_cannot_be_used(self) -> None:

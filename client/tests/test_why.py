@@ -49,7 +49,7 @@ class Files(Case):
     def test_a_store(self) -> None:
         for data, count, index, used in ((APPENDED, 1, 0, 45), (CHECKPOINTED, 0, 1, 17)):
             status, lines = self.why(self.put(data))
-            self.assertEqual((status, lines[-1]), (0, "nothing seen here stands in the way of a start"))
+            self.assertEqual((status, lines[-1]), (0, "nothing found here prevents a start"))
             self.assertIn(f"store    half {index} is read; {used} of its 32,768 bytes are in use", lines)
             self.assertTrue(any(line.startswith(f"store    version 1, {count} steps: 0 in the snapshot") for line in lines))
             self.assertRegex(lines[1], rf"^file     a file of {len(data):,} bytes, -rw-r----- \S+:\S+$")
@@ -59,7 +59,7 @@ class Files(Case):
         for data, told in ((b"", "NoMagic: at byte 0, no store begins so: the file is empty"),
                            (APPENDED[:50], "BadRecord: at byte 38, a body of 23 bytes with its gate runs past the end"),
                            (FRESH[:17] + b"\3" + FRESH[18:], "BadSnapshot: at byte 17, version 3 is not known"),
-                           (APPENDED[:48] + b"\7" + APPENDED[49:], "BadBatch: at byte 48, batch 0 is no batch (BadByte)")):
+                           (APPENDED[:48] + b"\7" + APPENDED[49:], "BadBatch: at byte 48, batch 0 is not a batch (BadByte)")):
             status, lines = self.why(self.put(data))
             name = told.split(":")[0]
             self.assertEqual((status, lines[-1]), (1, f"a start now would end with {name}: store: does not read: {told}"))
@@ -111,7 +111,7 @@ class Files(Case):
         self.assertEqual(self.why(store)[1][-1][:len(refused)], refused)
         os.chown(store, nobody.pw_uid, -1)
         status, lines = self.why(store)
-        self.assertEqual((status, lines[-1]), (0, "nothing seen here stands in the way of a start"))
+        self.assertEqual((status, lines[-1]), (0, "nothing found here prevents a start"))
         self.assertTrue(any("the user nobody may open it and its folder, and a sync of both took" in line for line in lines), lines)
         os.chmod(self.folder, 0o300)
         self.assertIn("access: the user nobody can't open its folder: Permission denied", self.why(store)[1][-1])
@@ -133,7 +133,7 @@ class Files(Case):
         store = self.put(FRESH)
         with mock.patch("resetd_client.access.os.geteuid", return_value=12_345):
             status, lines = self.why("--user", "54321", store)
-        self.assertEqual((status, lines[-1]), (0, "nothing seen here stands in the way of a start; whether 54321 may open it is not known"))
+        self.assertEqual((status, lines[-1]), (0, "nothing found here prevents a start; whether 54321 may open it is not known"))
 
     def test_a_disk_that_hangs(self) -> None:
         """A sync that does not come back holds nothing up here."""
@@ -263,7 +263,7 @@ class Networks(unittest.TestCase):
                 why = subprocess.run([sys.executable, f"{ROOT}/client/resetctl", "why", store, "127.0.0.1:4170"],
                                      stdout=subprocess.PIPE, encoding="utf-8", check=False)
                 server.kill()
-            self.assertIn(f"process {server.pid} has a network of its own: the address is looked at in there", why.stdout)
+            self.assertIn(f"process {server.pid} has a private network: the address is checked inside it", why.stdout)
             self.assertIn(f"a start now would end with Device: lock: held by process {server.pid} (", why.stdout)
             self.assertIn("a coordinator with 0 nodes and 0 steps on the disk", why.stdout)
 

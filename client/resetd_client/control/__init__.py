@@ -40,7 +40,7 @@ def parser() -> argparse.ArgumentParser:
     top.add_argument("--client", type=ranges.of("client"), metavar="C",
                      default=os.environ.get("RESETD_CLIENT") or str(CLIENTS[-1]), help="the client that orders (RESETD_CLIENT, 16)")
     top.add_argument("--state", default=os.environ.get("RESETCTL_STATE") or default_state(), metavar="FOLDER",
-                     help="where this client's numbers are kept (RESETCTL_STATE, ~/.local/state/resetctl)")
+                     help="the folder for this client's numbers (RESETCTL_STATE, ~/.local/state/resetctl)")
     top.add_argument("--patience", type=ranges.span, metavar="SECONDS",
                      help="how long the same line is sent again while no answer comes (30; of what only looks 2)")
     top.add_argument("--seconds", type=ranges.some_seconds, metavar="SECONDS",

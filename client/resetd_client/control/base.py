@@ -94,7 +94,7 @@ class Control:
             for order, outcome in zip(left, self.patient(book.settle)):
                 complain(f"{told_order(order)}: {outcome if isinstance(outcome, NotTaken) else told_reply(outcome)}")
         except CountLost:
-            complain(f"client {self.words.client} has ordered since: whether that was carried out, show tells; it is given up")
+            complain(f"client {self.words.client} has ordered since: use show to see whether that was carried out; it is given up")
             self.patient(book.recover)
 
     def carry_out(self, book: Orders, op: str, **members: int) -> Reply:

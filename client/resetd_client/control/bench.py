@@ -25,8 +25,8 @@ def bench(control: Control) -> int:
     words = control.words
     view = control.show()
     if (served := [node.node for node in view.nodes if node.confirmed]) and not words.with_services:
-        complain(f"services have confirmed epochs of nodes {', '.join(map(str, served))}: each would begin anew at each of "
-                 f"{words.waves} resets; --with-services does it all the same")
+        complain(f"services have confirmed epochs of nodes {', '.join(map(str, served))}: each would begin again at each of "
+                 f"{words.waves} resets; --with-services does it anyway")
         return REFUSED
     with control.orders() as book:
         control.settle(book)
@@ -94,8 +94,8 @@ def add_bench_words(parser: argparse.ArgumentParser) -> None:
     parser.add_argument("--orders", type=ranges.some_orders, default=ORDERS, metavar="N",
                         help=f"how many orders one after the other, 2 at least ({ORDERS})")
     parser.add_argument("--waves", type=ranges.amount, default=WAVES, metavar="N", help=f"how many resets ({WAVES})")
-    parser.add_argument("--with-services", action="store_true", help="also where services are there, which then begin anew")
+    parser.add_argument("--with-services", action="store_true", help="also if there are services, which then begin again")
 
 
-COMMANDS = (Command("bench", "measures orders a second and a wave of this server; refused where nodes have services", bench,
+COMMANDS = (Command("bench", "measures orders a second and a wave of this server; refused if nodes have services", bench,
                     add_bench_words),)

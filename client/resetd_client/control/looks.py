@@ -94,12 +94,12 @@ def note(picture: list[str]) -> None:
 
 def add_watch_words(parser: argparse.ArgumentParser) -> None:
     parser.add_argument("--every", type=ranges.some_seconds, default=0.2, metavar="SECONDS",
-                        help="how often it looks where no front tells it (0.2)")
+                        help="how often it looks if no front notifies it (0.2)")
     parser.add_argument("--for", dest="for_seconds", type=ranges.span, metavar="SECONDS", help="ends after so long (never)")
 
 
 COMMANDS = (
     Command("show", "prints the nodes and links", show, add_json, is_look=True),
-    Command("watch", "draws the modes of the nodes as they change; where the output is no terminal, a line a change", watch,
+    Command("watch", "draws the modes of the nodes as they change; if the output is not a terminal, a line for each change", watch,
             add_watch_words, is_look=True),
 )

@@ -33,7 +33,7 @@ def why(control: Control) -> int:
         print_json({"findings": [asdict(finding) for finding in findings], "told": told.splitlines()})
         return REFUSED if told else DONE
     left_out = "".join(f"; {finding.left_out} is not known" for finding in findings if finding.left_out)
-    print(told or f"nothing seen here stands in the way of a start{left_out}")
+    print(told or f"nothing found here prevents a start{left_out}")
     return REFUSED if told else DONE
 
 
@@ -115,7 +115,7 @@ def why_not(out: str, source: os.stat_result) -> str:
     if os.path.samestat(found, source):
         return "this is the store itself"
     if lock_holders(found):
-        return "a process has it locked: nothing is put onto a store that is served"
+        return "a process has locked it: a store that is served is not replaced"
     return "" if not head or head[1:9] == MAGIC else "it holds something else than a store"
 
 
@@ -142,7 +142,7 @@ def add_why_words(parser: argparse.ArgumentParser) -> None:
     add_json(parser)
     add_file_words(parser)
     parser.add_argument("at", metavar="ADDRESS", nargs="?", help="the address of the server, A.B.C.D:P")
-    parser.add_argument("--audit", metavar="FILE", default=AUDIT, help=f"the audit of a front, which tells since when a group waits ({AUDIT})")
+    parser.add_argument("--audit", metavar="FILE", default=AUDIT, help=f"the audit of a front, which says since when a group waits ({AUDIT})")
     parser.add_argument("--user", type=ranges.account, metavar="NAME", help="the user as whom the server runs (who owns the folder)")
 
 
@@ -153,17 +153,16 @@ def add_file_words(parser: argparse.ArgumentParser) -> None:
 def add_steps_words(parser: argparse.ArgumentParser) -> None:
     add_json(parser)
     add_file_words(parser)
-    parser.add_argument("--before", action="store_true", help="the half of before the last checkpoint, which stands until the next one")
+    parser.add_argument("--before", action="store_true", help="the half from before the last checkpoint, which stays until the next one")
 
 
 def add_backup_words(parser: argparse.ArgumentParser) -> None:
     add_file_words(parser)
-    parser.add_argument("out", metavar="OUT", help="the copy; one that is there is replaced as a whole")
+    parser.add_argument("out", metavar="OUT", help="the copy; an older copy is replaced as a whole")
 
 
 COMMANDS = (
-    Command("why", "prints what stands after a fault of a start: of the store's file and of the address; status 1 where there "
-            "is a reason", why, add_why_words, is_look=True),
+    Command("why", "prints the cause of a fault at a start, for the store's file and the address; status 1 if there is one", why, add_why_words, is_look=True),
     Command("steps", "prints the steps of a store, each with its batch, the steps of which were settled together", steps,
             add_steps_words),
     Command("backup", "copies a store, which may be served meanwhile", backup, add_backup_words),

@@ -59,7 +59,7 @@ impl<D: CrashDisk> Driver<D> {
     }
 
     /// Does nothing. Its contract says what a crash may leave between two events: a legal world,
-    /// after a prefix of the accepted steps that holds all that was released. The types of its
+    /// after a prefix of the accepted steps that includes every released one. The types of its
     /// parts keep that.
     pub fn lemma_survives(&self)
         ensures { (s : Machine) → IsConsistent s → Represents self.now s →
@@ -94,7 +94,7 @@ impl<D: CrashDisk> Driver<D> {
         }
     }
 
-    /// Gives the disk up, the ledger's or that of the flight that is out.
+    /// Returns the disk of the ledger, or of the flight that is out.
     pub fn into_disk(self) -> D
         ensures disk { disk_held self ≡ Some result }
         ensures images { ImagesGiveOneOf (D.model.keeps_model result) (D.model.present result) self.ledger.log

@@ -26,9 +26,9 @@ use std::alloc::Global;
 /// skipped and none in part. That prefix holds every step whose reply, packet or signal had been
 /// released, and every link predicate holds in that world.
 ///
-/// It says so of each moment of the run, between two events and inside each of them. `EachMoment`
-/// tells what the run does to its disk, event by event: each event begins with the disk that the
-/// one before it left, and the last one leaves the disk of the ledger that is given back.
+/// This holds at each moment of the run, between two events and inside each of them. `EachMoment`
+/// states the effect of the run on its disk, event by event: each event begins with the disk that
+/// the previous one left, and the last one leaves the disk of the returned ledger.
 ///
 /// A fault names the event at which the run ended, and has the answers to the events before it and
 /// all releases until then. The ledger, its flight and its tickets are dropped. The disk is
@@ -41,7 +41,7 @@ pub fn run_events<D: CrashDisk>(
 ) -> Result<(Trace, Ledger<D>), (RunFault, D)>
     requires home { ledger.out ≡ None }
 
-    // A run that is answered: the main theorem, and the ledger that is left.
+    // A run with all its answers: the main theorem, and the ledger that is left.
     ensures ran { IfOk result (λ r. (before : D) → (after : D) → ledger.disk ≡ Some before →
         r.1.disk ≡ Some after
         → Promised (D.model.keeps_model before) events.now (Completed D.model D.crashes

@@ -1,4 +1,4 @@
-//! Flights: steps on their way to the disk.
+//! Flights: steps that are being committed.
 
 ghost use Rattle.std.specs.Prelude.{◌≡◌, ◌⊎◌, ◌+◌, ◌≤◌, true, List, ℕ, length, Err, OnOk, IsErrOf, MatchResult};
 ghost use Rattle.coord_types.specs.declared.limits.TheConstants.{MAX_BATCH_STEPS};
@@ -61,9 +61,10 @@ impl<D: Disk> Flight<D> {
     /// Commits the steps. It takes no lock and never waits.
     ///
     /// After `OutOfMemory` it may be tried again. After `Device` the flight is torn, and each later
-    /// call answers `Stopped`; a flight that was committed answers `Again`.
+    /// call returns `Stopped`; a committed flight returns `Again`.
     pub fn commit(&mut self) -> Result<(), CommitFault>
-        // A crash at any moment of the call leaves what gives the world from before the steps or from after them.
+        // A crash at any moment of the call leaves bytes of the world before the steps or after
+        // them.
         ensures any_moment { D.model.keeps_model self.old.disk ≡ true → self.old.mark ≡ New
             → LeavesOnly D.model self.old.disk self.new.disk
             (GivesEither self.old.world (fold self.old.world self.old.steps)) }
@@ -132,7 +133,7 @@ impl<D: Disk> Flight<D> {
         }
     }
 
-    // Taken apart: how many steps it carried, what became of it, and the store.
+    // Takes the flight apart: the number of its steps, whether it was committed, and the store.
     pub(crate) fn into_parts(self) -> (usize, Mark, Store<D>)
         ensures size { result.0 ≡ length self.steps }
         ensures mark { result.1 ≡ self.mark }
@@ -167,7 +168,7 @@ impl<D: Disk + Takable> Flight<D> {
 impl<D: Disk> Flight<D> {
     ghost use Rattle.coord_ledger.specs.ledger.Calls.{FlightGives};
 
-    /// Does nothing: its contract is what the type keeps of every flight.
+    /// Does nothing: its contract is the invariant of the type.
     pub fn lemma_images_give_world(&self)
         ensures some { 1 ≤ length self.now.steps }
         ensures most { length self.now.steps ≤ MAX_BATCH_STEPS }

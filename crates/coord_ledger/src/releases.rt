@@ -33,7 +33,7 @@ impl Releases {
         Releases { rows, given: 0 }
     }
 
-    /// How many are left.
+    /// The number of remaining ones.
     pub fn len(&self) -> u64
         ensures { result ≡ length self.now }
     {
@@ -53,7 +53,7 @@ impl Releases {
         Some(release)
     }
 
-    /// How many were not handed out. They are lost.
+    /// Drops the remaining ones, and returns how many there were.
     pub fn lose_rest(self) -> u64
         ensures { result ≡ length self }
     {

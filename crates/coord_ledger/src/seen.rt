@@ -1,4 +1,4 @@
-//! What a caller has seen of a ledger.
+//! The settled steps that a caller has seen of a ledger.
 
 ghost use Rattle.std.specs.Prelude.{◌≡◌, max, nat_le};
 

@@ -33,7 +33,7 @@ impl Ticket {
     ghost use Rattle.coord_ledger.specs.ledger.Calls.{claimed};
     ghost use Rattle.coord_ledger.specs.ledger.State.{reply_of};
 
-    // For a step that has this reply.
+    // Makes a ticket for a step with this reply.
     pub(crate) fn of(what: Step, reply: Reply) -> Self
         ensures { result ≡ claimed what reply }
     {
@@ -74,7 +74,7 @@ impl Ticket {
         }
     }
 
-    /// Gives up the reply. It leaves nothing of which a clause could speak.
+    /// Gives up the reply. (No postcondition: nothing remains.)
     pub fn forget(self) {
         let Ticket {
             step: _,

@@ -54,7 +54,7 @@ fn stands_at(trail: &[Step], kinds: &[Kind], place: usize, ticket: &Ticket) -> b
     is_kind_at(kinds, place, ticket)
 }
 
-/// The ticket's reply if its step is settled, and else the ticket.
+/// Returns the reply if the ticket's step is settled, and otherwise the ticket.
 fn replied(ticket: Ticket, settled: bool) -> Result<Reply, Ticket>
     ensures settled { IfOk result (λ reply. (reply ≡ reply_of ticket) × (settled ≡ true)) }
     ensures waiting { IfErr result (λ back. (back ≡ ticket) × (settled ≡ false)) }
@@ -81,7 +81,7 @@ impl<D: Disk> Ledger<D> {
         stands_at(&self.trail, &self.kinds, place, ticket)
     }
 
-    /// Whether the ticket's step is settled here and was answered as the ticket says.
+    /// Whether the ticket's step is settled here, with the ticket's kind of reply.
     fn is_collectable(&self, ticket: &Ticket) -> bool
         ensures { IsTrue result ↔ IsCollectable self.now.log ticket.now }
     {
@@ -92,8 +92,8 @@ impl<D: Disk> Ledger<D> {
         }
     }
 
-    /// The reply to the ticket's step, once the step is settled; before that, and for a ticket of
-    /// another ledger, the ticket. It answers after a stop too.
+    /// Returns the reply to the ticket's step, once the step is settled; before that, and for a
+    /// ticket of another ledger, the ticket. It also answers after a stop.
     pub fn collect(&self, ticket: Ticket) -> Result<Reply, Ticket>
         ensures settled { IfOk result (λ reply. (reply ≡ reply_of ticket) ×
             IsCollectable self.now.log ticket) }
