@@ -1,4 +1,4 @@
-//! What a crash leaves of a disk in memory.
+//! The bytes that a crash leaves of a disk in memory.
 
 ghost use Rattle.std.specs.Prelude.{◌≡◌, ◌+◌, ◌&&◌, nat_le, nat_lt, List, ℕ, Some};
 ghost use Rattle.coord_disk.specs.Model.Present.{is_within, whole};
@@ -36,7 +36,7 @@ fn is_written(entries: &[Entry], place: u64) -> bool
     false
 }
 
-// The n-th byte of these, repeated.
+// The n-th byte of an infinite repetition of these.
 fn filling(filler: &[u8], n: usize) -> u8
     ensures { result ≡ repeated filler.now n }
 {

@@ -1,4 +1,4 @@
-//! That a device failed.
+//! The failure of a device.
 
 ghost use Rattle.std.specs.Prelude.{◌≡◌, ◌+◌, IfOk, Ok, Some, codes, is_ok, length};
 ghost use Rattle.coord_disk.specs.Model.Calls.{HasCause};

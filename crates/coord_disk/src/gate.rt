@@ -8,7 +8,7 @@ use crate::failing::{Call, FailingDisk, Rule};
 use std::sync::Arc;
 use std::sync::atomic::{AtomicBool, Ordering};
 
-/// How often a sync looks whether the gate is open.
+/// How often a sync checks whether the gate is open.
 const LOOKS: u64 = 100_000_000;
 
 /// Holds each sync until another thread opens the gate.

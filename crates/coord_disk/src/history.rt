@@ -21,7 +21,8 @@ pub struct History {
     pub entries: Vec<Entry>,
 }
 
-// Writes over the bytes, and past their end with zeros between. Without memory nothing changes.
+// Writes over the bytes, and past their end, filling a gap with zeros. If it runs out of memory
+// nothing changes.
 fn overwrite(bytes: &mut Vec<u8>, at: usize, new: &[u8]) -> Result<(), AllocError>
     requires { at + length new.now < 2 ^ 64 }
     ensures ok { OnOk result (bytes.new.items ≡ overwritten bytes.old.items at new.now) }
@@ -76,7 +77,7 @@ fn copy_written(entries: &[Entry], read: &[u8], synced: &mut [u8])
         match &entries[n] {
             Entry::Synced => return,
             Entry::Wrote { at, bytes } => {
-                // A write of no bytes may stand past the end.
+                // A write of no bytes may be past the end.
                 let start = read.len().min(*at as usize);
                 let end = start + bytes.len().min(read.len() - start);
                 synced[start..end].copy_from_slice(&read[start..end]);

@@ -9,10 +9,10 @@ use crate::{Choice, CrashDisk, Disk, DiskFault, MemDisk, RawFile};
 use std::alloc::Global;
 use std::io;
 
-/// How many syncs of each kind there were. Each count stays at the greatest u64.
+/// The number of syncs of each kind. Each count stays at the greatest u64.
 #[derive(Clone, Copy, Debug, PartialEq, Eq)]
 pub struct Syncs {
-    /// Of the bytes alone.
+    /// Of the bytes only.
     pub bytes: u64,
     /// Of the bytes and the length.
     pub all: u64,
@@ -54,7 +54,7 @@ impl MemFile {
         }
     }
 
-    /// The bytes as a read gives them.
+    /// The bytes that a read gives.
     pub fn bytes(&self) -> &[u8]
         ensures { result.now ≡ (present_of (disk_of self.now)).read }
     {
@@ -68,7 +68,7 @@ impl MemFile {
         self.syncs
     }
 
-    /// Says what the next crash leaves.
+    /// Chooses the bytes that the next crash leaves.
     pub fn choose(&mut self, choice: Choice)
         ensures present { present_of (disk_of self.new) ≡ present_of (disk_of self.old) }
         ensures choice { choice_of (disk_of self.new) ≡ choice }
@@ -96,7 +96,7 @@ impl MemFile {
     }
 }
 
-/// A disk in memory fails for lack of memory alone.
+/// A disk in memory fails only if it runs out of memory.
 fn io_answer<T>(answer: Result<T, DiskFault>) -> io::Result<T>
     ensures ok { IfOk result (λ value. answer ≡ Ok value) }
     ensures same { is_ok result ≡ is_ok answer }

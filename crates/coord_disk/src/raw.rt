@@ -14,16 +14,16 @@ use std::io;
 /// A sync counts only once the folder has the file: before that a crash may leave no file, which is
 /// read as an empty one.
 pub trait RawFile: Drop {
-    /// What a file means as a disk. It need not count its failures.
+    /// The meaning of a file as a disk. It need not count its failures.
     ghost model: { DiskModel Self };
 
     /// Whether the folder's entry of the file is synced.
     ghost is_entered: { Self → Bool };
 
-    /// Whether a file may become another one by this call, which succeeds or fails.
+    /// Whether this call, which succeeds or fails, may turn one file into another.
     ghost made: { Self → RawCall → Bool → Self → Type 0 };
 
-    /// How many bytes it has.
+    /// Returns the number of bytes.
     fn len(&mut self) -> io::Result<u64>
         ensures call { Measures model self.old self.new result }
         ensures entered { StaysEntered model is_entered self.old self.new }
@@ -64,7 +64,7 @@ pub trait RawFile: Drop {
         ensures call { Enters model is_entered self.old self.new result }
         ensures made { made self.old SyncFolder (is_ok result) self.new };
 
-    /// The past of a file fits its present.
+    /// The past of a file agrees with its present.
     ghost laws: { IsModel model };
 
     /// As long as its folder may lack the file, nothing of it is synced.

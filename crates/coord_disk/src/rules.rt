@@ -18,7 +18,7 @@ pub struct Blip {
     left: Option<u64>,
 }
 
-/// Fails one call. Where that is a write, its first bytes are written before.
+/// Fails one call. If that is a write, its first bytes are written before.
 #[derive(Drop)]
 pub struct Tear {
     blip: Blip,
@@ -86,7 +86,7 @@ impl<D: Disk> FailingDisk<D, Fuse> {
 }
 
 impl<D: Disk> FailingDisk<D, Blip> {
-    /// Over this disk, with the number of the call to fail, counted from 0.
+    /// Wraps this disk. `fails` is the index of the call that fails, from 0.
     pub fn new(inner: D, fails: u64) -> Self
         ensures { IsOver inner (blip_at fails) result }
     {

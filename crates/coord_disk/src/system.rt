@@ -11,8 +11,8 @@ use std::io;
 use std::os::unix::fs::FileExt;
 use std::rt::Files;
 
-/// A file of the system, and its folder. Each call is one of the system, or one after the other until
-/// all bytes are read or written.
+/// A file of the system, and its folder. Each call is one system call, or several until all bytes
+/// are read or written.
 ///
 /// It claims no model: that a file keeps it is a premise.
 #[derive(Drop)]
@@ -31,7 +31,7 @@ impl<F: OpenFile + FileExt + Drop> SystemFile<F> {
         SystemFile { file, folder }
     }
 
-    /// Gives both back.
+    /// Returns both.
     pub fn into_parts(self) -> (F, Option<F>) {
         (self.file, self.folder)
     }

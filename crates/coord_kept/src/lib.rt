@@ -1,5 +1,5 @@
-//! What a member keeps as its files have it, and the tag of its messages: the same bytes as those of
-//! the client library.
+//! The stored state of a member as its files have it, and the tag of its messages: the same bytes
+//! as those of the client library.
 //!
 //! [`lines_of`] makes the lines of a party, sorted by their bytes, [`digest_of`] their digest, and
 //! [`tag_of`] the tag. [`read_start`], [`carried_start`], [`start_text`] and [`loaded_text`] are

@@ -22,7 +22,7 @@ pub struct Line {
     pub command: Command,
 }
 
-/// What a client keeps, and in memory which of its lines it awaits the answer of.
+/// The stored state of a client, and the line whose answer it awaits (in memory).
 #[derive(Clone, Copy, Debug, PartialEq, Eq)]
 pub struct OrderBook {
     /// What must be on disk before a line is sent, and before the next order is written down.
@@ -35,7 +35,7 @@ pub struct OrderBook {
 #[derive(Clone, Copy, Debug, PartialEq, Eq)]
 pub struct Heard {
     pub book: OrderBook,
-    /// None: the answer is of another line than the one that is awaited, and tells nothing.
+    /// None: the answer is of another line than the awaited one, and means nothing.
     pub meaning: Option<Meaning>,
 }
 
@@ -50,8 +50,8 @@ impl OrderBook {
         }
     }
 
-    /// Writes an order down under the next number. None: there is one already, whose outcome is not
-    /// known.
+    /// Writes an order down under the next number. Returns None if there is one already, whose
+    /// outcome is not known.
     pub fn write_down(self, command: Command) -> Option<Self>
         ensures { result ≡ written self command }
     {
@@ -67,7 +67,7 @@ impl OrderBook {
         }
     }
 
-    /// The line that is to be sent, first or again. None: no order is in hand.
+    /// Returns the line to send, for the first time or again; None if no order is in hand.
     pub fn line(&self) -> Option<Line>
         requires { self.now.kept.last < u64.MAX }
         ensures { result ≡ line_of self.now.kept }

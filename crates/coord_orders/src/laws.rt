@@ -11,7 +11,7 @@ pub fn exactly_once()
     ensures { ExactlyOnce }
 {}
 
-/// A probe with any number does no harm, and its refusal tells whether the number is the client's
+/// A probe with any number does no harm, and its refusal shows whether the number is the client's
 /// last one, the next one or another one.
 #[tactic(auto, using(crate::proofs::FoundCount::count_is_found))]
 pub fn count_is_found()

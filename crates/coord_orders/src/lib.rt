@@ -1,5 +1,5 @@
-//! One client's order book: what the client keeps of its orders, which line it sends next, and what
-//! an answer means.
+//! One client's order book: the record of its orders, the line to send next, and the meaning of an
+//! answer.
 //!
 //! `OrderBook` is the code; its results are the definitions of `specs/Book.antt`.
 //! `specs/Exchange.antt` models a client, the lines and answers in transit, and the server's part

@@ -10,7 +10,7 @@ pub fn starts_are_one()
     ensures { StartsAreOne }
 {}
 
-/// The life of a small store, worked out: three starts that serve, and one in which it is raised.
+/// A worked instance of a small store: three starts that serve, and one in which it is migrated.
 #[tactic(auto, using(crate::proofs::Worked::worked_life))]
 pub fn worked_life()
     ensures { WorkedLife }

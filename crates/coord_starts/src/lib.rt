@@ -7,8 +7,8 @@
 //! names another step, nothing is released twice, and each client's kept reply is that to its last
 //! kept order.
 //!
-//! The main theorem is the contract of [`laws::starts_are_one`], and, of starts that are run on any
-//! disk that may crash, that of [`run_starts`].
+//! The main theorem is the contract of [`laws::starts_are_one`], and, for starts that are run on
+//! any disk that may crash, that of [`run_starts`].
 #![tactic(auto)]
 
 pub mod laws;

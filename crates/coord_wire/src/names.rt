@@ -5,7 +5,7 @@ ghost use Rattle.coord_wire.specs.AnswerLine.{kind_named, refusal_named};
 
 use coord_types::{Kind, Refusal};
 
-/// What became of an order, by its name.
+/// The result of an order, by its name.
 pub(crate) fn kind_named(name: &str) -> Option<Kind>
     ensures { result ≡ kind_named name.now }
 {

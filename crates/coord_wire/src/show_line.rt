@@ -38,7 +38,7 @@ fn id_at<const MOST: u8>(row: &Value, place: usize) -> Option<Identifier<MOST>>
     Identifier::new(u8::try_from(number).ok()?)
 }
 
-/// A parent's number; 0 is that of none.
+/// A parent's number; 0 means none.
 fn parent_at(row: &Value, place: usize) -> Option<u8>
     ensures { result ≡ option_and_then (up_to MAX_NODES) (number_at place (view row.now)) }
 {
@@ -191,7 +191,7 @@ fn shown_of(alloc: Global, value: &Value) -> Result<Option<View>, AllocError>
     }
 }
 
-/// What a line shows that answers `show`.
+/// The view in a line that answers `show`.
 #[tactic(auto, unfolding(crate::specs::ShowLine::shown_in))]
 pub fn read_show(alloc: Global, text: &str) -> Result<View, ReadFault>
     ensures { result ≢ Err OutOfMemory → result ≡ shown_in text.now }

@@ -17,8 +17,7 @@ pub struct Order {
     pub epoch: u64,
 }
 
-/// What a client keeps of its orders: the number of the last one that was carried out, and the one
-/// that is in hand.
+/// The order book: the number of the last order that was carried out, and the one in hand.
 #[repr(C)]
 #[derive(Clone, Copy, Debug, PartialEq, Eq)]
 pub struct Orders {

@@ -1,4 +1,4 @@
-//! What the order book makes of orders as numbers.
+//! The order book over orders as numbers.
 
 ghost use Rattle.std.specs.Prelude.{◌≡◌, ◌≢◌, Ok, Err, IfOk, IfErr, string_bytes};
 ghost use Rattle.resetd_member.specs.Orders.{heard_in, line_for, meaning_number, written_down};
@@ -34,7 +34,7 @@ pub(crate) fn write_down(orders: Orders, order: Order) -> Result<Orders, Fault>
     }
 }
 
-/// The line that is to be sent, first or again; empty: no order is in hand.
+/// Writes the line to send, for the first time or again; empty: no order is in hand.
 pub(crate) fn line_for(alloc: Global, orders: Orders, client: u8) -> Result<String, Fault>
     ensures line { IfOk result (λ text. line_for orders client ≡ Ok (string_bytes text)) }
     ensures fault { IfErr result (λ fault. fault ≢ OutOfMemory → line_for orders client ≡ Err fault) }

@@ -1,4 +1,4 @@
-//! How a file is opened.
+//! Opens files.
 
 use super::SystemFile;
 use std::fs::{File, OpenOptions};
