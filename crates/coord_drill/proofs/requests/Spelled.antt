@@ -1,4 +1,4 @@
--- What is spelled of a line, a request, a command or a field is read so.
+-- The spelling of a line, a request, a command or a field is read as that.
 use Rattle.std.proofs.Common.{◌≡◌, ℕ, ◌<◌, List, [], ◌∷◌, length, ap, sym, ◌∙◌, arith, Bool, true, false, Option, None, refl, cond, Some, map, bytes_eq, ◌+◌, ◌^◌, not, ltb, leb, ◌&&◌, ◌++◌, decimal, subst, codes, ◌==◌, if◌then◌else◌, append-nil}
 use Rattle.std.specs.List.{position_or_len, before_first, after_first, AllByRecursion, join_with_byte}
 use Rattle.std.proofs.lemmas.List.Splits.{slice_split_first, slice_split_none}
@@ -66,7 +66,7 @@ number_is : (d : Word) (n : ℕ) → all_ascii_digits d ≡ true → 0 < length 
 unfolding number_of
 number_is d n digits some value below = grind (arith, common_steps)
 
--- what is printed of a number is read as it
+-- a printed number is read as that number
 decimal_is : (n : ℕ) → n < 2 ^ 64 → (number_of (decimal n) ≡ Some n) × IsPlain (decimal n)
 decimal_is n below =
     let numeral = decimal_is_IsNumeral n below in
@@ -166,7 +166,7 @@ confirm_parts : (y : Command) (x : ℕ × ℕ) → (elim y [ Confirm u e ↦ Som
 confirm_parts (Confirm u n) x e = made_of (λ p. Confirm p.0 p.1) (u, n) x e
 confirm_parts _ x e = absurd (none-some x e)
 
--- the verbs of commands differ, and each row is read as it is spelled
+-- the verbs of commands differ, and each row's spelling is read as that row
 pub commands_table : IsTable commands
 unfolding commands
 commands_table = record {
@@ -214,7 +214,7 @@ ready_parts : (y : Msg) (x : Unit {0}) → (elim y [ Ready ↦ Some tt | _ ↦ N
 ready_parts Ready x e = refl
 ready_parts _ x e = absurd (none-some x e)
 
--- the names of messages differ, and each row is read as it is spelled
+-- the names of messages differ, and each row's spelling is read as that row
 messages_table : (version : ℕ) → IsTable (messages version)
 unfolding messages
 messages_table version = record {
